@@ -22,9 +22,9 @@ LINE = "bench_detours: link_detours ner_trees machine_desc spin_base\n"
 PROGRAM = r"""
 #![tactic(auto)]
 
-use link_detours::{RepairErr, Roads, repair};
+use link_detours::{BrokenTree, Ground, RepairErr, Roads, repair};
 use machine_desc::{Edge, Machine, MachineParts, Tree};
-use ner_trees::{Grown, ner};
+use ner_trees::{Ends, Grown, ner};
 use spin_base::{Chip, Dir, Memory, Seq};
 use std::alloc::Global;
 use std::env;
@@ -84,14 +84,18 @@ fn targets_of(alloc: Global, root: Chip, first: u32, count: u32, side: u32) -> R
 // How many edges the trees have in the end.
 fn edges_of(alloc: Global, machine: &Machine, count: u32, side: u32, repairing: bool) -> Result<u32, RepairErr> {
     let roads = Roads::of(alloc, machine)?;
+    let ground = Ground { machine, roads: &roads };
     let mut edges: u32 = 0;
     for x in 0..64u8 {
         for y in 0..64u8 {
             let root = Chip { x, y };
             let targets = targets_of(alloc, root, u32::from(x) * 64 + u32::from(y), count, side)?;
-            let Grown { mut tree, joins: _ } = ner(alloc, machine, root, &targets)?;
+            let ends = Ends { machine, root, targets: &targets };
+            let Grown { mut tree, joins: _ } = ner(alloc, ends)?;
             if repairing {
-                tree = repair(alloc, machine, &roads, &tree, &targets)?;
+                let edges = tree.edges.as_slice();
+                let broken = BrokenTree { ground, root, edges, targets: targets.as_slice() };
+                tree = repair(alloc, broken)?;
             }
             edges = edges.wrapping_add(tree.edges.len() as u32);
         }

@@ -24,7 +24,7 @@ PROGRAM = r"""
 #![tactic(auto)]
 
 use machine_desc::{Machine, MachineParts};
-use ner_trees::ner;
+use ner_trees::{Ends, ner};
 use machine_desc::NetPlan;
 use net_tables::plain_tables;
 use spin_base::{Block, Chip, Memory, Seq, Spot};
@@ -88,7 +88,8 @@ fn nets_of(alloc: Global, machine: &Machine, many: u32, count: u32, side: u32) -
         let root = chip_of(number * (4096 / many));
         let chips = targets_of(alloc, root, number, count, side)?;
         let targets = spots_of(alloc, &chips)?;
-        let tree = ner(alloc, machine, root, &chips)?.tree;
+        let ends = Ends { machine, root, targets: &chips };
+        let tree = ner(alloc, ends)?.tree;
         let block = Block { key: number, mask: 4294967295 };
         let source = Spot { chip: root, core: 1 };
         nets.push(NetPlan { block, source, targets, tree })?;

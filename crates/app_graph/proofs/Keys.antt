@@ -1,8 +1,7 @@
 -- How many keys the nets of a graph have.
 use Rattle.std.proofs.Common.{◌≡◌, ℕ, zero, suc, List, [], ◌∷◌, Some, ap, sym}
 use Rattle.std.specs.Prelude.{slice_get}
-use Rattle.app_graph.specs.declared.graphs.Net.{Net}
-use Rattle.app_graph.specs.RunPart.{key_count_of}
+use Rattle.app_graph.specs.{declared.graphs.Net.Net, RunPart.key_count_of}
 
 -- how many keys the net at a place has
 pub keys_of-at : (nets : List Net) (i : ℕ) (n : Net) → slice_get nets i ≡ Some n → n.keys ≡ key_count_of nets i

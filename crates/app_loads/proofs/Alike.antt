@@ -1,18 +1,15 @@
 -- What machines with the same applications have in common, and that unloads and runs keep it.
-use Rattle.std.proofs.Common.{◌≡◌, ℕ, List, [], ◌∷◌, ◌++◌, length, refl, sym, ap, ◌∙◌, subst, arith, not, true, Option, None}
+use Rattle.std.proofs.Common.{◌≡◌, ℕ, List, [], ◌∷◌, ◌++◌, length, refl, sym, ap, ◌∙◌, subst, arith, true, None}
 use Rattle.std.proofs.lemmas.List.{same_lists, Elements.All-head, Elements.All-tail}
 use Rattle.std.specs.List.{All, Contains, filter, flat_map}
 use Rattle.spin_base.proofs.Members.{Among}
-use Rattle.spin_base.specs.declared.copies.{McCopy.McCopy, DumpRec.DumpRec}
-use Rattle.mesh_core.specs.State.{Hand, Setup, State, IsMesh}
-use Rattle.mesh_core.specs.{Trail.Mark, Trail.IsUnderWayAt, Ledger.marks_of, Ledger.MeetsLedgerFor, Expected.IsAtRest, Expected.NothingWaits}
+use Rattle.spin_base.specs.declared.copies.McCopy.{McCopy}
+use Rattle.mesh_core.specs.{State.State, State.IsMesh, Trail.Mark, Trail.IsUnderWayAt, Ledger.marks_of, Ledger.MeetsLedgerFor, Expected.IsAtRest, Expected.NothingWaits}
 use Rattle.mesh_core.proofs.Fixed.{setup_after}
-use Rattle.app_loads.specs.declared.{answers.Ended.Ended, loaded.LoadedApp.LoadedApp}
-use Rattle.app_loads.specs.{Alike.AreAlike, Alike.IsQuiet, Applications.AreApps, Host.Host, Host.all_nets, Host.asked_of}
-use Rattle.app_loads.specs.Leaving.{held_packets, is_delivery_of, is_packet_of, is_record_of, mesh_without, NoneUnderWay, others_than, packet_numbers_of, WaitsIn}
+use Rattle.app_loads.specs.{declared.answers.Ended.Ended, declared.loaded.LoadedApp.LoadedApp, Alike.AreAlike, Alike.IsQuiet, Applications.AreApps, Host.Host, Host.all_nets, Host.asked_of}
+use Rattle.app_loads.specs.Leaving.{held_packets, is_delivery_of, is_packet_of, mesh_without, NoneUnderWay, packet_numbers_of, WaitsIn}
 use Rattle.app_loads.specs.{Opening.usable_spots, Running.HasMovedMesh, Unloading.HasUnloaded}
-use Rattle.app_loads.proofs.Delivered.{HasOneWay, no_more}
-use Rattle.app_loads.proofs.LeavingLeast.{listed_waits, under_way, waits_listed}
+use Rattle.app_loads.proofs.{Delivered.HasOneWay, Delivered.no_more, LeavingLeast.listed_waits, LeavingLeast.under_way, LeavingLeast.waits_listed}
 
 pub alike_too : (h g : Host) → AreAlike h g → AreAlike g h
 alike_too h g alike = record {
@@ -45,10 +42,7 @@ only_unsent s quiet =
 
 module _ (h g : Host) (alike : AreAlike h g) where
   same_under_way : under_way h.mesh ≡ under_way g.mesh
-  same_under_way =
-      only_unsent h.mesh alike.quiet.waits
-      ∙ (ap (λ (l : List (List McCopy)). ((flat_map packet_numbers_of l ++ []) ++ []) ++ []) alike.unsent
-      ∙ sym (only_unsent g.mesh alike.other_quiet.waits))
+  same_under_way = grind (arith, only_unsent h.mesh alike.quiet.waits, only_unsent g.mesh alike.other_quiet.waits)
 
   -- what waits on the one waits on the other
   pub waits_too : IsMesh g.mesh → (app : LoadedApp) (n : ℕ) → WaitsIn h.mesh app n → WaitsIn g.mesh app n
@@ -79,24 +73,10 @@ module _ (one_way : HasOneWay) (h g : Host) (app : LoadedApp) (apps : AreApps h)
 -- ---- unloads
 
 quiet_without : (app : LoadedApp) (s t : State) → t ≡ mesh_without app t.setup.tables s → IsQuiet s → IsQuiet t
-quiet_without app s t is quiet = record {
-  waits = record {
-    inputs_empty = subst (All (λ (q : List McCopy). q ≡ [])) (sym (ap (λ (m : State). m.inputs) is)) quiet.waits.inputs_empty;
-    hands_empty = subst (All (λ (x : Option Hand). x ≡ None)) (sym (ap (λ (m : State). m.hands) is)) quiet.waits.hands_empty;
-    cores_empty = subst (All (λ (q : List McCopy). q ≡ [])) (sym (ap (λ (m : State). m.cores) is)) quiet.waits.cores_empty;
-  };
-  no_record = ap (λ (m : State). m.dumped) is ∙ ap (filter (λ (r : DumpRec). not (is_record_of app r))) quiet.no_record;
-}
+quiet_without app s t is quiet = grind arith
 
 pub alike_unloaded : (h g new other : Host) (number : ℕ) (ended end : Ended) → AreAlike h g → HasUnloaded h number ended new → HasUnloaded g number end other → AreAlike new other
-alike_unloaded h g new other number ended end alike a b = record {
-  machine = ap (λ (m : State). m.setup.machine) a.mesh ∙ (alike.machine ∙ sym (ap (λ (m : State). m.setup.machine) b.mesh));
-  apps = a.apps ∙ (ap (others_than number) alike.apps ∙ sym b.apps);
-  packets = a.packets ∙ (alike.packets ∙ sym b.packets);
-  unsent = ap (λ (m : State). m.unsent) a.mesh ∙ (alike.unsent ∙ sym (ap (λ (m : State). m.unsent) b.mesh));
-  quiet = quiet_without a.app h.mesh new.mesh a.mesh alike.quiet;
-  other_quiet = quiet_without b.app g.mesh other.mesh b.mesh alike.other_quiet;
-}
+alike_unloaded h g new other number ended end alike a b = grind (arith, quiet_without a.app h.mesh new.mesh a.mesh alike.quiet, quiet_without b.app g.mesh other.mesh b.mesh alike.other_quiet)
 
 -- ---- runs
 
@@ -105,8 +85,7 @@ same_empty : (xs ys : List (List McCopy)) → length xs ≡ length ys → All (�
 same_empty xs ys long none also = same_lists xs ys long (λ k d below. none k d below ∙ sym (also k d (omega (arith, below, long))))
 
 moved_machine : (old new : Host) → HasMovedMesh old new → new.mesh.setup.machine ≡ old.mesh.setup.machine
-moved_machine old new moved =
-    ap (λ (s : State). s.setup.machine) moved.mesh.is ∙ ap (λ (u : Setup). u.machine) (setup_after old.mesh moved.mesh.events)
+moved_machine old new moved = grind (arith, setup_after old.mesh moved.mesh.events)
 
 quiet_moved : (old new : Host) → IsQuiet old.mesh → IsAtRest new.mesh → HasMovedMesh old new → IsQuiet new.mesh
 quiet_moved old new quiet rest moved = record { waits = rest.waits; no_record = moved.mesh.no_record quiet.waits ∙ quiet.no_record }

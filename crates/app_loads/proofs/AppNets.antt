@@ -1,25 +1,19 @@
 -- The nets of a loaded application: their blocks are ranges of their own, and their trees stand on its spots.
-use Rattle.std.proofs.Common.{◌≡◌, ◌≢◌, ℕ, zero, suc, ◌+◌, ◌^◌, ◌<◌, ◌≤◌, ◌==◌, ◌↔◌, true, List, [], ◌∷◌, get_or, refl, sym, ap, ◌∙◌, subst, inl, inr, arith, Some}
-use Rattle.std.proofs.lemmas.Bool.{cases_eq, cases_lt, and_from, eq-eqb}
-use Rattle.std.proofs.lemmas.List.Elements.{All-contains, All-weaker}
-use Rattle.std.proofs.lemmas.Option.{slice_get-get_or, slice_get_within, get_or_from_slice_get, same_Some}
+use Rattle.std.proofs.Common.{◌≡◌, ◌≢◌, ℕ, zero, suc, ◌+◌, ◌^◌, ◌<◌, ◌≤◌, ◌↔◌, true, List, [], ◌∷◌, get_or, refl, sym, ap, ◌∙◌, subst, inl, inr, arith, Some}
+use Rattle.std.proofs.lemmas.{Bool.cases_eq, Bool.cases_lt, Bool.and_from, Bool.eq-eqb, List.Elements.All-contains, List.Elements.All-weaker, Option.slice_get-get_or, Option.slice_get_within}
+use Rattle.std.proofs.lemmas.Option.{get_or_from_slice_get, same_Some}
 use Rattle.std.specs.List.{slice_get, All, AllPairs, AllZip, Contains}
 use Rattle.key_alloc.proofs.Ranges.{in_from}
 use Rattle.spin_base.proofs.{Members.Contains-at, Places.All-at, Places.All-each, Places.AllZip-at_first}
 use Rattle.spin_base.specs.declared.{blocks.Block.Block, chips.Spot.Spot}
-use Rattle.machine_desc.specs.{Description.Description, Live.IsInside, Live.IsUsable, RoutingTree.IsRoutingTree}
-use Rattle.machine_desc.specs.{declared.nets.NetPlan.NetPlan, NetsOn.HaveDisjointBlocks, RightTables.IsKeyOf}
+use Rattle.machine_desc.specs.{Description.Description, Live.IsInside, Live.IsUsable, RoutingTree.IsRoutingTree, declared.nets.NetPlan.NetPlan, NetsOn.HaveDisjointBlocks, RightTables.IsKeyOf}
 use Rattle.machine_desc.proofs.{Far.live_inside, Sites.usable_parts}
-use Rattle.range_store.specs.Regions.{in_range}
 use Rattle.tern_word.specs.Ternary.{Matches}
 use Rattle.net_tables.specs.PlainTable.{AreRoutedApart}
-use Rattle.app_loads.specs.declared.answers.LoadRefusal.TheVariants.{KeysOut}
-use Rattle.app_loads.specs.declared.{loaded.Claim.Claim, loaded.LoadedApp.LoadedApp, loaded.Range.Range, plans.AppNet.AppNet}
-use Rattle.app_loads.specs.Applications.{IsLoadedOn, IsRangeFor}
-use Rattle.app_loads.specs.{Claims.claims_of, Claims.IsBlockOf, Host.net_with, Host.nets_with, Host.nets_of, Plans.IsAppNet, Plans.IsSpotBefore}
+use Rattle.app_loads.specs.declared.{answers.LoadRefusal.TheVariants.KeysOut, loaded.Claim.Claim, loaded.LoadedApp.LoadedApp, loaded.Range.Range, plans.AppNet.AppNet}
+use Rattle.app_loads.specs.{Applications.IsLoadedOn, Applications.IsRangeFor, Claims.claims_of, Claims.IsBlockOf, Host.net_with, Host.nets_with, Host.nets_of, Plans.IsAppNet, Plans.IsSpotBefore}
 use Rattle.app_loads.specs.Regions.{place_of, ShareNoPlace, range_has}
-use Rattle.app_loads.proofs.Blocks.{block_keys}
-use Rattle.app_loads.proofs.ClaimCases.{facts, same_net, IsKeyClaim}
+use Rattle.app_loads.proofs.{Blocks.block_keys, ClaimCases.facts, ClaimCases.same_net, ClaimCases.IsKeyClaim}
 
 -- a net with its block is made of the net and the block of its place
 pub nets_with_parts : (nets : List AppNet) (blocks : List Block) (i : ℕ) (x : NetPlan) → slice_get (nets_with nets blocks) i ≡ Some x →
@@ -108,19 +102,13 @@ module _ (m : Description) (app : LoadedApp) (loaded : IsLoadedOn m app) where
 
   -- a net's key is a place of its range
   pub key_place : (x : NetPlan) (j : ℕ) (f : NetFacts m app x j) (key : ℕ) → IsKeyOf x.block key → range_has 0 key f.range ≡ true
-  key_place x j f key k =
-      let block_is : f.block ≡ x.block = ap (λ (n : NetPlan). n.block) f.is in
-      let mine : Matches f.block key = subst (λ (b : Block). Matches b key) (sym block_is) k.matches in
-      let at = (f.keys key k.fits).0 mine in
-      and_from (f.range.region == 0) (in_range f.range.place f.range.size key) (eq-eqb f.range.region 0 f.region)
-      (in_from f.range.place f.range.size key (subst (λ p. p ≤ key) f.place at.0) (subst (λ p. key < p + f.range.size) f.place at.1))
+  key_place x j f key k = grind (arith, eq-eqb f.range.region 0 f.region, and_from, in_from)
 
   -- a key of a net for each of its indices
   pub key_of_index : (x : NetPlan) (j : ℕ) (f : NetFacts m app x j) (index : ℕ) → index < f.net.keys → f.range.place + f.range.size ≤ 2 ^ 32 →
       (f.block.key + index < 2 ^ 32) × IsKeyOf f.block (f.block.key + index)
   key_of_index x j f index below room =
-      let small = index_fits f.block.key f.range.place f.range.size f.net.keys index (2 ^ 32) f.place f.enough below room in
-      (small, record { fits = small; matches = (f.keys (f.block.key + index) small).1 (omega arith, within_keys f.block.key f.net.keys f.range.size index f.enough below) })
+      grind (arith, index_fits f.block.key f.range.place f.range.size f.net.keys index (2 ^ 32) f.place f.enough below room, within_keys f.block.key f.net.keys f.range.size index f.enough below)
 
   pub usable_spot : (s : Spot) → Contains app.plan.spots s → IsUsable m s
   usable_spot s has = All-contains (IsUsable m) app.plan.spots s loaded.plan.usable has

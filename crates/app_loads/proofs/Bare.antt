@@ -1,10 +1,9 @@
 -- What holds of a host without an application.
-use Rattle.std.proofs.Common.{◌≡◌, ℕ, ◌+◌, ◌-◌, ◌*◌, ◌/◌, ◌%◌, ◌<◌, ◌≤◌, zero, suc, ◌∙◌, List, [], ◌∷◌, ◌++◌, Option, Some, None, Bool, true, false, ◌&&◌, if◌then◌else◌, ◌==◌}
-use Rattle.std.proofs.Common.{refl, sym, ap, subst, arith, inl, inr, length, replicate, not, get_or, leb, ltb}
-use Rattle.std.proofs.lemmas.Bool.{cases_lt, leb-false, leb-true, Decides.nat_tests}
-use Rattle.std.proofs.lemmas.List.{get_or-replicate, length-replicate, length-append, get_or_append_left, get_or-append_right}
-use Rattle.std.proofs.lemmas.List.Elements.{All-nil, All-replicate}
-use Rattle.std.proofs.lemmas.Option.{slice_get-get_or, slice_get_within, get_or_from_slice_get, same_Some}
+use Rattle.std.proofs.Common.{◌≡◌, ℕ, ◌+◌, ◌-◌, ◌*◌, ◌/◌, ◌%◌, ◌<◌, ◌≤◌, zero, suc, ◌∙◌, List, [], ◌∷◌, ◌++◌, Option, Some, None, Bool, true, false, ◌&&◌, if◌then◌else◌, ◌==◌, refl, sym, ap, subst}
+use Rattle.std.proofs.Common.{arith, length, replicate, not, get_or, leb, ltb}
+use Rattle.std.proofs.lemmas.{Bool.cases_lt, Bool.leb-false, Bool.leb-true, Bool.Decides.nat_tests, List.get_or-replicate, List.length-replicate, List.length-append, List.get_or_append_left}
+use Rattle.std.proofs.lemmas.{List.get_or-append_right, List.Elements.All-nil, List.Elements.All-replicate, Option.slice_get-get_or, Option.slice_get_within, Option.get_or_from_slice_get}
+use Rattle.std.proofs.lemmas.Option.{same_Some}
 use Rattle.std.specs.List.{slice_get, Contains}
 use Rattle.spin_base.proofs.{Members.Contains-none, Gathering.gathered_nothing}
 use Rattle.spin_base.specs.declared.{blocks.Entry.Entry, chips.Chip.Chip, chips.Spot.Spot, copies.McCopy.McCopy}
@@ -12,14 +11,10 @@ use Rattle.machine_desc.specs.{Description.Description, Live.index_of, Live.chip
 use Rattle.machine_desc.proofs.Far.{index_below}
 use Rattle.range_store.specs.Regions.{AreRuns, hole_of, is_free}
 use Rattle.tcam_find.specs.Memory.{empty_memory, unused}
-use Rattle.mesh_core.specs.State.{Setup, State, Hand, IsMesh}
-use Rattle.mesh_core.specs.Trail.{Mark, unsent, in_queue, at_core}
-use Rattle.mesh_core.specs.Ledger.{marks_of, marks_at, hand_marks, port_of, unsent_marks, input_marks, all_hand_marks, core_marks, MeetsLedgerFor}
-use Rattle.mesh_core.specs.Opened.{empty_mesh}
-use Rattle.app_loads.specs.declared.loaded.LoadedApp.{LoadedApp}
-use Rattle.app_loads.specs.Host.{Free, Host, asked_of}
-use Rattle.app_loads.specs.Regions.{all_free, open_regions, chip_count, region_size, IsFreeBeside}
-use Rattle.app_loads.specs.{Applications.AreApps, Opening.bare_mesh, Opening.bare_host}
+use Rattle.mesh_core.specs.{State.Setup, State.State, State.Hand, State.IsMesh, Trail.Mark, Trail.unsent, Trail.in_queue, Trail.at_core, Ledger.marks_of, Ledger.marks_at, Ledger.hand_marks}
+use Rattle.mesh_core.specs.{Ledger.port_of, Ledger.unsent_marks, Ledger.input_marks, Ledger.all_hand_marks, Ledger.core_marks, Ledger.MeetsLedgerFor, Opened.empty_mesh}
+use Rattle.app_loads.specs.{declared.loaded.LoadedApp.LoadedApp, Host.Free, Host.Host, Host.asked_of, Regions.all_free, Regions.open_regions, Regions.chip_count, Regions.region_size}
+use Rattle.app_loads.specs.{Regions.IsFreeBeside, Applications.AreApps, Opening.bare_mesh, Opening.bare_host}
 use Rattle.app_loads.proofs.Resting.{rest_alone}
 use Rattle.mesh_drain.specs.Draining.{SendAlone}
 
@@ -74,29 +69,17 @@ hole_none : (size : ℕ) → size ≤ 0 → hole_of 0 size ≡ []
 hole_none size none = let t : ltb 0 size ≡ false = grind (arith, nat_tests) in rw t refl
 
 free_from_zero : (size k : ℕ) → is_free (hole_of 0 size) k ≡ ltb k size
-free_from_zero size k =
-    elim (cases_lt 0 size) [
-      | inl lt ↦ rw (hole_whole size lt) (grind (arith, nat_tests))
-      | inr ge ↦ rw (hole_none size ge) (grind (arith, nat_tests))
-    ]
+free_from_zero size k = grind (arith, cases_lt 0 size, nat_tests, hole_whole, hole_none)
 
 and_all : (b : Bool) → b ≡ (b && not false)
 and_all true = refl
 and_all false = refl
 
 all_free_runs : (size : ℕ) → AreRuns 0 size (hole_of 0 size)
-all_free_runs size =
-    elim (cases_lt 0 size) [
-      | inl lt ↦ subst (AreRuns 0 size) (sym (hole_whole size lt)) (omega arith, omega (arith, lt), omega arith, tt)
-      | inr ge ↦ subst (AreRuns 0 size) (sym (hole_none size ge)) tt
-    ]
+all_free_runs size = grind (arith, cases_lt 0 size, hole_whole, hole_none)
 
 free_beside_none : (m : Description) (region size : ℕ) → size ≡ region_size m region → IsFreeBeside m [] region (all_free size)
-free_beside_none m region size is = record {
-  size = is;
-  runs = all_free_runs size;
-  free = λ k. free_from_zero size k ∙ and_all (ltb k size);
-}
+free_beside_none m region size is = grind (arith, all_free_runs size, free_from_zero, and_all)
 
 -- the three kinds of regions
 module _ (m : Description) where
@@ -110,9 +93,7 @@ module _ (m : Description) where
   tables = replicate n (all_free 1024)
 
   long : length (open_regions m) ≡ 1 + (n + n)
-  long =
-      let whole : length (open_regions m) ≡ suc (length (memories ++ tables)) = refl in
-      omega (arith, length-replicate n (all_free m.sdram), length-replicate n (all_free 1024), length-append memories tables, whole)
+  long = grind (arith, length-replicate n (all_free m.sdram), length-replicate n (all_free 1024), length-append memories tables)
 
   at_size : (region : ℕ) (f : Free) → slice_get (open_regions m) region ≡ Some f → f ≡ all_free (region_size m region)
   at_size zero f is = sym (same_Some _ _ is)
@@ -134,15 +115,8 @@ module _ (m : Description) where
       one = length-replicate n (all_free m.sdram)
 
       by_kind : (b : Bool) → leb (suc i) n ≡ b → f ≡ all_free (if leb (suc i) n then m.sdram else 1024)
-      by_kind true le =
-          subst (λ b. f ≡ all_free (if b then m.sdram else 1024)) (sym le) (
-          let below = leb-true (suc i) n le in
-          got ∙ (get_or_append_left memories tables d i (omega (arith, one, below)) ∙ get_or-replicate n i (all_free m.sdram) d (omega (arith, below))))
-      by_kind false le =
-          subst (λ b. f ≡ all_free (if b then m.sdram else 1024)) (sym le) (
-          let above = leb-false (suc i) n le in
-          let all = long in
-          got ∙ (get_or-append_right memories tables n i d one (omega (arith, above)) ∙ get_or-replicate n (i - n) (all_free 1024) d (omega (arith, within, all, above))))
+      by_kind true le = grind (arith, leb-true (suc i) n le, got, one, get_or_append_left, get_or-replicate, d)
+      by_kind false le = grind (arith, leb-false (suc i) n le, long, got, within, get_or-append_right, get_or-replicate, d, one)
 
   -- nothing is taken of any region
   none_taken : (region : ℕ) (f : Free) → slice_get (open_regions m) region ≡ Some f → IsFreeBeside m [] region f
@@ -151,16 +125,14 @@ module _ (m : Description) where
 -- ---- entries and spots
 
 replicated : {X : Type 0} (n i : ℕ) (x : X) → i < n → slice_get (replicate n x) i ≡ Some x
-replicated n i x below =
-    slice_get-get_or (replicate n x) i x (let long = length-replicate n x in omega (arith, long, below)) ∙ ap Some (get_or-replicate n i x x below)
+replicated n i x below = grind (arith, get_or-replicate n i x x below, length-replicate n x, slice_get-get_or, long)
 
 empty_at : (k : ℕ) → k < 1024 → slice_get empty_memory k ≡ Some unused
 unfolding empty_memory
 empty_at k below = replicated 1024 k unused below
 
 no_entries : (m : Description) (c : Chip) (k : ℕ) → IsInside m c → k < 1024 → slice_get (table_at m (replicate (m.width * m.height) empty_memory) c) k ≡ Some unused
-no_entries m c k inside below =
-    ap (λ (l : List Entry). slice_get l k) (get_or-replicate (m.width * m.height) (index_of m c) empty_memory [] (index_below m c inside)) ∙ empty_at k below
+no_entries m c k inside below = grind (arith, get_or-replicate (m.width * m.height) (index_of m c) empty_memory, index_below m c inside, empty_at k below)
 
 memory_long : length empty_memory ≡ 1024
 unfolding empty_memory
@@ -193,15 +165,11 @@ bare_apps m q mesh = record {
 
 pub bare_is : (m : Description) (q : ℕ) (mesh : State) (regions : List Free) (apps : List LoadedApp) → mesh ≡ bare_mesh m q → regions ≡ open_regions m → apps ≡ [] →
     (let h : Host = record { mesh = mesh; regions = regions; apps = apps; packets = 0 } in h ≡ bare_host m q)
-bare_is m q mesh regions apps is_mesh are_open none =
-    ap (λ x. let h : Host = record { mesh = x; regions = regions; apps = apps; packets = 0 } in h) is_mesh
-    ∙ (ap (λ x. let h : Host = record { mesh = bare_mesh m q; regions = x; apps = apps; packets = 0 } in h) are_open
-    ∙ ap (λ x. let h : Host = record { mesh = bare_mesh m q; regions = open_regions m; apps = x; packets = 0 } in h) none)
+bare_is m q mesh regions apps is_mesh are_open none = grind arith
 
 pub made_apps : (m : Description) (q : ℕ) (mesh : State) (regions : List Free) (apps : List LoadedApp) → mesh ≡ bare_mesh m q → regions ≡ open_regions m → apps ≡ [] → IsMesh mesh →
     (let h : Host = record { mesh = mesh; regions = regions; apps = apps; packets = 0 } in AreApps h)
-made_apps m q mesh regions apps is_mesh are_open none whole =
-    subst AreApps (sym (bare_is m q mesh regions apps is_mesh are_open none)) (bare_apps m q (subst IsMesh is_mesh whole))
+made_apps m q mesh regions apps is_mesh are_open none whole = grind (arith, bare_is m q mesh regions apps is_mesh are_open none, bare_apps m q (subst IsMesh is_mesh whole))
 
 -- no copy waits, and no vertex has packets unsent
 pub bare_alone : (u : Setup) → SendAlone [] (empty_mesh u)

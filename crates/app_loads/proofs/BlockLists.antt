@@ -1,11 +1,10 @@
 -- The blocks of nets, made of the ranges that their claims got.
-use Rattle.std.proofs.Common.{◌≡◌, ℕ, ◌+◌, ◌^◌, ◌<◌, ◌≤◌, List, length, get_or, sym, ap, ◌∙◌, subst, inl, inr, arith, Some}
+use Rattle.std.proofs.Common.{◌≡◌, ℕ, ◌+◌, ◌^◌, ◌<◌, ◌≤◌, List, length, get_or, arith, Some}
 use Rattle.std.proofs.lemmas.{Bool.cases_lt, Option.slice_get-get_or, Option.slice_get_within, Option.same_Some}
 use Rattle.std.specs.List.{slice_get, slice_set}
 use Rattle.spin_base.specs.declared.blocks.Block.{Block}
-use Rattle.app_loads.specs.declared.{answers.LoadRefusal.TheVariants.KeysOut, loaded.Claim.Claim, loaded.Range.Range}
-use Rattle.app_loads.specs.Claims.{IsBlockOf}
-use Rattle.app_loads.specs.Joining.{AreKeyed, IsKeyRange, HaveBlocks}
+use Rattle.app_loads.specs.{declared.answers.LoadRefusal.TheVariants.KeysOut, declared.loaded.Claim.Claim, declared.loaded.Range.Range, Claims.IsBlockOf, Joining.AreKeyed, Joining.IsKeyRange}
+use Rattle.app_loads.specs.Joining.{HaveBlocks}
 use Rattle.app_loads.proofs.{Serving.set_cases, ClaimCases.same_net}
 
 -- the nets of the claims up to a place have their blocks
@@ -42,27 +41,11 @@ module _ {claims : List Claim} {ranges : List Range} {nets at : ℕ} (d : Claim)
     pub block_more : (blocks : List Block) (block : Block) → length blocks ≡ nets → block.key ≡ range.place → block.mask + range.size ≡ 2 ^ 32 → HaveBlocksBelow claims ranges blocks at →
         HaveBlocksBelow claims ranges (slice_set blocks net block) (at + 1)
     block_more blocks block long key mask so_far i n c b less is of_net has =
-        elim (set_cases blocks net n (get_or blocks net block) block b (slice_get-get_or blocks net block (let w = net_there in omega (arith, w, long))) has) [
-          | inl mine ↦ subst (λ (x : Block). IsBlockOf claims ranges n x) (sym mine.1) (subst (λ k. IsBlockOf claims ranges k block) (sym mine.0)
-              (record { at = at; claim = claim; range = range; is = is_claim; its = its; got = is_range; key = key; mask = mask }))
-          | inr other ↦ elim (cases_lt i at) [
-            | inl before ↦ so_far i n c b before is of_net other.1
-            | inr here ↦
-                let same : i ≡ at = omega (arith, less, here) in
-                let one : claim ≡ c = same_Some _ _ (sym is_claim ∙ (ap (slice_get claims) (sym same) ∙ is)) in
-                absurd (other.0 (same_net n net (sym of_net ∙ (ap (λ (x : Claim). x.refusal) (sym one) ∙ its))))
-          ]
-        ]
+        grind (arith, is_claim, is_range, cases_lt i at, get_or blocks net block, net_there, set_cases, same_Some, same_net, slice_get-get_or)
 
   -- a claim of no net's keys makes no block
   pub block_skip : (blocks : List Block) → ((net : ℕ) → claim.refusal ≡ KeysOut net → ⊥) → HaveBlocksBelow claims ranges blocks at → HaveBlocksBelow claims ranges blocks (at + 1)
-  block_skip blocks none so_far i n c b less is of_net has = elim (cases_lt i at) [
-    | inl before ↦ so_far i n c b before is of_net has
-    | inr here ↦
-        let same : i ≡ at = omega (arith, less, here) in
-        let one : claim ≡ c = same_Some _ _ (sym is_claim ∙ (ap (slice_get claims) (sym same) ∙ is)) in
-        absurd (none n (ap (λ (x : Claim). x.refusal) one ∙ of_net))
-  ]
+  block_skip blocks none so_far i n c b less is of_net has = grind (arith, cases_lt i at, is_claim, same_Some)
 
 pub all_blocks : {claims : List Claim} {ranges : List Range} {nets at : ℕ} (blocks : List Block) → AreKeyed claims ranges nets → length claims ≤ at → length blocks ≡ nets →
     HaveBlocksBelow claims ranges blocks at → HaveBlocks claims ranges blocks

@@ -1,5 +1,5 @@
 -- A block whose mask has the high bits has the keys of a range.
-use Rattle.std.proofs.Common.{◌≡◌, ℕ, ◌+◌, ◌-◌, ◌*◌, ◌/◌, ◌%◌, ◌^◌, ◌<◌, ◌≤◌, ◌↔◌, sym, ap, ◌∙◌, subst, arith}
+use Rattle.std.proofs.Common.{◌≡◌, ℕ, ◌+◌, ◌-◌, ◌*◌, ◌/◌, ◌%◌, ◌^◌, ◌<◌, ◌≤◌, ◌↔◌, sym, subst, arith}
 use Rattle.std.proofs.lemmas.Nat.{shr_split, Bits.and_high_mask}
 use Rattle.std.specs.Prelude.{bit_and}
 use Rattle.key_alloc.proofs.Ranges.{room_above}
@@ -9,9 +9,7 @@ use Rattle.tern_word.proofs.BlockLaws.{range_keys, key_small}
 
 module _ (b : Block) (z : ℕ) (few : z ≤ 32) (sum : b.mask + 2 ^ z ≡ 2 ^ 32) where
   whole_there : b.key / 2 ^ z * 2 ^ z ≡ b.key
-  whole_there =
-      let mask : 2 ^ 32 - 2 ^ z ≡ b.mask = omega (arith, sum) in
-      sym (and_high_mask 32 z few b.key (key_small b)) ∙ (ap (bit_and b.key) mask ∙ b.within)
+  whole_there = grind (arith, and_high_mask 32 z few b.key (key_small b), key_small b)
 
   pub block_aligned : b.key % 2 ^ z ≡ 0
   block_aligned = omega (arith, shr_split b.key z, whole_there)

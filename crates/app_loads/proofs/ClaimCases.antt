@@ -1,25 +1,20 @@
 -- What the claims of a plan are, and that each net and chip has its own.
-use Rattle.std.proofs.Common.{◌≡◌, ◌≢◌, ℕ, zero, suc, ◌+◌, ◌-◌, ◌%◌, ◌^◌, ◌<◌, ◌≤◌, ◌==◌, Bool, true, false, List, [], ◌∷◌, ◌++◌, ◌∙◌, Option, None, Some, if◌then◌else◌}
-use Rattle.std.proofs.Common.{leb, get_or, length, map, refl, sym, ap, subst, inl, inr, arith, IfSome, count_by}
-use Rattle.std.proofs.lemmas.Bool.{cases_eq, cases_lt, le-leb, leb-true, both_ways, eq-eqb, ne_eqb}
-use Rattle.std.proofs.lemmas.List.{FromFn.get_or-map-range_with_len, FromFn.length-map-range_with_len, Folds.find_at, Sums.fails_before_first, Sums.passes_at_first, Sums.position_or_len_is}
-use Rattle.std.proofs.lemmas.{Nat.pow_pos, Option.slice_get-get_or}
-use Rattle.std.specs.Prelude.{find, unwrap_or, zip}
-use Rattle.std.specs.List.{slice_get, Contains, flat_map, position_or_len, range_with_len}
+use Rattle.std.proofs.Common.{◌≡◌, ◌≢◌, ℕ, zero, suc, ◌+◌, ◌-◌, ◌%◌, ◌^◌, ◌<◌, ◌≤◌, ◌==◌, Bool, true, false, List, [], ◌∷◌, ◌++◌, ◌∙◌, Option, None, Some, if◌then◌else◌, leb, get_or, length, map}
+use Rattle.std.proofs.Common.{refl, sym, ap, subst, inl, inr, arith, IfSome, count_by}
+use Rattle.std.proofs.lemmas.{Bool.cases_eq, Bool.cases_lt, Bool.le-leb, Bool.leb-true, Bool.both_ways, Bool.eq-eqb, Bool.ne_eqb, List.FromFn.get_or-map-range_with_len}
+use Rattle.std.proofs.lemmas.{List.FromFn.length-map-range_with_len, List.Folds.find_at, List.Sums.fails_before_first, List.Sums.passes_at_first, List.Sums.position_or_len_is, Nat.pow_pos}
+use Rattle.std.proofs.lemmas.Option.{slice_get-get_or}
+use Rattle.std.specs.{Prelude.find, Prelude.unwrap_or, Prelude.zip, List.slice_get, List.Contains, List.flat_map, List.position_or_len, List.range_with_len}
 use Rattle.spin_base.specs.{Gathered.gathered, declared.blocks.Block.Block}
-use Rattle.spin_base.proofs.Gathering.{among_gathered, gathered_among}
-use Rattle.spin_base.proofs.Members.{Among, among_contains, contains_among, among_left, among_right, among_either}
-use Rattle.spin_base.proofs.Places.{All-at, slice_get_there, zip-first_at}
+use Rattle.spin_base.proofs.{Gathering.among_gathered, Gathering.gathered_among, Members.Among, Members.among_contains, Members.contains_among, Members.among_left, Members.among_right}
+use Rattle.spin_base.proofs.{Members.among_either, Places.All-at, Places.slice_get_there, Places.zip-first_at}
 use Rattle.machine_desc.specs.{Description.Description, Live.index_of, Live.chip_of, Live.IsUsable}
 use Rattle.machine_desc.proofs.{Far.index_below, Far.live_inside, Live.chip_of-inside, Live.index_of-chip_of, Sites.usable_parts}
 use Rattle.key_alloc.specs.KeyBlocks.{size_of}
 use Rattle.app_loads.specs.declared.answers.LoadRefusal.TheVariants.{Loaded, MemoryOut, KeysOut, RowsOut}
-use Rattle.app_loads.specs.declared.{loaded.Claim.Claim, plans.AppNet.AppNet, plans.AppPlan.AppPlan}
-use Rattle.app_loads.specs.Plans.{IsPlan, IsAppNet}
-use Rattle.app_loads.specs.declared.places.Region.TheVariants.{Keys, Memory, Rows}
-use Rattle.app_loads.specs.Regions.{chip_count, place_of}
-use Rattle.app_loads.specs.Claims.{claims_of, memory_claim, fixed_claim, key_claim, row_claim, has_chip, size_for}
-use Rattle.app_loads.specs.Taking.{IsFair}
+use Rattle.app_loads.specs.{declared.loaded.Claim.Claim, declared.plans.AppNet.AppNet, declared.plans.AppPlan.AppPlan, Plans.IsPlan, Plans.IsAppNet, declared.places.Region.TheVariants.Keys}
+use Rattle.app_loads.specs.{declared.places.Region.TheVariants.Memory, declared.places.Region.TheVariants.Rows, Regions.chip_count, Regions.place_of, Claims.claims_of, Claims.memory_claim}
+use Rattle.app_loads.specs.{Claims.fixed_claim, Claims.key_claim, Claims.row_claim, Claims.has_chip, Claims.size_for, Taking.IsFair}
 use Rattle.app_loads.proofs.Blocks.{block_aligned, block_room}
 
 -- ---- the size for a number of keys
@@ -50,10 +45,7 @@ module _ {X : Type 0} (p : X → Bool) (f : ℕ → X) (n : ℕ) (d : X) where
       first = position_or_len p row
 
       below : first < n
-      below = elim (cases_lt first n) [
-        | inl less ↦ less
-        | inr past ↦ absurd (both_ways (p (f (n - 1))) (ap p (sym (at (n - 1) (omega (arith, some)))) ∙ fails_before_first p row (n - 1) d (omega (arith, past, some))) last)
-      ]
+      below = grind (arith, cases_lt first n, at (n - 1) (omega (arith, some)), both_ways, fails_before_first)
 
 pub size_facts : (keys : ℕ) → keys ≤ 4294967296 → (e : ℕ) × (e ≤ 32) × (size_for keys ≡ 2 ^ e) × (keys ≤ 2 ^ e)
 size_facts keys few =

@@ -1,29 +1,25 @@
 -- The claims of a plan, item by item, and the least power of two for a number of keys.
-use Rattle.std.proofs.Common.{◌≡◌, ℕ, zero, suc, ◌+◌, ◌/◌, ◌^◌, ◌<◌, ◌≤◌, max, leb, false, inl, inr, refl, sym, ap, ◌∙◌, arith, List, [], ◌∷◌, ◌++◌}
-use Rattle.std.proofs.Common.{take, get_or, length, Some, append_assoc}
+use Rattle.std.proofs.Common.{◌≡◌, ℕ, zero, suc, ◌+◌, ◌/◌, ◌^◌, ◌<◌, ◌≤◌, max, leb, false, inl, inr, refl, sym, ap, ◌∙◌, arith, List, [], ◌∷◌, ◌++◌, take, get_or, length, Some, append_assoc}
 use Rattle.std.proofs.{lemmas.Bool.cases_lt, lemmas.Bool.le-leb, lemmas.Bool.lt-leb, Math.Pow.pow_mono, lemmas.Grind.pow_more, lemmas.List.take_all, lemmas.Slice.Zip.length-zip}
 use Rattle.std.specs.{Prelude.unwrap_or, Prelude.zip, Int.IsPowerOfTwo, List.flat_map, List.range_with_len, List.slice_get}
 use Rattle.spin_base.specs.{Gathered.gathered, declared.chips.Spot.Spot}
 use Rattle.spin_base.proofs.Gathering.{gathered_more}
 use Rattle.machine_desc.specs.Description.{Description}
-use Rattle.app_loads.specs.declared.{loaded.Claim.Claim, plans.AppNet.AppNet, plans.AppPlan.AppPlan}
-use Rattle.app_loads.specs.Regions.{chip_count}
-use Rattle.app_loads.specs.Claims.{size_for, memory_claim, fixed_claim, key_claim, row_claim, claims_of}
+use Rattle.app_loads.specs.{declared.loaded.Claim.Claim, declared.plans.AppNet.AppNet, declared.plans.AppPlan.AppPlan, Regions.chip_count, Claims.size_for, Claims.memory_claim, Claims.fixed_claim}
+use Rattle.app_loads.specs.Claims.{key_claim, row_claim, claims_of}
 use Rattle.app_loads.proofs.ClaimCases.{first_of_row}
 
 -- ---- lists gathered item by item
 
 pub one_more : {X Y : Type 0} (f : ℕ → X → List Y) (xs : List X) (i : ℕ) (x : X) (start before after : List Y) → slice_get xs i ≡ Some x →
     before ≡ start ++ gathered f 0 (take i xs) → after ≡ before ++ f i x → after ≡ start ++ gathered f 0 (take (i + 1) xs)
-one_more f xs i x start before after at so_far new =
-    new ∙ (ap (λ l. l ++ f i x) so_far ∙ (append_assoc start (gathered f 0 (take i xs)) (f i x) ∙ ap (λ l. start ++ l) (sym (gathered_more f 0 xs i i x at (omega arith)))))
+one_more f xs i x start before after at so_far new = grind (arith, append_assoc start (gathered f 0 (take i xs)) (f i x), gathered_more f 0 xs i i x at (omega arith))
 
 pub whole_at : {X Y : Type 0} (f : ℕ → X → List Y) (xs : List X) (i : ℕ) (start l : List Y) → length xs ≤ i → l ≡ start ++ gathered f 0 (take i xs) → l ≡ start ++ gathered f 0 xs
 whole_at f xs i start l end is = is ∙ ap (λ r. start ++ gathered f 0 r) (take_all i xs end)
 
 pub joined : {X : Type 0} (a b c d x0 x1 x2 x3 x4 : List X) → x0 ≡ [] → x1 ≡ x0 ++ a → x2 ≡ x1 ++ b → x3 ≡ x2 ++ c → x4 ≡ x3 ++ d → x4 ≡ a ++ (b ++ (c ++ d))
-joined a b c d x0 x1 x2 x3 x4 e0 e1 e2 e3 e4 =
-    e4 ∙ (ap (λ l. l ++ d) (e3 ∙ ap (λ l. l ++ c) (e2 ∙ ap (λ l. l ++ b) (e1 ∙ ap (λ l. l ++ a) e0))) ∙ (append_assoc (a ++ b) c d ∙ append_assoc a b (c ++ d)))
+joined a b c d x0 x1 x2 x3 x4 e0 e1 e2 e3 e4 = grind (arith, append_assoc (a ++ b) c d, append_assoc a b (c ++ d))
 
 -- ---- two lists side by side
 
@@ -65,11 +61,4 @@ pub claims_joined : (m : Description) (plan : AppPlan) (spots : List Spot) (sdra
     sdram ≡ plan.sdram → x1 ≡ x0 ++ gathered memory_claim 0 (zip spots sdram) → fixed ≡ plan.nets → x2 ≡ x1 ++ gathered (λ j (net : AppNet). fixed_claim j net.fixed) 0 fixed → keys ≡ plan.nets →
     x3 ≡ x2 ++ gathered (λ j (net : AppNet). key_claim j net.keys net.fixed) 0 keys → rows ≡ plan.nets → x4 ≡ x3 ++ flat_map (row_claim m rows) (range_with_len 0 (chip_count m)) →
     x4 ≡ claims_of m plan
-claims_joined m plan spots sdram fixed keys rows x0 x1 x2 x3 x4 e0 is_spots is_sdram e1 is_fixed e2 is_keys e3 is_rows e4 =
-    joined (gathered memory_claim 0 (zip plan.spots plan.sdram)) (gathered (λ j (net : AppNet). fixed_claim j net.fixed) 0 plan.nets)
-    (gathered (λ j (net : AppNet). key_claim j net.keys net.fixed) 0 plan.nets)
-    (flat_map (row_claim m plan.nets) (range_with_len 0 (chip_count m))) x0 x1 x2 x3 x4 e0
-    (e1 ∙ (ap (λ l. x0 ++ gathered memory_claim 0 (zip l sdram)) is_spots ∙ ap (λ l. x0 ++ gathered memory_claim 0 (zip plan.spots l)) is_sdram))
-    (e2 ∙ ap (λ l. x1 ++ gathered (λ j (net : AppNet). fixed_claim j net.fixed) 0 l) is_fixed)
-    (e3 ∙ ap (λ l. x2 ++ gathered (λ j (net : AppNet). key_claim j net.keys net.fixed) 0 l) is_keys)
-    (e4 ∙ ap (λ l. x3 ++ flat_map (row_claim m l) (range_with_len 0 (chip_count m))) is_rows)
+claims_joined m plan spots sdram fixed keys rows x0 x1 x2 x3 x4 e0 is_spots is_sdram e1 is_fixed e2 is_keys e3 is_rows e4 = grind (arith, joined)

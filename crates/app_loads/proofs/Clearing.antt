@@ -1,17 +1,14 @@
 -- Entries made unused.
-use Rattle.std.proofs.Common.{◌≡◌, ◌≢◌, ℕ, ◌+◌, ◌<◌, ◌≤◌, Bool, true, false, ◌||◌, ◌&&◌, ◌==◌, List, take, get_or, length, refl, sym, ap, ◌∙◌, inl, inr, arith, subst, Some}
-use Rattle.std.proofs.lemmas.Bool.{cases_Bool, cases_eq, eq-eqb, ne_eqb}
-use Rattle.std.proofs.{lemmas.List.length-set, lemmas.Option.slice_get-get_or, Math.Bool.or-false}
+use Rattle.std.proofs.Common.{◌≡◌, ◌≢◌, ℕ, ◌+◌, ◌<◌, ◌≤◌, Bool, true, false, ◌&&◌, ◌==◌, List, take, get_or, length, refl, sym, ap, ◌∙◌, inl, inr, arith, subst, Some}
+use Rattle.std.proofs.{lemmas.Bool.cases_Bool, lemmas.Bool.cases_eq, lemmas.Bool.eq-eqb, lemmas.Bool.ne_eqb, lemmas.List.length-set, lemmas.Option.slice_get-get_or, Math.Bool.or-false}
 use Rattle.std.specs.List.{slice_get, slice_set}
 use Rattle.spin_base.specs.declared.{blocks.Entry.Entry, chips.Chip.Chip}
 use Rattle.machine_desc.specs.{Description.Description, Live.index_of, Live.IsInside, RightTables.table_at}
 use Rattle.machine_desc.proofs.Far.{index_below}
 use Rattle.range_store.specs.Regions.{in_range}
-use Rattle.app_loads.specs.declared.{loaded.Range.Range, places.Region.TheVariants.Rows}
-use Rattle.app_loads.specs.Regions.{IsRangeWithin, chip_count, range_has, is_taken, place_of, region_size}
-use Rattle.app_loads.specs.Writing.{AreUnused, AreUnusedFrom, CanClear}
-use Rattle.app_loads.proofs.Copying.{IsOfChip, changed_here, same_elsewhere, was_here, none_more, taken_more}
-use Rattle.app_loads.proofs.Settling.{rows_size}
+use Rattle.app_loads.specs.{declared.loaded.Range.Range, declared.places.Region.TheVariants.Rows, Regions.IsRangeWithin, Regions.chip_count, Regions.range_has, Regions.is_taken, Regions.place_of}
+use Rattle.app_loads.specs.{Regions.region_size, Writing.AreUnused, Writing.AreUnusedFrom, Writing.CanClear}
+use Rattle.app_loads.proofs.{Copying.IsOfChip, Copying.changed_here, Copying.same_elsewhere, Copying.was_here, Copying.none_more, Copying.taken_more, Settling.rows_size}
 
 module _ {m : Description} {old cur : List (List Entry)} {ranges : List Range} {i : ℕ} (d : Range) (can : CanClear m old ranges) (below : i < length ranges)
     (so_far : AreUnused m (take i ranges) old cur) where
@@ -28,21 +25,14 @@ module _ {m : Description} {old cur : List (List Entry)} {ranges : List Range} {
   within = can.within i d below
 
   before : (region k : ℕ) → is_taken (take (i + 1) ranges) region k ≡ true → range_has region k range ≡ false → is_taken (take i ranges) region k ≡ true
-  before region k hit not_mine = sym (or-false (is_taken (take i ranges) region k))
-      ∙ (ap (λ b. is_taken (take i ranges) region k || (b || false)) (sym not_mine) ∙ (sym (taken_more ranges i range region k at) ∙ hit))
+  before region k hit not_mine = grind (arith, or-false (is_taken (take i ranges) region k), taken_more ranges i range region k at)
 
   of_other : (region k : ℕ) → range.region ≢ region → range_has region k range ≡ false
   of_other region k other = ap (λ b. b && in_range range.place range.size k) (ne_eqb range.region region other)
 
   -- a range of no table changes nothing
   pub unused_skip : range.region ≤ n → AreUnused m (take (i + 1) ranges) old cur
-  unused_skip none = record {
-    all = so_far.all;
-    long = so_far.long;
-    cleared = λ c k inside small hit. so_far.cleared c k inside small
-        (before (place_of m (Rows c)) k hit (of_other (place_of m (Rows c)) k (λ e. let r : range.region ≡ 1 + (n + index_of m c) = e in absurd (omega (arith, r, none)))));
-    others = λ c k inside free. so_far.others c k inside (none_more ranges i range (place_of m (Rows c)) k at free).0;
-  }
+  unused_skip none = grind (arith, before, none_more, at, of_other)
 
   module _ {c0 : Chip} {j : ℕ} (of : IsOfChip m range.region c0 j) where
     pub table_below : j < n

@@ -1,29 +1,22 @@
 -- Rows put into ranges of entries.
-use Rattle.std.proofs.Common.{◌≡◌, ◌≢◌, ℕ, zero, suc, ◌+◌, ◌<◌, ◌≤◌, true, false, ◌||◌, ◌&&◌, ◌==◌, List, [], ◌∷◌, ◌++◌, take, drop, get_or, length, map, set, refl, sym}
-use Rattle.std.proofs.Common.{ap, ◌∙◌, subst, inl, inr, ◌⊎◌, arith, Some, append_assoc}
-use Rattle.std.proofs.Math.Seq.{drop-cons}
-use Rattle.std.proofs.lemmas.Bool.{cases_eq, cases_lt, eq-eqb, and_from, false_from_ne_true, or_parts}
-use Rattle.std.proofs.Math.ListN.{get_or-map}
-use Rattle.std.proofs.lemmas.List.{length-set, length-append, length-take-le, length-map, length-drop, map-append, set_at, get_or-take, take_all, take_at, drop_at}
-use Rattle.std.proofs.lemmas.List.{Elements.Contains-push_cases, Folds.list_any-append}
-use Rattle.std.proofs.lemmas.Option.{slice_get_within, slice_get-get_or, get_or_from_slice_get, same_Some}
+use Rattle.std.proofs.Common.{◌≡◌, ◌≢◌, ℕ, zero, suc, ◌+◌, ◌<◌, ◌≤◌, true, false, ◌||◌, ◌&&◌, ◌==◌, List, [], ◌∷◌, ◌++◌, take, drop, get_or, length, map, set, refl, sym, ap, ◌∙◌, subst, inl, inr, ◌⊎◌}
+use Rattle.std.proofs.Common.{arith, Some, append_assoc}
+use Rattle.std.proofs.{Math.Seq.drop-cons, lemmas.Bool.cases_eq, lemmas.Bool.cases_lt, lemmas.Bool.eq-eqb, lemmas.Bool.and_from, lemmas.Bool.false_from_ne_true, lemmas.Bool.or_parts}
+use Rattle.std.proofs.{Math.ListN.get_or-map, lemmas.List.length-set, lemmas.List.length-append, lemmas.List.length-take-le, lemmas.List.length-map, lemmas.List.length-drop, lemmas.List.map-append}
+use Rattle.std.proofs.lemmas.{List.set_at, List.get_or-take, List.take_all, List.take_at, List.drop_at, List.Elements.Contains-push_cases, List.Folds.list_any-append, Option.slice_get_within}
+use Rattle.std.proofs.lemmas.Option.{slice_get-get_or, get_or_from_slice_get, same_Some}
 use Rattle.std.specs.List.{AllZip, slice_get, slice_set, Contains}
 use Rattle.key_alloc.proofs.Ranges.{in_from}
-use Rattle.spin_base.proofs.Members.{Contains-at}
-use Rattle.spin_base.proofs.Places.{AllZip-more, slice_get-set_same, slice_get-set_other, take_more_at, map_more_at}
+use Rattle.spin_base.proofs.{Members.Contains-at, Places.AllZip-more, Places.slice_get-set_same, Places.slice_get-set_other, Places.take_more_at, Places.map_more_at}
 use Rattle.spin_base.specs.declared.{blocks.Entry.Entry, chips.Chip.Chip}
 use Rattle.machine_desc.specs.{Description.Description, Live.index_of, Live.IsInside, RightTables.table_at}
 use Rattle.machine_desc.proofs.Far.{index_below}
 use Rattle.range_store.specs.Regions.{in_range}
 use Rattle.range_store.proofs.HolePlaces.{clash}
-use Rattle.tern_word.specs.declared.tables.{Row.Row, Table.Table}
-use Rattle.tern_word.specs.Entries.{entry_of}
-use Rattle.net_tables.specs.declared.marks.Mark.{Mark}
-use Rattle.net_tables.specs.Marks.{IsTableOf, row_of_mark, table_of_sorted}
-use Rattle.app_loads.specs.declared.{loaded.Range.Range, places.Region.Region}
-use Rattle.app_loads.specs.declared.places.Region.TheVariants.{Keys, Memory, Rows}
-use Rattle.app_loads.specs.Regions.{ShareNoPlace, IsRegion, chip_count, range_has, is_taken, place_of}
-use Rattle.app_loads.specs.Writing.{AreCopied, CanCopy, tables_in}
+use Rattle.tern_word.specs.{declared.tables.Row.Row, declared.tables.Table.Table, Entries.entry_of}
+use Rattle.net_tables.specs.{declared.marks.Mark.Mark, Marks.IsTableOf, Marks.row_of_mark, Marks.table_of_sorted}
+use Rattle.app_loads.specs.declared.{loaded.Range.Range, places.Region.Region, places.Region.TheVariants.Keys, places.Region.TheVariants.Memory, places.Region.TheVariants.Rows}
+use Rattle.app_loads.specs.{Regions.ShareNoPlace, Regions.IsRegion, Regions.chip_count, Regions.range_has, Regions.is_taken, Regions.place_of, Writing.AreCopied, Writing.CanCopy, Writing.tables_in}
 
 -- ---- a list with a part written
 
@@ -92,13 +85,7 @@ same_part (x ∷ xs) (y ∷ ys) zero (suc s) long same =
 same_part (x ∷ xs) (y ∷ ys) (suc p) s long same = same_part xs ys p s (omega (arith, long)) (λ k low high. same (suc k) (omega (arith, low)) (omega (arith, high)))
 
 not_in : (p s k : ℕ) → in_range p s k ≡ false → (k < p) ⊎ (p + s ≤ k)
-not_in p s k out = elim (cases_lt k p) [
-  | inl less ↦ inl less
-  | inr more ↦ elim (cases_lt k (p + s)) [
-    | inl inside ↦ clash (in_from p s k more inside) out
-    | inr beyond ↦ inr beyond
-  ]
-]
+not_in p s k out = grind (arith, cases_lt k p, cases_lt k (p + s), clash, in_from)
 
 pub mine_at : (range : Range) (region k : ℕ) → range.region ≡ region → range.place ≤ k → k < range.place + range.size → range_has region k range ≡ true
 mine_at range region k is low high = and_from (range.region == region) (in_range range.place range.size k) (eq-eqb range.region region is) (in_from range.place range.size k low high)
@@ -159,8 +146,7 @@ one_more_in_order lists sorted more marks x rest left so_far is here =
 pub all_in_order : (lists sorted left : List (List Mark)) → left ≡ drop (length sorted) lists → length left ≡ 0 →
     AllZip IsTableOf (take (length sorted) lists) (tables_in sorted) → AllZip IsTableOf lists (tables_in sorted)
 all_in_order lists sorted left is none so_far =
-    let d = length-drop (length sorted) lists in
-    subst (λ (xs : List (List Mark)). AllZip IsTableOf xs (tables_in sorted)) (take_all (length sorted) lists (omega (arith, d, ap length is, none))) so_far
+    grind (arith, length-drop (length sorted) lists, take_all (length sorted) lists (omega (arith, (length-drop (length sorted) lists), ap length is, none)))
 
 -- the rows of a list of original blocks
 pub rows_listed : (marks : List Mark) (lists : List (List Mark)) (j : ℕ) (d : List Mark) → marks ≡ get_or lists j d → (get_or (tables_in lists) j (table_of_sorted d)).rows ≡ map row_of_mark marks
@@ -170,9 +156,7 @@ rows_listed marks lists j d same = ap (λ (t : Table). t.rows) (get_or-map table
 pub put_listed : (table old : List Entry) (first : ℕ) (marks : List Mark) (lists : List (List Mark)) (j : ℕ) (d : List Mark) →
     table ≡ take first old ++ (map entry_of (map row_of_mark marks) ++ drop (first + length marks) old) → marks ≡ get_or lists j d →
     table ≡ take first old ++ (map entry_of (get_or (tables_in lists) j (table_of_sorted d)).rows ++ drop (first + length (get_or (tables_in lists) j (table_of_sorted d)).rows) old)
-put_listed table old first marks lists j d is same =
-    subst (λ (l : List Row). table ≡ take first old ++ (map entry_of l ++ drop (first + length l) old)) (sym (rows_listed marks lists j d same))
-    (is ∙ ap (λ k. take first old ++ (map entry_of (map row_of_mark marks) ++ drop (first + k) old)) (sym (length-map marks row_of_mark)))
+put_listed table old first marks lists j d is same = grind (arith, rows_listed marks lists j d same, length-map marks row_of_mark)
 
 -- a region is the entries of a chip, which has an index
 pub record IsOfChip (m : Description) (region : ℕ) (c : Chip) (j : ℕ) : Type 0 where
@@ -303,11 +287,7 @@ module _ {m : Description} {old cur : List (List Entry)} {rows : List Table} {ra
 
         -- an earlier range is apart from this one
         earlier_apart : (other : Range) → Contains (take i ranges) other → ShareNoPlace other range
-        earlier_apart other has =
-            let less : has.0 < i = (let w = has.1 in let l = length-take-le i ranges (omega (arith, below)) in omega (arith, w, l)) in
-            let same : get_or ranges has.0 other ≡ other = sym (get_or-take i ranges has.0 other less) ∙ has.2 in
-            let here : get_or ranges i other ≡ range = get_or_from_slice_get ranges i range other at in
-            subst (λ (r : Range). ShareNoPlace r range) same (subst (λ (r : Range). ShareNoPlace (get_or ranges has.0 other) r) here (can.apart has.0 i other less below))
+        earlier_apart other has = grind (arith, length-take-le i ranges (omega (arith, below)), get_or_from_slice_get ranges i range other at, get_or ranges has.0 other, get_or-take)
 
         pub copied_more : AreCopied m rows (take (i + 1) ranges) old (slice_set cur j table)
         copied_more = record {

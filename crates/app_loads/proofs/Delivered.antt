@@ -2,17 +2,14 @@
 use Rattle.std.proofs.Common.{◌≡◌, ℕ, ◌≤◌, ◌==◌, ◌&&◌, Bool, true, List, [], length, sym, ap, ◌∙◌, subst, arith, Option, Some, count_by}
 use Rattle.std.proofs.lemmas.{Bool.and_from, Bool.and_parts, Bool.eqb-true, Bool.eq-eqb, List.Sums.length-filter, Option.same_Some}
 use Rattle.std.specs.List.{filter, Contains}
-use Rattle.spin_base.proofs.Counts.{count_by-append, count_by-map}
-use Rattle.spin_base.proofs.Members.{Among, among_contains, among_filter, contains_among, Contains-filter}
+use Rattle.spin_base.proofs.{Counts.count_by-append, Counts.count_by-map, Members.Among, Members.among_contains, Members.among_filter, Members.contains_among, Members.Contains-filter}
 use Rattle.spin_base.specs.declared.{chips.Spot.Spot, copies.McCopy.McCopy, copies.Delivery.Delivery, copies.DumpRec.DumpRec}
-use Rattle.machine_desc.specs.{Description.Description, Branch.Exit, declared.nets.NetPlan.NetPlan}
-use Rattle.machine_desc.specs.{RightTables.IsKeyOf, NetsOn.AreNetsOn, NetsOn.IsWayOn}
-use Rattle.mesh_core.specs.State.{State}
-use Rattle.mesh_core.specs.Trail.{Station, unsent, in_queue, in_hand, at_core, delivered, dumped, Mark, on_trail, is_packet_on_trail, IsUnderWayAt}
-use Rattle.mesh_core.specs.Ledger.{marks_of, unsent_marks, input_marks, all_hand_marks, core_marks, delivered_marks, dumped_marks, Asked, label_of, MeetsLedgerFor}
-use Rattle.mesh_core.proofs.Counting.{count_covered, count_le, counted}
-use Rattle.mesh_core.proofs.ExpectedList.{is_of, is_of_from, is_of_parts}
-use Rattle.mesh_core.proofs.{LedgerLaw.one_net, Moves.mark, Standing.StandsAt, Standing.delivered_mark, Standing.mark_stands, Ways.vertex_at_stands}
+use Rattle.machine_desc.specs.{Description.Description, Branch.Exit, declared.nets.NetPlan.NetPlan, RightTables.IsKeyOf, NetsOn.AreNetsOn, NetsOn.IsWayOn}
+use Rattle.mesh_core.specs.{State.State, Trail.Station, Trail.unsent, Trail.in_queue, Trail.in_hand, Trail.at_core, Trail.delivered, Trail.dumped, Trail.Mark, Trail.on_trail, Trail.is_packet_on_trail}
+use Rattle.mesh_core.specs.{Trail.IsUnderWayAt, Ledger.marks_of, Ledger.unsent_marks, Ledger.input_marks, Ledger.all_hand_marks, Ledger.core_marks, Ledger.delivered_marks, Ledger.dumped_marks}
+use Rattle.mesh_core.specs.Ledger.{Asked, label_of, MeetsLedgerFor}
+use Rattle.mesh_core.proofs.{Counting.count_covered, Counting.count_le, Counting.counted, ExpectedList.is_of, ExpectedList.is_of_from, ExpectedList.is_of_parts, LedgerLaw.one_net, Moves.mark}
+use Rattle.mesh_core.proofs.{Standing.StandsAt, Standing.delivered_mark, Standing.mark_stands, Ways.vertex_at_stands}
 use Rattle.app_loads.proofs.LeavingLists.{after_cores, after_hands, after_inputs, after_unsent}
 
 abbrev mark_of : Delivery → Mark
@@ -68,12 +65,7 @@ module _ (s : State) (nets : List NetPlan) (asked : ℕ → Option Asked) (meets
   one_on_way : (i : ℕ) (a : Asked) → asked i ≡ Some a → (net : NetPlan) → Contains nets net → IsKeyOf net.block a.label.key →
       (target : Spot) (branch : List Exit) (from to : ℕ) → IsWayOn s.setup.machine s.setup.spots net target branch from to →
       count_by (is_packet_on_trail i from to branch) (marks_of s) ≡ 1
-  one_on_way i a is net in_nets key target branch from to way =
-      let k = meets.each_asked i a is in
-      let its : k.0.copy.key ≡ a.label.key =
-      (meets.ledger.labelled k.0 k.1).0 ∙ (ap (λ n. (label_of (asked n)).key) k.2 ∙ ap (λ (o : Option Asked). (label_of o).key) is) in
-      ap (λ n. count_by (is_packet_on_trail n from to branch) (marks_of s)) (sym k.2)
-      ∙ meets.ledger.once_on_each k.0 k.1 net in_nets (subst (λ n. IsKeyOf net.block n) (sym its) key) target branch from to way
+  one_on_way i a is net in_nets key target branch from to way = grind (arith, count_by)
 
 -- that each target has one way
 abbrev pub HasOneWay : Type 0
@@ -89,15 +81,11 @@ module _ (one_way : HasOneWay) (s t : State) (nets : List NetPlan) (asked : ℕ 
 
   there : (net : NetPlan) (target : Spot) (branch : List Exit) (from to : ℕ) → IsWayOn s.setup.machine s.setup.spots net target branch from to →
       IsWayOn t.setup.machine t.setup.spots net target branch from to
-  there net target branch from to way =
-      subst (λ (l : List Spot). IsWayOn t.setup.machine l net target branch from to) spots
-      (subst (λ (m : Description). IsWayOn m s.setup.spots net target branch from to) machine way)
+  there net target branch from to way = grind arith
 
   back : (net : NetPlan) (target : Spot) (branch : List Exit) (from to : ℕ) → IsWayOn t.setup.machine t.setup.spots net target branch from to →
       IsWayOn s.setup.machine s.setup.spots net target branch from to
-  back net target branch from to way =
-      subst (λ (m : Description). IsWayOn m s.setup.spots net target branch from to) (sym machine)
-      (subst (λ (l : List Spot). IsWayOn t.setup.machine l net target branch from to) (sym spots) way)
+  back net target branch from to way = grind arith
 
   -- a delivery on the other mesh, of the same packet at the same vertex
   abbrev IsMatched : Delivery → Type 0

@@ -2,22 +2,17 @@
 -- them.
 use Rattle.std.proofs.Common.{◌≡◌, ℕ, ◌/◌, ◌%◌, ◌&&◌, Bool, true, false, List, [], ◌∷◌, ◌++◌, count_by, refl, sym, ap, ◌∙◌, subst, arith, Option, None, Some, if◌then◌else◌, not}
 use Rattle.std.proofs.lemmas.{Bool.eq-eqb, List.append_assoc, List.append-nil, List.Elements.Contains-append_left, Option.same_Some}
-use Rattle.std.specs.Prelude.{unwrap_or, slice_set}
-use Rattle.std.specs.List.{slice_get, Contains}
-use Rattle.spin_base.proofs.Counts.{count_by-append}
-use Rattle.spin_base.proofs.Gathering.{among_gathered, gathered_of_none}
-use Rattle.spin_base.proofs.Members.{among_map, contains_among}
-use Rattle.spin_base.specs.declared.chips.{Chip.Chip, Spot.Spot, Port.Port, Port.TheVariants.Local}
-use Rattle.spin_base.specs.declared.copies.{Delivery.Delivery, Event.Event}
-use Rattle.spin_base.specs.declared.copies.Event.TheVariants.{Inject, Take, Send, Dump, Collect}
-use Rattle.spin_base.specs.declared.{copies.McCopy.McCopy, routes.Out.Out}
+use Rattle.std.specs.{Prelude.unwrap_or, List.slice_get, List.Contains}
+use Rattle.spin_base.proofs.{Counts.count_by-append, Gathering.among_gathered, Gathering.gathered_of_none, Members.among_map, Members.contains_among}
+use Rattle.spin_base.specs.declared.{chips.Chip.Chip, chips.Spot.Spot, chips.Port.Port, copies.Delivery.Delivery, copies.Event.Event, copies.Event.TheVariants.Inject, copies.Event.TheVariants.Take}
+use Rattle.spin_base.specs.declared.{copies.Event.TheVariants.Send, copies.Event.TheVariants.Dump, copies.Event.TheVariants.Collect, copies.McCopy.McCopy, routes.Out.Out}
 use Rattle.spin_base.specs.Hops.{onward}
 use Rattle.machine_desc.specs.{Branch.Exit, Live.chip_of, Live.index_of, NetsOn.vertex_at, declared.nets.NetPlan.NetPlan}
-use Rattle.mesh_core.specs.Expected.{NothingWaits}
-use Rattle.mesh_core.specs.Ledger.{Label, MeetsLedger, all_hand_marks, core_marks, delivered_marks, dumped_marks, hand_marks, input_marks, marks_at, marks_of, port_of, unsent_marks}
-use Rattle.mesh_core.specs.State.{State, Hand, IsMesh, Queue, behind, input, core, nowhere, queue_at}
-use Rattle.mesh_core.specs.Step.{after_event, after_events, after_serving, collect_of, dump_of, has_room_behind, inject_of, push_behind, send_of, serves, step_of, take_of}
-use Rattle.mesh_core.specs.Trail.{Mark, Station, in_queue, at_core, is_packet_on_trail, on_trail, unsent}
+use Rattle.mesh_core.specs.{Expected.NothingWaits, Ledger.Label, Ledger.MeetsLedger, Ledger.all_hand_marks, Ledger.core_marks, Ledger.delivered_marks, Ledger.dumped_marks, Ledger.hand_marks}
+use Rattle.mesh_core.specs.{Ledger.input_marks, Ledger.marks_at, Ledger.marks_of, Ledger.port_of, Ledger.unsent_marks, State.State, State.Hand, State.IsMesh, State.Queue, State.behind, State.input}
+use Rattle.mesh_core.specs.{State.core, State.nowhere, State.queue_at, Step.after_event, Step.after_events, Step.after_serving, Step.collect_of, Step.dump_of, Step.has_room_behind, Step.inject_of}
+use Rattle.mesh_core.specs.{Step.push_behind, Step.send_of, Step.serves, Step.step_of, Step.take_of, Trail.Mark, Trail.Station, Trail.in_queue, Trail.at_core, Trail.is_packet_on_trail, Trail.on_trail}
+use Rattle.mesh_core.specs.Trail.{unsent}
 use Rattle.mesh_core.proofs.{Counting.count_some, LedgerLaw.one_net}
 use Rattle.mesh_drain.specs.Draining.{IsReachedDropless, MeetsSomeLedger}
 use Rattle.app_loads.specs.Earlier.{with_earlier}
@@ -47,9 +42,7 @@ module _ (ds : List Delivery) where
   roomy s nowhere = refl
 
   injected : (s : State) (v : ℕ) (spot : Option Spot) (q : Option (List McCopy)) → inject_of (we s) v spot q ≡ later (inject_of s v spot q)
-  injected s v (Some spot) (Some (k ∷ rest)) =
-      chosen (has_room_behind s (input (queue_at s.setup.machine spot.chip Local))) _
-      (push_behind (record s { unsent = slice_set s.unsent v rest }) (input (queue_at s.setup.machine spot.chip Local)) k) refl
+  injected s v (Some spot) (Some (k ∷ rest)) = grind (arith, chosen)
   injected s v (Some spot) (Some []) = refl
   injected s v (Some spot) None = refl
   injected s v None q = refl
@@ -80,8 +73,7 @@ module _ (ds : List Delivery) where
   dropped s c o None = refl
 
   collected : (s : State) (v : ℕ) (q : Option (List McCopy)) → collect_of (we s) v q ≡ later (collect_of s v q)
-  collected s v (Some (k ∷ rest)) =
-      ap (λ (l : List Delivery). Some (record s { cores = slice_set s.cores v rest; delivered = l })) (append_assoc ds s.delivered (record { vertex = v; copy = k } ∷ []))
+  collected s v (Some (k ∷ rest)) = grind (arith, append_assoc ds s.delivered (record { vertex = v; copy = k } ∷ []))
   collected s v (Some []) = refl
   collected s v None = refl
 
@@ -138,8 +130,7 @@ module _ (ds : List Delivery) (s : State) (nets : List NetPlan) (labels : ℕ �
 
   -- what is unsent has every trail of its net before it
   each_trail : (from to hop : ℕ) (other : ℕ) (branch also : List Exit) (v : ℕ) (st : Station) → st ≡ unsent v → on_trail from to branch hop st ≡ on_trail from other also hop st
-  each_trail from to hop other branch also v st is =
-      subst (λ x. on_trail from to branch hop x ≡ on_trail from other also hop x) (sym is) refl
+  each_trail from to hop other branch also v st is = grind arith
 
   pub own_ledger : MeetsLedger s nets labels
   own_ledger = record {
@@ -164,5 +155,4 @@ module _ (ds : List Delivery) (s : State) (nets : List NetPlan) (labels : ℕ �
 
 -- where no copy waits, and none was delivered or dropped but earlier, a mesh meets a ledger without the earlier deliveries
 pub kept_without : (ds : List Delivery) (s : State) → MeetsSomeLedger (with_earlier ds s) → IsMesh s → NothingWaits s → s.delivered ≡ [] → s.dumped ≡ [] → MeetsSomeLedger s
-kept_without ds s kept mesh quiet delivered dumped =
-    record { mesh = mesh; nets = kept.nets; labels = kept.labels; right = kept.right; ledger = own_ledger ds s kept.nets kept.labels kept.ledger quiet delivered dumped }
+kept_without ds s kept mesh quiet delivered dumped = grind (arith, own_ledger ds s kept.nets kept.labels kept.ledger quiet delivered dumped)

@@ -4,13 +4,9 @@ use Rattle.std.proofs.lemmas.{List.length-append, List.FromFn.length-range_with_
 use Rattle.std.specs.{Prelude.zip, List.flat_map, List.range_with_len}
 use Rattle.spin_base.specs.{Gathered.gathered, declared.blocks.Block.Block}
 use Rattle.machine_desc.specs.{Description.Description, Description.HasSize, Live.chip_of}
-use Rattle.app_loads.specs.declared.answers.LoadRefusal.TheVariants.{MemoryOut, RowsOut}
-use Rattle.app_loads.specs.declared.{loaded.Claim.Claim, loaded.LoadedApp.LoadedApp, plans.AppNet.AppNet, plans.AppPlan.AppPlan}
-use Rattle.app_loads.specs.Applications.{IsLoadedOn, IsRangeFor}
-use Rattle.app_loads.specs.Claims.{claims_of, fixed_claim, has_chip, key_claim, memory_claim, row_claim}
-use Rattle.app_loads.specs.Plans.{IsPlan}
-use Rattle.app_loads.specs.declared.places.Region.TheVariants.{Memory, Rows}
-use Rattle.app_loads.specs.Regions.{chip_count}
+use Rattle.app_loads.specs.declared.{answers.LoadRefusal.TheVariants.MemoryOut, answers.LoadRefusal.TheVariants.RowsOut, loaded.Claim.Claim, loaded.LoadedApp.LoadedApp, plans.AppNet.AppNet}
+use Rattle.app_loads.specs.{declared.plans.AppPlan.AppPlan, Applications.IsLoadedOn, Applications.IsRangeFor, Claims.claims_of, Claims.fixed_claim, Claims.has_chip, Claims.key_claim}
+use Rattle.app_loads.specs.{Claims.memory_claim, Claims.row_claim, Plans.IsPlan, declared.places.Region.TheVariants.Memory, declared.places.Region.TheVariants.Rows, Regions.chip_count}
 use Rattle.app_loads.proofs.FewSpots.{few_spots}
 
 one_unless : (b : Bool) (claim : Claim) → length (if b then [] else claim ∷ []) ≤ 1
@@ -27,13 +23,11 @@ one_of_keys j keys None = omega arith
 
 few_gathered : {X : Type 0} (f : ℕ → X → List Claim) → ((j : ℕ) (x : X) → length (f j x) ≤ 1) → (i : ℕ) (xs : List X) → length (gathered f i xs) ≤ length xs
 few_gathered f one i [] = omega arith
-few_gathered f one i (x ∷ xs) =
-    omega (arith, length-append (f i x) (gathered f (i + 1) xs), one i x, few_gathered f one (i + 1) xs)
+few_gathered f one i (x ∷ xs) = grind (arith, length-append (f i x) (gathered f (i + 1) xs), few_gathered f one (i + 1) xs)
 
 few_mapped : {X : Type 0} (f : X → List Claim) → ((x : X) → length (f x) ≤ 1) → (xs : List X) → length (flat_map f xs) ≤ length xs
 few_mapped f one [] = omega arith
-few_mapped f one (x ∷ xs) =
-    omega (arith, length-append (f x) (flat_map f xs), one x, few_mapped f one xs)
+few_mapped f one (x ∷ xs) = grind (arith, length-append (f x) (flat_map f xs), few_mapped f one xs)
 
 module _ (m : Description) (size : HasSize m) (plan : AppPlan) (valid : IsPlan m plan) where
   pub few_claims : length (claims_of m plan) ≤ 262144
@@ -59,6 +53,4 @@ module _ (m : Description) (size : HasSize m) (plan : AppPlan) (valid : IsPlan m
 
 -- an application has as few
 pub few_ranges : (m : Description) → HasSize m → (app : LoadedApp) → IsLoadedOn m app → length app.ranges ≤ 262144
-few_ranges m size app is =
-    let same = AllZip-long (IsRangeFor m) (claims_of m app.plan) app.ranges is.ranges in
-    omega (arith, same, few_claims m size app.plan is.plan)
+few_ranges m size app is = grind (arith, AllZip-long (IsRangeFor m) (claims_of m app.plan) app.ranges is.ranges, few_claims m size app.plan is.plan)

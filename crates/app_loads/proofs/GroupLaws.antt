@@ -1,19 +1,16 @@
 -- Deliveries held in groups.
-use Rattle.std.proofs.Common.{◌≡◌, ◌≢◌, ℕ, zero, suc, ◌+◌, ◌-◌, ◌<◌, ◌≤◌, Bool, true, false, not, ◌&&◌, ◌||◌, List, [], ◌∷◌, ◌++◌, drop, take, length, refl, sym, ap}
-use Rattle.std.proofs.Common.{◌∙◌, subst, arith, cond, inl, inr, leb, ltb, Some, Result, Ok, Err, IfOk, OnErr}
+use Rattle.std.proofs.Common.{◌≡◌, ◌≢◌, ℕ, zero, suc, ◌+◌, ◌-◌, ◌<◌, ◌≤◌, Bool, true, false, not, ◌&&◌, ◌||◌, List, [], ◌∷◌, ◌++◌, drop, take, length, refl, sym, ap, ◌∙◌, subst, arith, cond, inl, inr}
+use Rattle.std.proofs.Common.{leb, ltb, Some, Result, Ok, Err, IfOk, OnErr}
 use Rattle.std.proofs.lemmas.Bool.{and_from, and_parts, cases_Bool, cases_lt, false≢true, le-leb, leb-true, lt-ltb, ltb-true, not-false, not-true, or_parts}
-use Rattle.std.proofs.lemmas.Grind.{flat_map-append}
-use Rattle.std.proofs.lemmas.List.{append_assoc, append-nil, drop_at, length-append, length-map, length-set, set-get_or, take_all}
-use Rattle.std.proofs.lemmas.List.Elements.{All-head, All-map, All-tail, All-weaker, filter-append}
-use Rattle.std.proofs.lemmas.List.Filters.{length-filter_both}
+use Rattle.std.proofs.lemmas.{Grind.flat_map-append, List.append_assoc, List.append-nil, List.drop_at, List.length-append, List.length-map, List.length-set, List.set-get_or, List.take_all}
+use Rattle.std.proofs.lemmas.List.{Elements.All-head, Elements.All-map, Elements.All-tail, Elements.All-weaker, Elements.filter-append, Filters.length-filter_both}
 use Rattle.std.proofs.lemmas.Option.{same_Some, slice_get-get_or, slice_get_within}
 use Rattle.std.specs.List.{All, filter, list_any, slice_get, slice_index_or, slice_set}
 use Rattle.spin_base.proofs.{Pairs.All-flat_map, Places.take_more_at}
 use Rattle.spin_base.specs.declared.copies.{Delivery.Delivery, McCopy.McCopy}
-use Rattle.app_loads.specs.declared.{arrivals.Arrival.Arrival, group.Group.TheInside.Inside, group.Sent.Sent, loaded.LoadedApp.LoadedApp}
-use Rattle.app_loads.specs.Grouping.{Grouped, HasPut, all_grouped, is_mixed_group, is_others_group, is_own_group}
-use Rattle.app_loads.specs.Groups.{EndsWith, IsBetween, IsGroup, deliveries_at, deliveries_in, delivery_of, grouped_of, last_arrivals, sent_of}
-use Rattle.app_loads.specs.Leaving.{is_delivery_of, is_packet_of}
+use Rattle.app_loads.specs.{declared.arrivals.Arrival.Arrival, declared.group.Group.TheInside.Inside, declared.group.Sent.Sent, declared.loaded.LoadedApp.LoadedApp, Grouping.Grouped, Grouping.HasPut}
+use Rattle.app_loads.specs.{Grouping.all_grouped, Grouping.is_mixed_group, Grouping.is_others_group, Grouping.is_own_group, Groups.EndsWith, Groups.IsBetween, Groups.IsGroup, Groups.deliveries_at}
+use Rattle.app_loads.specs.{Groups.deliveries_in, Groups.delivery_of, Groups.grouped_of, Groups.last_arrivals, Groups.sent_of, Leaving.is_delivery_of, Leaving.is_packet_of}
 
 -- ---- one group
 
@@ -90,13 +87,10 @@ rest_is p own all is = subst (λ (gs : List Grouped). own ++ filter p (all_group
 pub put_last : (b : Bool) (gs : List Grouped) (n : ℕ) (g new : Grouped) (more : List Delivery) → slice_get gs n ≡ Some g → length gs ≡ n + 1 → HasPut b g.deliveries more new.deliveries →
     HasPut b (all_grouped gs) more (all_grouped (slice_set gs n new))
 put_last b [] n g new more at long put = absurd (omega (arith, long))
-put_last true (h ∷ []) zero g new more at long put =
-    let same : h ≡ g = same_Some h g at in
-    ap (λ l. l ++ []) put ∙ (append-nil (g.deliveries ++ more) ∙ ap (λ l. l ++ more) (sym (append-nil g.deliveries) ∙ ap (λ (x : Grouped). x.deliveries ++ []) (sym same)))
+put_last true (h ∷ []) zero g new more at long put = grind (arith, same_Some h g at, append-nil (g.deliveries ++ more), append-nil g.deliveries)
 put_last false (h ∷ []) zero g new more at long put = ap (λ l. l ++ []) (put ∙ ap (λ (x : Grouped). x.deliveries) (sym (same_Some h g at)))
 put_last b (h ∷ k ∷ gs) zero g new more at long put = absurd (omega (arith, long))
-put_last true (h ∷ gs) (suc n) g new more at long put =
-    ap (λ l. h.deliveries ++ l) (put_last true gs n g new more at (omega (arith, long)) put) ∙ sym (append_assoc h.deliveries (all_grouped gs) more)
+put_last true (h ∷ gs) (suc n) g new more at long put = grind (arith, put_last true gs n g new more at (omega (arith, long)) put, append_assoc h.deliveries (all_grouped gs) more)
 put_last false (h ∷ gs) (suc n) g new more at long put = ap (λ l. h.deliveries ++ l) (put_last false gs n g new more at (omega (arith, long)) put)
 
 -- the deliveries of a group at the back come last
@@ -149,8 +143,7 @@ last_same_if (Err e) gs count g new long some value same = last_put false gs cou
 
 -- what passes of a group is put behind what was put before
 pub put_group : (p : Delivery → Bool) (own g rest all put : List Delivery) → own ++ filter p (g ++ rest) ≡ filter p all → put ≡ own ++ filter p g → put ++ filter p rest ≡ filter p all
-put_group p own g rest all put is put_is =
-    ap (λ l. l ++ filter p rest) put_is ∙ (append_assoc own (filter p g) (filter p rest) ∙ (ap (λ l. own ++ l) (sym (filter-append p g rest)) ∙ is))
+put_group p own g rest all put is put_is = grind (arith, append_assoc own (filter p g) (filter p rest), filter-append p g rest)
 
 -- there is still room for the rest
 pub room_still : (gs rest : List Grouped) (g : Grouped) (n put cap kept : ℕ) → gs ≡ g ∷ rest → n + length gs ≤ cap → put ≤ n + 1 → kept ≡ cap → put + length rest ≤ kept
@@ -169,23 +162,15 @@ module _ (p : Delivery → Bool) (all own others : List Delivery) (count left : 
 
   -- of a group that is left, no more pass than are left
   pub few_more : (g rest : List Delivery) (n : ℕ) → own ++ filter p (g ++ rest) ≡ filter p all → n ≡ length (filter p g) → n ≤ left
-  few_more g rest n own_is n_is =
-      let split = length-append own (filter p (g ++ rest)) in
-      let parts = ap length (filter-append p g rest) in
-      omega (arith, counted, so_far, ap length own_is, split, parts, length-append (filter p g) (filter p rest), both, n_is)
+  few_more g rest n own_is n_is = grind (arith, length-append own (filter p (g ++ rest)), filter-append p g rest, length-append (filter p g) (filter p rest), both)
 
   -- and when it is put, the rest are still counted
   pub still_counted : (g rest put : List Delivery) (n : ℕ) → own ++ filter p (g ++ rest) ≡ filter p all → put ≡ own ++ filter p g → n ≡ length (filter p g) → (left - n) + length put ≡ count
-  still_counted g rest put n own_is put_is n_is =
-      let sum = ap length put_is ∙ length-append own (filter p g) in
-      omega (arith, so_far, few_more g rest n own_is n_is, sum, n_is)
+  still_counted g rest put n own_is put_is n_is = grind (arith, length-append own (filter p g), few_more g rest n own_is n_is)
 
   -- at the end those that are left are the others
   pub left_others : own ++ [] ≡ filter p all → others ++ [] ≡ filter q all → left ≡ length others
-  left_others own_is others_are =
-      let a = ap length (sym (append-nil own) ∙ own_is) in
-      let b = ap length (sym (append-nil others) ∙ others_are) in
-      omega (arith, counted, so_far, a, b, both)
+  left_others own_is others_are = grind (arith, append-nil own, append-nil others, both)
 
 -- ---- the last group
 
@@ -193,14 +178,10 @@ module _ (p : Delivery → Bool) (all own others : List Delivery) (count left : 
 last_split : (gs : List Grouped) (n : ℕ) (g : Grouped) → slice_get gs n ≡ Some g → length gs ≡ n + 1 →
     (front : List Delivery) × (all_grouped gs ≡ front ++ g.deliveries) × (last_arrivals gs ≡ g.arrivals)
 last_split [] n g at long = absurd (omega (arith, long))
-last_split (h ∷ []) zero g at long =
-    let same : h ≡ g = same_Some h g at in
-    ([], append-nil h.deliveries ∙ ap (λ (x : Grouped). x.deliveries) same, ap (λ (x : Grouped). x.arrivals) same)
+last_split (h ∷ []) zero g at long = grind (arith, same_Some h g at, append-nil h.deliveries)
 last_split (h ∷ []) (suc n) g at long = absurd (omega (arith, long))
 last_split (h ∷ k ∷ gs) zero g at long = absurd (omega (arith, long))
-last_split (h ∷ k ∷ gs) (suc n) g at long =
-    let rest = last_split (k ∷ gs) n g at (omega (arith, long)) in
-    (h.deliveries ++ rest.0, ap (λ l. h.deliveries ++ l) rest.1 ∙ sym (append_assoc h.deliveries rest.0 g.deliveries), rest.2)
+last_split (h ∷ k ∷ gs) (suc n) g at long = grind (arith, last_split (k ∷ gs) n g at (omega (arith, long)), append_assoc h.deliveries (last_split (k ∷ gs) n g at (omega (arith, long))).0 g.deliveries)
 
 last_more : (h : Grouped) (gs : List Grouped) → gs ≢ [] → last_arrivals (h ∷ gs) ≡ last_arrivals gs
 last_more h [] some = absurd (some refl)
@@ -211,8 +192,7 @@ last_set [] n new long = absurd (omega (arith, long))
 last_set (h ∷ []) zero new long = refl
 last_set (h ∷ []) (suc n) new long = absurd (omega (arith, long))
 last_set (h ∷ k ∷ gs) zero new long = absurd (omega (arith, long))
-last_set (h ∷ k ∷ gs) (suc n) new long =
-    last_more h (slice_set (k ∷ gs) n new) (λ none. let a = length-set (k ∷ gs) n new in let b = ap length none in omega (arith, a, b)) ∙ last_set (k ∷ gs) n new (omega (arith, long))
+last_set (h ∷ k ∷ gs) (suc n) new long = grind (arith, last_set (k ∷ gs) n new (omega (arith, long)), length-set (k ∷ gs) n new, last_more)
 
 module _ (gs : List Grouped) (count : ℕ) (g : Grouped) (long : count ≡ length gs) (some : count ≢ 0) (value : g ≡ slice_index_or gs (count - 1) g) where
   last_there : slice_get gs (count - 1) ≡ Some g
@@ -244,8 +224,7 @@ module _ (gs : List Grouped) (count : ℕ) (g : Grouped) (long : count ≡ lengt
   pub counted_again : (new : Grouped) (p : Sent) (all width more : ℕ) → new.deliveries ≡ g.deliveries ++ deliveries_at g.arrivals p → all ≡ length (all_grouped gs) → width ≡ length g.arrivals →
       more ≡ all + width → more ≡ length (all_grouped (slice_set gs (count - 1) new))
   counted_again new p all width more put total wide sum =
-      let is = ap length (last_put true gs count g new (deliveries_at g.arrivals p) long some value put) ∙ length-append (all_grouped gs) (deliveries_at g.arrivals p) in
-      omega (arith, is, length-map g.arrivals (delivery_of p), total, wide, sum)
+      grind (arith, last_put true gs count g new (deliveries_at g.arrivals p) long some value put, length-append (all_grouped gs) (deliveries_at g.arrivals p), length-map g.arrivals (delivery_of p))
 
   pub same_item : (h : Grouped) → h ≡ slice_index_or gs (count - 1) h → h ≡ g
   same_item h is = same_Some h g (sym (slice_get-get_or gs (count - 1) h (omega (arith, long, some)) ∙ ap Some (sym is)) ∙ last_there)
@@ -271,9 +250,7 @@ module _ (gs new : List Grouped) (g : Grouped) (p : Sent) (arrivals : List Arriv
 
   pub put_counted : (all width more : ℕ) → g.deliveries ≡ deliveries_at arrivals p → all ≡ length (all_grouped gs) → width ≡ length arrivals →
       more ≡ all + width → more ≡ length (all_grouped new)
-  put_counted all width more own total wide sum =
-      let long = ap length (put_back own) ∙ length-append (all_grouped gs) (deliveries_at arrivals p) in
-      omega (arith, long, length-map arrivals (delivery_of p), total, wide, sum)
+  put_counted all width more own total wide sum = grind (arith, put_back own, length-append (all_grouped gs) (deliveries_at arrivals p), length-map arrivals (delivery_of p))
 
   pub put_last_arrivals : g.arrivals ≡ arrivals → last_arrivals new ≡ arrivals
   put_last_arrivals own = ap last_arrivals is ∙ (last_pushed gs g ∙ own)

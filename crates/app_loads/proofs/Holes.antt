@@ -1,8 +1,7 @@
 -- The free places of a region tell its holes.
 use Rattle.std.proofs.Common.{◌≡◌, ℕ, ◌+◌, ◌<◌, ◌≤◌, true, false, List, [], ◌∷◌, refl, sym, ap, ◌∙◌, subst, inl, inr, arith}
 use Rattle.std.proofs.lemmas.Bool.{cases_lt, false_from_ne_true, or_cases, or_left, or_right}
-use Rattle.range_store.specs.declared.holes.Hole.{Hole}
-use Rattle.range_store.specs.Regions.{AreRuns, has_range, is_free, hole_end}
+use Rattle.range_store.specs.{declared.holes.Hole.Hole, Regions.AreRuns, Regions.has_range, Regions.is_free, Regions.hole_end}
 use Rattle.range_store.proofs.HolePlaces.{clash, has_facts, has_from, free_within}
 use Rattle.app_loads.proofs.Others.{same_tests}
 
@@ -11,27 +10,16 @@ first_free : (h : Hole) (hs : List Hole) → 0 < h.len → is_free (h ∷ hs) h.
 first_free h hs some = or_left (has_range h.place 1 h) (is_free hs h.place) (has_from h.place 1 h (omega arith) (omega (arith, some)))
 
 from_first : (from n : ℕ) (h : Hole) (hs : List Hole) (k : ℕ) → AreRuns from n (h ∷ hs) → is_free (h ∷ hs) k ≡ true → h.place ≤ k
-from_first from n h hs k runs e = elim (or_cases (has_range k 1 h) (is_free hs k) e) [
-  | inl here ↦ (let f = has_facts k 1 h here in f.0)
-  | inr later ↦ (let f = free_within (hole_end h + 1) n hs k runs.3 later in omega (arith, f.0, runs.1))
-]
+from_first from n h hs k runs e = grind (arith, or_cases (has_range k 1 h) (is_free hs k) e, has_facts, free_within)
 
 -- the place after the first hole is not free
 end_taken : (from n : ℕ) (h : Hole) (hs : List Hole) → AreRuns from n (h ∷ hs) → is_free (h ∷ hs) (hole_end h) ≡ false
-end_taken from n h hs runs = false_from_ne_true (is_free (h ∷ hs) (hole_end h)) (λ free. elim (or_cases (has_range (hole_end h) 1 h) (is_free hs (hole_end h)) free) [
-  | inl mine ↦ (let g = has_facts (hole_end h) 1 h mine in omega (arith, g.1))
-  | inr next ↦ (let g = free_within (hole_end h + 1) n hs (hole_end h) runs.3 next in omega (arith, g.0))
-])
+end_taken from n h hs runs = grind (arith, false_from_ne_true, or_cases, has_facts, free_within)
 
 -- one hole ends no later than the other, where the free places are the same
 ends_by : (from n : ℕ) (g h : Hole) (gs hs : List Hole) → AreRuns from n (g ∷ gs) → AreRuns from n (h ∷ hs) → g.place ≡ h.place →
     ((k : ℕ) → is_free (g ∷ gs) k ≡ is_free (h ∷ hs) k) → hole_end h ≤ hole_end g
-ends_by from n g h gs hs runs also place same = elim (cases_lt (hole_end g) (hole_end h)) [
-  | inl before ↦
-      let free : is_free (h ∷ hs) (hole_end g) ≡ true = or_left (has_range (hole_end g) 1 h) (is_free hs (hole_end g)) (has_from (hole_end g) 1 h (omega (arith, place)) (omega (arith, before))) in
-      clash free (sym (same (hole_end g)) ∙ end_taken from n g gs runs)
-  | inr after ↦ after
-]
+ends_by from n g h gs hs runs also place same = grind (arith, cases_lt (hole_end g) (hole_end h), end_taken from n g gs runs, or_left, clash, has_from)
 
 same_fields : (a b c d : ℕ) → a ≡ c → b ≡ d → (let x : Hole = record { place = a; len = b } in let y : Hole = record { place = c; len = d } in x ≡ y)
 same_fields a b c d p l = cc

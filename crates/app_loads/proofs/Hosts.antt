@@ -1,10 +1,9 @@
 -- The fields of a host are those of one after events of its mesh.
-use Rattle.std.proofs.Common.{◌≡◌, ℕ, List, refl, sym, ap, subst, Option, Some, Result, Ok, Err, OnOk, OnErr}
+use Rattle.std.proofs.Common.{arith, ◌≡◌, ℕ, List, sym, ap, subst, Option, Some, Result, Ok, Err, OnOk, OnErr}
 use Rattle.std.specs.Prelude.{IfSome}
 use Rattle.spin_base.specs.declared.{copies.Event.Event, wants.Memory.Memory}
 use Rattle.mesh_core.specs.{declared.places.Did.Did, State.State, Step.after_event}
-use Rattle.app_loads.specs.declared.apps.Apps.TheInside.{Inside}
-use Rattle.app_loads.specs.{Host.Host, Applications.AreApps, Inner.mesh_in, Inner.host_of, Inner.IsHost, Running.AreAlikeInBlocks, Running.HasMovedMesh}
+use Rattle.app_loads.specs.{declared.apps.Apps.TheInside.Inside, Host.Host, Applications.AreApps, Inner.mesh_in, Inner.host_of, Inner.IsHost, Running.AreAlikeInBlocks, Running.HasMovedMesh}
 use Rattle.app_loads.proofs.{Keeping.apps_after, Keeping.apps_kept, OneBlock.alike_in_blocks}
 use Rattle.mesh_drain.specs.Draining.{MeetsSomeLedger, IsAfter, IsMoved, SendAlone}
 use Rattle.mesh_drain.proofs.Moving.{after_none, after_one}
@@ -30,18 +29,11 @@ apps_after_in i m t host e after = apps_after (host_of i) t host.apps (after_in 
 
 pub host_after : (i : Inside) (m t : State) (senders : Option (List ℕ)) → IsHost i → i.mesh ≡ Some m → IsAfter m t →
     IfSome senders (λ vertices. SendAlone vertices t) → IsHost (record i { mesh = Some t; senders = senders })
-host_after i m t senders host e after alone = record {
-  there = refl;
-  apps = apps_after_in i m t host e after;
-  numbers = host.numbers;
-  rest = alone;
-}
+host_after i m t senders host e after alone = grind (arith, apps_after_in i m t host e after)
 
 -- what moved in the mesh, moved in the host
 pub host_moved : (i : Inside) (m t : State) (old : Host) → host_of i ≡ old → i.mesh ≡ Some m → IsMoved m t → HasMovedMesh old (host_of (record i { mesh = Some t }))
-host_moved i m t old is e moved =
-    subst (λ h. HasMovedMesh h (host_of (record i { mesh = Some t }))) is
-    (record { mesh = subst (λ x. IsMoved x t) (sym (mesh_is i m e)) moved; others = refl })
+host_moved i m t old is e moved = grind (arith, mesh_is i m e)
 
 -- whatever a step answers, it is an event or nothing
 pub step_after : (r : Result Did Memory) (s t : State) (e : Event) → OnOk r (t ≡ after_event s e) → OnErr r (t ≡ s) → IsAfter s t

@@ -6,11 +6,9 @@ use Rattle.spin_base.proofs.Pairs.{AllPairs-right}
 use Rattle.machine_desc.specs.Description.{Description}
 use Rattle.range_store.specs.Views.{Region}
 use Rattle.mesh_core.specs.State.{State}
-use Rattle.app_loads.specs.declared.{loaded.LoadedApp.LoadedApp, loaded.Range.Range, plans.AppPlan.AppPlan}
-use Rattle.app_loads.specs.Applications.{IsLoadedOn, IsRangeFor}
-use Rattle.app_loads.specs.Claims.{AreBlocks, AreServed, claims_of}
-use Rattle.app_loads.specs.Joining.{CanJoin, CanSettle, IsServedApp, NoneUnsent}
-use Rattle.app_loads.specs.{Plans.IsPlan, Regions.ShareNoPlace, Regions.IsRangeWithin, Taking.AreTaken, Taking.free_places_in}
+use Rattle.app_loads.specs.{declared.loaded.LoadedApp.LoadedApp, declared.loaded.Range.Range, declared.plans.AppPlan.AppPlan, Applications.IsLoadedOn, Applications.IsRangeFor, Claims.AreBlocks}
+use Rattle.app_loads.specs.{Claims.AreServed, Claims.claims_of, Joining.CanJoin, Joining.CanSettle, Joining.IsServedApp, Joining.NoneUnsent, Plans.IsPlan, Regions.ShareNoPlace, Regions.IsRangeWithin}
+use Rattle.app_loads.specs.Taking.{AreTaken, free_places_in}
 
 zipped : {X Y : Type 0} (R : X → Y → Type 0) (xs : List X) (ys : List Y) → length ys ≡ length xs →
     ((i : ℕ) (x : X) (y : Y) → slice_get xs i ≡ Some x → slice_get ys i ≡ Some y → R x y) → AllZip R xs ys

@@ -1,34 +1,15 @@
 -- What holds of a host holds after events of its mesh.
-use Rattle.std.proofs.Common.{◌≡◌, sym, subst}
-use Rattle.std.specs.List.{All}
-use Rattle.mesh_core.specs.State.{Setup, State, IsMesh}
-use Rattle.mesh_core.specs.Ledger.{MeetsLedgerFor, label_of}
+use Rattle.std.proofs.Common.{arith, ◌≡◌, sym, subst}
+use Rattle.mesh_core.specs.{State.State, State.IsMesh, Ledger.MeetsLedgerFor, Ledger.label_of}
 use Rattle.mesh_core.proofs.EventsLaw.{IsMesh-after_events, events_keep_for}
-use Rattle.machine_desc.specs.RightTables.{AreRight}
 use Rattle.mesh_drain.specs.Draining.{MeetsSomeLedger, IsAfter}
 use Rattle.mesh_drain.proofs.Moving.{after_setup}
-use Rattle.app_loads.specs.Host.{Host, all_nets, all_ranges, asked_of}
-use Rattle.app_loads.specs.{Regions.AreFreeBeside, Applications.AreApps, Applications.IsLoadedOn, Applications.HaveRows, Opening.usable_spots}
+use Rattle.app_loads.specs.{Host.Host, Host.all_nets, Host.asked_of, Applications.AreApps}
 
 -- another mesh of the same setup
 other_mesh : (h : Host) (mesh : State) → mesh.setup ≡ h.mesh.setup → IsMesh mesh → MeetsLedgerFor mesh (all_nets h.apps) (asked_of h.apps) → AreApps h →
     AreApps (record h { mesh = mesh })
-other_mesh h mesh same is_mesh ledger apps = record {
-  mesh = is_mesh;
-  vertices = subst (λ (u : Setup). u.spots ≡ usable_spots u.machine) (sym same) apps.vertices;
-  numbers = apps.numbers;
-  spots = apps.spots;
-  loaded = subst (λ (u : Setup). All (IsLoadedOn u.machine) h.apps) (sym same) apps.loaded;
-  apart = apps.apart;
-  free = subst (λ (u : Setup). AreFreeBeside u.machine (all_ranges h.apps) h.regions) (sym same) apps.free;
-  disjoint = apps.disjoint;
-  rows = subst (λ (u : Setup). HaveRows u.machine u.tables h.apps) (sym same) apps.rows;
-  right = subst (λ (u : Setup). AreRight u.machine u.tables (all_nets h.apps)) (sym same) apps.right;
-  ledger = ledger;
-  ascending = apps.ascending;
-  counted = apps.counted;
-  few_packets = apps.few_packets;
-}
+other_mesh h mesh same is_mesh ledger apps = grind arith
 
 pub apps_after : (h : Host) (mesh : State) → AreApps h → IsAfter h.mesh mesh → AreApps (record h { mesh = mesh })
 apps_after h mesh apps after =

@@ -1,23 +1,19 @@
 -- A mesh whose earlier deliveries are held apart, seen as one mesh.
-use Rattle.std.proofs.Common.{◌≡◌, ◌≢◌, Bool, ℕ, ◌+◌, ◌^◌, ◌<◌, List, [], ◌++◌, ◌∷◌, cond, drop, length, refl, sym, ap, ◌∙◌, subst, inl, inr, arith, Option, Result, Ok, Err, OnOk, Some, map}
-use Rattle.std.proofs.{Common.nat_cmp, lemmas.Bool.cases_Bool, lemmas.Bool.eq-eqb, lemmas.Option.none-some, lemmas.Option.same_Some}
-use Rattle.std.proofs.lemmas.List.{append-nil, drop_at, map-append, Sums.count_by-le-length, Sums.length-filter}
-use Rattle.std.specs.{BTreeMap.BTreeMap, BTreeMap.Updates, BTreeMap.get, BTreeMap.is_at, Map.lookup, Ordering.is_eq}
-use Rattle.std.specs.List.{Contains, filter, slice_get, slice_index_or, slice_set}
+use Rattle.std.proofs.Common.{◌≡◌, ◌≢◌, Bool, ℕ, ◌+◌, ◌^◌, ◌<◌, List, [], ◌++◌, ◌∷◌, drop, length, refl, sym, ap, ◌∙◌, subst, inl, inr, arith, Option, Result, Ok, Err, OnOk, Some, map, nat_cmp}
+use Rattle.mesh_core.specs.Ledger.{dumped_marks}
+use Rattle.std.proofs.lemmas.{Bool.cases_Bool, Bool.eq-eqb, Option.none-some, Option.same_Some, List.append-nil, List.drop_at, List.map-append, List.Sums.count_by-le-length, List.Sums.length-filter}
+use Rattle.std.specs.{BTreeMap.BTreeMap, BTreeMap.Updates, BTreeMap.is_at, Map.lookup, List.Contains, List.filter, List.slice_get, List.slice_index_or, List.slice_set}
 use Rattle.spin_base.proofs.Members.{Among, among_contains, among_either, among_left, among_map, among_right, contains_among}
 use Rattle.spin_base.specs.declared.{blocks.Block.Block, copies.Delivery.Delivery, copies.McCopy.McCopy}
 use Rattle.machine_desc.specs.RightTables.{IsKeyOf}
-use Rattle.mesh_core.specs.Expected.{NothingWaits}
-use Rattle.mesh_core.specs.Ledger.{all_hand_marks, core_marks, delivered_marks, dumped_marks, input_marks, marks_of, unsent_marks}
-use Rattle.mesh_core.specs.{Queues.drop_front, State.Setup, State.State, State.IsMesh, Trail.Mark, Trail.IsUnderWayAt, Trail.delivered}
-use Rattle.mesh_drain.specs.Draining.{AreRoutedAlike, BringsAlways, HasBrought, IsMoved, IsReachedDropless, MaySend, SendAlone, of_packet}
+use Rattle.mesh_core.specs.{Expected.NothingWaits, Ledger.all_hand_marks, Ledger.core_marks, Ledger.delivered_marks, Ledger.input_marks, Ledger.marks_of, Ledger.unsent_marks, Queues.drop_front}
+use Rattle.mesh_core.specs.{State.Setup, State.State, State.IsMesh, Trail.Mark, Trail.IsUnderWayAt, Trail.delivered}
+use Rattle.mesh_drain.specs.Draining.{AreRoutedAlike, HasBrought, IsMoved, IsReachedDropless, MaySend, SendAlone, of_packet}
 use Rattle.mesh_drain.proofs.Frame.{dumped_reached, kept_reached, setup_reached}
 use Rattle.app_loads.specs.declared.answers.UnloadErr.{UnloadErr, TheVariants.NotLoaded, TheVariants.Waiting, TheVariants.Memory}
-use Rattle.app_loads.specs.declared.{known.KnownBlock.KnownBlock, loaded.LoadedApp.LoadedApp}
-use Rattle.app_loads.specs.{Earlier.with_earlier, Joining.CanSettle, Leaving.NoneUnderWay, Leaving.WaitsIn, Removing.IsWhyHere}
-use Rattle.app_loads.specs.declared.arrivals.Arrival.{Arrival}
-use Rattle.app_loads.specs.Groups.{deliveries_at, sent_of}
-use Rattle.app_loads.specs.Running.{AreAlikeInBlocks, AreKnown, Comes, HasBroughtMore, HasFirstUnsent, IsClean}
+use Rattle.app_loads.specs.{declared.known.KnownBlock.KnownBlock, declared.loaded.LoadedApp.LoadedApp, Earlier.with_earlier, Joining.CanSettle, Leaving.NoneUnderWay, Leaving.WaitsIn}
+use Rattle.app_loads.specs.{Removing.IsWhyHere, declared.arrivals.Arrival.Arrival, Groups.deliveries_at, Groups.sent_of, Running.AreAlikeInBlocks, Running.AreKnown, Running.Comes}
+use Rattle.app_loads.specs.Running.{HasBroughtMore, HasFirstUnsent, IsClean}
 use Rattle.app_loads.proofs.{Earlier.kept_without, Earlier.reached_with, LeftMesh.mesh_with}
 
 -- what follows where a call was answered
@@ -56,11 +52,7 @@ module _ (ds : List Delivery) where
   -- ---- with earlier ones too
 
   pub alone_with : (s : State) (vertices : List ℕ) → SendAlone vertices s → SendAlone vertices (we s)
-  alone_with s vertices alone = record {
-    quiet = record { inputs_empty = alone.quiet.inputs_empty; hands_empty = alone.quiet.hands_empty; cores_empty = alone.quiet.cores_empty };
-    there = alone.there;
-    others = alone.others;
-  }
+  alone_with s vertices alone = grind arith
 
   -- ---- what is under way
 
@@ -132,13 +124,7 @@ module _ (xs ys : List Delivery) (s t u : State) (clean : IsClean xs s) (reached
 
   -- what it brought came behind the earlier ones
   pub brought_more : (v key : ℕ) → u.delivered ≡ [] → HasBrought s t v key → HasBroughtMore xs ys u.setup v key
-  brought_more v key none has =
-      let setup : s.setup ≡ u.setup = sym (setup_reached s t reached) ∙ sym (ap (λ (a : State). a.setup) is) in
-      record {
-        come = has.come;
-        is = sym (append-nil ys) ∙ (ap (λ l. ys ++ l) (sym none) ∙ (all ∙ ap (λ l. xs ++ l) (has.is ∙ ap (λ l. l ++ has.come) clean.none_delivered)));
-        always = subst (λ a. BringsAlways a v key has.come) setup has.always;
-      }
+  brought_more v key none has = grind (arith, setup_reached s t reached, is, append-nil ys)
 
 -- ---- a packet with a key of the same block
 
@@ -148,16 +134,12 @@ module _ (k copy : McCopy) where
 
   same_places : (arrivals : List Arrival) → map (of_packet copy.key k) (deliveries_at arrivals (sent_of copy)) ≡ deliveries_at arrivals (sent_of k)
   same_places [] = refl
-  same_places (a ∷ more) =
-      ap (λ b. at (cond b k.key copy.key) a ∷ map (of_packet copy.key k) (deliveries_at more (sent_of copy))) (eq-eqb copy.key copy.key refl) ∙ ap (λ l. at k.key a ∷ l) (same_places more)
+  same_places (a ∷ more) = grind (arith, eq-eqb copy.key copy.key refl, same_places more)
 
 -- where what came is the last group's, it is known where others come
 pub comes_again : (before after : List Delivery) (u : Setup) (v first : ℕ) (copy : McCopy) (arrivals : List Arrival) (block : Block) → HasBroughtMore before after u v copy.key →
     first ≡ length before → drop first after ≡ deliveries_at arrivals (sent_of copy) → ((other : ℕ) → IsKeyOf block other → AreRoutedAlike u copy.key other) → Comes u v arrivals block
-comes_again before after u v first copy arrivals block has long behind alike = λ s k rest may same here key.
-    let come : has.come ≡ deliveries_at arrivals (sent_of copy) = sym (drop_at before has.come first (sym long)) ∙ (ap (drop first) (sym has.is) ∙ behind) in
-    subst (λ l. IsReachedDropless s (record s { unsent = slice_set s.unsent v rest; delivered = s.delivered ++ l }))
-    (ap (map (of_packet copy.key k)) come ∙ same_places k copy arrivals) (has.always s k rest may same here (alike k.key key))
+comes_again before after u v first copy arrivals block has long behind alike = grind (arith, drop_at before has.come first (sym long), same_places)
 
 -- a list of unsent copies that has one has a first
 pub some_there : (q : List McCopy) (unsent : List (List McCopy)) (v : ℕ) → slice_get unsent v ≢ Some [] → slice_get unsent v ≡ Some q → 0 < length q
@@ -192,12 +174,7 @@ module _ {xs ys : List Delivery} {s u : State} {v : ℕ} {k : McCopy} {block : B
       (comes (with_earlier xs s) k sends.first.0 may refl sends.first.1 key)
 
   pub again_clean : IsClean ys u
-  again_clean = record {
-    kept = kept_reached (with_earlier xs s) (with_earlier ys u) clean.kept again_reached;
-    quiet = subst NothingWaits (sym is) (record { inputs_empty = clean.quiet.inputs_empty; hands_empty = clean.quiet.hands_empty; cores_empty = clean.quiet.cores_empty });
-    none_delivered = ap (λ (a : State). a.delivered) is ∙ clean.none_delivered;
-    none_dumped = ap (λ (a : State). a.dumped) is ∙ clean.none_dumped;
-  }
+  again_clean = grind (arith, kept_reached (with_earlier xs s) (with_earlier ys u) clean.kept again_reached, is)
 
 -- a list of unsent copies with a first one is not empty
 pub some_first : (q : Option (List McCopy)) (k : McCopy) (rest : List McCopy) → q ≡ Some (k ∷ rest) → q ≢ Some []
@@ -217,20 +194,8 @@ none_known u v apps known alike none = record { alike = alike; come = λ key it 
 -- one more
 pub one_known : (u : Setup) (v : ℕ) (apps : List LoadedApp) (key : ℕ) (own : KnownBlock) (known new : BTreeMap ℕ KnownBlock) → Updates nat_cmp known new key (Some own) →
     AreKnown u v apps known → Comes u v own.arrivals own.block → AreKnown u v apps new
-one_known u v apps key own known new updates all comes = record {
-  alike = all.alike;
-  come = λ other it at.
-      let found : cond (is_eq (nat_cmp key other)) (Some own) (get nat_cmp known other) ≡ Some it = sym (updates.0 other) ∙ at in
-      elim (cases_Bool (is_eq (nat_cmp key other))) [
-        | inl same ↦
-            subst (λ (x : KnownBlock). Comes u v x.arrivals x.block) (same_Some own it (sym (ap (λ b. cond b (Some own) (get nat_cmp known other)) same) ∙ found)) comes
-        | inr else' ↦ all.come other it (sym (ap (λ b. cond b (Some own) (get nat_cmp known other)) else') ∙ found)
-      ];
-}
+one_known u v apps key own known new updates all comes = grind (arith, nat_cmp, cases_Bool, same_Some)
 
 -- those that pass are no more
 pub few_own : (p : Delivery → Bool) (xs ys own late : List Delivery) → own ≡ filter p xs → late ≡ filter p ys → length xs + length ys < 2 ^ 64 → length own + length late < 2 ^ 64
-few_own p xs ys own late own_is late_is fits =
-    let a = ap length own_is ∙ length-filter p xs in
-    let b = ap length late_is ∙ length-filter p ys in
-    omega (arith, a, b, count_by-le-length p xs, count_by-le-length p ys, fits)
+few_own p xs ys own late own_is late_is fits = grind (arith, length-filter p xs, length-filter p ys, count_by-le-length p xs, count_by-le-length p ys)

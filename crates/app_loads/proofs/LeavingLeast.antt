@@ -1,24 +1,20 @@
 -- The least packet of an application that is under way, from the lists of the mesh.
-use Rattle.std.proofs.Common.{◌≡◌, ℕ, ◌+◌, ◌/◌, ◌%◌, ◌<◌, ◌≤◌, min, Bool, true, false, if◌then◌else◌, List, [], ◌∷◌, ◌++◌, take, length, get_or, refl, sym, ap, ◌∙◌}
-use Rattle.std.proofs.Common.{subst, inl, inr, arith, Option, None, Some, append-nil}
-use Rattle.std.proofs.lemmas.{Bool.cases_lt, List.get_or_default, List.take_more, List.take_all}
-use Rattle.std.proofs.lemmas.{List.Concat.flat_map-append, Option.get_or_from_slice_get, Option.slice_get-get_or, List.Elements.All-contains}
-use Rattle.std.specs.List.{slice_get, flat_map, All, Contains}
-use Rattle.std.specs.Prelude.{IfSome, IfNone}
-use Rattle.spin_base.specs.Gathered.{gathered}
-use Rattle.spin_base.specs.declared.{chips.Chip.Chip, copies.McCopy.McCopy, routes.Out.Out}
+use Rattle.std.proofs.Common.{◌≡◌, ℕ, ◌+◌, ◌/◌, ◌%◌, ◌<◌, ◌≤◌, min, Bool, true, false, if◌then◌else◌, List, [], ◌∷◌, ◌++◌, take, length, get_or, refl, sym, ap, ◌∙◌, subst, inl, inr, arith, Option}
+use Rattle.std.proofs.Common.{None, Some, append-nil}
+use Rattle.std.proofs.lemmas.{Bool.cases_lt, List.get_or_default, List.take_more, List.take_all, List.Concat.flat_map-append, Option.get_or_from_slice_get, Option.slice_get-get_or}
+use Rattle.std.proofs.lemmas.List.Elements.{All-contains}
+use Rattle.std.specs.{List.slice_get, List.flat_map, List.All, List.Contains, Prelude.IfSome, Prelude.IfNone}
+use Rattle.spin_base.specs.{Gathered.gathered, declared.chips.Chip.Chip, declared.copies.McCopy.McCopy, declared.routes.Out.Out}
 use Rattle.spin_base.proofs.Members.{Among, among_contains, contains_among, among_left, among_right, among_either, among_map, map_among, among_at}
 use Rattle.spin_base.proofs.{Gathering.gathered_among, Places.map_more_at, Places.All-at}
 use Rattle.machine_desc.specs.Live.{chip_of}
-use Rattle.mesh_core.specs.State.{State, Hand, FitsHand, IsMesh}
-use Rattle.mesh_core.specs.Trail.{Station, unsent, in_queue, in_hand, at_core, delivered, dumped, Mark, IsUnderWayAt}
-use Rattle.mesh_core.specs.Ledger.{marks_of, marks_at, hand_marks, port_of, unsent_marks, input_marks, all_hand_marks, core_marks}
+use Rattle.mesh_core.specs.{State.State, State.Hand, State.FitsHand, State.IsMesh, Trail.Station, Trail.unsent, Trail.in_queue, Trail.in_hand, Trail.at_core, Trail.delivered, Trail.dumped, Trail.Mark}
+use Rattle.mesh_core.specs.{Trail.IsUnderWayAt, Ledger.marks_of, Ledger.marks_at, Ledger.hand_marks, Ledger.port_of, Ledger.unsent_marks, Ledger.input_marks, Ledger.all_hand_marks, Ledger.core_marks}
 use Rattle.mesh_core.proofs.{Moves.mark, Standing.mark_stands, Standing.StandsAt}
 use Rattle.mesh_drain.specs.Draining.{SendAlone}
-use Rattle.app_loads.proofs.ClaimCases.{among_flat, flat_among}
-use Rattle.app_loads.proofs.LeavingLists.{after_cores, after_hands, after_inputs, after_unsent}
-use Rattle.app_loads.specs.declared.loaded.LoadedApp.{LoadedApp}
-use Rattle.app_loads.specs.Leaving.{is_packet_of, WaitsIn, NoneUnderWay, IsLeastUnderWay, own_packet, lesser_of, least_own_packet, packet_numbers_of, held_packets, unsent_numbers}
+use Rattle.app_loads.proofs.{ClaimCases.among_flat, ClaimCases.flat_among, LeavingLists.after_cores, LeavingLists.after_hands, LeavingLists.after_inputs, LeavingLists.after_unsent}
+use Rattle.app_loads.specs.{declared.loaded.LoadedApp.LoadedApp, Leaving.is_packet_of, Leaving.WaitsIn, Leaving.NoneUnderWay, Leaving.IsLeastUnderWay, Leaving.own_packet, Leaving.lesser_of}
+use Rattle.app_loads.specs.Leaving.{least_own_packet, packet_numbers_of, held_packets, unsent_numbers}
 
 -- ---- the least of some numbers
 
@@ -38,15 +34,12 @@ lesser_assoc (Some x) (Some y) (Some z) = ap Some (three x y z)
 module _ (app : LoadedApp) where
   pub least_append : (xs ys : List ℕ) → least_own_packet app (xs ++ ys) ≡ lesser_of (least_own_packet app xs) (least_own_packet app ys)
   least_append [] ys = refl
-  least_append (x ∷ xs) ys =
-      ap (lesser_of (own_packet app x)) (least_append xs ys) ∙ sym (lesser_assoc (own_packet app x) (least_own_packet app xs) (least_own_packet app ys))
+  least_append (x ∷ xs) ys = grind (arith, least_append xs ys)
 
   -- the least so far, where more numbers come
   pub least_more : (so_far least next : Option ℕ) (xs ys more : List ℕ) → least ≡ lesser_of so_far (least_own_packet app xs) → next ≡ lesser_of least (least_own_packet app ys) → more ≡ xs ++ ys →
       next ≡ lesser_of so_far (least_own_packet app more)
-  least_more so_far least next xs ys more was is all =
-      is ∙ (ap (λ o. lesser_of o (least_own_packet app ys)) was ∙ (lesser_assoc so_far (least_own_packet app xs) (least_own_packet app ys)
-      ∙ (ap (lesser_of so_far) (sym (least_append xs ys)) ∙ ap (λ l. lesser_of so_far (least_own_packet app l)) (sym all))))
+  least_more so_far least next xs ys more was is all = grind (arith, least_append xs ys)
 
   -- the least of the application's numbers in a list, if it has one
   abbrev IsLeastIn : List ℕ → Option ℕ → Type 0
@@ -267,10 +260,7 @@ module _ (s : State) where
           subst (λ (q : List McCopy). Among m (packet_numbers_of q)) none queue.2
 
       no_hands : (hands : List (Option Hand)) (m : ℕ) → All (λ (h : Option Hand). h ≡ None) hands → Among m (flat_map held_packets hands) → ⊥
-      no_hands hands m empty b =
-          let hand = among_flat held_packets m hands b in
-          let none = All-contains (λ (h : Option Hand). h ≡ None) hands hand.0 empty (among_contains hand.0 hands hand.1) in
-          subst (λ (h : Option Hand). Among m (held_packets h)) none hand.2
+      no_hands hands m empty b = grind (arith, among_flat held_packets m hands b, among_contains (among_flat held_packets m hands b).0 hands (among_flat held_packets m hands b).1, All-contains, Among)
 
       sender_of : (v : ℕ) (q : List McCopy) → slice_get s.unsent v ≡ Some q → Among n (packet_numbers_of q) → Contains vertices v
       sender_of v [] at b = absurd b

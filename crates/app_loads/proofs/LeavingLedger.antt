@@ -1,27 +1,21 @@
 -- The ledger of a mesh without the deliveries and dump records of an application of which no packet is under way.
-use Rattle.std.proofs.Common.{◌≡◌, ◌≢◌, ℕ, ◌+◌, ◌-◌, ◌/◌, ◌%◌, ◌<◌, ◌≤◌, ◌==◌, Bool, true, false, List, [], ◌∷◌, ◌++◌, ◌∙◌, ◌⊎◌, Option, None, Some, if◌then◌else◌}
-use Rattle.std.proofs.Common.{leb, ltb, not, cond, length, refl, sym, ap, subst, inl, inr, arith, IsTrue, count_by}
+use Rattle.std.proofs.Common.{◌≡◌, ◌≢◌, ℕ, ◌+◌, ◌-◌, ◌/◌, ◌%◌, ◌<◌, ◌≤◌, ◌==◌, Bool, true, false, List, [], ◌∷◌, ◌++◌, ◌∙◌, ◌⊎◌, Option, None, Some, if◌then◌else◌, leb, ltb, not, cond, length, refl}
+use Rattle.std.proofs.Common.{sym, ap, subst, inl, inr, arith, IsTrue, count_by}
 use Rattle.std.proofs.lemmas.Bool.{cases_Bool, cases_lt, and_from, leb-true, lt-ltb, ltb-true, and_parts, eqb-true, eq-eqb, not-true, Decides.nat_tests}
-use Rattle.std.proofs.lemmas.List.Elements.{filter-append, Contains-append_left, Contains-append_right}
-use Rattle.std.proofs.lemmas.Option.{slice_get_past}
+use Rattle.std.proofs.lemmas.{List.Elements.filter-append, List.Elements.Contains-append_left, List.Elements.Contains-append_right, Option.slice_get_past}
 use Rattle.std.specs.List.{filter, All, AllPairs, Contains}
 use Rattle.spin_base.proofs.Members.{Among, among_contains, contains_among, among_left, among_right, among_map, Contains-first, Contains-later, Contains-from_filter, Contains-filter}
 use Rattle.spin_base.proofs.Gathering.{among_gathered}
-use Rattle.spin_base.specs.declared.{blocks.Entry.Entry, chips.Spot.Spot, copies.McCopy.McCopy, copies.Delivery.Delivery, copies.DumpRec.DumpRec}
-use Rattle.machine_desc.specs.{Description.Description, Live.chip_of, Branch.Exit, RoutingTree.IsRoutingTree, declared.nets.NetPlan.NetPlan}
-use Rattle.machine_desc.specs.{RightTables.IsKeyOf, NetsOn.AreNetsOn, NetsOn.IsWayOn}
-use Rattle.mesh_core.specs.State.{State, Hand}
-use Rattle.mesh_core.specs.Trail.{Station, unsent, in_queue, in_hand, at_core, delivered, dumped, Mark, is_on_trail, is_packet_on_trail, IsUnderWayAt}
-use Rattle.mesh_core.specs.Ledger.{marks_of, marks_at, hand_marks, port_of, unsent_marks, input_marks, all_hand_marks, core_marks, delivered_marks, dumped_marks, Asked, label_of, MeetsLedgerFor}
+use Rattle.spin_base.specs.declared.{blocks.Entry.Entry, chips.Spot.Spot, copies.McCopy.McCopy}
+use Rattle.machine_desc.specs.{Description.Description, Live.chip_of, Branch.Exit, RoutingTree.IsRoutingTree, declared.nets.NetPlan.NetPlan, RightTables.IsKeyOf, NetsOn.AreNetsOn, NetsOn.IsWayOn}
+use Rattle.mesh_core.specs.{State.State, State.Hand, Trail.Station, Trail.in_queue, Trail.in_hand, Trail.Mark, Trail.is_on_trail, Trail.is_packet_on_trail, Trail.IsUnderWayAt, Ledger.marks_of}
+use Rattle.mesh_core.specs.Ledger.{marks_at, hand_marks, port_of, unsent_marks, input_marks, all_hand_marks, core_marks, delivered_marks, dumped_marks, Asked, label_of, MeetsLedgerFor}
 use Rattle.mesh_core.specs.Opened.{asked_at, asked_by}
 use Rattle.mesh_core.proofs.{AskedPackets.asked_parts, AskedPackets.net_in_list, LedgerLaw.one_net, Moves.mark}
-use Rattle.app_loads.specs.declared.loaded.LoadedApp.{LoadedApp}
-use Rattle.app_loads.specs.Host.{Host, all_nets, asked_of, asked_of_app, either, nets_of}
-use Rattle.app_loads.specs.Applications.{AreApps, HaveOtherNumbers}
-use Rattle.app_loads.specs.Leaving.{is_packet_of, NoneUnderWay, others_than, mesh_without}
-use Rattle.app_loads.proofs.Ledgers.{own_net}
-use Rattle.app_loads.proofs.LeavingLists.{after_cores, after_hands, after_inputs, after_unsent, filter_stays, filter_of_map, count_of_filter, either_pair}
-use Rattle.app_loads.proofs.Others.{All-left_in, AllPairs-left_in, Contains-left_in, only_one}
+use Rattle.app_loads.specs.{declared.loaded.LoadedApp.LoadedApp, Host.Host, Host.all_nets, Host.asked_of, Host.asked_of_app, Host.either, Host.nets_of, Applications.AreApps}
+use Rattle.app_loads.specs.{Applications.HaveOtherNumbers, Leaving.is_packet_of, Leaving.NoneUnderWay, Leaving.others_than, Leaving.mesh_without}
+use Rattle.app_loads.proofs.{Ledgers.own_net, LeavingLists.after_cores, LeavingLists.after_hands, LeavingLists.after_inputs, LeavingLists.after_unsent, LeavingLists.filter_stays}
+use Rattle.app_loads.proofs.{LeavingLists.filter_of_map, LeavingLists.count_of_filter, LeavingLists.either_pair, Others.All-left_in, Others.AllPairs-left_in, Others.Contains-left_in, Others.only_one}
 
 -- a test and its opposite
 opposite_false : (b : Bool) → (b ≡ true → ⊥) → not b ≡ true
@@ -36,10 +30,7 @@ module _ (s : State) where
   under_way_by k c at under is = subst (λ (m : Mark). IsUnderWayAt m.station) (sym is) under
 
   pub unsent_under_way : (k : Mark) → Among k (unsent_marks s) → IsUnderWayAt k.station
-  unsent_under_way k a =
-      let at = among_gathered (λ v (q : List McCopy). marks_at (unsent v) q) k s.unsent a in
-      let m = among_map (λ (c : McCopy). mark c (unsent at.0)) k at.1 at.3 in
-      under_way_by k m.0 (unsent at.0) tt m.2
+  unsent_under_way k a = grind (arith, among_gathered, among_map, mark, under_way_by)
 
   pub inputs_under_way : (k : Mark) → Among k (input_marks s) → IsUnderWayAt k.station
   inputs_under_way k a =
@@ -60,10 +51,7 @@ module _ (s : State) where
       of_hand i None b = absurd b
 
   pub cores_under_way : (k : Mark) → Among k (core_marks s) → IsUnderWayAt k.station
-  cores_under_way k a =
-      let at = among_gathered (λ v (q : List McCopy). marks_at (at_core v) q) k s.cores a in
-      let m = among_map (λ (c : McCopy). mark c (at_core at.0)) k at.1 at.3 in
-      under_way_by k m.0 (at_core at.0) tt m.2
+  cores_under_way k a = grind (arith, among_gathered, among_map, mark, under_way_by)
 
 -- whether a mark is of no packet of the application
 abbrev is_of_other : LoadedApp → Mark → Bool
@@ -73,10 +61,7 @@ module _ (app : LoadedApp) (tables : List (List Entry)) (s : State) (none : None
   -- a part of the marks that are under way stays as it is
   part_stays : (part rest : List Mark) → ((k : Mark) → Among k part → IsUnderWayAt k.station) → ((k : Mark) → Among k part → Among k (marks_of s)) →
       filter (is_of_other app) (part ++ rest) ≡ part ++ filter (is_of_other app) rest
-  part_stays part rest under within =
-      filter-append (is_of_other app) part rest
-      ∙ ap (λ l. l ++ filter (is_of_other app) rest) (filter_stays (is_of_other app) part (λ k a.
-      opposite_false (is_packet_of app k.copy.packet) (λ is. none k.copy.packet (is, (k, among_contains k (marks_of s) (within k a), refl, under k a)))))
+  part_stays part rest under within = grind (arith, filter-append (is_of_other app) part rest, filter_stays, opposite_false, among_contains)
 
   -- the marks that are left are those of other packets
   pub marks_without : marks_of (mesh_without app tables s) ≡ filter (is_of_other app) (marks_of s)
@@ -99,10 +84,7 @@ module _ (app : LoadedApp) (tables : List (List Entry)) (s : State) (none : None
       within_hands k a = within_inputs k (among_right k (all_hand_marks s) (after_hands s) a)
 
       ended_left : filter (is_of_other app) (after_cores s) ≡ delivered_marks (mesh_without app tables s) ++ dumped_marks (mesh_without app tables s)
-      ended_left =
-          filter-append (is_of_other app) (delivered_marks s) (dumped_marks s)
-          ∙ (ap (λ l. l ++ filter (is_of_other app) (dumped_marks s)) (filter_of_map (is_of_other app) (λ (d : Delivery). mark d.copy (delivered d.vertex)) s.delivered)
-          ∙ ap (λ l. delivered_marks (mesh_without app tables s) ++ l) (filter_of_map (is_of_other app) (λ (r : DumpRec). mark r.copy (dumped r.chip r.out)) s.dumped))
+      ended_left = grind (arith, filter-append (is_of_other app) (delivered_marks s) (dumped_marks s), filter_of_map, mark)
 
 -- ---- the ledger of fewer packets
 

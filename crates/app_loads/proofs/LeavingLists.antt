@@ -1,10 +1,9 @@
 -- What stays of a list of applications, and of what each of them has, where some leave.
-use Rattle.std.proofs.Common.{◌≡◌, ℕ, ◌+◌, Bool, true, false, cond, if◌then◌else◌, List, [], ◌∷◌, map, refl, sym, ap, ◌∙◌, subst, arith, inl, inr, ◌⊎◌, count_by, ◌++◌}
+use Rattle.std.proofs.Common.{◌≡◌, ℕ, ◌+◌, Bool, true, false, cond, if◌then◌else◌, List, [], ◌∷◌, map, refl, sym, ap, ◌∙◌, arith, inl, inr, ◌⊎◌, count_by, ◌++◌}
 use Rattle.std.proofs.lemmas.{Bool.cases_order, List.get_or_default}
-use Rattle.std.specs.List.{AllPairs, Contains, filter, slice_index_or}
+use Rattle.std.specs.List.{AllPairs, Contains, filter}
 use Rattle.spin_base.proofs.{Counts.count_by-cons, Members.Among}
-use Rattle.mesh_core.specs.{State.State, Trail.Mark}
-use Rattle.mesh_core.specs.Ledger.{all_hand_marks, core_marks, delivered_marks, dumped_marks, input_marks}
+use Rattle.mesh_core.specs.{State.State, Trail.Mark, Ledger.all_hand_marks, Ledger.core_marks, Ledger.delivered_marks, Ledger.dumped_marks, Ledger.input_marks}
 
 -- ---- lists
 
@@ -62,12 +61,4 @@ after_unsent s = input_marks s ++ after_inputs s
 
 -- two different items of a list are a pair one way or the other
 pub either_pair : {X : Type 0} (R : X → X → Type 0) (xs : List X) (x y : X) → AllPairs R xs → Contains xs x → Contains xs y → (x ≡ y) ⊎ (R x y ⊎ R y x)
-either_pair {X} R xs x y all in_x in_y = elim (cases_order in_x.0 in_y.0) [
-  | inl same ↦ inl (sym in_x.2 ∙ (ap (λ k. slice_index_or xs k x) same ∙ (get_or_default xs in_y.0 x y in_y.1 ∙ in_y.2)))
-  | inr (inl before) ↦
-      let second : slice_index_or xs in_y.0 x ≡ y = get_or_default xs in_y.0 x y in_y.1 ∙ in_y.2 in
-      inr (inl (subst (λ (w : X). R w y) in_x.2 (subst (λ (w : X). R (slice_index_or xs in_x.0 x) w) second (all in_x.0 in_y.0 x before in_y.1))))
-  | inr (inr after) ↦
-      let second : slice_index_or xs in_x.0 y ≡ x = get_or_default xs in_x.0 y x in_x.1 ∙ in_x.2 in
-      inr (inr (subst (λ (w : X). R w x) in_y.2 (subst (λ (w : X). R (slice_index_or xs in_y.0 y) w) second (all in_y.0 in_x.0 y after in_x.1))))
-]
+either_pair {X} R xs x y all in_x in_y = grind (arith, cases_order in_x.0 in_y.0, get_or_default xs in_y.0 x y in_y.1, get_or_default xs in_x.0 y x in_x.1)

@@ -1,18 +1,14 @@
 -- The ledger of asked packets, where nets or a packet come.
-use Rattle.std.proofs.Common.{◌≡◌, ◌≢◌, ℕ, ◌+◌, ◌==◌, ◌&&◌, Bool, true, false, refl, sym, ap, ◌∙◌, subst, arith, inl, inr, ◌⊎◌, List, [], ◌∷◌, ◌++◌, Option, Some, None}
-use Rattle.std.proofs.Common.{if◌then◌else◌, count_by, IsTrue}
-use Rattle.std.proofs.lemmas.Bool.{cases_eq, eq-eqb, eqb-true, and_from, and_parts, ne_eqb}
-use Rattle.std.proofs.lemmas.{List.Elements.Contains-append_left, Option.same_Some, Option.none-some}
+use Rattle.std.proofs.Common.{◌≡◌, ◌≢◌, ℕ, ◌+◌, ◌==◌, ◌&&◌, Bool, true, false, refl, sym, ap, ◌∙◌, subst, arith, inl, inr, ◌⊎◌, List, [], ◌∷◌, ◌++◌, Option, Some, None, if◌then◌else◌, count_by}
+use Rattle.std.proofs.Common.{IsTrue}
+use Rattle.std.proofs.lemmas.{Bool.cases_eq, Bool.eq-eqb, Bool.eqb-true, Bool.and_from, Bool.and_parts, Bool.ne_eqb, List.Elements.Contains-append_left, Option.same_Some, Option.none-some}
 use Rattle.std.specs.List.{slice_get, slice_set, Contains}
-use Rattle.spin_base.proofs.Counts.{count_by-cons, count_by-none}
-use Rattle.spin_base.proofs.Exchange.{PutIn, put_in_before, put_in_gathered, count_put_in}
-use Rattle.spin_base.proofs.Members.{Among, among_contains, contains_among, among_left, among_right, among_either}
+use Rattle.spin_base.proofs.{Counts.count_by-cons, Counts.count_by-none, Exchange.PutIn, Exchange.put_in_before, Exchange.put_in_gathered, Exchange.count_put_in, Members.Among, Members.among_contains}
+use Rattle.spin_base.proofs.Members.{contains_among, among_left, among_right, among_either}
 use Rattle.spin_base.specs.declared.{chips.Spot.Spot, copies.McCopy.McCopy}
-use Rattle.machine_desc.specs.{Branch.Exit, declared.nets.NetPlan.NetPlan}
-use Rattle.machine_desc.specs.{RightTables.IsKeyOf, NetsOn.vertex_at, NetsOn.AreNetsOn, NetsOn.IsWayOn}
-use Rattle.mesh_core.specs.State.{State}
-use Rattle.mesh_core.specs.Trail.{Station, unsent, Mark, is_on_trail, is_packet_on_trail}
-use Rattle.mesh_core.specs.Ledger.{marks_of, marks_at, unsent_marks, Asked, label_of, MeetsLedgerFor}
+use Rattle.machine_desc.specs.{Branch.Exit, declared.nets.NetPlan.NetPlan, RightTables.IsKeyOf, NetsOn.vertex_at, NetsOn.AreNetsOn, NetsOn.IsWayOn}
+use Rattle.mesh_core.specs.{State.State, Trail.Station, Trail.unsent, Trail.Mark, Trail.is_on_trail, Trail.is_packet_on_trail, Ledger.marks_of, Ledger.marks_at, Ledger.unsent_marks, Ledger.Asked}
+use Rattle.mesh_core.specs.Ledger.{label_of, MeetsLedgerFor}
 use Rattle.mesh_core.proofs.{Counting.count_le, LedgerLaw.one_net, Moves.mark, Ways.some_way}
 use Rattle.app_loads.proofs.LeavingLists.{after_unsent, one_if}
 

@@ -1,25 +1,18 @@
 -- A host that an application left.
-use Rattle.std.proofs.Common.{◌≡◌, ◌≢◌, ℕ, ◌+◌, ◌≤◌, ◌==◌, ltb, not, ◌&&◌, true, false, List, ◌++◌, length, refl, sym, ap, ◌∙◌, subst, inl, inr}
-use Rattle.std.proofs.lemmas.Bool.{cases_Bool, false_from_ne_true, false≢true}
-use Rattle.std.proofs.lemmas.List.{length-map, Elements.All-contains, Elements.All-filter, Kept.AllPairs-filter}
+use Rattle.std.proofs.Common.{arith, ◌≡◌, ◌≢◌, ℕ, ◌+◌, ◌≤◌, ◌==◌, ltb, not, ◌&&◌, true, false, List, ◌++◌, length, refl, sym, ap, ◌∙◌, subst, inl, inr}
+use Rattle.std.proofs.lemmas.{Bool.cases_Bool, Bool.false_from_ne_true, Bool.false≢true, List.length-map, List.Elements.All-contains, List.Elements.All-filter, List.Kept.AllPairs-filter}
 use Rattle.std.specs.List.{All, AllPairs, Contains}
-use Rattle.spin_base.proofs.Members.{among_contains, among_either, among_left, among_right, contains_among}
-use Rattle.spin_base.proofs.{Pairs.AllPairs-append, Places.All-each}
+use Rattle.spin_base.proofs.{Members.among_contains, Members.among_either, Members.among_left, Members.among_right, Members.contains_among, Pairs.AllPairs-append, Places.All-each}
 use Rattle.spin_base.specs.declared.{blocks.Entry.Entry, chips.Chip.Chip, chips.Spot.Spot}
-use Rattle.machine_desc.specs.{Description.Description, Live.IsInside, NetsOn.HaveDisjointBlocks, RightTables.IsKeyOf, RightTables.table_at}
-use Rattle.machine_desc.specs.declared.nets.NetPlan.{NetPlan}
+use Rattle.machine_desc.specs.{Description.Description, Live.IsInside, NetsOn.HaveDisjointBlocks, RightTables.IsKeyOf, RightTables.table_at, declared.nets.NetPlan.NetPlan}
 use Rattle.range_store.specs.Views.{Region}
 use Rattle.mesh_core.specs.{Ledger.MeetsLedgerFor, State.State}
-use Rattle.app_loads.specs.declared.{answers.Ended.Ended, loaded.LoadedApp.LoadedApp, loaded.Range.Range}
-use Rattle.app_loads.specs.Applications.{AreApps, HasRows, HaveOtherNumbers, HaveRows, IsLoadedOn}
-use Rattle.app_loads.specs.Host.{Host, all_nets, all_ranges, asked_of, nets_of}
-use Rattle.app_loads.specs.Leaving.{NoneUnderWay, mesh_without, others_than}
-use Rattle.app_loads.specs.declared.places.Region.TheVariants.{Rows}
-use Rattle.app_loads.specs.Regions.{ShareNoPlace, AreFreeBeside, IsRangeWithin, range_has, is_taken, place_of}
-use Rattle.app_loads.specs.{Removing.HasLeft, Taking.AreTaken, Taking.free_places_in, Taking.frees, Unloading.HasUnloaded, Unloading.NoneWaits}
-use Rattle.app_loads.proofs.{Copying.mine_at, Copying.same_part, LeftMesh.mesh_with, LeavingLedger.the_ledger_without}
-use Rattle.app_loads.proofs.Others.{AllPairs-left_in, item_of, only_one, other_in, others_item, own_item, own_pairs, same_tests, with_mine}
-use Rattle.app_loads.proofs.{RightRows.right_rows, Serving.by_taken, Serving.none_taken, Serving.taken_by}
+use Rattle.app_loads.specs.{declared.answers.Ended.Ended, declared.loaded.LoadedApp.LoadedApp, declared.loaded.Range.Range, Applications.AreApps, Applications.HasRows, Applications.HaveOtherNumbers}
+use Rattle.app_loads.specs.{Applications.HaveRows, Applications.IsLoadedOn, Host.Host, Host.all_nets, Host.all_ranges, Host.asked_of, Host.nets_of, Leaving.NoneUnderWay, Leaving.mesh_without}
+use Rattle.app_loads.specs.{Leaving.others_than, declared.places.Region.TheVariants.Rows, Regions.ShareNoPlace, Regions.AreFreeBeside, Regions.IsRangeWithin, Regions.range_has, Regions.is_taken}
+use Rattle.app_loads.specs.{Regions.place_of, Removing.HasLeft, Taking.AreTaken, Taking.free_places_in, Taking.frees, Unloading.HasUnloaded, Unloading.NoneWaits}
+use Rattle.app_loads.proofs.{Copying.mine_at, Copying.same_part, LeftMesh.mesh_with, LeavingLedger.the_ledger_without, Others.AllPairs-left_in, Others.item_of, Others.only_one, Others.other_in}
+use Rattle.app_loads.proofs.{Others.others_item, Others.own_item, Others.own_pairs, Others.same_tests, Others.with_mine, RightRows.right_rows, Serving.by_taken, Serving.none_taken, Serving.taken_by}
 
 flip_apart : (a b : Range) → ShareNoPlace a b → ShareNoPlace b a
 flip_apart a b apart region k in_b in_a = apart region k in_a in_b
@@ -164,15 +157,4 @@ module _ (h : Host) (apps : AreApps h) (number : ℕ) (app : LoadedApp) (in_apps
     apps_left = subst (λ (s : State). AreApps (now s)) (sym left.mesh) apps_without
 
     pub has_unloaded : HasUnloaded h number ended (now mesh)
-    has_unloaded = record {
-      app = app;
-      is = in_apps;
-      number_is = its;
-      apps = refl;
-      delivered = left.delivered;
-      dumped = left.dumped;
-      packets = refl;
-      mesh = left.mesh;
-      entries = left.cleared.cleared;
-      tables = left.cleared.others;
-    }
+    has_unloaded = grind arith

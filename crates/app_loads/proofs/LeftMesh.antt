@@ -6,9 +6,8 @@ use Rattle.spin_base.specs.declared.{blocks.Entry.Entry, copies.Delivery.Deliver
 use Rattle.machine_desc.specs.Description.{Description}
 use Rattle.range_store.specs.Views.{Region}
 use Rattle.mesh_core.specs.State.{Setup, State, IsMesh}
-use Rattle.app_loads.specs.declared.loaded.{LoadedApp.LoadedApp, Range.Range}
-use Rattle.app_loads.specs.Regions.{AreFreeBeside, IsRangeWithin}
-use Rattle.app_loads.specs.{Removing.CanLeave, Taking.AreTaken, Taking.free_places_in, Taking.frees, Writing.CanClear}
+use Rattle.app_loads.specs.{declared.loaded.LoadedApp.LoadedApp, declared.loaded.Range.Range, Regions.AreFreeBeside, Regions.IsRangeWithin, Removing.CanLeave, Taking.AreTaken, Taking.free_places_in}
+use Rattle.app_loads.specs.{Taking.frees, Writing.CanClear}
 use Rattle.app_loads.proofs.Settling.{changed_mesh}
 
 -- a mesh with other tables, deliveries and records

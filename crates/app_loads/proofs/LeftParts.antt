@@ -1,24 +1,20 @@
 -- The fields of a host that an application left, or left not.
-use Rattle.std.proofs.Common.{◌≡◌, ℕ, suc, ◌<◌, ◌==◌, false, List, ◌++◌, length, take, drop, get_or, sym, ap, ◌∙◌, subst, Option, None, Some, Result, Ok, OnOk}
-use Rattle.std.proofs.lemmas.{List.drop-map, List.map-append, List.take-map, Bool.eqb-true, Bool.false_from_ne_true}
-use Rattle.std.proofs.lemmas.Option.{slice_get-get_or, slice_get_within, same_Some}
-use Rattle.std.specs.Prelude.{IfSome, is_some, position}
-use Rattle.std.specs.List.{slice_get, Contains}
+use Rattle.std.proofs.Common.{◌≡◌, ℕ, suc, ◌<◌, ◌==◌, false, List, ◌++◌, length, take, drop, get_or, sym, ap, ◌∙◌, subst, None, Some, Result, Ok, OnOk}
+use Rattle.app_loads.specs.Inner.{numbers_of}
+use Rattle.std.specs.Prelude.{is_some}
+use Rattle.std.proofs.Common.{Option}
+use Rattle.std.proofs.lemmas.{List.drop-map, List.map-append, List.take-map, Bool.eqb-true, Bool.false_from_ne_true, Option.slice_get-get_or, Option.slice_get_within, Option.same_Some}
+use Rattle.std.specs.{Prelude.IfSome, Prelude.position, List.slice_get, List.Contains}
 use Rattle.spin_base.proofs.Members.{Contains-at, any_among, position_nowhere, position_there}
 use Rattle.range_store.specs.Views.{Region}
 use Rattle.mesh_core.specs.State.{State}
 use Rattle.mesh_drain.specs.Draining.{SendAlone}
-use Rattle.app_loads.specs.declared.answers.{Ended.Ended, UnloadErr.UnloadErr}
-use Rattle.app_loads.specs.declared.answers.UnloadErr.TheVariants.{NotLoaded, Waiting, Memory}
-use Rattle.app_loads.specs.declared.{apps.Apps.TheInside.Inside, loaded.LoadedApp.LoadedApp}
-use Rattle.app_loads.specs.{Applications.AreApps, Host.Host, Host.all_ranges, Host.is_loaded, Inner.host_of, Inner.IsHost, Inner.mesh_in, Inner.numbers_of}
-use Rattle.app_loads.specs.Leaving.{NoneUnderWay, others_than}
-use Rattle.app_loads.specs.Removing.{CanLeave, HasLeft, IsWhyHere}
-use Rattle.app_loads.specs.Taking.{AreGivenBack, frees}
-use Rattle.app_loads.specs.Unloading.{HasUnloaded, IsWhyNotUnloaded, NoneWaits}
-use Rattle.app_loads.proofs.FewClaims.{few_ranges}
-use Rattle.app_loads.proofs.LeftHost.{apps_left, has_unloaded, loaded_one, none_waits, taken_beside}
-use Rattle.app_loads.proofs.{LoadedParts.IsOut, LoadedParts.host_is, LoadedParts.mesh_h, LoadedParts.old_is, Others.without_one, Resting.left_alone}
+use Rattle.app_loads.specs.declared.answers.{Ended.Ended, UnloadErr.UnloadErr, UnloadErr.TheVariants.NotLoaded, UnloadErr.TheVariants.Waiting, UnloadErr.TheVariants.Memory}
+use Rattle.app_loads.specs.{declared.apps.Apps.TheInside.Inside, declared.loaded.LoadedApp.LoadedApp, Applications.AreApps, Host.Host, Host.all_ranges, Host.is_loaded, Inner.host_of, Inner.IsHost}
+use Rattle.app_loads.specs.{Inner.mesh_in, Leaving.NoneUnderWay, Leaving.others_than, Removing.CanLeave, Removing.HasLeft, Removing.IsWhyHere, Taking.AreGivenBack, Taking.frees, Unloading.HasUnloaded}
+use Rattle.app_loads.specs.Unloading.{IsWhyNotUnloaded, NoneWaits}
+use Rattle.app_loads.proofs.{FewClaims.few_ranges, LeftHost.apps_left, LeftHost.has_unloaded, LeftHost.loaded_one, LeftHost.none_waits, LeftHost.taken_beside, LoadedParts.IsOut, LoadedParts.host_is}
+use Rattle.app_loads.proofs.{LoadedParts.mesh_h, LoadedParts.old_is, Others.without_one, Resting.left_alone}
 
 -- where no place is found, the number is not loaded
 pub not_loaded : (apps : List LoadedApp) (number : ℕ) → position (λ (app : LoadedApp). app.number == number) apps ≡ None → is_loaded apps number ≡ false

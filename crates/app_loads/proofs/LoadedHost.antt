@@ -1,45 +1,40 @@
 -- A host to which an application came.
-use Rattle.std.proofs.Common.{◌≡◌, ◌≢◌, ℕ, zero, suc, ◌+◌, ◌<◌, ◌≤◌, ◌==◌, true, false, List, [], ◌∷◌, ◌++◌, ◌∙◌, Option, None, Some, ◌&&◌, if◌then◌else◌}
-use Rattle.std.proofs.Common.{length, take, refl, sym, ap, subst, inl, inr, arith, append-nil, append_assoc, ltb, not, get_or}
-use Rattle.std.proofs.lemmas.Bool.{cases_eq, eq-eqb, eqb-true, false≢true, and_parts, ne_eqb, or_parts}
-use Rattle.std.proofs.lemmas.List.Elements.{All-append, All-contains, All-weaker, filter_map-append, All-push}
-use Rattle.std.proofs.lemmas.List.Folds.{list_any-append}
-use Rattle.std.proofs.lemmas.Option.{slice_get_within, same_Some, none-some, slice_get-get_or}
-use Rattle.std.proofs.lemmas.List.{flat_map_more, take_all, same_lists}
-use Rattle.std.specs.Option.{option_map_or}
-use Rattle.std.specs.List.{list_any, slice_get, slice_set, All, AllPairs, Contains, filter_map, enumerate_from, cons_option}
-use Rattle.spin_base.proofs.Members.{Among, Contains-at, among_any, among_left, among_right, among_contains, contains_among}
-use Rattle.spin_base.proofs.Pairs.{AllPairs-append, AllPairs-right, AllPairs-across}
-use Rattle.spin_base.proofs.Places.{All-each, enumerate_more, slice_get_there, slice_get-set_same, slice_get-set_other}
-use Rattle.spin_base.proofs.{Equality.spot_eq_same, Gathering.gathered_among}
-use Rattle.spin_base.specs.declared.{blocks.Entry.Entry, chips.Chip.Chip, chips.Spot.Spot, copies.McCopy.McCopy, copies.Packet.Packet}
-use Rattle.spin_base.specs.Equality.{spot_eq}
-use Rattle.machine_desc.specs.{Description.Description, Live.IsInside, RoutingTree.IsRoutingTree, declared.nets.NetPlan.NetPlan}
-use Rattle.machine_desc.specs.NetsOn.{AreNetsOn, HaveDisjointBlocks, vertex_at}
-use Rattle.machine_desc.specs.RightTables.{IsKeyOf, table_at}
-use Rattle.range_store.specs.{Views.Region, Regions.AreRuns}
-use Rattle.mesh_core.specs.{State.State, Trail.Mark, Trail.unsent}
-use Rattle.mesh_core.specs.Ledger.{MeetsLedgerFor, marks_of, marks_at, unsent_marks}
-use Rattle.mesh_core.specs.Opened.{copy_from, first_copy}
-use Rattle.mesh_core.proofs.Ways.{vertex_at_stands}
-use Rattle.app_loads.specs.declared.answers.{LoadErr.LoadErr, LoadErr.TheVariants.Refused, LoadErr.TheVariants.Memory, LoadRefusal.LoadRefusal}
-use Rattle.app_loads.specs.declared.answers.LoadRefusal.TheVariants.{Loaded, MemoryOut, KeysOut, RowsOut}
-use Rattle.app_loads.specs.declared.{loaded.LoadedApp.LoadedApp, loaded.Range.Range, plans.AppNet.AppNet, plans.AppPlan.AppPlan}
-use Rattle.app_loads.specs.Applications.{AreApps, HasRows, HaveOtherNumbers, HaveRows, IsLoadedOn}
-use Rattle.app_loads.specs.Claims.{AreServed, claims_of, IsRefusalDue}
-use Rattle.app_loads.specs.Host.{Free, Host, all_nets, all_ranges, all_spots, asked_of, is_loaded, is_spot_taken, nets_of}
-use Rattle.app_loads.specs.Joining.{AreSent, IsSent, IsServedApp, IsSettled, NoneUnsent}
-use Rattle.app_loads.specs.Loading.{HasLoaded, IsLoadRefusal, IsWhyNotLoaded}
-use Rattle.app_loads.specs.Plans.{IsAppNet, IsPlan, IsPacketOfApp, MayLoad}
+use Rattle.std.proofs.Common.{◌≡◌, ◌≢◌, ℕ, zero, suc, ◌+◌, ◌<◌, ◌≤◌, ◌==◌, true, false, List, [], ◌∷◌, ◌++◌, ◌∙◌, Option, None, Some, if◌then◌else◌, length, take, refl, sym, ap, subst, inl, inr}
+use Rattle.app_loads.proofs.Holes.{same_holes}
+use Rattle.app_loads.specs.Regions.{place_of}
 use Rattle.app_loads.specs.declared.places.Region.TheVariants.{Rows}
-use Rattle.app_loads.specs.Regions.{ShareNoPlace, AreFreeBeside, range_has, is_taken, region_size, IsRangeWithin, place_of}
-use Rattle.app_loads.specs.Taking.{AreTaken, IsDueAlways, frees}
+use Rattle.app_loads.specs.Applications.{HasRows}
+use Rattle.range_store.specs.Regions.{AreRuns}
+use Rattle.machine_desc.specs.RightTables.{table_at}
+use Rattle.machine_desc.specs.Live.{IsInside}
+use Rattle.spin_base.specs.declared.chips.Chip.{Chip}
+use Rattle.std.proofs.Common.{not}
+use Rattle.std.proofs.Common.{ltb}
+use Rattle.std.proofs.Common.{◌&&◌}
+use Rattle.std.proofs.Common.{arith, append-nil, append_assoc, get_or}
+use Rattle.std.proofs.lemmas.{Bool.cases_eq, Bool.eq-eqb, Bool.eqb-true, Bool.false≢true, Bool.and_parts, Bool.ne_eqb, Bool.or_parts, List.Elements.All-append, List.Elements.All-contains}
+use Rattle.std.proofs.lemmas.{List.Elements.All-weaker, List.Elements.filter_map-append, List.Elements.All-push, List.Folds.list_any-append, Option.slice_get_within, Option.same_Some}
+use Rattle.std.proofs.lemmas.{Option.none-some, Option.slice_get-get_or, List.flat_map_more, List.take_all, List.same_lists}
+use Rattle.std.specs.{Option.option_map_or, List.list_any, List.slice_get, List.slice_set, List.All, List.AllPairs, List.Contains, List.filter_map, List.enumerate_from, List.cons_option}
+use Rattle.spin_base.proofs.{Members.Among, Members.Contains-at, Members.among_any, Members.among_left, Members.among_right, Members.among_contains, Members.contains_among, Pairs.AllPairs-append}
+use Rattle.spin_base.proofs.{Pairs.AllPairs-right, Pairs.AllPairs-across, Places.All-each, Places.enumerate_more, Places.slice_get_there, Places.slice_get-set_same, Places.slice_get-set_other}
+use Rattle.spin_base.proofs.{Equality.spot_eq_same, Gathering.gathered_among}
+use Rattle.spin_base.specs.{declared.blocks.Entry.Entry, declared.chips.Spot.Spot, declared.copies.McCopy.McCopy, declared.copies.Packet.Packet, Equality.spot_eq}
+use Rattle.machine_desc.specs.{Description.Description, RoutingTree.IsRoutingTree, declared.nets.NetPlan.NetPlan, NetsOn.AreNetsOn, NetsOn.HaveDisjointBlocks, NetsOn.vertex_at, RightTables.IsKeyOf}
+use Rattle.range_store.specs.Views.{Region}
+use Rattle.mesh_core.specs.{State.State, Trail.Mark, Trail.unsent, Ledger.MeetsLedgerFor, Ledger.marks_of, Ledger.marks_at, Ledger.unsent_marks, Opened.copy_from, Opened.first_copy}
+use Rattle.mesh_core.proofs.Ways.{vertex_at_stands}
+use Rattle.app_loads.specs.declared.answers.{LoadErr.LoadErr, LoadErr.TheVariants.Refused, LoadErr.TheVariants.Memory, LoadRefusal.LoadRefusal, LoadRefusal.TheVariants.Loaded}
+use Rattle.app_loads.specs.declared.{answers.LoadRefusal.TheVariants.MemoryOut, answers.LoadRefusal.TheVariants.KeysOut, answers.LoadRefusal.TheVariants.RowsOut, loaded.LoadedApp.LoadedApp}
+use Rattle.app_loads.specs.{declared.loaded.Range.Range, declared.plans.AppNet.AppNet, declared.plans.AppPlan.AppPlan, Applications.AreApps, Applications.HaveOtherNumbers, Applications.HaveRows}
+use Rattle.app_loads.specs.{Applications.IsLoadedOn, Claims.AreServed, Claims.claims_of, Claims.IsRefusalDue, Host.Free, Host.Host, Host.all_nets, Host.all_ranges, Host.all_spots, Host.asked_of}
+use Rattle.app_loads.specs.{Host.is_loaded, Host.is_spot_taken, Host.nets_of, Joining.AreSent, Joining.IsSent, Joining.IsServedApp, Joining.IsSettled, Joining.NoneUnsent, Loading.HasLoaded}
+use Rattle.app_loads.specs.{Loading.IsLoadRefusal, Loading.IsWhyNotLoaded, Plans.IsAppNet, Plans.IsPlan, Plans.IsPacketOfApp, Plans.MayLoad, Regions.ShareNoPlace, Regions.AreFreeBeside}
+use Rattle.app_loads.specs.{Regions.range_has, Regions.is_taken, Regions.region_size, Regions.IsRangeWithin, Taking.AreTaken, Taking.IsDueAlways, Taking.frees}
 use Rattle.app_loads.proofs.AppNets.{apps_disjoint, different_of, facts_at, facts_of, key_of_index, own_disjoint, roots_of, sources_in, targets_in, trees_of, usable_spot}
-use Rattle.app_loads.proofs.ClaimCases.{among_flat, flat_among, facts}
-use Rattle.app_loads.proofs.{Copying.mine_at, Copying.same_part, Holes.same_holes, JoinLaws.loaded_from, Ledgers.more_nets}
-use Rattle.app_loads.proofs.LeavingLists.{after_unsent}
-use Rattle.app_loads.proofs.PacketLedger.{asked_is, none_past, other_tables, same_packets, sent_ledger}
-use Rattle.app_loads.proofs.{RightRows.right_rows, Serving.none_taken, Settling.settled_mesh, Settling.usable_there, Others.pairs_with_last, RegionLaws.one_free}
+use Rattle.app_loads.proofs.{ClaimCases.among_flat, ClaimCases.flat_among, ClaimCases.facts, Copying.mine_at, Copying.same_part, JoinLaws.loaded_from, Ledgers.more_nets, LeavingLists.after_unsent}
+use Rattle.app_loads.proofs.{PacketLedger.asked_is, PacketLedger.none_past, PacketLedger.other_tables, PacketLedger.same_packets, PacketLedger.sent_ledger, RightRows.right_rows, Serving.none_taken}
+use Rattle.app_loads.proofs.{Settling.settled_mesh, Settling.usable_there, Others.pairs_with_last, RegionLaws.one_free}
 
 -- regions with the same free places are the same
 pub same_frees : (m : Description) (taken : List Range) (xs ys : List Free) → AreFreeBeside m taken xs → AreFreeBeside m taken ys → xs ≡ ys
@@ -107,11 +102,7 @@ sent_unsent spots app (suc n) before after sent le v q at =
         one_chosen o k e = ap (λ z. cons_option z []) e
 
     is_elsewhere : v ≢ one'.vertex → filter_map (sends v) ((app.first + n, sent.1) ∷ []) ≡ []
-    is_elsewhere other =
-        let chosen : sends v (app.first + n, sent.1) ≡ None =
-        ap (copy_from spots v (app.first + n) sent.1) one'.is_net
-        ∙ ap (λ b. if b then Some (first_copy (app.first + n) one'.net sent.1) else None) (ap (λ o. option_map_or (λ w. w == v) o false) one'.is_vertex ∙ ne_eqb one'.vertex v (λ e. other (sym e)))
-        in ap (λ z. cons_option z []) chosen
+    is_elsewhere other = grind (arith, ne_eqb)
 
 module _ (h : Host) (apps : AreApps h) (number : ℕ) (plan : AppPlan) (may : MayLoad h plan) (not_loaded : is_loaded h.apps number ≡ false) (old new : List Region) (old_is : frees old ≡ h.regions)
     (app : LoadedApp) (mesh : State) (served : IsServedApp h.mesh.setup.machine old number h.packets plan app new) (settled : IsSettled app h.mesh mesh) where
@@ -156,8 +147,7 @@ module _ (h : Host) (apps : AreApps h) (number : ℕ) (plan : AppPlan) (may : Ma
   in_ranges a in_apps r in_a = among_contains r (all_ranges h.apps) (flat_among (λ (x : LoadedApp). x.ranges) r h.apps a (contains_among a h.apps in_apps) (contains_among r a.ranges in_a))
 
   across : (r s : Range) → Contains (all_ranges h.apps) r → Contains app.ranges s → ShareNoPlace r s
-  across r s in_r in_s = All-contains (ShareNoPlace r) app.ranges s
-      (All-contains (λ a. All (ShareNoPlace a) app.ranges) (all_ranges h.apps) r (AllPairs-across ShareNoPlace (all_ranges h.apps) app.ranges taken_now.apart) in_r) in_s
+  across r s in_r in_s = grind (arith, AllPairs-across ShareNoPlace (all_ranges h.apps) app.ranges taken_now.apart, All-contains)
 
   spots_free : (s : Spot) → Contains app.plan.spots s → is_spot_taken h.apps s ≡ false
   spots_free s has = All-contains (λ z. is_spot_taken h.apps z ≡ false) plan.spots s may.free (subst (λ (p : AppPlan). Contains p.spots s) served.plan_is has)

@@ -1,19 +1,16 @@
 -- The fields of a host to which an application came, or came not.
-use Rattle.std.proofs.Common.{◌≡◌, ℕ, ◌+◌, ◌^◌, ◌<◌, true, false, List, [], ◌∷◌, ◌++◌, length, refl, sym, ap, ◌∙◌, subst, inl, Option, None, Some, Result, Ok, Err, OnOk, OnErr}
+use Rattle.std.proofs.Common.{arith, ◌≡◌, ℕ, ◌+◌, ◌^◌, ◌<◌, true, false, List, [], ◌∷◌, ◌++◌, length, refl, sym, ap, ◌∙◌, subst, inl, Option, None, Some, Result, Ok, Err, OnOk, OnErr}
 use Rattle.std.proofs.lemmas.List.{map-append, Elements.All-contains}
-use Rattle.std.specs.Prelude.{IfSome, is_err, is_some}
-use Rattle.std.specs.List.{Contains}
+use Rattle.std.specs.{Prelude.IfSome, Prelude.is_err, Prelude.is_some, List.Contains}
 use Rattle.spin_base.proofs.Members.{among_contains, among_right}
 use Rattle.range_store.specs.Views.{Region}
 use Rattle.mesh_core.specs.State.{State}
 use Rattle.mesh_drain.specs.Draining.{SendAlone}
-use Rattle.app_loads.specs.declared.{answers.LoadErr.LoadErr, apps.Apps.TheInside.Inside, loaded.LoadedApp.LoadedApp, plans.AppPlan.AppPlan}
-use Rattle.app_loads.specs.{Applications.AreApps, Applications.IsLoadedOn, Claims.claims_of, Host.Free, Host.Host, Host.all_ranges, Host.is_loaded}
-use Rattle.app_loads.specs.Inner.{host_of, IsHost, mesh_in, numbers_of}
-use Rattle.app_loads.specs.{Joining.CanJoin, Joining.IsServedApp, Joining.IsSettled, Loading.HasLoaded, Loading.IsWhyNotLoaded, Plans.MayLoad}
-use Rattle.app_loads.specs.{Regions.AreFreeBeside, Taking.AreFreeAgain, Taking.IsDueAlways, Taking.frees, Sending.AreWithSources}
-use Rattle.app_loads.proofs.LoadedHost.{apps_now, loaded_host, none_unsent, same_frees, why_not}
-use Rattle.app_loads.proofs.Resting.{with_alone}
+use Rattle.app_loads.specs.{declared.answers.LoadErr.LoadErr, declared.apps.Apps.TheInside.Inside, declared.loaded.LoadedApp.LoadedApp, declared.plans.AppPlan.AppPlan, Applications.AreApps}
+use Rattle.app_loads.specs.{Applications.IsLoadedOn, Claims.claims_of, Host.Free, Host.Host, Host.all_ranges, Host.is_loaded, Inner.host_of, Inner.IsHost, Inner.mesh_in, Inner.numbers_of}
+use Rattle.app_loads.specs.{Joining.CanJoin, Joining.IsServedApp, Joining.IsSettled, Loading.HasLoaded, Loading.IsWhyNotLoaded, Plans.MayLoad, Regions.AreFreeBeside, Taking.AreFreeAgain}
+use Rattle.app_loads.specs.{Taking.IsDueAlways, Taking.frees, Sending.AreWithSources}
+use Rattle.app_loads.proofs.{LoadedHost.apps_now, LoadedHost.loaded_host, LoadedHost.none_unsent, LoadedHost.same_frees, LoadedHost.why_not, Resting.with_alone}
 
 one_host : (a b : State) (r s : List Free) (p q : List LoadedApp) (n k : ℕ) → a ≡ b → r ≡ s → p ≡ q → n ≡ k →
     (let x : Host = record { mesh = a; regions = r; apps = p; packets = n } in let y : Host = record { mesh = b; regions = s; apps = q; packets = k } in x ≡ y)
@@ -31,19 +28,7 @@ pub record Stands (i : Inside) (now : Host) : Type 0 where
 -- fields that say the same are the same host's
 pub still : {i j : Inside} {now : Host} → Stands i now → j.mesh ≡ i.mesh → frees j.regions.items ≡ frees i.regions.items → j.apps.items ≡ i.apps.items → j.packets ≡ i.packets →
     j.numbers.items ≡ i.numbers.items → j.senders ≡ i.senders → Stands j now
-still {i} {j} stands mesh regions apps packets numbers senders =
-    let same : host_of j ≡ host_of i = host_is j (host_of i) (ap mesh_in mesh) regions apps packets in
-    let host = stands.host in
-    record {
-      host = record {
-        there = ap is_some mesh ∙ host.there;
-        apps = subst AreApps (sym same) host.apps;
-        numbers = numbers ∙ (host.numbers ∙ ap (λ (h : Host). numbers_of h.apps) (sym same));
-        rest = subst (λ (o : Option (List ℕ)). IfSome o (λ vertices. SendAlone vertices (host_of j).mesh)) (sym senders)
-            (subst (λ (h : Host). IfSome i.senders (λ vertices. SendAlone vertices h.mesh)) (sym same) host.rest);
-      };
-      view = same ∙ stands.view;
-    }
+still {i} {j} stands mesh regions apps packets numbers senders = grind (arith, host_is j (host_of i) (ap mesh_in mesh) regions apps packets)
 
 pub never_none : (o r : Option State) → is_some o ≡ true → r ≡ o → r ≡ None → ⊥
 never_none None r some same none = cc
@@ -99,10 +84,7 @@ module _ {i : Inside} {now : Host} {mesh : State} {given : List Region} (out : I
     packets_fit = may_h.numbers
 
     pub err_why : (number : ℕ) (err : LoadErr) → is_loaded now.apps number ≡ false → IsDueAlways mesh.setup.machine (claims_of mesh.setup.machine plan) given err → IsWhyNotLoaded now number plan err
-    err_why number err none due =
-        subst (λ (x : Host). IsWhyNotLoaded x number plan err) out.stands.view
-        (why_not h out.stands.host.apps number plan given old_is (ap (λ (x : Host). is_loaded x.apps number) out.stands.view ∙ none) may_h.valid err
-        (subst (λ (s : State). IsDueAlways s.setup.machine (claims_of s.setup.machine plan) given err) (sym mesh_h) due))
+    err_why number err none due = grind (arith, mesh_h, why_not, old_is)
 
 -- an application joined it, and the fields are put back
 pub record Joins (i j : Inside) (now : Host) (mesh : State) (given : List Region) (number : ℕ) (plan : AppPlan) (app : LoadedApp) : Type 0 where
@@ -131,9 +113,7 @@ module _ {i j : Inside} {now : Host} {mesh : State} {given : List Region} {numbe
   settled = subst (λ (s : State). IsSettled app s joins.after) (sym (mesh_h out)) joins.settled
 
   is_now : host_of j ≡ new
-  is_now =
-      host_is j new (ap mesh_in joins.mesh_is) (ap frees joins.regions) joins.apps
-      (joins.packets ∙ ap (λ (p : AppPlan). i.packets + length p.packets) joins.served.plan_is)
+  is_now = grind (arith, host_is)
 
   both : AreApps new × HasLoaded old number plan new
   both =

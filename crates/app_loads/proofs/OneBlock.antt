@@ -2,14 +2,11 @@
 use Rattle.std.proofs.Common.{◌≡◌, ℕ, List, length, refl, sym, subst, arith, Some}
 use Rattle.std.proofs.lemmas.{List.Elements.All-contains, Option.slice_get_within}
 use Rattle.std.specs.List.{slice_get, Contains}
-use Rattle.spin_base.proofs.Members.{Contains-at, among_contains, contains_among}
-use Rattle.spin_base.proofs.Places.{slice_get_there}
+use Rattle.spin_base.proofs.{Members.Contains-at, Members.among_contains, Members.contains_among, Places.slice_get_there}
 use Rattle.spin_base.specs.declared.blocks.Block.{Block}
 use Rattle.machine_desc.specs.{declared.nets.NetPlan.NetPlan, RightTables.IsKeyOf}
-use Rattle.app_loads.specs.declared.{loaded.LoadedApp.LoadedApp, plans.AppNet.AppNet}
-use Rattle.app_loads.specs.Applications.{AreApps, IsLoadedOn}
-use Rattle.app_loads.specs.Host.{Host, all_nets, net_with, nets_of, nets_with}
-use Rattle.app_loads.specs.Running.{AreAlikeInBlocks}
+use Rattle.app_loads.specs.{declared.loaded.LoadedApp.LoadedApp, declared.plans.AppNet.AppNet, Applications.AreApps, Applications.IsLoadedOn, Host.Host, Host.all_nets, Host.net_with, Host.nets_of}
+use Rattle.app_loads.specs.{Host.nets_with, Running.AreAlikeInBlocks}
 use Rattle.app_loads.proofs.{AppNets.member_at, ClaimCases.flat_among, RightRows.alike, Unsent.nets_with_at}
 
 -- the net that has a block

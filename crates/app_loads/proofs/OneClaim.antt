@@ -8,12 +8,10 @@ use Rattle.machine_desc.specs.{Description.Description, Live.chip_of}
 use Rattle.tern_word.proofs.BlockLaws.{same_block}
 use Rattle.key_alloc.specs.KeyBlocks.{size_of}
 use Rattle.mesh_core.proofs.Counting.{count_some, counts_one}
-use Rattle.app_loads.specs.declared.answers.LoadRefusal.{LoadRefusal}
-use Rattle.app_loads.specs.declared.answers.LoadRefusal.TheVariants as refusals
-use Rattle.app_loads.specs.declared.{loaded.Claim.Claim, loaded.Range.Range, plans.AppNet.AppNet, plans.AppPlan.AppPlan}
+use Rattle.app_loads.specs.declared.{answers.LoadRefusal.LoadRefusal, loaded.Claim.Claim, loaded.Range.Range, plans.AppNet.AppNet, plans.AppPlan.AppPlan}
 use Rattle.app_loads.specs.Claims.{claims_of, fixed_claim, has_chip, IsBlockOf, key_claim, memory_claim, row_claim, size_for}
-use Rattle.app_loads.specs.declared.places.Region.TheVariants.{Keys, Memory, Rows}
-use Rattle.app_loads.specs.Regions.{chip_count}
+use Rattle.app_loads.specs.{declared.places.Region.TheVariants.Keys, declared.places.Region.TheVariants.Memory, declared.places.Region.TheVariants.Rows, Regions.chip_count}
+use Rattle.app_loads.specs.declared.answers.LoadRefusal.TheVariants as refusals
 
 -- whether a claim is for the keys of a net
 abbrev names_net : ℕ → LoadRefusal → Bool
@@ -32,13 +30,11 @@ module _ (n : ℕ) where
 
   none_gathered : {X : Type 0} (f : ℕ → X → List Claim) → ((j : ℕ) (x : X) → count_by is_for (f j x) ≡ 0) → (i : ℕ) (xs : List X) → count_by is_for (gathered f i xs) ≡ 0
   none_gathered f none i [] = refl
-  none_gathered f none i (x ∷ xs) =
-      omega (arith, count_by-append is_for (f i x) (gathered f (i + 1) xs), none i x, none_gathered f none (i + 1) xs)
+  none_gathered f none i (x ∷ xs) = grind (arith, count_by-append is_for (f i x) (gathered f (i + 1) xs), none_gathered f none (i + 1) xs)
 
   none_mapped : {X : Type 0} (f : X → List Claim) → ((x : X) → count_by is_for (f x) ≡ 0) → (xs : List X) → count_by is_for (flat_map f xs) ≡ 0
   none_mapped f none [] = refl
-  none_mapped f none (x ∷ xs) =
-      omega (arith, count_by-append is_for (f x) (flat_map f xs), none x, none_mapped f none xs)
+  none_mapped f none (x ∷ xs) = grind (arith, count_by-append is_for (f x) (flat_map f xs), none_mapped f none xs)
 
   abbrev fixed : ℕ → List AppNet → List Claim
   fixed i nets = gathered (λ j (net : AppNet). fixed_claim j net.fixed) i nets
@@ -48,12 +44,8 @@ module _ (n : ℕ) where
 
   -- each net claims its own keys once
   its_own : (j k : ℕ) (o : Option Block) → count_by is_for (fixed_claim j o) + count_by is_for (key_claim j k o) ≡ (if j == n then 1 else 0)
-  its_own j k (Some block) =
-      let one = count_by-cons is_for (record { region = Keys; size = size_of block; align = 1; fixed = Some block.key; refusal = refusals.KeysOut j }) [] in
-      omega (arith, one)
-  its_own j k None =
-      let one = count_by-cons is_for (record { region = Keys; size = size_for k; align = size_for k; fixed = None; refusal = refusals.KeysOut j }) [] in
-      omega (arith, one)
+  its_own j k (Some block) = grind (arith, count_by-cons is_for (record { region = Keys; size = size_of block; align = 1; fixed = Some block.key; refusal = refusals.KeysOut j }))
+  its_own j k None = grind (arith, count_by-cons is_for (record { region = Keys; size = size_for k; align = size_for k; fixed = None; refusal = refusals.KeysOut j }))
 
   none_above : (j : ℕ) (nets : List AppNet) → n < j → count_by is_for (fixed j nets) + count_by is_for (keys j nets) ≡ 0
   none_above j [] past = refl
@@ -109,8 +101,7 @@ module _ (n : ℕ) where
   one_place (c ∷ claims) few (suc i) zero a b at also x y =
       let first = counts_one (is_for c) (ap is_for (same_Some c b also) ∙ y) in
       absurd (omega (arith, few, first, count_some is_for a claims x (among_at claims i a at), count_by-cons is_for c claims))
-  one_place (c ∷ claims) few (suc i) (suc j) a b at also x y =
-      ap suc (one_place claims (omega (arith, few, count_by-cons is_for c claims)) i j a b at also x y)
+  one_place (c ∷ claims) few (suc i) (suc j) a b at also x y = grind (arith, one_place claims (omega (arith, few, count_by-cons is_for c claims)) i j a b at also x y, count_by-cons is_for c claims)
 
 -- so a net's block is one
 pub one_block : (m : Description) (plan : AppPlan) (ranges : List Range) (net : ℕ) (block other : Block) → IsBlockOf (claims_of m plan) ranges net block →

@@ -1,11 +1,10 @@
 -- Lists of an application's items beside those of all others.
 use Rattle.std.proofs.Common.{◌≡◌, ◌≢◌, ℕ, zero, suc, ◌==◌, Bool, true, false, not, List, [], ◌∷◌, ◌++◌, take, drop, sym, ap, ◌∙◌, refl, subst, inl, inr, ◌⊎◌, arith, Some, get_or}
-use Rattle.std.proofs.lemmas.Bool.{cases_Bool, cond_both, cond-true, cond-false, eq-eqb, eqb-true, false≢true, ne_eqb}
-use Rattle.std.proofs.lemmas.{List.Elements.All-contains, List.Elements.All-weaker, Option.same_Some, Option.slice_get-get_or, List.Quantifiers.all_pairs_push}
+use Rattle.std.proofs.lemmas.{Bool.cases_Bool, Bool.cond_both, Bool.cond-true, Bool.cond-false, Bool.eq-eqb, Bool.eqb-true, Bool.false≢true, Bool.ne_eqb, List.Elements.All-contains}
+use Rattle.std.proofs.lemmas.{List.Elements.All-weaker, Option.same_Some, Option.slice_get-get_or, List.Quantifiers.all_pairs_push}
 use Rattle.std.specs.List.{slice_get, All, AllPairs, Contains, filter, flat_map}
 use Rattle.spin_base.proofs.Members.{Among, among_at, among_contains, among_filter, contains_among, Contains-filter, Contains-from_filter, Contains-at}
-use Rattle.spin_base.proofs.Pairs.{AllPairs-append, AllPairs-left, AllPairs-right, AllPairs-across, AllPairs-head, AllPairs-tail}
-use Rattle.spin_base.proofs.Places.{All-each}
+use Rattle.spin_base.proofs.{Pairs.AllPairs-append, Pairs.AllPairs-left, Pairs.AllPairs-right, Pairs.AllPairs-across, Pairs.AllPairs-head, Pairs.AllPairs-tail, Places.All-each}
 use Rattle.app_loads.specs.{declared.loaded.LoadedApp.LoadedApp, Leaving.others_than}
 use Rattle.app_loads.proofs.{ClaimCases.among_flat, ClaimCases.flat_among, LeavingLists.either_pair}
 
@@ -103,15 +102,10 @@ without_one number (a ∷ apps) (suc at) app is its pairs =
 
 module _ (apps : List LoadedApp) (numbers : HaveNumbers apps) (number : ℕ) (app : LoadedApp) (in_apps : Contains apps app) (its : app.number ≡ number) where
   pub other_in : (a : LoadedApp) → Contains (others_than number apps) a → Contains apps a × a ≢ app
-  other_in a has =
-      let found = Contains-from_filter (is_other number) apps a has in
-      (found.0, λ same. false≢true (sym (ap not (eq-eqb a.number number (ap (λ (x : LoadedApp). x.number) same ∙ its))) ∙ found.1))
+  other_in a has = grind (arith, Contains-from_filter (is_other number) apps a has, false≢true, eq-eqb)
 
   pub mine_or_other : (a : LoadedApp) → Contains apps a → (a ≡ app) ⊎ Contains (others_than number apps) a
-  mine_or_other a has = elim (cases_Bool (a.number == number)) [
-    | inl mine ↦ inl (only_one apps numbers a app (contains_among a apps has) (contains_among app apps in_apps) (eqb-true a.number number mine ∙ sym its))
-    | inr other ↦ inr (Contains-filter (is_other number) apps a has (ap not other))
-  ]
+  mine_or_other a has = grind (arith, cases_Bool (a.number == number), contains_among a apps has, contains_among app apps in_apps, only_one, Contains-filter, eqb-true)
 
   -- an item of an application is one of this one's, or of the others'
   pub item_of : {Y : Type 0} (f : LoadedApp → List Y) (y : Y) → Contains (flat_map f apps) y → Contains (f app) y ⊎ Contains (flat_map f (others_than number apps)) y

@@ -1,17 +1,14 @@
 -- The ledger of a mesh to which an application's packets came.
 use Rattle.std.proofs.Common.{◌≡◌, ◌≢◌, ℕ, zero, suc, ◌+◌, ◌-◌, ◌<◌, ◌≤◌, ◌==◌, List, [], ◌∷◌, ◌++◌, length, refl, sym, ap, ◌∙◌, subst, inl, inr, arith, Option, None, Some, if◌then◌else◌}
-use Rattle.std.proofs.lemmas.Bool.{cases_eq, cases_lt, eq-eqb, le-leb, lt-leb, ne_eqb}
-use Rattle.std.proofs.lemmas.List.{length-map, Elements.All-head, Elements.All-tail}
+use Rattle.std.proofs.lemmas.{Bool.cases_eq, Bool.cases_lt, Bool.eq-eqb, Bool.le-leb, Bool.lt-leb, Bool.ne_eqb, List.length-map, List.Elements.All-head, List.Elements.All-tail}
 use Rattle.std.proofs.lemmas.Option.{slice_get_within, slice_get_past, get_or_from_slice_get}
 use Rattle.std.specs.List.{slice_get, slice_set, All, Contains}
 use Rattle.spin_base.specs.declared.{blocks.Entry.Entry, chips.Spot.Spot, copies.McCopy.McCopy, copies.Packet.Packet}
 use Rattle.machine_desc.specs.{Description.Description, RoutingTree.IsRoutingTree, declared.nets.NetPlan.NetPlan, RightTables.IsKeyOf}
 use Rattle.machine_desc.proofs.Branches.{link_on_branch}
-use Rattle.mesh_core.specs.{State.State, Ledger.Asked, Ledger.MeetsLedgerFor, Opened.asked_at, Opened.asked_by, Opened.label_in}
+use Rattle.mesh_core.specs.{State.State, Ledger.Asked, Ledger.MeetsLedgerFor, Opened.asked_by, Opened.label_in}
 use Rattle.mesh_core.proofs.AskedPackets.{asked_from}
-use Rattle.app_loads.specs.declared.loaded.LoadedApp.{LoadedApp}
-use Rattle.app_loads.specs.Host.{asked_of, asked_of_app, either, nets_of}
-use Rattle.app_loads.specs.Joining.{AreSent}
+use Rattle.app_loads.specs.{declared.loaded.LoadedApp.LoadedApp, Host.asked_of, Host.asked_of_app, Host.either, Host.nets_of, Joining.AreSent}
 use Rattle.app_loads.proofs.Ledgers.{one_packet_more}
 
 -- a routing tree has a target
@@ -84,9 +81,7 @@ asked_more [] app j = either_none (asked_of_app app j)
 asked_more (a ∷ apps) app j = ap (either (asked_of_app a j)) (asked_more apps app j) ∙ either_assoc (asked_of_app a j) (asked_of apps j) (asked_of_app app j)
 
 past_app : (app : LoadedApp) (j : ℕ) → app.first + length app.plan.packets ≤ j → asked_of_app app j ≡ None
-past_app app j past =
-    ap (λ b. if b then asked_by (nets_of app) app.plan.packets (j - app.first) else None) (le-leb app.first j (omega (arith, past)))
-    ∙ ap (asked_at (nets_of app)) (slice_get_past app.plan.packets (j - app.first) (omega (arith, past)))
+past_app app j past = grind (arith, le-leb app.first j (omega (arith, past)), slice_get_past app.plan.packets (j - app.first) (omega (arith, past)))
 
 pub none_past : (apps : List LoadedApp) (packets j : ℕ) → All (λ (app : LoadedApp). app.first + length app.plan.packets ≤ packets) apps → packets ≤ j → asked_of apps j ≡ None
 none_past [] packets j counted past = refl
@@ -97,20 +92,8 @@ none_past (a ∷ apps) packets j counted past =
 
 pub asked_is : (apps : List LoadedApp) (app : LoadedApp) → ((i : ℕ) → app.first ≤ i → asked_of apps i ≡ None) → (j : ℕ) →
     upto app (asked_of apps) (length app.plan.packets) j ≡ asked_of (apps ++ app ∷ []) j
-asked_is apps app none j = elim (cases_lt j app.first) [
-  | inl before ↦
-      upto_else app (asked_of apps) (length app.plan.packets) j (λ i less e. omega (arith, before, e))
-      ∙ (sym (either_none (asked_of apps j)) ∙ (ap (either (asked_of apps j))
-      (sym (ap (λ b. if b then asked_by (nets_of app) app.plan.packets (j - app.first) else None) (lt-leb app.first j before))) ∙ sym (asked_more apps app j)))
-  | inr after ↦
-      let no_other : asked_of (apps ++ app ∷ []) j ≡ asked_of_app app j = asked_more apps app j ∙ ap (λ o. either o (asked_of_app app j)) (none j after) in
-      elim (cases_lt j (app.first + length app.plan.packets)) [
-        | inl within ↦
-            upto_at app (asked_of apps) (length app.plan.packets) j after within
-            ∙ (sym (ap (λ b. if b then asked_by (nets_of app) app.plan.packets (j - app.first) else None) (le-leb app.first j after)) ∙ sym no_other)
-        | inr past ↦ upto_else app (asked_of apps) (length app.plan.packets) j (λ i less e. omega (arith, past, less, e)) ∙ (none j after ∙ (sym (past_app app j past) ∙ sym no_other))
-      ]
-]
+asked_is apps app none j =
+    grind (arith, cases_lt j app.first, either_none (asked_of apps j), asked_more apps app j, cases_lt j (app.first + length app.plan.packets), upto_else, lt-leb, upto_at, le-leb, past_app)
 
 -- the ledger holds of the same packets, whatever the tables
 pub same_packets : (s : State) (nets : List NetPlan) (f g : ℕ → Option Asked) → ((j : ℕ) → f j ≡ g j) → MeetsLedgerFor s nets f → MeetsLedgerFor s nets g
@@ -118,9 +101,4 @@ same_packets s nets f g same = subst (MeetsLedgerFor s nets) (λ i j. same j i)
 
 pub other_tables : (s : State) (nets : List NetPlan) (asked : ℕ → Option Asked) (tables : List (List Entry)) → MeetsLedgerFor s nets asked →
     MeetsLedgerFor (record s { setup = record s.setup { tables = tables } }) nets asked
-other_tables s nets asked tables l = record {
-  ledger = record { nets_stand = l.ledger.nets_stand; labelled = l.ledger.labelled; on_a_trail = l.ledger.on_a_trail; once_on_each = l.ledger.once_on_each };
-  of_its_net = l.of_its_net;
-  was_asked = l.was_asked;
-  each_asked = l.each_asked;
-}
+other_tables s nets asked tables l = grind arith

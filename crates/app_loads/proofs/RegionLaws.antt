@@ -1,11 +1,9 @@
 -- What serving a claim in its region answers, from what the region's calls promise.
 use Rattle.std.proofs.Common.{◌≡◌, ℕ, ◌%◌, ◌<◌, true, false, not, ◌&&◌, List, [], ◌∷◌, ◌++◌, refl, sym, subst, Option, None, Some, IfSome, IfNone, Result, Ok, Err, IfOk}
 use Rattle.spin_base.specs.declared.wants.Memory.{Memory}
-use Rattle.range_store.specs.{declared.holes.Hole.Hole, Views.Region}
-use Rattle.range_store.specs.Regions.{AreRuns, IsFirstFit, HasNoFit, is_hole_range, is_free, in_range}
-use Rattle.app_loads.specs.declared.loaded.{Claim.Claim, Range.Range}
-use Rattle.app_loads.specs.{Host.Free, Regions.IsFreeBeside, Regions.place_of, Claims.IsLeastOpenRange}
-use Rattle.app_loads.specs.Taking.{free_places_in, ServesClaim, RefusesClaim}
+use Rattle.range_store.specs.{declared.holes.Hole.Hole, Views.Region, Regions.AreRuns, Regions.IsFirstFit, Regions.HasNoFit, Regions.is_hole_range, Regions.is_free, Regions.in_range}
+use Rattle.app_loads.specs.{declared.loaded.Claim.Claim, declared.loaded.Range.Range, Host.Free, Regions.IsFreeBeside, Regions.place_of, Claims.IsLeastOpenRange, Taking.free_places_in}
+use Rattle.app_loads.specs.Taking.{ServesClaim, RefusesClaim}
 use Rattle.app_loads.proofs.Taking.{taken_more, least_from_fit, refused_from_fit, least_from_fixed, refused_from_fixed}
 
 module _ (claim : Claim) (before after : Region) (some : 0 < claim.size) (size : after.size ≡ before.size) (runs : AreRuns 0 after.size after.holes) where

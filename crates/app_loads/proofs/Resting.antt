@@ -2,21 +2,18 @@
 use Rattle.std.proofs.Common.{◌≡◌, ℕ, zero, suc, ◌<◌, List, [], ◌∷◌, ◌++◌, length, refl, sym, ap, ◌∙◌, subst, inl, inr, arith, Option, None, Some}
 use Rattle.std.proofs.lemmas.{Bool.cases_eq, List.Elements.All-append, List.Elements.All-nil, Option.slice_get_within}
 use Rattle.std.specs.{Prelude.IfSome, List.slice_get, List.flat_map, List.All, List.Contains, Option.option_to_list}
-use Rattle.spin_base.proofs.Members.{Among, Contains-at, among_at, among_contains, among_left, among_right, contains_among, position_there}
-use Rattle.spin_base.proofs.Places.{All-at, All-each, slice_get-set_other}
+use Rattle.spin_base.proofs.{Members.Among, Members.Contains-at, Members.among_at, Members.among_contains, Members.among_left, Members.among_right, Members.contains_among, Places.All-at}
+use Rattle.spin_base.proofs.Places.{All-each, slice_get-set_other}
 use Rattle.spin_base.specs.declared.{blocks.Entry.Entry, chips.Spot.Spot, copies.McCopy.McCopy, routes.Out.TheVariants.Core}
-use Rattle.machine_desc.specs.{Description.Description, Outputs.leads_to_spot, declared.nets.NetPlan.NetPlan, NetsOn.vertex_at}
+use Rattle.machine_desc.specs.{Description.Description, declared.nets.NetPlan.NetPlan, NetsOn.vertex_at}
 use Rattle.machine_desc.proofs.Sites.{usable_parts}
-use Rattle.mesh_core.specs.State.{State, vertex_behind}
-use Rattle.mesh_core.specs.Expected.{IsAtRest, NothingWaits}
+use Rattle.mesh_core.specs.{State.State, State.vertex_behind, Expected.IsAtRest, Expected.NothingWaits}
 use Rattle.mesh_core.proofs.ServingLaws.{vertex_behind-core}
 use Rattle.mesh_drain.specs.Draining.{SendAlone}
 use Rattle.mesh_drain.proofs.Senders.{Unsent}
-use Rattle.app_loads.specs.declared.{loaded.LoadedApp.LoadedApp, plans.AppNet.AppNet}
-use Rattle.app_loads.specs.{Applications.IsLoadedOn, Host.nets_of, Joining.AreSent, Joining.IsSettled, Leaving.mesh_without}
+use Rattle.app_loads.specs.{declared.loaded.LoadedApp.LoadedApp, declared.plans.AppNet.AppNet, Applications.IsLoadedOn, Host.nets_of, Joining.AreSent, Joining.IsSettled, Leaving.mesh_without}
 use Rattle.app_loads.specs.Sending.{AreWithSources, source_vertex}
-use Rattle.app_loads.proofs.AppNets.{facts_of, usable_spot}
-use Rattle.app_loads.proofs.ClaimCases.{among_flat, flat_among}
+use Rattle.app_loads.proofs.{AppNets.facts_of, AppNets.usable_spot, ClaimCases.among_flat, ClaimCases.flat_among}
 
 -- ---- after a load
 
@@ -52,10 +49,7 @@ module _ (m : Description) (old new : State) (app : LoadedApp) (on : IsLoadedOn 
   sources = flat_map (source_vertex spots) app.plan.nets
 
   source_there : (v : ℕ) → Contains sources v → v < length spots
-  source_there v has =
-      let f = among_flat (source_vertex spots) v app.plan.nets (contains_among v sources has) in
-      let at = position_there (leads_to_spot f.0.source.chip (Core f.0.source.core)) spots v f.0.source (in_option (vertex_behind spots f.0.source.chip (Core f.0.source.core)) v f.2) in
-      slice_get_within spots v at.0 at.1
+  source_there v has = grind (arith, among_flat (source_vertex spots) v app.plan.nets (contains_among v sources has), contains_among v sources has, slice_get_within)
 
   is_source : (net : NetPlan) → Contains (nets_of app) net → (v : ℕ) → vertex_at spots net.source ≡ Some v → Among v sources
   is_source net has v at =
@@ -90,11 +84,7 @@ module _ (m : Description) (old new : State) (app : LoadedApp) (on : IsLoadedOn 
 pub left_alone : (app : LoadedApp) (old new : State) (tables : List (List Entry)) (senders : Option (List ℕ)) → new ≡ mesh_without app tables old →
     IfSome senders (λ vertices. SendAlone vertices old) → IfSome senders (λ vertices. SendAlone vertices new)
 left_alone app old new tables None is rest = tt
-left_alone app old new tables (Some vertices) is rest = subst (SendAlone vertices) (sym is) (record {
-  quiet = record { inputs_empty = rest.quiet.inputs_empty; hands_empty = rest.quiet.hands_empty; cores_empty = rest.quiet.cores_empty };
-  there = rest.there;
-  others = rest.others;
-})
+left_alone app old new tables (Some vertices) is rest = grind arith
 
 -- ---- after a drain
 

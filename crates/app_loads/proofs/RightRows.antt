@@ -1,33 +1,26 @@
 -- Tables with the plain rows of all applications are right for their nets, and give all keys of a net's block the same.
-use Rattle.std.proofs.Common.{◌≡◌, ℕ, zero, suc, ◌+◌, ◌-◌, ◌<◌, ◌≤◌, ◌==◌, leb, ltb, cond, bit_and, Bool, true, false, List, [], ◌∷◌, map, take, drop, get_or, length}
-use Rattle.std.proofs.Common.{◌*◌, refl, sym, ap, ◌∙◌, subst, inl, inr, arith, Some, count_by, find}
-use Rattle.std.proofs.lemmas.Bool.{cases_Bool, eqb-true, eq-eqb, and_parts, false≢true, ltb-true, leb-true}
-use Rattle.std.proofs.lemmas.List.{Elements.All-contains, Elements.All-from_get_or, Sorted.IsPermutation-sym, Sorted.Contains-permutation}
-use Rattle.std.proofs.lemmas.Option.{slice_get-get_or, same_Some}
+use Rattle.std.proofs.Common.{◌≡◌, ℕ, zero, suc, ◌+◌, ◌-◌, ◌<◌, ◌≤◌, ◌==◌, leb, ltb, cond, bit_and, Bool, true, false, List, [], ◌∷◌, map, take, drop, get_or, length, ◌*◌, refl, sym, ap, ◌∙◌, subst}
+use Rattle.std.proofs.Common.{inl, inr, arith, Some, count_by, find}
+use Rattle.std.proofs.lemmas.{Bool.cases_Bool, Bool.eqb-true, Bool.eq-eqb, Bool.and_parts, Bool.false≢true, Bool.ltb-true, Bool.leb-true, List.Elements.All-contains, List.Elements.All-from_get_or}
+use Rattle.std.proofs.lemmas.{List.Sorted.IsPermutation-sym, List.Sorted.Contains-permutation, Option.slice_get-get_or, Option.same_Some}
 use Rattle.std.specs.{Int.Bits.and_zero_r, Option.option_map_or, List.slice_get, List.All, List.Contains}
 use Rattle.mesh_core.proofs.{Counting.count_some, Moves.chip_of-index_of, LedgerLaw.one_net}
 use Rattle.spin_base.proofs.Members.{Contains-at, Contains-none, Contains-first, Contains-later, Contains-cases, Contains-map, Contains-unmap, among_contains, contains_among}
 use Rattle.spin_base.proofs.Places.{All-each, AllZip-at_first, slice_get-mapped, unmapped}
 use Rattle.spin_base.specs.declared.{blocks.Block.Block, blocks.Entry.Entry, chips.Chip.Chip, chips.Port.Port, routes.Out.Out, routes.Route.Route}
-use Rattle.spin_base.specs.Lookup.{lookup, matches, default_route}
-use Rattle.spin_base.specs.Outputs.{has, IsOutput}
-use Rattle.machine_desc.specs.{Description.Description, Live.index_of, Live.chip_of, Live.IsInside, RoutingTree.IsRoutingTree}
-use Rattle.machine_desc.specs.{declared.nets.NetPlan.NetPlan, NetsOn.HaveDisjointBlocks, Outputs.is_wanted}
-use Rattle.machine_desc.specs.RightTables.{IsKeyOf, AreRight, RoutesByTree, table_at}
+use Rattle.spin_base.specs.{Lookup.lookup, Lookup.matches, Lookup.default_route, Outputs.has, Outputs.IsOutput}
+use Rattle.machine_desc.specs.{Description.Description, Live.index_of, Live.chip_of, Live.IsInside, RoutingTree.IsRoutingTree, declared.nets.NetPlan.NetPlan, NetsOn.HaveDisjointBlocks}
+use Rattle.machine_desc.specs.{Outputs.is_wanted, RightTables.IsKeyOf, RightTables.AreRight, RightTables.RoutesByTree, RightTables.table_at}
 use Rattle.machine_desc.proofs.{Far.index_below, Live.chip_of-inside, Live.index_of-chip_of}
 use Rattle.range_store.specs.Regions.{in_range}
 use Rattle.tcam_find.specs.Memory.{unused}
 use Rattle.tern_word.specs.{declared.tables.Row.Row, Entries.entry_of, SoundTable.Original}
 use Rattle.net_tables.specs.PlainTable.{HasChip, IsOriginalOf, IsPlainTable, row_of}
 use Rattle.net_tables.proofs.{Trees.chips_inside, Trees.comes_in_tree, Whole.has_original, Whole.from_net}
-use Rattle.app_loads.specs.declared.loaded.{LoadedApp.LoadedApp, Range.Range}
-use Rattle.app_loads.specs.Applications.{HasRows, HaveRows, IsLoadedOn, IsRangeFor}
-use Rattle.app_loads.specs.Claims.{claims_of, has_chip}
-use Rattle.app_loads.specs.Host.{all_nets, all_ranges, nets_of}
-use Rattle.app_loads.specs.declared.places.Region.TheVariants.{Rows}
-use Rattle.app_loads.specs.Regions.{range_has, is_taken, place_of}
-use Rattle.app_loads.proofs.AppNets.{facts_of, member_at, spot_inside}
-use Rattle.app_loads.proofs.{ClaimCases.among_flat, ClaimCases.flat_among, ClaimCases.chip_claim, Serving.by_taken, Settling.has_chip-true}
+use Rattle.app_loads.specs.{declared.loaded.LoadedApp.LoadedApp, declared.loaded.Range.Range, Applications.HasRows, Applications.HaveRows, Applications.IsLoadedOn, Applications.IsRangeFor}
+use Rattle.app_loads.specs.{Claims.claims_of, Claims.has_chip, Host.all_nets, Host.all_ranges, Host.nets_of, declared.places.Region.TheVariants.Rows, Regions.range_has, Regions.is_taken}
+use Rattle.app_loads.specs.Regions.{place_of}
+use Rattle.app_loads.proofs.{AppNets.facts_of, AppNets.member_at, AppNets.spot_inside, ClaimCases.among_flat, ClaimCases.flat_among, ClaimCases.chip_claim, Serving.by_taken, Settling.has_chip-true}
 
 -- ---- lookup in a table where all that match agree
 
@@ -50,11 +43,9 @@ part_at : {X : Type 0} (xs : List X) (p s k : ℕ) (x : X) → p ≤ k → k < p
 part_at [] p s k x low high e = cc
 part_at (y ∷ ys) zero zero k x low high e = absurd (omega (arith, high))
 part_at (y ∷ ys) zero (suc s) zero x low high e = e
-part_at (y ∷ ys) zero (suc s) (suc k) x low high e =
-    let z : suc k - 0 ≡ suc (k - 0) = omega arith in ap (slice_get (y ∷ take s ys)) z ∙ part_at ys 0 s k x (omega arith) (omega (arith, high)) e
+part_at (y ∷ ys) zero (suc s) (suc k) x low high e = grind (arith, part_at ys 0 s k x (omega arith) (omega (arith, high)) e)
 part_at (y ∷ ys) (suc p) s zero x low high e = absurd (omega (arith, low))
-part_at (y ∷ ys) (suc p) s (suc k) x low high e =
-    let z : suc k - suc p ≡ k - p = omega arith in ap (slice_get (take s (drop p ys))) z ∙ part_at ys p s k x (omega (arith, low)) (omega (arith, high)) e
+part_at (y ∷ ys) (suc p) s (suc k) x low high e = grind (arith, part_at ys p s k x (omega (arith, low)) (omega (arith, high)) e)
 
 of_part : {X : Type 0} (xs : List X) (p s j : ℕ) (x : X) → slice_get (take s (drop p xs)) j ≡ Some x → slice_get xs (p + j) ≡ Some x
 of_part [] zero zero j x e = cc
@@ -90,10 +81,7 @@ module _ (m : Description) (tables : List (List Entry)) (apps : List LoadedApp) 
 
   rows_at : (app : LoadedApp) → Contains apps app → (range : Range) → Contains app.ranges range → (c : Chip) → IsInside m c →
       range.region ≡ place_of m (Rows c) → HasRows m (nets_of app) c (table_at m tables c) range
-  rows_at app in_apps range in_ranges =
-      All-contains (λ (r : Range). (c : Chip) → IsInside m c → r.region ≡ place_of m (Rows c) → HasRows m (nets_of app) c (table_at m tables c) r) app.ranges range
-      (All-contains (λ (a : LoadedApp). All (λ (r : Range). (c : Chip) → IsInside m c → r.region ≡ place_of m (Rows c) → HasRows m (nets_of a) c (table_at m tables c) r) a.ranges)
-      apps app rows.rows in_apps) in_ranges
+  rows_at app in_apps range in_ranges = grind (arith, All-contains)
 
   module _ (x : NetPlan) (in_x : Contains (all_nets apps) x) (c : Chip) (inside : IsInside m c) (key : ℕ) (keyed : IsKeyOf x.block key) where
     abbrev T : List Entry
@@ -210,13 +198,7 @@ module _ (m : Description) (tables : List (List Entry)) (apps : List LoadedApp) 
 
   module _ (x : NetPlan) (in_x : Contains (all_nets apps) x) (key other : ℕ) (keyed : IsKeyOf x.block key) (its : IsKeyOf x.block other) where
     same_match : (c : Chip) → IsInside m c → (e : Entry) → Contains (table_at m tables c) e → matches e key ≡ matches e other
-    same_match c inside e has' = elim (cases_Bool (matches e key)) [
-      | inl hit ↦ hit ∙ sym (others x in_x c inside key keyed other its e has' hit)
-      | inr miss ↦ elim (cases_Bool (matches e other)) [
-        | inl hit ↦ absurd (false≢true (sym miss ∙ others x in_x c inside other its key keyed e has' hit))
-        | inr also ↦ miss ∙ sym also
-      ]
-    ]
+    same_match c inside e has' = grind (arith, cases_Bool (matches e key), cases_Bool (matches e other), others, false≢true)
 
     same_found : (es : List Entry) → ((e : Entry) → Contains es e → matches e key ≡ matches e other) → find (λ (e : Entry). matches e key) es ≡ find (λ (e : Entry). matches e other) es
     same_found [] same = refl

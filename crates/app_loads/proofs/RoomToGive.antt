@@ -1,13 +1,11 @@
 -- Room made in regions for ranges that are to be given back.
-use Rattle.std.proofs.Common.{◌≡◌, ◌≢◌, ℕ, ◌+◌, ◌<◌, ◌≤◌, ◌==◌, List, [], ◌∷◌, ◌++◌, take, get_or, length, sym, ap, ◌∙◌, inl, inr, arith, Some}
+use Rattle.std.proofs.Common.{◌≡◌, ◌≢◌, ℕ, ◌+◌, ◌<◌, ◌≤◌, List, [], ◌∷◌, ◌++◌, take, get_or, length, sym, ap, ◌∙◌, inl, inr, arith, Some}
 use Rattle.std.proofs.lemmas.{Option.slice_get-get_or, List.length-take, List.map-set, List.Sums.count_by-le-length}
 use Rattle.std.specs.List.{slice_get, slice_set, All}
 use Rattle.spin_base.proofs.Places.{slice_get-mapped, set-slice_get, take_more_at}
 use Rattle.range_store.specs.Views.{Region}
-use Rattle.app_loads.specs.declared.loaded.Range.{Range}
-use Rattle.app_loads.specs.Taking.{free_places_in, frees, HaveRoom}
-use Rattle.app_loads.proofs.Serving.{counted_push, more_here, none_elsewhere, of_region, set_cases}
-use Rattle.app_loads.proofs.RegionLaws.{one_free}
+use Rattle.app_loads.specs.{declared.loaded.Range.Range, Taking.free_places_in, Taking.frees, Taking.HaveRoom}
+use Rattle.app_loads.proofs.{Serving.counted_push, Serving.more_here, Serving.none_elsewhere, Serving.of_region, Serving.set_cases, RegionLaws.one_free}
 
 module _ (ranges : List Range) {i : ℕ} (d : Range) (below : i < length ranges) where
   abbrev range : Range
@@ -30,10 +28,7 @@ module _ (ranges : List Range) {i : ℕ} (d : Range) (below : i < length ranges)
     count_here = let was = counted range.region (get_or counts range.region e) (slice_get-get_or counts range.region e there) in let h = here in omega (arith, was, h)
 
     pub few_counted : length ranges ≤ 262144 → get_or counts range.region e ≤ 262144
-    few_counted few =
-        let was = counted range.region (get_or counts range.region e) (slice_get-get_or counts range.region e there) in
-        let some : of_region range.region (take i ranges) ≤ length (take i ranges) = count_by-le-length (λ (r : Range). r.region == range.region) (take i ranges) in
-        omega (arith, was, some, length-take i ranges, few)
+    few_counted few = grind (arith, get_or counts range.region e, slice_get-get_or counts range.region e there, length-take i ranges, count_by-le-length)
 
     pub counted_more : (next : ℕ) → next ≡ get_or counts range.region e + 1 → (k n : ℕ) → slice_get (slice_set counts range.region next) k ≡ Some n → n ≡ of_region k (take (i + 1) ranges)
     counted_more next is k n at =

@@ -1,32 +1,23 @@
 -- Room for the rows of an application.
-use Rattle.std.proofs.Common.{◌≡◌, ℕ, ◌+◌, ◌≤◌, zero, suc, List, [], ◌∷◌, ◌++◌, length, drop, sym, ap, ◌∙◌, arith, inl, inr, Some, subst}
+use Rattle.std.proofs.Common.{◌≡◌, ℕ, ◌+◌, zero, suc, List, [], ◌∷◌, ◌++◌, length, drop, ap, arith, Some}
 use Rattle.std.specs.List.{slice_get}
-use Rattle.std.proofs.lemmas.List.{length_push}
-use Rattle.std.proofs.lemmas.Option.{same_Some, slice_get_within}
-use Rattle.machine_desc.specs.{Description.Description, Live.index_of}
+use Rattle.std.proofs.lemmas.{List.length_push, Option.same_Some, Option.slice_get_within}
+use Rattle.machine_desc.specs.Description.{Description}
 use Rattle.spin_base.proofs.Places.{slice_get-push_cases}
 use Rattle.spin_base.specs.declared.chips.Chip.{Chip}
-use Rattle.app_loads.specs.{declared.loaded.Range.Range, declared.places.Region.Region, declared.places.Region.TheVariants.Rows}
-use Rattle.app_loads.specs.Regions.{IsRegion, chip_count, place_of}
-use Rattle.app_loads.specs.Writing.{HasRoom}
-use Rattle.app_loads.proofs.{Copying.place_of_no_rows}
+use Rattle.app_loads.specs.{declared.loaded.Range.Range, declared.places.Region.Region, declared.places.Region.TheVariants.Rows, Regions.IsRegion, Regions.place_of, Writing.HasRoom}
+use Rattle.app_loads.proofs.Copying.{place_of_no_rows}
 
 -- a range of no entries needs none
 pub no_room : (m : Description) (range : Range) (r : Region) → ((c : Chip) → r ≡ Rows c → ⊥) → IsRegion m r → place_of m r ≡ range.region → (room : ℕ) → HasRoom m range room
-no_room m range r other is at room c region =
-    let below : range.region ≤ chip_count m = place_of_no_rows m r other is range.region at in
-    let above : range.region ≡ 1 + (chip_count m + index_of m c) = region in
-    absurd (omega (arith, below, above))
+no_room m range r other is at room c region = grind (arith, place_of_no_rows m r other is range.region at)
 
 -- the first of the items that are left stands at the next place
 pub left_first : {X : Type 0} (xs : List X) (k : ℕ) (x : X) (rest : List X) → drop k xs ≡ x ∷ rest → (slice_get xs k ≡ Some x) × (rest ≡ drop (k + 1) xs)
 left_first [] zero x rest is = cc
 left_first [] (suc k) x rest is = cc
 left_first (y ∷ ys) zero x rest is = let head : y ≡ x = cc in let tail : rest ≡ ys = cc in (ap Some head, tail)
-left_first (y ∷ ys) (suc k) x rest is =
-    let deeper = left_first ys k x rest is in
-    let up : suc (k + 1) ≡ suc k + 1 = omega arith in
-    (deeper.0, deeper.1 ∙ ap (λ n. drop n (y ∷ ys)) up)
+left_first (y ∷ ys) (suc k) x rest is = grind (arith, left_first ys k x rest is)
 
 -- the ranges so far have room
 abbrev pub HaveRoomTo : Description → ℕ → List Range → List ℕ → Type 0
@@ -36,13 +27,4 @@ pub room_none : (m : Description) (ranges : List Range) (rooms : List ℕ) → r
 room_none m ranges rooms is = (ap length is, λ i range room at_range at_room c region. absurd (omega (arith, ap length is, slice_get_within rooms i room at_room)))
 
 pub room_more : (m : Description) (n : ℕ) (ranges : List Range) (rooms : List ℕ) (range : Range) (room : ℕ) → slice_get ranges n ≡ Some range → HasRoom m range room → HaveRoomTo m n ranges rooms → HaveRoomTo m (n + 1) ranges (rooms ++ room ∷ [])
-room_more m n ranges rooms range room at has so_far = (
-  omega (arith, so_far.0, length_push rooms room),
-  λ i other there at_i room_i. elim (slice_get-push_cases rooms room there i room_i) [
-    | inl before ↦ so_far.1 i other there at_i before.1
-    | inr last ↦
-        let here : i ≡ n = last.0 ∙ so_far.0 in
-        let same : range ≡ other = same_Some _ _ (sym at ∙ (sym (ap (slice_get ranges) here) ∙ at_i)) in
-        subst (HasRoom m other) last.1 (subst (λ (r : Range). HasRoom m r room) same has)
-  ],
-)
+room_more m n ranges rooms range room at has so_far = grind (arith, length_push rooms room, slice_get-push_cases, same_Some)

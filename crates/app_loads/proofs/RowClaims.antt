@@ -1,24 +1,17 @@
 -- How many entries nets need of a chip, counted in the list of the chips of their trees.
-use Rattle.std.proofs.Common.{◌≡◌, ◌≢◌, ℕ, zero, suc, ◌+◌, ◌-◌, ◌*◌, ◌<◌, ◌≤◌, Bool, true, false, ◌||◌, ◌==◌, List, [], ◌∷◌, ◌++◌, ◌∙◌, Option, None, Some, Result, Ok, Err, if◌then◌else◌}
-use Rattle.std.proofs.Common.{get_or, length, refl, sym, ap, inl, inr, arith, OnOk, append_assoc, append-nil, count_by, take}
-use Rattle.std.proofs.lemmas.Bool.{cases_eq, cases_lt, eq-eqb, false_from_ne_true, ne_eqb}
-use Rattle.std.proofs.lemmas.Grind.{flat_map-append}
-use Rattle.std.proofs.lemmas.List.Elements.{All-nil, All-cons, All-contains, All-head, All-tail, All-weaker}
-use Rattle.std.proofs.lemmas.List.Sorted.{All-permutation, sum_by-IsPermutation}
-use Rattle.std.proofs.lemmas.{List.Sums.sum_by-cons, Option.slice_get_within, Option.get_or_from_slice_get, List.flat_map_more}
-use Rattle.std.specs.List.{list_any, slice_get, All, AllPairs, flat_map, range_with_len, sum_by, Sorted.IsPermutation}
-use Rattle.std.specs.Option.{option_map_or}
-use Rattle.spin_base.proofs.{Equality.chip_eq_true, Counts.count_by-append, Counts.count_by-cons, Pairs.All-flat_map, Pairs.AllPairs-head, Pairs.AllPairs-tail}
-use Rattle.spin_base.proofs.Members.{any_among, among_contains}
-use Rattle.spin_base.proofs.Places.{All-at, slice_get_there, take_more_at}
+use Rattle.std.proofs.Common.{◌≡◌, ◌≢◌, ℕ, zero, suc, ◌+◌, ◌-◌, ◌*◌, ◌<◌, ◌≤◌, Bool, true, false, ◌||◌, ◌==◌, List, [], ◌∷◌, ◌++◌, ◌∙◌, Option, None, Some, Result, Ok, Err, get_or, length, refl, sym}
+use Rattle.std.proofs.Common.{ap, inl, inr, arith, OnOk, append_assoc, append-nil, count_by, take}
+use Rattle.std.proofs.lemmas.{Bool.cases_eq, Bool.cases_lt, Bool.eq-eqb, Bool.false_from_ne_true, Bool.ne_eqb, Grind.flat_map-append, List.Elements.All-nil, List.Elements.All-cons}
+use Rattle.std.proofs.lemmas.List.{Elements.All-contains, Elements.All-head, Elements.All-tail, Elements.All-weaker, Sorted.All-permutation, Sorted.sum_by-IsPermutation, Sums.sum_by-cons}
+use Rattle.std.proofs.lemmas.{Option.slice_get_within, Option.get_or_from_slice_get, List.flat_map_more}
+use Rattle.std.specs.{List.list_any, List.slice_get, List.All, List.AllPairs, List.flat_map, List.range_with_len, List.sum_by, List.Sorted.IsPermutation, Option.option_map_or}
+use Rattle.spin_base.proofs.{Equality.chip_eq_true, Counts.count_by-append, Counts.count_by-cons, Pairs.All-flat_map, Pairs.AllPairs-head, Pairs.AllPairs-tail, Members.any_among}
+use Rattle.spin_base.proofs.{Members.among_contains, Places.All-at, Places.slice_get_there, Places.take_more_at}
 use Rattle.spin_base.specs.{declared.chips.Chip.Chip, Equality.chip_eq, declared.wants.Memory.Memory}
-use Rattle.machine_desc.specs.declared.trees.Edge.{Edge}
-use Rattle.machine_desc.specs.{Description.Description, Live.index_of, Live.chip_of, Live.IsInside, RoutingTree.end_of}
-use Rattle.machine_desc.proofs.Far.{far_inside, index_below, same_index, live_ends, live_inside}
-use Rattle.machine_desc.proofs.{Live.index_of-chip_of, Live.chip_of-inside, Same.chip_eq-from_same}
-use Rattle.app_loads.specs.declared.{loaded.Claim.Claim, plans.AppNet.AppNet}
-use Rattle.app_loads.specs.{Regions.chip_count, Claims.has_chip, Claims.entries_claim, Claims.row_claim}
-use Rattle.app_loads.specs.Counting.{HasTree, IsRunEnd, chip_places, end_places, tree_places, run_claim}
+use Rattle.machine_desc.specs.{declared.trees.Edge.Edge, Description.Description, Live.index_of, Live.chip_of, Live.IsInside, RoutingTree.end_of}
+use Rattle.machine_desc.proofs.{Far.far_inside, Far.index_below, Far.same_index, Far.live_ends, Far.live_inside, Live.index_of-chip_of, Live.chip_of-inside, Same.chip_eq-from_same}
+use Rattle.app_loads.specs.{declared.loaded.Claim.Claim, declared.plans.AppNet.AppNet, Regions.chip_count, Claims.has_chip, Claims.entries_claim, Claims.row_claim, Counting.HasTree, Counting.IsRunEnd}
+use Rattle.app_loads.specs.Counting.{chip_places, end_places, tree_places, run_claim}
 use Rattle.app_loads.proofs.LeavingLists.{one_if}
 
 -- of two tests at most one of which holds
@@ -57,10 +50,7 @@ count_run p (x ∷ xs) (suc at) (suc end) le within before inside after =
 -- ---- numbers one after the other
 
 range_parts : (a n m : ℕ) → range_with_len a (n + m) ≡ range_with_len a n ++ range_with_len (a + n) m
-range_parts a zero m =
-    let z : 0 + m ≡ m = omega arith in
-    let w : a + 0 ≡ a = omega arith in
-    ap (range_with_len a) z ∙ ap (λ b. range_with_len b m) (sym w)
+range_parts a zero m = grind arith
 range_parts a (suc n) m =
     let s : suc n + m ≡ suc (n + m) = omega arith in
     let w : a + 1 + n ≡ a + suc n = omega arith in
@@ -81,21 +71,11 @@ same_of f g a (suc n) same =
 -- numbers that give nothing, behind others
 up_to : {Y : Type 0} (f : ℕ → List Y) (next c : ℕ) → next ≤ c → ((i : ℕ) → next ≤ i → i < c → f i ≡ []) → flat_map f (range_with_len 0 c) ≡ flat_map f (range_with_len 0 next)
 up_to f next c le none =
-    let gap : ℕ = c - next in
-    let parts : c ≡ next + gap = omega (arith, le) in
-    ap (λ n. flat_map f (range_with_len 0 n)) parts
-    ∙ (ap (flat_map f) (range_parts 0 next gap)
-    ∙ (flat_map-append f (range_with_len 0 next) (range_with_len (0 + next) gap)
-    ∙ (ap (λ l. flat_map f (range_with_len 0 next) ++ l) (nothing_of f (0 + next) gap (λ i low high. none i (omega (arith, low)) (omega (arith, high, le))))
-    ∙ append-nil (flat_map f (range_with_len 0 next)))))
+    grind (arith, range_parts 0 next (c - next), flat_map-append f (range_with_len 0 next) (range_with_len (0 + next) (c - next)), append-nil (flat_map f (range_with_len 0 next)), nothing_of)
 
 -- one number more
 next_number : {Y : Type 0} (f : ℕ → List Y) (c : ℕ) → flat_map f (range_with_len 0 (c + 1)) ≡ flat_map f (range_with_len 0 c) ++ f c
-next_number f c =
-    let place : 0 + c ≡ c = omega arith in
-    ap (flat_map f) (range_parts 0 c 1)
-    ∙ (flat_map-append f (range_with_len 0 c) (range_with_len (0 + c) 1)
-    ∙ (ap (λ n. flat_map f (range_with_len 0 c) ++ flat_map f (range_with_len n 1)) place ∙ ap (λ l. flat_map f (range_with_len 0 c) ++ l) (append-nil (f c))))
+next_number f c = grind (arith, range_parts 0 c 1, flat_map-append f (range_with_len 0 c) (range_with_len (0 + c) 1), append-nil (f c))
 
 -- ---- runs of equal indices
 
@@ -114,9 +94,7 @@ module _ (m : Description) (chips : List ℕ) where
 
   module _ (sorted : AllPairs (λ a b. a ≤ b) chips) (inside : All (λ i. i < chip_count m) chips) where
     in_order : (j k x y : ℕ) → j < k → slice_get chips j ≡ Some x → slice_get chips k ≡ Some y → x ≤ y
-    in_order j k x y less at_j at_k =
-        let le = sorted j k x less (slice_get_within chips k y at_k) in
-        omega (arith, le, get_or_from_slice_get chips j x x at_j, get_or_from_slice_get chips k y x at_k)
+    in_order j k x y less at_j at_k = grind (arith, slice_get_within chips k y at_k, get_or_from_slice_get chips j x x at_j, get_or_from_slice_get chips k y x at_k)
 
     pub run_more : (at end c : ℕ) (start claims after : List Claim) → slice_get chips at ≡ Some c → IsRunEnd chips at end → HaveRuns at start claims →
         after ≡ claims ++ entries_claim m c (end - at) → HaveRuns end start after
@@ -173,31 +151,18 @@ module _ (m : Description) (chips : List ℕ) where
         ]
 
     pub all_runs : (at : ℕ) (start claims : List Claim) → length chips ≤ at → HaveRuns at start claims → claims ≡ start ++ flat_map (run_claim m chips) (range_with_len 0 (chip_count m))
-    all_runs at start claims end so_far =
-        so_far.is
-        ∙ ap (λ l. start ++ l) (sym (up_to (run_claim m chips) so_far.next (chip_count m) so_far.within
-        (λ i low high. none_there i (λ k x e same. let w = so_far.before k x (let v = slice_get_within chips k x e in omega (arith, v, end)) e in absurd (omega (arith, w, same, low))))))
+    all_runs at start claims end so_far = grind (arith, up_to, none_there, slice_get_within)
 
 -- ---- chips of trees
 
 -- the ends of one edge more, behind the root
 pub ends_more : {X Y : Type 0} (f : X → List Y) (xs : List X) (i : ℕ) (x : X) (start before after : List Y) (y : Y) → slice_get xs i ≡ Some x →
     before ≡ start ++ y ∷ flat_map f (take i xs) → after ≡ before ++ f x → after ≡ start ++ y ∷ flat_map f (take (i + 1) xs)
-ends_more f xs i x start before after y at so_far new =
-    new
-    ∙ (ap (λ l. l ++ f x) so_far
-    ∙ (append_assoc start (y ∷ flat_map f (take i xs)) (f x)
-    ∙ ap (λ l. start ++ l) (flat_map_more f (y ∷ []) (take i xs) x ∙ ap (λ l. y ∷ flat_map f l) (sym (take_more_at xs i x at)))))
+ends_more f xs i x start before after y at so_far new = grind (arith, append_assoc start (y ∷ flat_map f (take i xs)) (f x), flat_map_more f (y ∷ []) (take i xs) x, take_more_at xs i x at)
 
 one_case : (m : Description) (i : ℕ) (c d : Chip) → c ≡ chip_of m i → i < m.width * m.height → IsInside m d → (index_of m d == i) ≡ chip_eq c d
-one_case m i c d is below inside = elim (cases_eq (index_of m d) i) [
-  | inl same ↦
-      let equal : c ≡ d = is ∙ same_index m (chip_of m i) d (chip_of-inside m i below) inside (index_of-chip_of m i ∙ sym same) in
-      eq-eqb (index_of m d) i same ∙ sym (chip_eq-from_same c d equal)
-  | inr other ↦
-      ne_eqb (index_of m d) i other
-      ∙ sym (false_from_ne_true (chip_eq c d) (λ hit. other (ap (index_of m) (sym (chip_eq_true c d hit) ∙ is) ∙ index_of-chip_of m i)))
-]
+one_case m i c d is below inside =
+    grind (arith, cases_eq (index_of m d) i, index_of-chip_of m i, chip_of-inside m i below, same_index, eq-eqb, chip_eq-from_same, ne_eqb, false_from_ne_true, chip_eq_true)
 
 -- an end that is equal to a chip is the chip
 pub leads_to : (c : Chip) (o : Option Chip) → option_map_or (chip_eq c) o false ≡ true → o ≡ Some c
@@ -235,9 +200,7 @@ module _ (m : Description) (i : ℕ) (below : i < m.width * m.height) where
   hit_end e = leads_to c (end_of m e)
 
   none_hit : (P : Edge → Type 0) (es : List Edge) → All P es → ((e : Edge) → P e → end_of m e ≡ Some c → ⊥) → list_any hits es ≡ false
-  none_hit P es all never = false_from_ne_true (list_any hits es) (λ some.
-      let found = any_among hits es some in
-      never found.0 (All-contains P es found.0 all (among_contains found.0 es found.1)) (hit_end found.0 found.2))
+  none_hit P es all never = grind (arith, false_from_ne_true, any_among, All-contains, hit_end, among_contains)
 
   -- of edges that lead to different chips at most one counts
   edges_count : (es : List Edge) → All (λ (e : Edge). IsInside m e.chip) es → AllPairs (λ e f. end_of m e ≢ end_of m f) es →

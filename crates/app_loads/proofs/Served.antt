@@ -5,9 +5,8 @@ use Rattle.std.specs.List.{slice_get, All, Contains}
 use Rattle.spin_base.proofs.{Members.Contains-at, Places.All-each}
 use Rattle.machine_desc.specs.Description.{Description}
 use Rattle.range_store.specs.Views.{Region}
-use Rattle.app_loads.specs.declared.{loaded.Claim.Claim, loaded.Range.Range, plans.AppPlan.AppPlan}
-use Rattle.app_loads.specs.{Claims.AreServed, Claims.claims_of, Joining.AreKeyed, Plans.IsPlan, Regions.chip_count, Regions.place_of, Regions.region_size}
-use Rattle.app_loads.specs.Taking.{AreRegionsOf, CanServe, IsFair, free_places_in}
+use Rattle.app_loads.specs.{declared.loaded.Claim.Claim, declared.loaded.Range.Range, declared.plans.AppPlan.AppPlan, Claims.AreServed, Claims.claims_of, Joining.AreKeyed, Plans.IsPlan}
+use Rattle.app_loads.specs.{Regions.chip_count, Regions.place_of, Regions.region_size, Taking.AreRegionsOf, Taking.CanServe, Taking.IsFair, Taking.free_places_in}
 use Rattle.app_loads.proofs.ClaimCases.{facts, net_claim}
 
 pub can_serve : (m : Description) (plan : AppPlan) (regions : List Region) (claims : List Claim) → IsPlan m plan → AreRegionsOf m regions → claims ≡ claims_of m plan → CanServe m claims regions

@@ -1,28 +1,22 @@
 -- Ranges taken one after the other for claims, and given back.
-use Rattle.std.proofs.Common.{◌≡◌, ◌≢◌, ℕ, ◌+◌, ◌%◌, ◌<◌, ◌≤◌, zero, suc, true, false, ◌&&◌, ◌||◌, ◌⊎◌, ◌==◌, List, [], ◌∷◌, ◌++◌, ◌∙◌, Option, None, Some, if◌then◌else◌}
-use Rattle.std.proofs.Common.{not, ltb, take, drop, get_or, length, refl, sym, ap, subst, inl, inr, arith, IfSome, append_assoc, append-nil, count_by, replicate}
+use Rattle.std.proofs.Common.{◌≡◌, ◌≢◌, ℕ, ◌+◌, ◌%◌, ◌<◌, ◌≤◌, zero, suc, true, false, ◌&&◌, ◌||◌, ◌⊎◌, ◌==◌, List, [], ◌∷◌, ◌++◌, ◌∙◌, Option, None, Some, not, ltb, take, drop, get_or, length, refl}
+use Rattle.std.proofs.Common.{sym, ap, subst, inl, inr, arith, IfSome, append_assoc, append-nil, count_by, replicate}
 use Rattle.std.proofs.lemmas.Bool.{cases_Bool, cases_eq, eqb-true, eq-eqb, and_parts, and_from, false_from_ne_true, lt-ltb, ne_eqb, and_right, or_right}
-use Rattle.std.proofs.lemmas.List.{length-set, length_push, take_at, take-append-le, map-set, drop_all, drop_more}
-use Rattle.std.proofs.lemmas.List.Elements.{All-nil, All-cons, All-head, All-tail, All-append, All-contains}
-use Rattle.std.proofs.lemmas.List.{Folds.list_any-append, Sums.count_by-le-length}
-use Rattle.std.proofs.lemmas.Option.{slice_get_within, slice_get-get_or, same_Some, none-some}
-use Rattle.std.proofs.Math.Bool.{or-false}
+use Rattle.std.proofs.lemmas.List.{length-set, length_push, take_at, take-append-le, map-set, drop_all, drop_more, Elements.All-nil, Elements.All-cons, Elements.All-head, Elements.All-tail}
+use Rattle.std.proofs.lemmas.{List.Elements.All-append, List.Elements.All-contains, List.Folds.list_any-append, List.Sums.count_by-le-length, Option.slice_get_within, Option.slice_get-get_or}
+use Rattle.std.proofs.{lemmas.Option.same_Some, lemmas.Option.none-some, Math.Bool.or-false}
 use Rattle.std.specs.List.{slice_get, slice_set, All, AllPairs, Contains}
 use Rattle.key_alloc.proofs.Ranges.{in_facts}
-use Rattle.spin_base.proofs.Counts.{count_by-append, count_by-cons}
-use Rattle.spin_base.proofs.Pairs.{AllPairs-left, AllPairs-right, AllPairs-across, AllPairs-append, AllPairs-head, AllPairs-tail}
-use Rattle.spin_base.proofs.Places.{All-each, slice_get-mapped, slice_get-push_cases, slice_get-set_same, slice_get-set_other, set-slice_get}
+use Rattle.spin_base.proofs.{Counts.count_by-append, Counts.count_by-cons, Pairs.AllPairs-left, Pairs.AllPairs-right, Pairs.AllPairs-across, Pairs.AllPairs-append, Pairs.AllPairs-head}
+use Rattle.spin_base.proofs.{Pairs.AllPairs-tail, Places.All-each, Places.slice_get-mapped, Places.slice_get-push_cases, Places.slice_get-set_same, Places.slice_get-set_other, Places.set-slice_get}
 use Rattle.spin_base.proofs.Members.{any_among, among_any, contains_among, among_contains, among_right, among_either}
 use Rattle.machine_desc.specs.Description.{Description}
-use Rattle.range_store.specs.{Views.Region, Regions.AreRuns, Regions.is_free, Regions.in_range}
+use Rattle.range_store.specs.{Views.CanGive, Views.Region, Regions.AreRuns, Regions.is_free, Regions.in_range}
 use Rattle.range_store.proofs.HolePlaces.{clash}
-use Rattle.app_loads.specs.declared.answers.LoadErr.{LoadErr, TheVariants.Memory, TheVariants.Refused}
-use Rattle.app_loads.specs.declared.loaded.{Claim.Claim, Range.Range}
-use Rattle.app_loads.specs.Host.{Free}
-use Rattle.app_loads.specs.Regions.{AreFreeBeside, IsFreeBeside, ShareNoPlace, place_of, range_has, is_taken, region_size, IsRangeWithin}
-use Rattle.app_loads.specs.Claims.{IsLeastOpenRange, IsOpenRange, IsRefusalDue}
-use Rattle.app_loads.specs.Taking.{free_places_in, frees, range_at, ServesClaim, RefusesClaim, IsFair, IsFairFor, HaveRoom, CanServe, HaveServed, AreTaken}
-use Rattle.app_loads.specs.Taking.{AreTakenAlways, AreServedAlways, IsDueAlways, IsDueOf}
+use Rattle.app_loads.specs.declared.{answers.LoadErr.LoadErr, answers.LoadErr.TheVariants.Memory, answers.LoadErr.TheVariants.Refused, loaded.Claim.Claim, loaded.Range.Range}
+use Rattle.app_loads.specs.{Host.Free, Regions.AreFreeBeside, Regions.IsFreeBeside, Regions.ShareNoPlace, Regions.place_of, Regions.range_has, Regions.is_taken, Regions.region_size}
+use Rattle.app_loads.specs.{Regions.IsRangeWithin, Claims.IsLeastOpenRange, Claims.IsOpenRange, Claims.IsRefusalDue, Taking.free_places_in, Taking.frees, Taking.range_at, Taking.ServesClaim}
+use Rattle.app_loads.specs.Taking.{RefusesClaim, IsFair, IsFairFor, HaveRoom, CanServe, HaveServed, AreTaken, AreTakenAlways, AreServedAlways, IsDueAlways, IsDueOf}
 use Rattle.app_loads.proofs.{LeavingLists.one_if, Others.pairs_with_last}
 
 -- ---- lists
@@ -33,10 +27,7 @@ pushed_long xs ys y is = let one = length_push xs y in let all = ap length is in
 -- an item of a list in which one was written
 pub set_cases : {X : Type 0} (xs : List X) (i j : ℕ) (x y z : X) → slice_get xs i ≡ Some x → slice_get (slice_set xs i y) j ≡ Some z →
     ((j ≡ i) × (z ≡ y)) ⊎ ((j ≢ i) × (slice_get xs j ≡ Some z))
-set_cases xs i j x y z at e = elim (cases_eq j i) [
-  | inl same ↦ inl (same, let w : Some z ≡ Some y = sym e ∙ (ap (slice_get (slice_set xs i y)) same ∙ slice_get-set_same xs i x y at) in same_Some _ _ w)
-  | inr other ↦ inr (other, sym (slice_get-set_other xs i j y other) ∙ e)
-]
+set_cases xs i j x y z at e = grind (arith, cases_eq j i, slice_get-set_same xs i x y at, same_Some, slice_get-set_other)
 
 -- ---- how many ranges are of each region
 
@@ -52,10 +43,7 @@ none_counted (suc n) (suc k) c e = none_counted n k c e
 
 module _ (ranges : List Range) (range : Range) where
   one_more : (k : ℕ) → of_region k (ranges ++ range ∷ []) ≡ of_region k ranges + one_if (range.region == k)
-  one_more k =
-      let all = count_by-append (λ (r : Range). r.region == k) ranges (range ∷ []) in
-      let one = count_by-cons (λ (r : Range). r.region == k) range [] in
-      omega (arith, all, one)
+  one_more k = grind (arith, count_by-append, count_by-cons)
 
   pub more_here : of_region range.region (ranges ++ range ∷ []) ≡ of_region range.region ranges + 1
   more_here = let more = one_more range.region in let one : one_if (range.region == range.region) ≡ 1 = ap one_if (eq-eqb range.region range.region refl) in omega (arith, more, one)
@@ -76,9 +64,7 @@ module _ (ranges : List Range) (range : Range) where
 -- ---- what is taken
 
 taken_of_other : (range : Range) (taken : List Range) (region k : ℕ) → range.region ≢ region → is_taken (taken ++ range ∷ []) region k ≡ is_taken taken region k
-taken_of_other range taken region k other =
-    list_any-append (range_has region k) taken (range ∷ [])
-    ∙ (ap (λ b. is_taken taken region k || ((b && in_range range.place range.size k) || false)) (ne_eqb range.region region other) ∙ or-false (is_taken taken region k))
+taken_of_other range taken region k other = grind (arith, list_any-append (range_has region k) taken (range ∷ []), ne_eqb range.region region other, or-false (is_taken taken region k))
 
 -- a place of one of the ranges
 pub taken_by : (ranges : List Range) (region k : ℕ) (range : Range) → Contains ranges range → range_has region k range ≡ true → is_taken ranges region k ≡ true
@@ -91,8 +77,7 @@ by_taken ranges region k e = let found = any_among (range_has region k) ranges e
 -- a place of a range that is apart from each of the ranges is none of theirs
 pub none_taken : (ranges : List Range) (range : Range) → ((other : Range) → Contains ranges other → ShareNoPlace range other) → (region k : ℕ) → range_has region k range ≡ true →
     is_taken ranges region k ≡ false
-none_taken ranges range apart region k here =
-    false_from_ne_true (is_taken ranges region k) (λ some. let found = by_taken ranges region k some in apart found.0 found.1 region k here found.2)
+none_taken ranges range apart region k here = grind (arith, false_from_ne_true, by_taken, here)
 
 -- the free places beside one range more
 free_beside_more : (m : Description) (taken : List Range) (old : List Region) (p : ℕ) (before after : Region) (range : Range) → range.region ≡ p → AreFreeBeside m taken (frees old) →
@@ -214,16 +199,7 @@ module _ (m : Description) (claims : List Claim) (old mid : List Region) (ranges
 
 -- nothing is served yet
 pub none_served : (m : Description) (claims : List Claim) (regions : List Region) (ranges : List Range) → ranges ≡ [] → HaveServed m claims regions ranges regions
-none_served m claims regions ranges none = subst (λ l. HaveServed m claims regions l regions) (sym none) (record {
-  served = λ taken apart free. record { few = omega arith; each = λ i c r is_c is_r. absurd (none-some r is_r) };
-  taken = λ taken apart free. record {
-    within = All-nil (IsRangeWithin m (length regions));
-    apart = subst (AllPairs ShareNoPlace) (sym (append-nil taken)) apart;
-    free = subst (λ l. AreFreeBeside m l (frees regions)) (sym (append-nil taken)) free;
-  };
-  room = λ i r is. omega arith;
-  long = refl;
-})
+none_served m claims regions ranges none = grind (arith, All-nil (IsRangeWithin m (length regions)), none-some, append-nil)
 
 -- ---- one range is given back
 
@@ -301,8 +277,7 @@ module _ (m : Description) (others : List Range) (range : Range) (rest : List Ra
       left region k = list_any-append (range_has region k) others rest
 
       elsewhere : (region k : ℕ) → range.region ≢ region → is_taken (others ++ range ∷ rest) region k ≡ is_taken (others ++ rest) region k
-      elsewhere region k other =
-          both region k ∙ (ap (λ b. is_taken others region k || ((b && in_range range.place range.size k) || is_taken rest region k)) (ne_eqb range.region region other) ∙ sym (left region k))
+      elsewhere region k other = grind (arith, both region k, ne_eqb range.region region other, left region k)
 
       back : IsFreeBeside m (others ++ rest) range.region (free_places_in after)
       back = record {
@@ -352,12 +327,6 @@ module _ (ranges : List Range) {others : List Range} {i : ℕ} {regions : List R
   at_place : slice_get regions range.region ≡ Some before
   at_place = slice_get-get_or regions range.region e there_at
 
-  pub within_at : range.place + range.size ≤ before.size
-  within_at = give_within m others range rest regions here before at_place
-
-  pub taken_at : (k : ℕ) → in_range range.place range.size k ≡ true → is_free before.holes k ≡ false
-  taken_at = give_taken m others range rest regions here before at_place
-
   pub back_at : (after : Region) → after.size ≡ before.size → AreRuns 0 after.size after.holes →
       ((k : ℕ) → is_free after.holes k ≡ (is_free before.holes k || in_range range.place range.size k)) → AreTaken m others rest (slice_set regions range.region after)
   back_at after size runs free = given_back m others range rest regions here before at_place after (slice_set regions range.region after) refl size runs free
@@ -366,10 +335,14 @@ module _ (ranges : List Range) {others : List Range} {i : ℕ} {regions : List R
     counted : (n : ℕ) → count_by (λ (x : Range). x.region == n) (drop i ranges) ≡ one_if (range.region == n) + count_by (λ (x : Range). x.region == n) rest
     counted n = ap (count_by (λ (x : Range). x.region == n)) dropped ∙ count_by-cons (λ (x : Range). x.region == n) range rest
 
-    pub spare_at : 0 < before.spare
-    spare_at =
-        let one : one_if (range.region == range.region) ≡ 1 = ap one_if (eq-eqb range.region range.region refl) in
-        omega (arith, room range.region before at_place, counted range.region, one)
+    pub can_give : CanGive before range.place range.size
+    can_give =
+        let one : one_if (range.region == range.region) ≡ 1 = ap one_if (eq-eqb range.region range.region refl) in record {
+          some = (All-head (IsRangeWithin m (length regions)) range rest here.within).some;
+          within = give_within m others range rest regions here before at_place;
+          taken = give_taken m others range rest regions here before at_place;
+          spare = omega (arith, room range.region before at_place, counted range.region, one);
+        }
 
     pub room_at : (after : Region) → before.spare ≤ after.spare + 1 → HaveRoom rest (slice_set regions range.region after)
     room_at after spare n region is = elim (set_cases regions range.region n before after region at_place is) [
@@ -443,16 +416,11 @@ module _ {m : Description} {claims : List Claim} {old mid : List Region} {ranges
 
     -- which are fewer than the claims
     pub few_held : length claims ≤ 262144 → get_or counts at f < 262144
-    few_held few =
-        let some : of_region at ranges ≤ length ranges = count_by-le-length (λ (range : Range). range.region == at) ranges in
-        omega (arith, below, each_one, few, count_held, some)
+    few_held few = grind (arith, count_held, count_by-le-length)
 
     pub counts_more : (place : ℕ) (list : List Range) → list ≡ ranges ++ range_here place ∷ [] → (next : ℕ) → next ≡ get_or counts at f + 1 →
         (k n : ℕ) → slice_get (slice_set counts at next) k ≡ Some n → n ≡ of_region k list
-    counts_more place list pushed next is k n got =
-        counted_push ranges (range_at m claim place) counts (get_or counts at f) next (ap (slice_get counts) (sym at_is) ∙ slice_get-get_or counts at f count_there) counted
-        is k n (ap (λ x. slice_get (slice_set counts x next) k) (sym at_is) ∙ got)
-        ∙ ap (of_region k) (sym (pushed ∙ listed place))
+    counts_more place list pushed next is k n got = grind (arith, listed place, get_or counts at f, slice_get-get_or counts at f count_there, counted_push, counted)
 
   pub claim_served : (after : Region) (place : ℕ) (list : List Range) (held : ℕ) → held ≡ of_region at ranges → list ≡ ranges ++ range_here place ∷ [] → ServesClaim claim before' after place →
       held + 1 ≤ after.spare → HaveServed m claims old list (slice_set mid at after)

@@ -1,40 +1,27 @@
 -- An application's rows and packets on a mesh.
-use Rattle.std.proofs.Common.{◌≡◌, ℕ, zero, suc, ◌+◌, ◌-◌, ◌*◌, ◌/◌, ◌%◌, ◌^◌, ◌<◌, ◌≤◌, ◌==◌, true, false, List, [], ◌∷◌, ◌++◌, ◌∙◌, Some, if◌then◌else◌}
-use Rattle.std.proofs.Common.{leb, length, drop, take, map, refl, sym, ap, subst, inl, inr, arith, count_by}
-use Rattle.std.proofs.lemmas.{Bool.false_from_ne_true, Bool.or_left, Bool.or_right, Bool.or_cases, Bool.Decides.nat_tests, List.length-map, List.length-set}
-use Rattle.std.proofs.lemmas.List.Elements.{All-contains, All-head, All-set, All-push}
-use Rattle.std.proofs.lemmas.List.Sorted.{IsPermutation-refl, length_permutation}
-use Rattle.std.proofs.lemmas.Option.{slice_get_within, same_Some}
-use Rattle.std.specs.Option.{option_map_or}
-use Rattle.std.specs.List.{list_any, slice_get, All, Contains}
+use Rattle.std.proofs.Common.{◌≡◌, ℕ, zero, suc, ◌+◌, ◌-◌, ◌*◌, ◌/◌, ◌%◌, ◌^◌, ◌<◌, ◌≤◌, ◌==◌, true, false, List, [], ◌∷◌, ◌++◌, ◌∙◌, Some, if◌then◌else◌, leb, length, drop, take, map, refl, sym, ap}
+use Rattle.std.proofs.Common.{subst, inl, inr, arith, count_by}
+use Rattle.std.proofs.lemmas.{Bool.false_from_ne_true, Bool.or_left, Bool.or_right, Bool.or_cases, Bool.Decides.nat_tests, List.length-map, List.length-set, List.Elements.All-contains}
+use Rattle.std.proofs.lemmas.{List.Elements.All-head, List.Elements.All-set, List.Elements.All-push, List.Sorted.IsPermutation-refl, List.Sorted.length_permutation, Option.slice_get_within}
+use Rattle.std.proofs.lemmas.Option.{same_Some}
+use Rattle.std.specs.{Option.option_map_or, List.list_any, List.slice_get, List.All, List.Contains}
 use Rattle.mesh_core.proofs.{Moves.chip_of-index_of, Ways.vertex_there}
 use Rattle.mesh_core.specs.State.{Setup, State, IsMesh}
-use Rattle.spin_base.proofs.{Equality.chip_eq_true, Counts.count_by-cons}
-use Rattle.spin_base.proofs.Members.{Contains-at, Contains-filter, among_any, any_among, among_contains, contains_among}
-use Rattle.spin_base.proofs.Places.{All-at, All-each, AllZip-at_second, slice_get_there}
-use Rattle.spin_base.proofs.Ranges.{slice_get-map_range}
-use Rattle.spin_base.specs.declared.{blocks.Block.Block, blocks.Entry.Entry, chips.Chip.Chip, chips.Spot.Spot}
-use Rattle.spin_base.specs.declared.copies.{Delivery.Delivery, DumpRec.DumpRec, McCopy.McCopy, Packet.Packet}
-use Rattle.spin_base.specs.Equality.{chip_eq}
-use Rattle.machine_desc.specs.{declared.trees.Edge.Edge, Description.Description}
-use Rattle.machine_desc.specs.Live.{index_of, chip_of, is_usable, IsInside, IsUsable}
-use Rattle.machine_desc.specs.{RoutingTree.end_of, RoutingTree.IsTreeChip, RightTables.table_at}
-use Rattle.machine_desc.proofs.{Far.index_below, Far.live_inside, Same.chip_eq-from_same, Same.same_spot, Sites.usable_parts}
-use Rattle.machine_desc.proofs.TreeLemmas.{tree_cases, tree_end}
-use Rattle.tern_word.specs.declared.tables.{Row.Row, Table.Table}
-use Rattle.tern_word.specs.SoundTable.{Original}
+use Rattle.spin_base.proofs.{Equality.chip_eq_true, Counts.count_by-cons, Members.Contains-at, Members.Contains-filter, Members.among_any, Members.any_among, Members.among_contains}
+use Rattle.spin_base.proofs.{Members.contains_among, Places.All-at, Places.All-each, Places.AllZip-at_second, Places.slice_get_there, Ranges.slice_get-map_range}
+use Rattle.spin_base.specs.declared.{blocks.Block.Block, blocks.Entry.Entry, chips.Chip.Chip, chips.Spot.Spot, copies.Delivery.Delivery, copies.DumpRec.DumpRec, copies.McCopy.McCopy}
+use Rattle.spin_base.specs.{declared.copies.Packet.Packet, Equality.chip_eq}
+use Rattle.machine_desc.specs.{declared.trees.Edge.Edge, Description.Description, Live.index_of, Live.chip_of, Live.is_usable, Live.IsInside, Live.IsUsable, RoutingTree.end_of, RoutingTree.IsTreeChip}
+use Rattle.machine_desc.specs.RightTables.{table_at}
+use Rattle.machine_desc.proofs.{Far.index_below, Far.live_inside, Same.chip_eq-from_same, Same.same_spot, Sites.usable_parts, TreeLemmas.tree_cases, TreeLemmas.tree_end}
+use Rattle.tern_word.specs.{declared.tables.Row.Row, declared.tables.Table.Table, SoundTable.Original}
 use Rattle.net_tables.specs.PlainTable.{AreOriginals, AtEach, IsPlainTable, row_of}
-use Rattle.app_loads.specs.declared.{loaded.LoadedApp.LoadedApp, loaded.Range.Range, plans.AppNet.AppNet}
-use Rattle.app_loads.specs.{Applications.IsRangeFor, Claims.claims_of, Claims.has_chip, Host.net_with, Host.nets_with, Host.nets_of}
-use Rattle.app_loads.specs.Joining.{AreSent, AreWritten, CanSettle, IsSettled}
-use Rattle.app_loads.specs.Opening.{grid_spots, spot_of, usable_spots}
-use Rattle.app_loads.specs.Plans.{IsAppNet, IsPacketOfApp}
-use Rattle.app_loads.specs.declared.places.Region.TheVariants.{Rows}
-use Rattle.app_loads.specs.Regions.{chip_count, region_size, IsRangeWithin, place_of}
-use Rattle.app_loads.specs.Sending.{CanSend, IsPacketOn, IsSendingFrom}
-use Rattle.app_loads.specs.Writing.{AreCopied, CanCopy, HaveRooms}
-use Rattle.app_loads.proofs.AppNets.{facts_at, key_of_index, member_at, spot_inside, usable_spot}
-use Rattle.app_loads.proofs.{ClaimCases.row_size, LeavingLists.one_if, RowClaims.leads_to, Unsent.nets_with_at}
+use Rattle.app_loads.specs.{declared.loaded.LoadedApp.LoadedApp, declared.loaded.Range.Range, declared.plans.AppNet.AppNet, Applications.IsRangeFor, Claims.claims_of, Claims.has_chip, Host.net_with}
+use Rattle.app_loads.specs.{Host.nets_with, Host.nets_of, Joining.AreSent, Joining.AreWritten, Joining.CanSettle, Joining.IsSettled, Opening.grid_spots, Opening.spot_of, Opening.usable_spots}
+use Rattle.app_loads.specs.{Plans.IsAppNet, Plans.IsPacketOfApp, declared.places.Region.TheVariants.Rows, Regions.chip_count, Regions.region_size, Regions.IsRangeWithin, Regions.place_of}
+use Rattle.app_loads.specs.{Sending.CanSend, Sending.IsPacketOn, Sending.IsSendingFrom, Writing.AreCopied, Writing.CanCopy, Writing.HaveRooms}
+use Rattle.app_loads.proofs.{AppNets.facts_at, AppNets.key_of_index, AppNets.member_at, AppNets.spot_inside, AppNets.usable_spot, ClaimCases.row_size, LeavingLists.one_if, RowClaims.leads_to}
+use Rattle.app_loads.proofs.Unsent.{nets_with_at}
 
 -- each usable core is in the list of them
 pub usable_there : (m : Description) (s : Spot) → IsUsable m s → Contains (usable_spots m) s
@@ -64,13 +51,7 @@ has_chip-true m c net on = elim (tree_cases m net.tree.root net.tree.edges c on)
 ]
 
 pub has_chip-tree : (m : Description) (c : Chip) (net : AppNet) → has_chip m c net ≡ true → IsTreeChip m net.tree.root net.tree.edges c
-has_chip-tree m c net e = elim (or_cases (chip_eq c net.tree.root) (list_any (λ (e : Edge). option_map_or (chip_eq c) (end_of m e) false) net.tree.edges) e) [
-  | inl root ↦ inl (chip_eq_true c net.tree.root root)
-  | inr edge ↦ (
-      let found = any_among (λ (e : Edge). option_map_or (chip_eq c) (end_of m e) false) net.tree.edges edge in
-      tree_end m net.tree.root net.tree.edges found.0 c (among_contains found.0 net.tree.edges found.1) (leads_to c (end_of m found.0) found.2)
-      )
-]
+has_chip-tree m c net e = grind (arith, or_cases, chip_eq_true, any_among, tree_end, among_contains, leads_to)
 
 originals_count : (m : Description) (c : Chip) (nets : List AppNet) (blocks : List Block) (os : List Original) → length blocks ≡ length nets →
     AreOriginals m c (nets_with nets blocks) os → length os ≡ count_by (has_chip m c) nets
@@ -83,16 +64,12 @@ originals_count m c (n ∷ ns) (b ∷ bs) os long (inl on) =
     let here : one_if (has_chip m c n) ≡ 1 = ap one_if (has_chip-true m c n on.0) in
     omega (arith, rest, all, count_by-cons (has_chip m c) n ns, here)
 originals_count m c (n ∷ ns) (b ∷ bs) os long (inr off) =
-    let rest = originals_count m c ns bs os (omega (arith, long)) off.1 in
-    let here : one_if (has_chip m c n) ≡ 0 = ap one_if (false_from_ne_true (has_chip m c n) (λ there. off.0 (has_chip-tree m c n there))) in
-    omega (arith, rest, count_by-cons (has_chip m c) n ns, here)
+    grind (arith, originals_count m c ns bs os (omega (arith, long)) off.1, count_by-cons (has_chip m c) n ns, one_if, false_from_ne_true, has_chip-tree)
 
 pub plain_count : (m : Description) (c : Chip) (nets : List AppNet) (blocks : List Block) (rows : List Row) → length blocks ≡ length nets →
     IsPlainTable m (nets_with nets blocks) c rows → length rows ≡ count_by (has_chip m c) nets
 plain_count m c nets blocks rows long plain =
-    let same = length_permutation (map row_of plain.originals) rows plain.one_row_each in
-    let counted = originals_count m c nets blocks plain.originals long plain.originals_are in
-    omega (arith, same, length-map plain.originals row_of, counted)
+    grind (arith, length_permutation (map row_of plain.originals) rows plain.one_row_each, originals_count m c nets blocks plain.originals long plain.originals_are, length-map plain.originals row_of)
 
 pub rows_size : (m : Description) (i : ℕ) → region_size m (1 + (chip_count m + i)) ≡ 1024
 rows_size m i =
@@ -182,14 +159,7 @@ module _ (s : State) (app : LoadedApp) (can : CanSettle s app) (mesh : IsMesh s)
       record { net = below; block = block.0; is = block.1; key = subst (λ (b : Block). b.key + p.index < 2 ^ 32) same_block key.0 }
 
   pub can_send : (q : List (List McCopy)) → q ≡ s.unsent → CanSend s.setup app q
-  can_send q is = record {
-    sources = All-each (IsSendingFrom s.setup) app.plan.nets sending;
-    queues = ap length is ∙ mesh.unsent_lists;
-    packets = All-each (IsPacketOn app.blocks (length app.plan.nets)) app.plan.packets packet_on;
-    blocks = can.loaded.blocks.all;
-    numbers = can.numbers;
-    none = λ net has v vertex. ap (λ (l : List (List McCopy)). slice_get l v) is ∙ can.none net has v vertex;
-  }
+  can_send q is = grind (arith, All-each (IsSendingFrom s.setup) app.plan.nets sending, All-each (IsPacketOn app.blocks (length app.plan.nets)) app.plan.packets packet_on)
 
   module _ {rows lent : List Table} {ranges : List Range} (plain : ArePlain m app rows) (is_rows : lent ≡ rows) (is_ranges : ranges ≡ app.ranges) where
     pub can_copy : {rooms : List ℕ} → HaveRooms m ranges rooms → CanCopy m s.setup.tables lent ranges rooms
@@ -225,9 +195,7 @@ module _ (s : State) (app : LoadedApp) (can : CanSettle s app) (mesh : IsMesh s)
 
 sent_long : (spots : List Spot) (app : LoadedApp) (n : ℕ) (before after : List (List McCopy)) → AreSent spots app n before after → length after ≡ length before
 sent_long spots app zero before after sent = ap length sent
-sent_long spots app (suc n) before after sent =
-    let one = sent.4 in
-    ap length one.is ∙ (length-set sent.0 one.vertex (one.queue ++ _ ∷ []) ∙ sent_long spots app n before sent.0 sent.2)
+sent_long spots app (suc n) before after sent = grind (arith, sent_long spots app n before sent.0 sent.2, length-set)
 
 sent_at_start : (spots : List Spot) (app : LoadedApp) (n : ℕ) (before after : List (List McCopy)) → All (λ q. All (λ (k : McCopy). k.hop ≡ 0) q) before →
     AreSent spots app n before after → All (λ q. All (λ (k : McCopy). k.hop ≡ 0) q) after
@@ -242,24 +210,7 @@ sent_at_start spots app (suc n) before after start sent =
 -- a mesh with other tables, unsent copies, deliveries and records
 pub changed_mesh : (s : State) (tables : List (List Entry)) (q : List (List McCopy)) (delivered : List Delivery) (dumped : List DumpRec) → IsMesh s → length tables ≡ length s.setup.tables →
     length q ≡ length s.unsent → All (λ l. All (λ (k : McCopy). k.hop ≡ 0) l) q → IsMesh (record s { setup = record s.setup { tables = tables }; unsent = q; delivered = delivered; dumped = dumped })
-changed_mesh s tables q delivered dumped mesh long as_long at_start = record {
-  size = mesh.size;
-  different = mesh.different;
-  sites = mesh.sites;
-  room = mesh.room;
-  unsent_lists = as_long ∙ mesh.unsent_lists;
-  input_lists = mesh.input_lists;
-  hand_list = mesh.hand_list;
-  core_lists = mesh.core_lists;
-  table_list = long ∙ mesh.table_list;
-  inputs_within = mesh.inputs_within;
-  cores_within = mesh.cores_within;
-  unsent_at_start = at_start;
-  hands_fit = mesh.hands_fit;
-  none_at_dead_ports = mesh.none_at_dead_ports;
-  none_on_dead_chips = mesh.none_on_dead_chips;
-  no_hand_on_dead_chips = mesh.no_hand_on_dead_chips;
-}
+changed_mesh s tables q delivered dumped mesh long as_long at_start = grind arith
 
 pub settled_mesh : (s : State) (app : LoadedApp) (n : ℕ) (q : List (List McCopy)) (tables : List (List Entry)) → IsMesh s → AreSent s.setup.spots app n s.unsent q →
     length tables ≡ length s.setup.tables → IsMesh (record s { setup = record s.setup { tables = tables }; unsent = q })

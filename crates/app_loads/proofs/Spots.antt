@@ -1,22 +1,16 @@
 -- The usable cores of a machine as a list.
-use Rattle.std.proofs.Common.{◌≡◌, ◌≢◌, ℕ, ◌+◌, ◌*◌, ◌/◌, ◌%◌, refl, sym, ap, ◌∙◌, arith, List, [], ◌∷◌, ◌++◌, map, length, Bool, true, false, cond}
+use Rattle.std.proofs.Common.{◌≡◌, ◌≢◌, ℕ, ◌+◌, ◌*◌, ◌/◌, refl, sym, ap, ◌∙◌, arith, List, [], ◌∷◌, ◌++◌, map, length, Bool, true, false, cond}
 use Rattle.std.specs.List.{All, AllPairs, filter, range_with_len, slice_index_or}
-use Rattle.std.proofs.lemmas.List.Kept.{AllPairs-filter}
-use Rattle.std.proofs.lemmas.List.FromFn.{filter_of_map_range_with_len_more, get_or-map-range_with_len, length-map-range_with_len}
+use Rattle.std.proofs.lemmas.List.{Kept.AllPairs-filter, FromFn.filter_of_map_range_with_len_more, FromFn.get_or-map-range_with_len, FromFn.length-map-range_with_len}
 use Rattle.spin_base.proofs.{Members.Contains-from_filter, Places.All-each}
 use Rattle.spin_base.specs.declared.chips.Spot.{Spot}
-use Rattle.machine_desc.specs.Description.{Description}
-use Rattle.machine_desc.specs.Live.{index_of, chip_of, is_usable, IsSite}
+use Rattle.machine_desc.specs.{Description.Description, Live.is_usable, Live.IsSite}
 use Rattle.machine_desc.proofs.{Live.index_of-chip_of, Sites.usable_site}
 use Rattle.app_loads.specs.Opening.{spot_of, grid_spots, usable_spots}
 
 -- two numbers of one spot are one number
 same_number : (m : Description) (i j : ℕ) → spot_of m i ≡ spot_of m j → i ≡ j
-same_number m i j same =
-    let chips : chip_of m (i / 17) ≡ chip_of m (j / 17) = ap (λ (s : Spot). s.chip) same in
-    let cores : i % 17 + 1 ≡ j % 17 + 1 = ap (λ (s : Spot). s.core) same in
-    let index : i / 17 ≡ j / 17 = sym (index_of-chip_of m (i / 17)) ∙ (ap (index_of m) chips ∙ index_of-chip_of m (j / 17)) in
-    omega arith
+same_number m i j same = grind (arith, index_of-chip_of m (i / 17), index_of-chip_of m (j / 17))
 
 grid_different : (m : Description) → AllPairs (λ a b. a ≢ b) (grid_spots m)
 grid_different m i j d before within same =

@@ -1,4 +1,5 @@
 -- The application of a number, where its place is asked for.
+use Rattle.std.proofs.Common.{arith}
 use Rattle.std.proofs.Common.{◌≡◌, ◌≢◌, ℕ, ◌==◌, Bool, true, false, not, ◌||◌, List, get_or, refl, sym, ap, ◌∙◌, None, Some, inl, inr}
 use Rattle.std.specs.Prelude.{position}
 use Rattle.std.specs.List.{All, Contains, list_any}
@@ -18,8 +19,7 @@ pub use Rattle.app_loads.proofs.Others.{same_tests}
 
 -- a number of an application is loaded
 number_loaded : (apps : List LoadedApp) (number : ℕ) (app : LoadedApp) → Contains apps app → app.number ≡ number → is_loaded apps number ≡ true
-number_loaded apps number app has its =
-    among_any (λ (a : LoadedApp). a.number == number) app apps (contains_among app apps has) (eq-eqb app.number number its)
+number_loaded apps number app has its = grind (arith, contains_among app apps has, eq-eqb app.number number its, among_any)
 
 -- where no place is found, no application has the number
 pub no_app : (apps : List LoadedApp) (number : ℕ) → position (λ (a : LoadedApp). a.number == number) apps ≡ None → (app : LoadedApp) → Contains apps app → app.number ≡ number → ⊥
@@ -51,8 +51,7 @@ module _ (h : Host) (number : ℕ) (apps : AreApps h) (app : LoadedApp) (has : C
   in_apps = contains_among app h.apps has
 
   among_others : (x : LoadedApp) → Among x h.apps → (x.number == number) ≡ false → Among x (others_than number h.apps)
-  among_others x in_x differ =
-      contains_among x (others_than number h.apps) (Contains-filter (λ (a : LoadedApp). not (a.number == number)) h.apps x (among_contains x h.apps in_x) (ap not differ))
+  among_others x in_x differ = grind (arith, among_contains x h.apps in_x, contains_among, Contains-filter)
 
   -- a spot of another application is none of this one
   other_apart : (x : LoadedApp) → Among x (others_than number h.apps) → has_spot x ≡ true → has_spot app ≡ true → ⊥

@@ -1,15 +1,12 @@
 -- What taking a range does to the free places of a region, and which range is the first.
 use Rattle.std.proofs.Common.{◌≡◌, ℕ, ◌+◌, ◌-◌, ◌%◌, ◌<◌, ◌≤◌, Bool, true, false, not, ◌&&◌, ◌||◌, ◌==◌, ltb, List, [], ◌∷◌, ◌++◌, refl, sym, ap, ◌∙◌, subst, arith, None, Some, IfSome}
-use Rattle.std.proofs.lemmas.Bool.{and_parts, lt-ltb, ltb-true, not-true, eq-eqb}
-use Rattle.std.proofs.lemmas.List.Folds.{list_any-append}
+use Rattle.std.proofs.lemmas.{Bool.and_parts, Bool.lt-ltb, Bool.ltb-true, Bool.not-true, Bool.eq-eqb, List.Folds.list_any-append}
 use Rattle.key_alloc.proofs.Ranges.{in_facts, in_from, regroup, free_of}
 use Rattle.machine_desc.specs.Description.{Description}
 use Rattle.range_store.specs.Regions.{AreRuns, IsFirstFit, HasNoFit, is_hole_range, is_free, in_range}
 use Rattle.range_store.proofs.HolePlaces.{clash, free_in_range, range_of_free}
-use Rattle.app_loads.specs.declared.loaded.{Claim.Claim, Range.Range}
-use Rattle.app_loads.specs.Host.{Free}
-use Rattle.app_loads.specs.Regions.{IsFreeBeside, place_of, range_has, is_taken}
-use Rattle.app_loads.specs.Claims.{IsOpenRange, IsLeastOpenRange, IsRefusedClaim}
+use Rattle.app_loads.specs.{declared.loaded.Claim.Claim, declared.loaded.Range.Range, Host.Free, Regions.IsFreeBeside, Regions.place_of, Regions.range_has, Regions.is_taken, Claims.IsOpenRange}
+use Rattle.app_loads.specs.Claims.{IsLeastOpenRange, IsRefusedClaim}
 
 here_too : (region : ℕ) (b : Bool) → ((region == region) && b) ≡ b
 here_too region b = ap (λ z. z && b) (eq-eqb region region refl)
@@ -50,11 +47,7 @@ module _ (m : Description) (taken : List Range) (claim : Claim) (f : Free) (besi
 
   -- and one that may be taken lies in a hole
   pub hole_from_open : (p : ℕ) → IsOpenRange m taken claim p → is_hole_range f.holes p claim.size ≡ true
-  hole_from_open p o =
-      range_of_free 0 f.size f.holes p claim.size beside.runs some
-      (λ k low high.
-      beside.free k ∙ free_of (ltb k f.size) (is_taken taken (place_of m claim.region) k) (lt-ltb k f.size (omega (arith, o.within, beside.size, high)))
-      (o.untaken k (in_from p claim.size k low high)))
+  hole_from_open p o = grind (arith, range_of_free, free_of, lt-ltb, in_from)
 
 -- the first fit is the least range
 pub least_from_fit : (m : Description) (taken : List Range) (claim : Claim) (f : Free) (place : ℕ) → claim.fixed ≡ None → IsFreeBeside m taken (place_of m claim.region) f → 0 < claim.size →
@@ -83,6 +76,4 @@ least_from_fixed m taken claim f place is aligned beside some fits = record {
 
 pub refused_from_fixed : (m : Description) (taken : List Range) (claim : Claim) (f : Free) (place : ℕ) → claim.fixed ≡ Some place →
     IsFreeBeside m taken (place_of m claim.region) f → 0 < claim.size → is_hole_range f.holes place claim.size ≡ false → IsRefusedClaim m taken claim
-refused_from_fixed m taken claim f place is beside some none q o =
-    let e : q ≡ place = subst (λ o'. IfSome o' (λ p. q ≡ p)) is o.fixed in
-    clash (hole_from_open m taken claim f beside some q o) (ap (λ p. is_hole_range f.holes p claim.size) e ∙ none)
+refused_from_fixed m taken claim f place is beside some none q o = grind (arith, hole_from_open m taken claim f beside some q o, clash)

@@ -1,19 +1,16 @@
 -- Packets put to the vertices of their nets' sources, and queues emptied.
 use Rattle.std.proofs.Common.{◌≡◌, ◌≢◌, ℕ, zero, suc, ◌+◌, ◌^◌, ◌<◌, ◌≤◌, ◌==◌, List, [], ◌∷◌, ◌++◌, take, get_or, length, refl, sym, ap, ◌∙◌, subst, inl, inr, arith, Option, Some}
-use Rattle.std.proofs.lemmas.Bool.{cases_Bool, cases_eq, eqb-true, eq-eqb, false≢true}
-use Rattle.std.proofs.lemmas.List.{length-set, take_all, same_lists, Elements.Contains-push_cases}
+use Rattle.std.proofs.lemmas.{Bool.cases_Bool, Bool.cases_eq, Bool.eqb-true, Bool.eq-eqb, Bool.false≢true, List.length-set, List.take_all, List.same_lists, List.Elements.Contains-push_cases}
 use Rattle.std.proofs.lemmas.Option.{slice_get_within, slice_get-get_or, same_Some, unwrap_or-slice_get}
-use Rattle.std.specs.Prelude.{unwrap_or}
-use Rattle.std.specs.List.{list_any, slice_get, slice_set, All, Contains}
+use Rattle.std.specs.{Prelude.unwrap_or, List.list_any, List.slice_get, List.slice_set, List.All, List.Contains}
 use Rattle.mesh_core.proofs.ServingLaws.{vertex_at-below}
 use Rattle.mesh_core.specs.State.{Setup}
-use Rattle.spin_base.proofs.Members.{Contains-at, any_among, among_any, among_contains, contains_among}
-use Rattle.spin_base.proofs.Places.{All-at, slice_get_there, slice_get-set_same, slice_get-set_other, slice_get-push_cases, take_more_at}
+use Rattle.spin_base.proofs.{Members.Contains-at, Members.any_among, Members.among_any, Members.among_contains, Members.contains_among, Places.All-at, Places.slice_get_there}
+use Rattle.spin_base.proofs.Places.{slice_get-set_same, slice_get-set_other, slice_get-push_cases, take_more_at}
 use Rattle.spin_base.specs.declared.{blocks.Block.Block, chips.Spot.Spot, copies.McCopy.McCopy, copies.Packet.Packet}
 use Rattle.machine_desc.specs.NetsOn.{vertex_at}
-use Rattle.app_loads.specs.declared.{loaded.LoadedApp.LoadedApp, plans.AppNet.AppNet}
-use Rattle.app_loads.specs.{Host.net_with, Host.nets_with, Joining.AreSent, Joining.NoneUnsent}
-use Rattle.app_loads.specs.Sending.{AreCleared, AreSources, CanAdd, IsPacketOn, IsSameBeside, IsSendingFrom}
+use Rattle.app_loads.specs.{declared.loaded.LoadedApp.LoadedApp, declared.plans.AppNet.AppNet, Host.net_with, Host.nets_with, Joining.AreSent, Joining.NoneUnsent, Sending.AreCleared}
+use Rattle.app_loads.specs.Sending.{AreSources, CanAdd, IsPacketOn, IsSameBeside, IsSendingFrom}
 
 -- a net of the application, by its place
 pub nets_with_at : (nets : List AppNet) (blocks : List Block) (i : ℕ) (net : AppNet) (block : Block) → slice_get nets i ≡ Some net → slice_get blocks i ≡ Some block →
@@ -30,10 +27,7 @@ nets_with_long (x ∷ xs) (y ∷ ys) = let w = nets_with_long xs ys in omega (ar
 
 -- what is written at one of the vertices leaves the others
 pub same_still : (sources : List ℕ) (old cur : List (List McCopy)) (v : ℕ) (q : List McCopy) → Contains sources v → IsSameBeside sources old cur → IsSameBeside sources old (slice_set cur v q)
-same_still sources old cur v q has same = record {
-  long = length-set cur v q ∙ same.long;
-  others = λ w other. slice_get-set_other cur v w q (λ e. other (subst (Contains sources) (sym e) has)) ∙ same.others w other;
-}
+same_still sources old cur v q has same = grind (arith, length-set cur v q, slice_get-set_other)
 
 module _ (sources : List ℕ) (app : LoadedApp) (old cur : List (List McCopy)) (can : CanAdd sources app old) (same : IsSameBeside sources old cur)
     (i : ℕ) (packet : Packet) (at : slice_get app.plan.packets i ≡ Some packet) where
@@ -150,19 +144,12 @@ put_back spots nets sources old mid new are none same cleared =
 -- what looking the source up gives
 pub source_is : (u : Setup) (nets : List AppNet) (i : ℕ) (net : AppNet) → All (IsSendingFrom u) nets → slice_get nets i ≡ Some net → (o : Option ℕ) → o ≡ vertex_at u.spots net.source → (v : ℕ) →
     v ≡ unwrap_or o 0 → vertex_at u.spots net.source ≡ Some v
-source_is u nets i net all at o found v is =
-    let sending = All-at (IsSendingFrom u) nets i net all at in
-    sending.is ∙ ap Some (sym (is ∙ ap (λ p. unwrap_or p 0) (found ∙ sending.is)))
+source_is u nets i net all at o found v is = grind (arith, All-at (IsSendingFrom u) nets i net all at)
 
 pub sources_more : (spots : List Spot) (nets : List AppNet) (vertices after : List ℕ) (i v : ℕ) (net : AppNet) → slice_get nets i ≡ Some net → vertex_at spots net.source ≡ Some v →
     after ≡ vertices ++ v ∷ [] → length vertices ≡ i → ((j w : ℕ) (n : AppNet) → slice_get nets j ≡ Some n → slice_get vertices j ≡ Some w → vertex_at spots n.source ≡ Some w) →
     (j w : ℕ) (n : AppNet) → slice_get nets j ≡ Some n → slice_get after j ≡ Some w → vertex_at spots n.source ≡ Some w
-sources_more spots nets vertices after i v net at is pushed long each j w n at_j here = elim (slice_get-push_cases vertices v w j (sym (ap (λ l. slice_get l j) pushed) ∙ here)) [
-  | inl old ↦ each j w n at_j old.1
-  | inr new ↦
-      let same : net ≡ n = same_Some _ _ (sym at ∙ (ap (slice_get nets) (sym (new.0 ∙ long)) ∙ at_j)) in
-      ap (λ (x : AppNet). vertex_at spots x.source) (sym same) ∙ (is ∙ ap Some new.1)
-]
+sources_more spots nets vertices after i v net at is pushed long each j w n at_j here = grind (arith, slice_get-push_cases, same_Some)
 
 pub sources_of : (spots : List Spot) (nets given : List AppNet) (sources : List ℕ) → given ≡ nets → AreSources spots given sources → AreSources spots nets sources
 sources_of spots nets given sources is are = subst (λ (l : List AppNet). AreSources spots l sources) is are

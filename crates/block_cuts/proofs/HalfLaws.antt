@@ -1,16 +1,12 @@
 -- Which keys the halves of a block have.
-use Rattle.std.proofs.Common.{◌≡◌, ℕ, ◌-◌, ◌*◌, ◌^◌, ◌<◌, ◌⊎◌, ◌==◌, true, false, min, max, inl, inr, sym, ap, ◌∙◌, arith}
-use Rattle.std.specs.Prelude.{◌&&◌, not, bit_and, bit_or, bit_xor}
-use Rattle.std.specs.Int.{bit_at}
-use Rattle.std.proofs.lemmas.Bool.{eq-eqb}
-use Rattle.std.proofs.lemmas.Bool.Decides.{eqb_tells}
-use Rattle.std.proofs.lemmas.Nat.{pow_pos}
-use Rattle.std.proofs.lemmas.Nat.Bits.{and_pow, bit_at_and, bit_at_or, bit_at_xor, bit_at-lt, bit_at-pow_same, bit_at-pow_other}
+use Rattle.std.proofs.Common.{◌≡◌, ℕ, ◌-◌, ◌^◌, ◌<◌, ◌⊎◌, ◌==◌, true, false, min, max, inl, inr, sym, ap, ◌∙◌, arith}
+use Rattle.std.specs.{Prelude.bit_and, Prelude.bit_or, Prelude.bit_xor, Int.bit_at}
+use Rattle.std.proofs.lemmas.{Bool.eq-eqb, Bool.Decides.eqb_tells, Nat.pow_pos, Nat.Bits.and_pow, Nat.Bits.bit_at_and, Nat.Bits.bit_at_or, Nat.Bits.bit_at_xor, Nat.Bits.bit_at-lt}
+use Rattle.std.proofs.lemmas.Nat.Bits.{bit_at-pow_same, bit_at-pow_other}
 use Rattle.spin_base.specs.declared.blocks.Block.{Block}
 use Rattle.tern_word.specs.Ternary.{Matches, Intersects, Wants}
 use Rattle.tern_word.proofs.BlockLaws.{Matches-wants, Matches-from_wants, meet_where_agree, agree_where_meet}
-use Rattle.block_cuts.specs.Cuts.{meets, narrow, own_half, other_half, is_cut_at}
-use Rattle.block_cuts.specs.NarrowFits.{narrow_mask, narrow_key}
+use Rattle.block_cuts.specs.{Cuts.meets, Cuts.narrow, Cuts.own_half, Cuts.other_half, Cuts.is_cut_at, NarrowFits.narrow_mask, NarrowFits.narrow_key}
 
 -- a number has a bit, or has it not
 bit_is : (n i : ℕ) → (bit_at n i ≡ 1) ⊎ (bit_at n i ≡ 0)
@@ -31,16 +27,11 @@ module _ (p e : Block) (i v w : ℕ) (free : bit_at p.mask i ≡ 0) (cares : bit
 
   half_here : Wants (narrow p e (2 ^ i) v) i w
   unfolding narrow
-  half_here =
-      let on : bit_at (narrow_mask p e (2 ^ i)) i ≡ 1 = omega (arith, mask_bits i, free, cares, bit_at-pow_same i) in
-      record { cares = on; value = omega (arith, key_bits i, on, key_bit p i, free, here, small) }
+  half_here = grind (arith, mask_bits i, bit_at-pow_same i, key_bits i, key_bit p i)
 
   half_wants : (j x : ℕ) → Wants p j x → Wants (narrow p e (2 ^ i) v) j x
   unfolding narrow
-  half_wants j x want =
-      let other : j ≡ i → ⊥ = λ same. omega (arith, ap (bit_at p.mask) same, want.cares, free) in
-      let on : bit_at (narrow_mask p e (2 ^ i)) j ≡ 1 = omega (arith, mask_bits j, want.cares, bit_at-pow_other i j other, bit_at-lt e.mask j) in
-      record { cares = on; value = omega (arith, key_bits j, on, want.value, elsewhere j other, bit_at-lt p.key j) }
+  half_wants j x want = grind (arith, mask_bits j, bit_at-lt e.mask j, key_bits j, bit_at-lt p.key j, bit_at-pow_other)
 
   wants_half : (j x : ℕ) → Wants (narrow p e (2 ^ i) v) j x → ((j ≡ i) × (x ≡ w)) ⊎ Wants p j x
   unfolding narrow
@@ -108,28 +99,10 @@ module _ (p e : Block) (i : ℕ) (free : bit_at p.mask i ≡ 0) (cares : bit_at 
 -- ---- tests
 
 bit_test : (n i : ℕ) → (((bit_and n (2 ^ i) == 0) ≡ true) × (bit_at n i ≡ 0)) ⊎ (((bit_and n (2 ^ i) == 0) ≡ false) × (bit_at n i ≡ 1))
-bit_test n i = elim (bit_is n i) [
-  | inl on ↦ inr (
-    elim (eqb_tells (bit_and n (2 ^ i)) 0) [
-      | inl none ↦ absurd (omega (arith, and_pow n i, ap (λ x. x * 2 ^ i) on, pow_pos i, none.1))
-      | inr some ↦ some.0
-    ],
-    on,
-  )
-  | inr off ↦ inl (eq-eqb _ 0 (omega (arith, and_pow n i, ap (λ x. x * 2 ^ i) off)), off)
-]
+bit_test n i = grind (arith, bit_is n i, eqb_tells (bit_and n (2 ^ i)) 0, and_pow n i, pow_pos i, eq-eqb)
 
 pub cut_cases : (p e : Block) (i : ℕ) → ((is_cut_at p e (2 ^ i) ≡ true) × (bit_at p.mask i ≡ 0) × (bit_at e.mask i ≡ 1)) ⊎ ((is_cut_at p e (2 ^ i) ≡ false) × ((bit_at p.mask i ≡ 1) ⊎ (bit_at e.mask i ≡ 0)))
-cut_cases p e i = elim (bit_test p.mask i) [
-  | inl free ↦ elim (bit_test e.mask i) [
-    | inl off ↦ inr (ap (λ b. b && not (bit_and e.mask (2 ^ i) == 0)) free.0 ∙ ap (λ b. true && not b) off.0, inr off.1)
-    | inr on ↦ inl (ap (λ b. b && not (bit_and e.mask (2 ^ i) == 0)) free.0 ∙ ap (λ b. true && not b) on.0, free.1, on.1)
-  ]
-  | inr taken ↦ inr (ap (λ b. b && not (bit_and e.mask (2 ^ i) == 0)) taken.0, inl taken.1)
-]
+cut_cases p e i = grind (arith, bit_test p.mask i, bit_test e.mask i)
 
 pub meets_tells : (a b : Block) → ((meets a b ≡ true) × Intersects a b) ⊎ ((meets a b ≡ false) × (Intersects a b → ⊥))
-meets_tells a b = elim (eqb_tells (bit_and (bit_and (bit_xor a.key b.key) a.mask) b.mask) 0) [
-  | inl agree ↦ inl (agree.0, meet_where_agree a b agree.1)
-  | inr other ↦ inr (other.0, λ meet. other.1 (agree_where_meet a b meet))
-]
+meets_tells a b = grind (arith, eqb_tells (bit_and (bit_and (bit_xor a.key b.key) a.mask) b.mask) 0, meet_where_agree, agree_where_meet)

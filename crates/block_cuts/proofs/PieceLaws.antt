@@ -1,20 +1,14 @@
 -- The pieces of a block are the block less the others.
 use Rattle.std.proofs.Common.{◌≡◌, ℕ, zero, suc, ◌+◌, ◌-◌, ◌^◌, ◌<◌, ◌≤◌, ◌⊎◌, Bool, true, false, inl, inr, List, [], ◌∷◌, ◌++◌, length, get_or, Some, None, refl, sym, ap, ◌∙◌, subst, arith}
-use Rattle.std.specs.Prelude.{AllPairs, Option, IfSome, if◌then◌else◌, nat_le}
-use Rattle.std.specs.List.{flat_map}
-use Rattle.std.specs.Int.{bit_at}
-use Rattle.std.proofs.lemmas.Bool.{cases_lt}
-use Rattle.std.proofs.lemmas.Bool.Decides.{eqb_tells, leb_tells}
-use Rattle.std.proofs.lemmas.List.Elements.{All-nil, All-cons, All-head, All-tail}
-use Rattle.std.proofs.lemmas.List.Kept.{AllPairs-cons}
-use Rattle.std.proofs.lemmas.Nat.Bits.{bit_at-lt, bit_at_above}
-use Rattle.std.proofs.lemmas.Option.{none-some, same_Some}
+use Rattle.std.specs.{Prelude.AllPairs, Prelude.Option, Prelude.IfSome, Prelude.if◌then◌else◌, Prelude.nat_le, List.flat_map, Int.bit_at}
+use Rattle.std.proofs.lemmas.{Bool.cases_lt, Bool.Decides.eqb_tells, Bool.Decides.leb_tells, List.Elements.All-nil, List.Elements.All-cons, List.Elements.All-head, List.Elements.All-tail}
+use Rattle.std.proofs.lemmas.{List.Kept.AllPairs-cons, Nat.Bits.bit_at-lt, Nat.Bits.bit_at_above, Option.none-some, Option.same_Some}
 use Rattle.spin_base.proofs.Pairs.{AllPairs-nil}
 use Rattle.spin_base.specs.declared.blocks.Block.{Block}
 use Rattle.tern_word.specs.Ternary.{Matches, Intersects}
 use Rattle.tern_word.proofs.BlockLaws.{Matches-wants, Matches-from_wants}
-use Rattle.block_cuts.specs.Cuts.{is_cut_at, less, less_of, own_half, other_half, meets, apart_of, cut_by, cut_from, cut}
-use Rattle.block_cuts.specs.Pieces.{ArePieces, HasPiece, NoneHas}
+use Rattle.block_cuts.specs.{Cuts.is_cut_at, Cuts.less, Cuts.less_of, Cuts.own_half, Cuts.other_half, Cuts.meets, Cuts.apart_of, Cuts.cut_by, Cuts.cut_from, Cuts.cut, Pieces.ArePieces}
+use Rattle.block_cuts.specs.Pieces.{HasPiece, NoneHas}
 use Rattle.block_cuts.proofs.HalfLaws.{cut_cases, meets_tells, own_in, own_bit, own_has, own_wants_here, own_wants, wants_own, other_in, other_bit, other_has}
 
 -- one of the pieces has the key
@@ -104,15 +98,7 @@ less_whole (suc i) p e k above agree m miss = elim (cut_cases p e i) [
 
 less_apart : (i : ℕ) (p e : Block) → Apart (less i p e)
 less_apart zero p e = tt
-less_apart (suc i) p e = elim (cut_cases p e i) [
-  | inl at ↦ subst Apart (sym (less_cut i p e at.0)) (
-    λ k small first later.
-        let rest = less_sub i (own_half p e (2 ^ i)) e k later in
-        omega (arith, other_bit p e i at.1 at.2 k first, own_bit p e i at.1 at.2 k rest.0, bit_at-lt e.key i),
-    less_apart i (own_half p e (2 ^ i)) e,
-  )
-  | inr uncut ↦ subst Apart (sym (less_uncut i p e uncut.0)) (less_apart i p e)
-]
+less_apart (suc i) p e = grind (arith, cut_cases p e i, bit_at-lt e.key i, less_apart i (own_half p e (2 ^ i)) e, less_apart i p e, less_cut, less_sub, other_bit, own_bit, less_uncut)
 
 less_of_sub : (p e : Block) (k : ℕ) → Has (less_of p e) k → Matches p k × (Matches e k → ⊥)
 unfolding less_of
@@ -142,25 +128,13 @@ module _ (e p : Block) where
   apart_unmet unmet = ap (λ b. if b then less_of p e else p ∷ []) unmet
 
   apart_sub : (k : ℕ) → k < 2 ^ 32 → Has (apart_of e p) k → Matches p k × (Matches e k → ⊥)
-  apart_sub k small has = elim (meets_tells p e) [
-    | inl met ↦ less_of_sub p e k (subst (λ ps. Has ps k) (apart_met met.0) has)
-    | inr unmet ↦ elim (subst (λ ps. Has ps k) (apart_unmet unmet.0) has) [
-      | inl m ↦ (m, λ hit. unmet.1 (record { key = k; small = small; first = m; second = hit }))
-      | inr none ↦ absurd none
-    ]
-  ]
+  apart_sub k small has = grind (arith, meets_tells p e, less_of_sub, apart_met, apart_unmet)
 
   apart_whole : (k : ℕ) → Matches p k → (Matches e k → ⊥) → Has (apart_of e p) k
-  apart_whole k m miss = elim (meets_tells p e) [
-    | inl met ↦ subst (λ ps. Has ps k) (sym (apart_met met.0)) (less_of_whole p e k met.1 m miss)
-    | inr unmet ↦ subst (λ ps. Has ps k) (sym (apart_unmet unmet.0)) (inl m)
-  ]
+  apart_whole k m miss = grind (arith, meets_tells p e, apart_met, less_of_whole, apart_unmet)
 
   apart_apart : Apart (apart_of e p)
-  apart_apart = elim (meets_tells p e) [
-    | inl met ↦ subst Apart (sym (apart_met met.0)) (less_of_apart p e)
-    | inr unmet ↦ subst Apart (sym (apart_unmet unmet.0)) (λ k small m none. none, tt)
-  ]
+  apart_apart = grind (arith, meets_tells p e, less_of_apart p e, apart_met, apart_unmet)
 
 -- ---- all pieces less a block
 
@@ -176,10 +150,7 @@ has_right (x ∷ xs) ys k has = inr (has_right xs ys k has)
 has_either : (xs ys : List Block) (k : ℕ) → Has (xs ++ ys) k → Has xs k ⊎ Has ys k
 has_either [] ys k has = inr has
 has_either (x ∷ xs) ys k (inl first) = inl (inl first)
-has_either (x ∷ xs) ys k (inr later) = elim (has_either xs ys k later) [
-  | inl left ↦ inl (inr left)
-  | inr right ↦ inr right
-]
+has_either (x ∷ xs) ys k (inr later) = grind (arith, has_either xs ys k later)
 
 apart_both : (xs ys : List Block) → Apart xs → Apart ys → ((k : ℕ) → k < 2 ^ 32 → Has xs k → Has ys k → ⊥) → Apart (xs ++ ys)
 apart_both [] ys left right across = right
@@ -206,9 +177,7 @@ module _ (e : Block) where
 
   each_apart : (ps : List Block) → Apart ps → Apart (flat_map (apart_of e) ps)
   each_apart [] apart = tt
-  each_apart (p ∷ ps) apart =
-      apart_both (apart_of e p) (flat_map (apart_of e) ps) (apart_apart e p) (each_apart ps apart.1)
-      (λ k small first later. apart.0 k small (apart_sub e p k small first).0 (each_sub ps k small later).0)
+  each_apart (p ∷ ps) apart = grind (arith, apart_apart e p, each_apart ps apart.1, apart_both, apart_sub, each_sub)
 
 -- ---- one block after another
 
@@ -220,24 +189,13 @@ module _ (block e : Block) (ps : List Block) where
   by_unmet unmet = ap (λ b. if b then flat_map (apart_of e) ps else ps) unmet
 
   by_sub : ((k : ℕ) → k < 2 ^ 32 → Has ps k → Matches block k) → (k : ℕ) → k < 2 ^ 32 → Has (cut_by block e ps) k → Has ps k × (Matches e k → ⊥)
-  by_sub inside k small has = elim (meets_tells block e) [
-    | inl met ↦ each_sub e ps k small (subst (λ xs. Has xs k) (by_met met.0) has)
-    | inr unmet ↦
-        let of_ps : Has ps k = subst (λ xs. Has xs k) (by_unmet unmet.0) has in
-        (of_ps, λ hit. unmet.1 (record { key = k; small = small; first = inside k small of_ps; second = hit }))
-  ]
+  by_sub inside k small has = grind (arith, meets_tells block e, each_sub, by_met, by_unmet)
 
   by_whole : (k : ℕ) → Has ps k → (Matches e k → ⊥) → Has (cut_by block e ps) k
-  by_whole k has miss = elim (meets_tells block e) [
-    | inl met ↦ subst (λ xs. Has xs k) (sym (by_met met.0)) (each_whole e ps k has miss)
-    | inr unmet ↦ subst (λ xs. Has xs k) (sym (by_unmet unmet.0)) has
-  ]
+  by_whole k has miss = grind (arith, meets_tells block e, each_whole e ps k has miss, by_met, by_unmet)
 
   by_apart : Apart ps → Apart (cut_by block e ps)
-  by_apart apart = elim (meets_tells block e) [
-    | inl met ↦ subst Apart (sym (by_met met.0)) (each_apart e ps apart)
-    | inr unmet ↦ subst Apart (sym (by_unmet unmet.0)) apart
-  ]
+  by_apart apart = grind (arith, meets_tells block e, each_apart e ps apart, by_met, by_unmet)
 
 -- where few pieces were asked for and given, they are few
 where_few : (b : Bool) (all : Option (List Block)) (final : List Block) → (if b then all else None) ≡ Some final → all ≡ Some final

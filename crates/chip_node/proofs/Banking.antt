@@ -1,20 +1,13 @@
 -- A bank's turn: one unsent copy is offered, and one look goes round the queues of its vertices.
-use Rattle.std.proofs.Common.{◌≡◌, ◌≢◌, ℕ, ◌+◌, ◌<◌, inl, inr, List, [], ◌∷◌, ◌++◌, length, get_or, Option, Some, None, option_to_list, refl, sym, ap, subst, ◌∙◌, append-nil}
-use Rattle.std.specs.List.{Contains, slice_get}
-use Rattle.std.specs.Option.{IsNone}
-use Rattle.std.proofs.lemmas.List.{get_or_default}
-use Rattle.std.proofs.lemmas.List.Elements.{All-weaker}
+use Rattle.std.proofs.Common.{arith, ◌≡◌, ◌≢◌, ℕ, ◌+◌, ◌<◌, List, [], ◌∷◌, ◌++◌, length, get_or, Option, Some, None, option_to_list, refl, sym, ap, ◌∙◌, append-nil}
+use Rattle.std.specs.{List.Contains, List.slice_get, Option.IsNone}
+use Rattle.std.proofs.lemmas.List.{get_or_default, Elements.All-weaker}
 use Rattle.spin_base.specs.declared.copies.McCopy.{McCopy}
 use Rattle.link_queue.specs.declared.links.Link.{Link}
-use Rattle.chip_node.specs.declared.holdings.Holdings.{Holdings}
-use Rattle.chip_node.specs.declared.holdings.Turn.{Turn}
-use Rattle.chip_node.specs.declared.holdings.Turn.TheVariants.{Moved, Nothing, Waits}
-use Rattle.chip_node.specs.declared.nodes.CoreBank.{CoreBank}
-use Rattle.chip_node.specs.Acting.{BankActs, BankMoves, CannotGet, GetsOne, HalfActs, IsReadyBank, IsUnsentAt, SendsOne, turn_of_both}
-use Rattle.chip_node.specs.Going.{IsIdleAt, Stays}
-use Rattle.chip_node.specs.Items.{Item}
-use Rattle.chip_node.proofs.Flows.{goes_on, goes_stays, stays_goes}
-use Rattle.chip_node.proofs.Stays.{idle_before, stays_on}
+use Rattle.chip_node.specs.declared.holdings.{Holdings.Holdings, Turn.Turn, Turn.TheVariants.Moved, Turn.TheVariants.Nothing, Turn.TheVariants.Waits}
+use Rattle.chip_node.specs.{declared.nodes.CoreBank.CoreBank, Acting.BankActs, Acting.BankMoves, Acting.CannotGet, Acting.GetsOne, Acting.HalfActs, Acting.IsReadyBank, Acting.IsUnsentAt}
+use Rattle.chip_node.specs.{Acting.SendsOne, Acting.turn_of_both, Going.IsIdleAt, Going.Stays, Items.Item}
+use Rattle.chip_node.proofs.{Flows.goes_on, Flows.goes_stays, Flows.stays_goes, Stays.idle_before, Stays.stays_on}
 
 -- ---- unsent copies
 
@@ -25,9 +18,7 @@ first_item (x ∷ xs) k e = (xs, (let same : k ≡ x = cc in ap (λ z. z ∷ xs)
 -- a vertex of the bank whose first unsent copy was read
 pub unsent_first : (b : CoreBank) (h : Holdings) (v : ℕ) (k : McCopy) (u xs : List McCopy) → Contains b.vertices.items v → v < length h.unsent.items → u ≡ get_or h.unsent.items v u →
     xs ≡ u → Some k ≡ slice_get xs 0 → IsUnsentAt b h v k
-unsent_first b h v k u xs has below read same first =
-    let item = first_item xs k first in
-    record { has = has; rest = item.0; first = get_or_default h.unsent.items v [] u below ∙ (sym read ∙ (sym same ∙ item.1)) }
+unsent_first b h v k u xs has below read same first = grind (arith, first_item xs k first, get_or_default h.unsent.items v)
 
 -- what is left where the first copy is taken away
 pub popped_rest : (old new rest : List McCopy) (k : McCopy) (r : Option McCopy) → old ≡ k ∷ rest → old ≡ option_to_list r ++ new → (IsNone r → old ≡ []) → new ≡ rest
@@ -40,32 +31,14 @@ some_more : (x : Item) (xs ys : List Item) → xs ≡ x ∷ [] → xs ++ ys ≢ 
 some_more x xs ys is e = (let none : x ∷ ys ≡ [] = ap (λ l. l ++ ys) (sym is) ∙ e in cc)
 
 sends_only : (b : CoreBank) (xs : List Item) → SendsOne b xs → BankMoves b xs
-sends_only b xs one = record {
-  first = xs;
-  second = [];
-  sends = inr one;
-  gets = inl refl;
-  are = sym (append-nil xs);
-  some = λ e. (let are = one.are in cc);
-}
+sends_only b xs one = grind (arith, append-nil xs)
 
 gets_only : (b : CoreBank) (xs : List Item) → GetsOne b xs → BankMoves b xs
-gets_only b xs one = record {
-  first = [];
-  second = xs;
-  sends = inl refl;
-  gets = inr one;
-  are = refl;
-  some = λ e. (let are = one.are in cc);
-}
+gets_only b xs one = grind arith
 
 pub halves_act : (cap patience : ℕ) (k : CoreBank) (a b c : Holdings) (s t : Turn) → HalfActs cap patience (SendsOne k) a s b → HalfActs cap patience (GetsOne k) b t c →
     BankActs cap patience k a (turn_of_both s t) c
-halves_act cap patience k a b c Moved Moved (xs, one, goes) (ys, other, then) = (
-  xs ++ ys,
-  record { first = xs; second = ys; sends = inr one; gets = inr other; are = refl; some = some_more _ xs ys one.are },
-  goes_on cap patience a b c xs ys goes then,
-)
+halves_act cap patience k a b c Moved Moved (xs, one, goes) (ys, other, then) = grind (arith, goes_on cap patience a b c xs ys goes then, some_more)
 halves_act cap patience k a b c Moved Nothing (xs, one, goes) then = (xs, sends_only k xs one, goes_stays cap patience a b c xs goes then)
 halves_act cap patience k a b c Moved Waits (xs, one, goes) then = (xs, sends_only k xs one, goes_stays cap patience a b c xs goes then)
 halves_act cap patience k a b c Nothing Moved stays (ys, other, then) = (ys, gets_only k ys other, stays_goes cap patience a b c ys stays then)
@@ -96,19 +69,15 @@ second_none Waits Waits none = λ e. cc
 
 -- what cannot be got cannot have been got before
 pub cannot_get_before : (k : CoreBank) (a b : Holdings) → Stays a b → CannotGet k b → CannotGet k a
-cannot_get_before k a b stays none =
-    All-weaker (λ v. IsIdleAt b.ends.items (k.cores + v)) (λ v. IsIdleAt a.ends.items (k.cores + v)) (λ v idle. idle_before a b (k.cores + v) stays idle) k.vertices.items none
+cannot_get_before k a b stays none = grind (arith, All-weaker, idle_before)
 
 -- ---- the vertex at a place of the bank
 
 pub vertex_there : (links : List Link) (k : CoreBank) (h : Holdings) (at v : ℕ) → IsReadyBank links k h → at < length k.vertices.items → v ≡ get_or k.vertices.items at v →
     k.cores + v < length h.ends.items
-vertex_there links k h at v ready below read =
-    let here : k.cores + get_or k.vertices.items at v < length h.ends.items = (ready.vertices at v below).1 in
-    subst (λ n. k.cores + n < length h.ends.items) (sym read) here
+vertex_there links k h at v ready below read = grind arith
 
 -- its queue is empty, and was before
 pub vertex_idle : (k : CoreBank) (a b : Holdings) (at v : ℕ) → Stays a b → at < length k.vertices.items → v ≡ get_or k.vertices.items at v → IsIdleAt b.ends.items (k.cores + v)
     → (d : ℕ) → IsIdleAt a.ends.items (k.cores + get_or k.vertices.items at d)
-vertex_idle k a b at v stays below read idle d =
-    subst (λ n. IsIdleAt a.ends.items (k.cores + n)) (read ∙ get_or_default k.vertices.items at v d below) (idle_before a b (k.cores + v) stays idle)
+vertex_idle k a b at v stays below read idle d = grind (arith, get_or_default k.vertices.items at v d below, idle_before a b (k.cores + v) stays idle)

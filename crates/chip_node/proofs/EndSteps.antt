@@ -1,47 +1,27 @@
 -- What one look, one offer or one copy makes of an end, as what was done tells it.
-use Rattle.std.proofs.Common.{◌≡◌, ℕ, ◌<◌, ◌≤◌, List, [], ◌∷◌, ◌++◌, length, replicate, refl, sym, ap, subst, ◌∙◌, append-nil, length-append, arith}
-use Rattle.std.proofs.lemmas.List.{length-replicate}
-use Rattle.std.proofs.lemmas.List.Elements.{All-nil, All-replicate}
+use Rattle.std.proofs.Common.{◌≡◌, ℕ, ◌<◌, ◌≤◌, List, [], ◌∷◌, ◌++◌, length, replicate, append-nil, length-append, arith}
+use Rattle.std.proofs.lemmas.List.{length-replicate, Elements.All-nil, Elements.All-replicate}
 use Rattle.spin_base.specs.declared.copies.McCopy.{McCopy}
-use Rattle.link_queue.specs.declared.known.Known.{Known}
-use Rattle.link_queue.specs.Ends.{sending, taking}
-use Rattle.link_queue.specs.TheRule.{put_of}
-use Rattle.chip_node.specs.declared.ends.End.{End}
-use Rattle.chip_node.specs.declared.ends.End.TheVariants.{Away, Own, Sends, Takes}
-use Rattle.chip_node.specs.declared.ends.OutEnd.{OutEnd}
-use Rattle.chip_node.specs.Going.{EndGoes, EndStays, IsFullEnd, IsFullMoment, IsIdle, LaneGoes, SenderGoes}
-use Rattle.chip_node.specs.Offers.{Sends as SendsOffer, RefusesOffers}
-use Rattle.chip_node.specs.Passing.{EndLacks, EndRefuses, EndSends, EndTakes}
+use Rattle.link_queue.specs.{Ends.sending, Ends.taking, TheRule.put_of}
+use Rattle.chip_node.specs.declared.ends.{End.End, End.TheVariants.Away, End.TheVariants.Own, End.TheVariants.Sends, End.TheVariants.Takes, OutEnd.OutEnd}
+use Rattle.chip_node.specs.{Going.EndGoes, Going.EndStays, Going.IsFullEnd, Going.IsFullMoment, Going.IsIdle, Going.LaneGoes, Going.SenderGoes, Offers.RefusesOffers, Passing.EndLacks}
+use Rattle.chip_node.specs.Passing.{EndRefuses, EndSends, EndTakes}
+use Rattle.chip_node.specs.Offers.{Sends as SendsOffer}
 use Rattle.chip_node.proofs.Stays.{sender_same}
 
 -- ---- a copy was sent
 
 lane_sends : (cap patience : ℕ) (k : McCopy) (x y : List McCopy) → y ≡ x ++ k ∷ [] → length x < cap → LaneGoes cap patience (k ∷ []) [] [] x y
-lane_sends cap patience k x y is below = record {
-  in_order = sym is;
-  within = λ fits. (let long = ap length is in let more = length-append x (k ∷ []) in omega arith);
-  fulls = [];
-  full = λ fits. All-nil (IsFullMoment cap (length x) (k ∷ []) []);
-  patient = omega arith;
-}
+lane_sends cap patience k x y is below = grind (arith, length-append x (k ∷ []), All-nil (IsFullMoment cap (length x) (k ∷ []) []))
 
 -- whatever the patience of the offers was
 sender_sends : (patience tries : ℕ) (k : McCopy) (x y : OutEnd) → y.link ≡ x.link → SendsOffer tries k (sending x.tx) (sending y.tx) → SenderGoes patience (k ∷ []) [] x y
-sender_sends patience tries k x y link s = record {
-  link = link;
-  first = s.taken.first ∙ ap (λ (v : Known). v.first) s.refused.noted;
-  sent = s.taken.sent ∙ ap (λ (v : Known). v.sent ++ k ∷ []) s.refused.noted;
-  notes = replicate s.refusals (length (put_of (sending x.tx)));
-  fulls = s.taken.fulls ∙ ap (λ (v : Known). v.fulls) s.refused.noted;
-  patient = omega arith;
-}
+sender_sends patience tries k x y link s = grind arith
 
 pub end_goes_sends : (cap patience tries : ℕ) (k : McCopy) (x y : End) → EndSends cap tries k x y → EndGoes cap patience (k ∷ []) [] [] x y
 end_goes_sends cap patience tries k Away y h = absurd h
-end_goes_sends cap patience tries k (Own a) y (b, is, items, below) =
-    subst (λ (e : End). EndGoes cap patience (k ∷ []) [] [] (Own a) e) (sym is) (lane_sends cap patience k a.items b.items items below)
-end_goes_sends cap patience tries k (Sends a) y (b, is, link, s) =
-    subst (λ (e : End). EndGoes cap patience (k ∷ []) [] [] (Sends a) e) (sym is) (refl, sender_sends patience tries k a b link s)
+end_goes_sends cap patience tries k (Own a) y (b, is, items, below) = grind (arith, lane_sends cap patience k a.items b.items items below)
+end_goes_sends cap patience tries k (Sends a) y (b, is, link, s) = grind (arith, sender_sends patience tries k a b link s)
 end_goes_sends cap patience tries k (Takes a) y h = absurd h
 
 -- ---- a copy was dumped
@@ -56,39 +36,19 @@ lane_refuses cap patience k x full = record {
 }
 
 sender_refuses : (patience : ℕ) (k : McCopy) (x y : OutEnd) → y.link ≡ x.link → RefusesOffers patience (sending x.tx) (sending y.tx) → SenderGoes patience [] (k ∷ []) x y
-sender_refuses patience k x y link r = record {
-  link = link;
-  first = ap (λ (v : Known). v.first) r.noted;
-  sent = ap (λ (v : Known). v.sent) r.noted ∙ sym (append-nil (sending x.tx).sent);
-  notes = replicate patience (length (put_of (sending x.tx)));
-  fulls = ap (λ (v : Known). v.fulls) r.noted;
-  patient = (let long : length (replicate patience (length (put_of (sending x.tx)))) ≡ patience = length-replicate patience (length (put_of (sending x.tx))) in omega arith);
-}
+sender_refuses patience k x y link r = grind (arith, append-nil (sending x.tx).sent, length-replicate patience (length (put_of (sending x.tx))))
 
 pub end_goes_refuses : (cap patience : ℕ) (k : McCopy) (x y : End) → EndRefuses cap patience x y → EndGoes cap patience [] [] (k ∷ []) x y
 end_goes_refuses cap patience k Away y h = absurd h
-end_goes_refuses cap patience k (Own a) y (is, full) =
-    subst (λ (e : End). EndGoes cap patience [] [] (k ∷ []) (Own a) e) (sym is) (lane_refuses cap patience k a.items full)
-end_goes_refuses cap patience k (Sends a) y (b, is, link, r) =
-    subst (λ (e : End). EndGoes cap patience [] [] (k ∷ []) (Sends a) e) (sym is) (refl, sender_refuses patience k a b link r)
+end_goes_refuses cap patience k (Own a) y (is, full) = grind (arith, lane_refuses cap patience k a.items full)
+end_goes_refuses cap patience k (Sends a) y (b, is, link, r) = grind (arith, sender_refuses patience k a b link r)
 end_goes_refuses cap patience k (Takes a) y h = absurd h
 
 -- a copy that was refused, and not dumped
 pub end_stays_refuses : (cap tries : ℕ) (x y : End) → EndRefuses cap tries x y → EndStays x y
 end_stays_refuses cap tries Away y h = absurd h
 end_stays_refuses cap tries (Own a) y (is, full) = is
-end_stays_refuses cap tries (Sends a) y (b, is, link, r) = (
-  b,
-  is,
-  record {
-    link = link;
-    first = ap (λ (v : Known). v.first) r.noted;
-    sent = ap (λ (v : Known). v.sent) r.noted ∙ sym (append-nil (sending a.tx).sent);
-    notes = replicate tries (length (put_of (sending a.tx)));
-    fulls = ap (λ (v : Known). v.fulls) r.noted;
-    patient = omega arith;
-  },
-)
+end_stays_refuses cap tries (Sends a) y (b, is, link, r) = grind (arith, append-nil (sending a.tx).sent)
 end_stays_refuses cap tries (Takes a) y h = absurd h
 
 -- where an offer was refused, the queue was full
@@ -102,16 +62,9 @@ end_refuses_full cap tries (Takes a) y some h = h
 
 pub end_goes_takes : (cap patience : ℕ) (k : McCopy) (x y : End) → EndTakes k x y → EndGoes cap patience [] (k ∷ []) [] x y
 end_goes_takes cap patience k Away y h = absurd h
-end_goes_takes cap patience k (Own a) y (b, is, items) = subst (λ (e : End). EndGoes cap patience [] (k ∷ []) [] (Own a) e) (sym is) (record {
-  in_order = append-nil a.items ∙ items;
-  within = λ fits. (let long = ap length items in omega arith);
-  fulls = [];
-  full = λ fits. All-nil (IsFullMoment cap (length a.items) [] (k ∷ []));
-  patient = omega arith;
-})
+end_goes_takes cap patience k (Own a) y (b, is, items) = grind (arith, append-nil a.items, All-nil (IsFullMoment cap (length a.items) [] (k ∷ [])))
 end_goes_takes cap patience k (Sends a) y h = absurd h
-end_goes_takes cap patience k (Takes a) y (b, is, link, t) =
-    subst (λ (e : End). EndGoes cap patience [] (k ∷ []) [] (Takes a) e) (sym is) (refl, refl, record { link = link; first = t.first; took = t.took })
+end_goes_takes cap patience k (Takes a) y (b, is, link, t) = grind arith
 
 -- ---- nothing was there to take
 
@@ -119,15 +72,7 @@ pub end_stays_lacks : (x y : End) → EndLacks x y → EndStays x y
 end_stays_lacks Away y h = h
 end_stays_lacks (Own a) y h = h.0
 end_stays_lacks (Sends a) y h = (a, h, sender_same a)
-end_stays_lacks (Takes a) y (b, is, link, f) = (
-  b,
-  is,
-  record {
-    link = link;
-    first = ap (λ (v : Known). v.first) f.noted;
-    took = ap (λ (v : Known). v.took) f.noted ∙ sym (append-nil (taking a.rx).took);
-  },
-)
+end_stays_lacks (Takes a) y (b, is, link, f) = grind (arith, append-nil (taking a.rx).took)
 
 pub end_lacks_idle : (x y : End) → EndLacks x y → IsIdle x
 end_lacks_idle Away y h = tt

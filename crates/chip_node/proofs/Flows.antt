@@ -1,22 +1,13 @@
 -- What was done, one list after the other, is what both lists tell.
-use Rattle.std.proofs.Common.{◌≡◌, ℕ, ◌+◌, ◌*◌, ◌<◌, ◌≤◌, List, [], ◌++◌, length, map, refl, sym, ap, subst, ◌∙◌, append-nil, append_assoc, length-append, arith}
-use Rattle.std.specs.List.{All, slice_index_or}
-use Rattle.std.proofs.lemmas.List.{length-map}
-use Rattle.std.proofs.lemmas.List.Elements.{All-append, All-map, All-nil, All-weaker}
-use Rattle.std.proofs.lemmas.Grind.{flat_map-append}
+use Rattle.std.proofs.Common.{◌≡◌, ℕ, ◌+◌, ◌*◌, ◌≤◌, List, [], ◌++◌, length, map, refl, sym, ap, subst, ◌∙◌, append-nil, append_assoc, length-append, arith}
+use Rattle.std.specs.List.{slice_index_or}
+use Rattle.std.proofs.lemmas.{List.length-map, List.Elements.All-append, List.Elements.All-map, List.Elements.All-nil, List.Elements.All-weaker, Grind.flat_map-append}
 use Rattle.spin_base.specs.declared.copies.McCopy.{McCopy}
-use Rattle.spin_base.specs.declared.copies.Delivery.{Delivery}
-use Rattle.spin_base.specs.declared.copies.DumpRec.{DumpRec}
-use Rattle.spin_base.specs.WithRoom.{WithRoom}
 use Rattle.link_queue.specs.declared.links.Link.{Link}
-use Rattle.chip_node.specs.declared.ends.End.{End}
-use Rattle.chip_node.specs.declared.ends.End.TheVariants.{Away, Own, Sends, Takes}
-use Rattle.chip_node.specs.declared.holdings.Holdings.{Holdings}
-use Rattle.chip_node.specs.declared.nodes.CoreBank.{CoreBank}
-use Rattle.chip_node.specs.declared.nodes.RouterNode.{RouterNode}
-use Rattle.chip_node.specs.Acting.{IsReadyBank, IsReadyRouter}
-use Rattle.chip_node.specs.Going.{AreEndsOf, EndGoes, EndStays, Goes, HoldsSender, IsFullMoment, IsSending, LaneGoes, Stays}
-use Rattle.chip_node.specs.Items.{Item, delivered_of, deliveries, dumped_of, entered, entered_by, injection_place, left, left_by, lost_at, lost_by, records, sent_by, sent_in}
+use Rattle.chip_node.specs.declared.{ends.End.End, ends.End.TheVariants.Away, ends.End.TheVariants.Own, ends.End.TheVariants.Sends, ends.End.TheVariants.Takes, holdings.Holdings.Holdings}
+use Rattle.chip_node.specs.{declared.nodes.CoreBank.CoreBank, declared.nodes.RouterNode.RouterNode, Acting.IsReadyBank, Acting.IsReadyRouter, Going.AreEndsOf, Going.EndGoes, Going.EndStays}
+use Rattle.chip_node.specs.{Going.Goes, Going.HoldsSender, Going.IsFullMoment, Going.IsSending, Going.LaneGoes, Going.Stays, Items.Item, Items.delivered_of, Items.deliveries, Items.dumped_of}
+use Rattle.chip_node.specs.Items.{entered, entered_by, injection_place, left, left_by, lost_at, lost_by, records, sent_by, sent_in}
 use Rattle.chip_node.proofs.Stays.{end_before, patient_on, sender_on, taker_on}
 
 -- ---- lanes
@@ -26,22 +17,11 @@ abbrev later : ℕ → ℕ → ℕ × ℕ → ℕ × ℕ
 later came went e = (came + e.0, went + e.1)
 
 moment_before : (cap held : ℕ) (c w e v : List McCopy) (m : ℕ × ℕ) → IsFullMoment cap held c w m → IsFullMoment cap held (c ++ e) (w ++ v) m
-moment_before cap held c w e v m h =
-    let entered = length-append c e in
-    let gone = length-append w v in
-    let came_then = h.entered_by_then in
-    let went_then = h.left_by_then in
-    record { entered_by_then = omega arith; left_by_then = omega arith; full = h.full }
+moment_before cap held c w e v m h = grind (arith, length-append c e, length-append w v)
 
 moment_later : (cap held then : ℕ) (c w e v : List McCopy) (m : ℕ × ℕ) → held + length c ≡ length w + then → IsFullMoment cap then e v m →
     IsFullMoment cap held (c ++ e) (w ++ v) (later (length c) (length w) m)
-moment_later cap held then c w e v m balance h =
-    let entered = length-append c e in
-    let gone = length-append w v in
-    let came_then = h.entered_by_then in
-    let went_then = h.left_by_then in
-    let full = h.full in
-    record { entered_by_then = omega arith; left_by_then = omega arith; full = omega arith }
+moment_later cap held then c w e v m balance h = grind (arith, length-append c e, length-append w v)
 
 pub lane_on : (cap patience : ℕ) (c w d e v f x y z : List McCopy) → LaneGoes cap patience c w d x y → LaneGoes cap patience e v f y z → LaneGoes cap patience (c ++ e) (w ++ v) (d ++ f) x z
 lane_on cap patience c w d e v f x y z h k = record {
@@ -69,30 +49,14 @@ lane_on cap patience c w d e v f x y z h k = record {
 
 -- a lane that is as it was
 pub lane_same : (cap patience : ℕ) (x : List McCopy) → LaneGoes cap patience [] [] [] x x
-lane_same cap patience x = record {
-  in_order = append-nil x;
-  within = λ fits. fits;
-  fulls = [];
-  full = λ fits. All-nil (IsFullMoment cap (length x) [] []);
-  patient = omega arith;
-}
+lane_same cap patience x = grind (arith, append-nil x, All-nil (IsFullMoment cap (length x) [] []))
 
 -- ---- ends
 
 pub end_goes_none : (cap patience : ℕ) (x y : End) → EndStays x y → EndGoes cap patience [] [] [] x y
 end_goes_none cap patience Away y h = subst (λ (e : End). EndGoes cap patience [] [] [] Away e) (sym h) (refl, refl, refl)
 end_goes_none cap patience (Own a) y h = subst (λ (e : End). EndGoes cap patience [] [] [] (Own a) e) (sym h) (lane_same cap patience a.items)
-end_goes_none cap patience (Sends a) y (b, is, h) = subst (λ (e : End). EndGoes cap patience [] [] [] (Sends a) e) (sym is) (
-  refl,
-  record {
-    link = h.link;
-    first = h.first;
-    sent = h.sent;
-    notes = h.notes;
-    fulls = h.fulls;
-    patient = omega arith;
-  },
-)
+end_goes_none cap patience (Sends a) y (b, is, h) = grind arith
 end_goes_none cap patience (Takes a) y (b, is, h) = subst (λ (e : End). EndGoes cap patience [] [] [] (Takes a) e) (sym is) (refl, refl, h)
 
 both_empty : (c e : List McCopy) → c ≡ [] → e ≡ [] → c ++ e ≡ []
@@ -132,16 +96,7 @@ end_goes_on cap patience c w d e v f (Takes x) (Sends y) z h k = absurd h
 
 -- where nothing was done
 pub goes_none : (cap patience : ℕ) (a b : Holdings) → Stays a b → Goes cap patience a [] b
-goes_none cap patience a b h = record {
-  ends_long = h.ends_long;
-  ends = λ q x y at also. end_goes_none cap patience x y (h.ends q x y at also);
-  unsent_long = ap length h.unsent;
-  unsent = λ v. ap (λ (l : List (List McCopy)). slice_index_or l v []) (sym h.unsent);
-  delivered = ap (λ (l : WithRoom Delivery). l.items) h.deliveries ∙ sym (append-nil a.deliveries.items);
-  dumped = ap (λ (l : WithRoom DumpRec). l.items) h.dumps ∙ sym (append-nil a.dumps.items);
-  deliveries_room = ap (λ (l : WithRoom Delivery). l.spare + length l.items) h.deliveries;
-  dumps_room = ap (λ (l : WithRoom DumpRec). l.spare + length l.items) h.dumps;
-}
+goes_none cap patience a b h = grind (arith, append-nil a.deliveries.items, append-nil a.dumps.items, end_goes_none)
 
 -- one list of what was done after the other
 pub goes_on : (cap patience : ℕ) (a b c : Holdings) (xs ys : List Item) → Goes cap patience a xs b → Goes cap patience b ys c → Goes cap patience a (xs ++ ys) c
@@ -173,8 +128,7 @@ stays_goes cap patience a b c xs h k = goes_on cap patience a b c [] xs (goes_no
 
 -- these were done, and then nothing
 pub goes_stays : (cap patience : ℕ) (a b c : Holdings) (xs : List Item) → Goes cap patience a xs b → Stays b c → Goes cap patience a xs c
-goes_stays cap patience a b c xs h k =
-    subst (λ (l : List Item). Goes cap patience a l c) (append-nil xs) (goes_on cap patience a b c xs [] h (goes_none cap patience b c k))
+goes_stays cap patience a b c xs h k = grind (arith, append-nil xs, goes_on cap patience a b c xs, goes_none cap patience b c k)
 
 -- ---- what is held after what was done
 
@@ -200,7 +154,6 @@ holds_sender_on cap patience a b xs q h s =
 pub ready_router_on : (cap patience : ℕ) (links : List Link) (r : RouterNode) (a b : Holdings) (xs : List Item) → Goes cap patience a xs b → AreEndsOf links b.ends.items →
     IsReadyRouter links r a → IsReadyRouter links r b
 ready_router_on cap patience links r a b xs h ends ready = record {
-  outputs = ready.outputs;
   senders = λ o q behind. holds_sender_on cap patience a b xs q h (ready.senders o q behind);
   differ = ready.differ;
   apart = ready.apart;
@@ -209,10 +162,4 @@ ready_router_on cap patience links r a b xs h ends ready = record {
 
 pub ready_bank_on : (cap patience : ℕ) (links : List Link) (k : CoreBank) (a b : Holdings) (xs : List Item) → Goes cap patience a xs b → AreEndsOf links b.ends.items →
     IsReadyBank links k a → IsReadyBank links k b
-ready_bank_on cap patience links k a b xs h ends ready = record {
-  sender = holds_sender_on cap patience a b xs (injection_place k.index) h ready.sender;
-  vertices =
-      subst (λ n. All (λ v. (v < n) × (k.cores + v < length b.ends.items)) k.vertices.items) (sym h.unsent_long)
-      (subst (λ n. All (λ v. (v < length a.unsent.items) × (k.cores + v < n)) k.vertices.items) (sym h.ends_long) ready.vertices);
-  ends = ends;
-}
+ready_bank_on cap patience links k a b xs h ends ready = grind (arith, holds_sender_on cap patience a b xs (injection_place k.index) h ready.sender)

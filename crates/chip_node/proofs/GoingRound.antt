@@ -1,5 +1,5 @@
 -- A ring of places that is gone through from a start: what holds at each place that was gone by.
-use Rattle.std.proofs.Common.{◌≡◌, ◌≢◌, ℕ, ◌+◌, ◌<◌, ◌≤◌, ◌⊎◌, inl, inr, sym, subst, arith}
+use Rattle.std.proofs.Common.{◌≡◌, ◌≢◌, ℕ, ◌+◌, ◌<◌, ◌≤◌, ◌⊎◌, inl, inr, arith}
 use Rattle.std.proofs.lemmas.Bool.{cases_eq, cases_lt}
 
 -- the place was gone by within so many steps
@@ -34,13 +34,7 @@ module _ (P : ℕ → Type 0) where
   gone_none start count s = record { within = s; each = λ j inside h. absurd (none_behind start count j s inside h) }
 
   pub gone_more : (start count steps at : ℕ) → steps < count → at < count → IsPlaceOf start count steps at → P at → GoneBy P start count steps → GoneBy P start count (steps + 1)
-  gone_more start count steps at n below place holds h = record {
-    within = h.within;
-    each = λ j inside behind. elim (cases_eq j at) [
-      | inl here ↦ subst P (sym here) holds
-      | inr other ↦ h.each j inside (still_behind start count steps at j h.within n below inside place other behind)
-    ];
-  }
+  gone_more start count steps at n below place holds h = grind (arith, cases_eq, still_behind)
 
   pub gone_all : (start count steps : ℕ) → count ≤ steps → GoneBy P start count steps → (j : ℕ) → j < count → P j
   gone_all start count steps end h j inside = h.each j inside (all_behind start count steps j h.within inside end)

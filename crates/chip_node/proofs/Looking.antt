@@ -1,34 +1,16 @@
 -- What a router sees at a port, and that there is room for what its turn needs.
-use Rattle.std.proofs.Common.{◌≡◌, ◌≢◌, ℕ, ◌<◌, ◌≤◌, Bool, true, false, cond, ◌==◌, List, [], ◌∷◌, length, get_or, set, Option, None, Some, refl, sym, ap, subst, ◌∙◌, arith}
+use Rattle.std.proofs.Common.{◌≡◌, ℕ, ◌<◌, ◌≤◌, Bool, true, false, cond, ◌==◌, List, [], ◌∷◌, length, get_or, set, Option, None, Some, refl, sym, subst, ◌∙◌, arith}
 use Rattle.std.specs.List.{All, slice_get}
-use Rattle.std.proofs.lemmas.List.Elements.{All-filter, All-nil, All-weaker}
-use Rattle.std.proofs.lemmas.Option.{slice_get_read, slice_get_within}
-use Rattle.spin_base.specs.declared.blocks.Entry.{Entry}
-use Rattle.spin_base.specs.declared.chips.Port.{Port}
-use Rattle.spin_base.specs.declared.copies.DumpRec.{DumpRec}
-use Rattle.spin_base.specs.declared.copies.McCopy.{McCopy}
-use Rattle.spin_base.specs.declared.routes.Out.{Out}
-use Rattle.spin_base.specs.WithRoom.{WithRoom}
-use Rattle.spin_base.specs.Hops.{last_hop}
-use Rattle.spin_base.specs.Lookup.{lookup}
-use Rattle.spin_base.specs.Outputs.{all_outs, core_outs, has, link_outs, out_number, outs_of}
+use Rattle.std.proofs.lemmas.{List.Elements.All-filter, List.Elements.All-nil, List.Elements.All-weaker, Option.slice_get_read, Option.slice_get_within}
+use Rattle.spin_base.specs.{declared.blocks.Entry.Entry, declared.chips.Port.Port, declared.copies.McCopy.McCopy, declared.routes.Out.Out, Hops.last_hop, Lookup.lookup, Outputs.all_outs}
+use Rattle.spin_base.specs.Outputs.{core_outs, has, link_outs, out_number, outs_of}
 use Rattle.spin_base.proofs.Places.{All-at, All-each, one_item_at, slice_get-set_other}
 use Rattle.link_queue.specs.declared.links.Link.{Link}
-use Rattle.chip_node.specs.declared.ends.End.{End}
-use Rattle.chip_node.specs.declared.ends.End.TheVariants.{Away, Own, Sends, Takes}
-use Rattle.chip_node.specs.declared.ends.Seen.TheVariants.{Front}
-use Rattle.chip_node.specs.declared.holdings.Holdings.{Holdings}
-use Rattle.chip_node.specs.declared.nodes.Behind.{Behind}
-use Rattle.chip_node.specs.declared.nodes.RouterNode.{RouterNode}
-use Rattle.chip_node.specs.Acting.{place_in, IsReadyRouter}
-use Rattle.chip_node.specs.Going.{EndHasRoom, IsIdle, IsIdleAt, Stays}
-use Rattle.chip_node.specs.Items.{port_place}
-use Rattle.chip_node.specs.Passing.{EndLacks, EndTakes, IsSeen}
-use Rattle.chip_node.specs.Routing.{outputs_at}
-use Rattle.chip_node.specs.Taking.{HasRoomBehind, HasRoomForOuts, HasRoomIn}
-use Rattle.chip_node.proofs.Outputs.{few_pass}
-use Rattle.chip_node.proofs.EndSteps.{end_lacks_idle, end_stays_lacks}
-use Rattle.chip_node.proofs.Placing.{stays_at, Writes}
+use Rattle.chip_node.specs.declared.ends.{End.End, End.TheVariants.Away, End.TheVariants.Own, End.TheVariants.Sends, End.TheVariants.Takes, Seen.TheVariants.Front}
+use Rattle.chip_node.specs.{declared.holdings.Holdings.Holdings, declared.nodes.Behind.Behind, declared.nodes.RouterNode.RouterNode, Acting.place_in, Acting.IsReadyRouter, Going.EndHasRoom}
+use Rattle.chip_node.specs.{Going.IsIdle, Going.IsIdleAt, Going.Stays, Items.port_place, Passing.EndLacks, Passing.EndTakes, Passing.IsSeen, Routing.outputs_at, Taking.HasRoomBehind}
+use Rattle.chip_node.specs.Taking.{HasRoomForOuts, HasRoomIn}
+use Rattle.chip_node.proofs.{Outputs.few_pass, EndSteps.end_lacks_idle, EndSteps.end_stays_lacks, Placing.stays_at, Placing.Writes}
 
 -- ---- nothing to take
 
@@ -38,20 +20,15 @@ idle_at ends q x at idle = λ y also. subst IsIdle (one_item_at ends q q x y ref
 
 -- nor where none stands
 pub idle_past : (ends xs : List End) (n q : ℕ) → xs ≡ ends → n ≡ q → length xs ≤ n → IsIdleAt ends q
-idle_past ends xs n q same at past = λ y also.
-    (let within = slice_get_within ends q y also in let long = ap length same in absurd (omega arith))
+idle_past ends xs n q same at past = grind (arith, slice_get_within)
 
 -- what is read at a place stands there
 pub read_stands : (ends xs : List End) (n q : ℕ) (x : End) → xs ≡ ends → n ≡ q → n < length xs → x ≡ get_or xs n x → slice_get ends q ≡ Some x
-read_stands ends xs n q x same at below read =
-    ap (slice_get ends) (sym at) ∙ (ap (λ (l : List End). slice_get l n) (sym same) ∙ slice_get_read xs (length xs) n x refl below read)
+read_stands ends xs n q x same at below read = grind (arith, slice_get_read xs (length xs) n x refl below read)
 
 -- what is written at a place
 pub end_written : (ends : List End) (n q : ℕ) (old new : End) → n ≡ q → q < length ends → old ≡ get_or ends n old → Writes ends (set ends n new) q old new
-end_written ends n q old new at inside read = record {
-  stood = read_stands ends ends n q old refl at (subst (λ k. k < length ends) (sym at) inside) read;
-  stands = ap (λ k. set ends k new) at;
-}
+end_written ends n q old new at inside read = grind (arith, read_stands)
 
 -- where nothing was found, there was nothing
 pub lacks_at : (a b : Holdings) (q : ℕ) (old new : End) → Writes a.ends.items b.ends.items q old new → EndLacks old new → b.unsent.items ≡ a.unsent.items → b.deliveries ≡ a.deliveries →
@@ -83,10 +60,7 @@ room_for_all cap entries r port k h room = by (k.hop == last_hop)
 
     by : (b : Bool) → HasRoomForOuts cap r (cond b [] outs) h
     by true = record { behind = All-nil (HasRoomBehind cap r h); records = omega arith }
-    by false = record {
-      behind = All-filter (has (lookup entries k.key port)) (HasRoomBehind cap r h) all_outs room.behind;
-      records = (let few = few_pass (has (lookup entries k.key port)) all_outs in let records = room.records in omega arith);
-    }
+    by false = grind (arith, All-filter (has (lookup entries k.key port)) (HasRoomBehind cap r h) all_outs room.behind, few_pass (has (lookup entries k.key port)) all_outs)
 
 -- what is taken of a queue whose front copy is seen is that copy
 pub seen_first : (f k : McCopy) (x y : End) → IsSeen (Front f) x → EndTakes k x y → f ≡ k
@@ -98,9 +72,4 @@ seen_first f k (Own a) y (rest, items) (b, is, taken) = let both : f ∷ rest �
 -- what is taken at a port leaves the room behind the outputs
 pub room_kept : (cap : ℕ) (links : List Link) (r : RouterNode) (port : Port) (outs : List Out) (a b : Holdings) (old new : End) → IsReadyRouter links r a
     → Writes a.ends.items b.ends.items (port_place r.index port) old new → b.dumps ≡ a.dumps → HasRoomForOuts cap r outs a → HasRoomForOuts cap r outs b
-room_kept cap links r port outs a b old new ready w dumps room = record {
-  behind = All-weaker (HasRoomBehind cap r a) (HasRoomBehind cap r b) (λ o before q e behind stands.
-      (let other : q ≢ port_place r.index port = λ same. ready.apart o port (behind ∙ ap Some same) in
-      before q e behind (sym (slice_get-set_other a.ends.items (port_place r.index port) q new other) ∙ (sym (ap (λ (l : List End). slice_get l q) w.stands) ∙ stands)))) outs room.behind;
-  records = subst (λ (l : WithRoom DumpRec). length outs ≤ l.spare) (sym dumps) room.records;
-}
+room_kept cap links r port outs a b old new ready w dumps room = grind (arith, All-weaker, slice_get-set_other)

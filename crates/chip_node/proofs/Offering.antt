@@ -1,22 +1,8 @@
 -- An end stays an end of its link, and one offer more is refused.
-use Rattle.std.proofs.Common.{◌≡◌, ℕ, ◌+◌, List, [], ◌∷◌, ◌++◌, length, get_or, replicate, append-nil, refl, sym, ap, subst, ◌∙◌, append_assoc, arith}
-use Rattle.std.proofs.lemmas.List.{replicate_more}
-use Rattle.std.proofs.lemmas.Option.{get_or_from_slice_get}
-use Rattle.link_queue.specs.declared.known.Known.{Known}
-use Rattle.link_queue.specs.declared.links.Link.{Link}
-use Rattle.link_queue.specs.declared.links.Rx.{Rx}
-use Rattle.link_queue.specs.declared.links.Tx.{Tx}
-use Rattle.link_queue.specs.Ends.{IsRx, IsTx, taking}
-use Rattle.chip_node.specs.Going.{TakerGoes}
-use Rattle.link_queue.specs.TheRule.{put_of}
-use Rattle.spin_base.specs.declared.copies.McCopy.{McCopy}
-use Rattle.link_queue.specs.declared.links.Offered.{Offered}
-use Rattle.link_queue.specs.declared.links.Offered.TheVariants.{Taken, Full}
-use Rattle.link_queue.specs.Moves.{MatchOffered, RefusesOffer}
-use Rattle.chip_node.specs.declared.ends.InEnd.{InEnd}
-use Rattle.chip_node.specs.declared.ends.OutEnd.{OutEnd}
-use Rattle.chip_node.specs.Ends.{IsInEndOf, IsOutEndOf}
-use Rattle.chip_node.specs.Offers.{full_noted_often, RefusesOffers}
+use Rattle.std.proofs.Common.{◌≡◌, ℕ, ◌+◌, List, [], ◌∷◌, ◌++◌, length, get_or, replicate, sym, ap, subst, ◌∙◌, append_assoc, arith}
+use Rattle.std.proofs.lemmas.{List.replicate_more, Option.get_or_from_slice_get}
+use Rattle.link_queue.specs.{declared.known.Known.Known, declared.links.Link.Link, declared.links.Rx.Rx, declared.links.Tx.Tx, Ends.IsRx, Ends.IsTx, TheRule.put_of, Moves.RefusesOffer}
+use Rattle.chip_node.specs.{declared.ends.InEnd.InEnd, declared.ends.OutEnd.OutEnd, Ends.IsInEndOf, Ends.IsOutEndOf, Offers.full_noted_often, Offers.RefusesOffers}
 
 -- the link that is read is the one of which it is an end
 pub in_end_stays : (links : List Link) (e : InEnd) (l : Link) (rx : Rx) → IsInEndOf links e → l ≡ get_or links e.link l → IsRx l rx → IsInEndOf links (record { link = e.link; rx = rx })
@@ -37,13 +23,8 @@ pub out_end_read : (links : List Link) (e : OutEnd) (l : Link) → IsOutEndOf li
 out_end_read links e l h is = subst (λ m. IsTx m e.tx) (sym (is ∙ get_or_from_slice_get links e.link h.of l h.stands)) h.is_end
 
 -- an offer is refused
-refuses_one : (cap : ℕ) (v u : Known) → RefusesOffer cap v u → v.cap ≡ cap → RefusesOffers 1 v u
+pub refuses_one : (cap : ℕ) (v u : Known) → RefusesOffer cap v u → v.cap ≡ cap → RefusesOffers 1 v u
 refuses_one cap v u r is = record { noted = r.noted; looked = λ _. r.looked; full = λ _. (let full = r.full in omega arith) }
-
-pub offer_answer : (x : Offered) (P : Type 0) (k : McCopy) (cap : ℕ) (v u : Known) → MatchOffered x P (λ back. (back ≡ k) × RefusesOffer cap v u) → v.cap ≡ cap →
-    MatchOffered x P (λ back. (back ≡ k) × RefusesOffers 1 v u)
-offer_answer Taken P k cap v u h is = h
-offer_answer (Full back) P k cap v u h is = (h.0, refuses_one cap v u h.1 is)
 
 -- one offer more is refused
 pub refuses_more : (n : ℕ) (v w u : Known) → RefusesOffers n v w → RefusesOffers 1 w u → RefusesOffers (n + 1) v u
@@ -56,11 +37,3 @@ refuses_more n v w u h r =
       looked = λ _. sym (ap (λ (x : Known). x.held) h.noted) ∙ r.looked (omega arith) ∙ ap (λ (x : Known). x.cap) h.noted;
       full = λ _. (let full = r.full (omega arith) in let same = ap (λ (x : Known). length (put_of x)) h.noted in let cap_is = ap (λ (x : Known). x.cap) h.noted in omega arith);
     }
-
--- an end that knows what it knew took nothing
-pub taker_known : (e : InEnd) (rx : Rx) → taking rx ≡ taking e.rx → TakerGoes [] e (record { link = e.link; rx = rx })
-taker_known e rx same = record {
-  link = refl;
-  first = ap (λ v. v.first) same;
-  took = ap (λ v. v.took) same ∙ sym (append-nil (taking e.rx).took);
-}

@@ -1,11 +1,9 @@
 -- The outputs that a route names: each has a number below 24, and no two are the same.
-use Rattle.std.proofs.Common.{◌≢◌, ℕ, zero, suc, ◌+◌, ◌<◌, ◌≤◌, Bool, true, false, cond, List, [], ◌∷◌, map, filter, length, get_or, ap, arith}
+use Rattle.std.proofs.Common.{◌≢◌, ℕ, zero, suc, ◌+◌, ◌<◌, ◌≤◌, Bool, true, false, cond, List, [], ◌∷◌, map, filter, length, get_or, arith}
 use Rattle.std.specs.List.{All, AllPairs, range_with_len}
 use Rattle.std.proofs.lemmas.List.Elements.{All-nil, All-cons, All-weaker}
-use Rattle.spin_base.specs.declared.routes.Out.{Out}
-use Rattle.spin_base.specs.declared.routes.Out.TheVariants.{Core}
-use Rattle.spin_base.specs.declared.routes.Route.{Route}
-use Rattle.spin_base.specs.Outputs.{all_outs, core_outs, has, link_outs, IsOutput, out_number, outs_of}
+use Rattle.spin_base.specs.{declared.routes.Out.Out, declared.routes.Out.TheVariants.Core, declared.routes.Route.Route, Outputs.all_outs, Outputs.core_outs, Outputs.has, Outputs.link_outs}
+use Rattle.spin_base.specs.Outputs.{IsOutput, out_number, outs_of}
 
 -- outputs in the order of their numbers, from one number on
 abbrev Rises : ℕ → List Out → Type 0
@@ -38,15 +36,12 @@ rises_numbered low (o ∷ os) h = All-cons IsOutput o os h.1 (rises_numbered (ou
 
 rises_from : (low : ℕ) (os : List Out) → Rises low os → All (λ o. low ≤ out_number o) os
 rises_from low [] h = All-nil (λ o. low ≤ out_number o)
-rises_from low (o ∷ os) h =
-    All-cons (λ p. low ≤ out_number p) o os h.0
-    (All-weaker (λ p. out_number o + 1 ≤ out_number p) (λ p. low ≤ out_number p) (λ p after. (let from = h.0 in omega arith)) os (rises_from (out_number o + 1) os h.2))
+rises_from low (o ∷ os) h = grind (arith, rises_from (out_number o + 1) os h.2, All-cons, All-weaker)
 
 rises_differ : (low : ℕ) (os : List Out) → Rises low os → (i j : ℕ) (d : Out) → i < j → j < length os → get_or os i d ≢ get_or os j d
 rises_differ low [] h i j d before inside = absurd (omega arith)
 rises_differ low (o ∷ os) h zero zero d before inside = absurd (omega arith)
-rises_differ low (o ∷ os) h zero (suc j) d before inside = λ same.
-    (let after = rises_from (out_number o + 1) os h.2 j d (omega arith) in let number = ap out_number same in omega arith)
+rises_differ low (o ∷ os) h zero (suc j) d before inside = grind (arith, rises_from (out_number o + 1) os h.2 j d (omega arith))
 rises_differ low (o ∷ os) h (suc i) zero d before inside = absurd (omega arith)
 rises_differ low (o ∷ os) h (suc i) (suc j) d before inside = rises_differ (out_number o + 1) os h.2 i j d (omega arith) (omega arith)
 

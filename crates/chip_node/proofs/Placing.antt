@@ -1,29 +1,16 @@
 -- One end is written, and what was done tells of it alone.
 use Rattle.std.proofs.Common.{◌≡◌, ◌≢◌, ℕ, ◌+◌, ◌<◌, inl, inr, List, [], ◌∷◌, ◌++◌, length, set, ◌==◌, Option, Some, None, refl, sym, ap, subst, ◌∙◌, append-nil, arith}
 use Rattle.std.specs.List.{slice_get, slice_index_or}
-use Rattle.std.proofs.Math.ListN.{length-set}
-use Rattle.std.proofs.lemmas.Bool.{cases_eq, cond-true, cond-false, eq-eqb, ne_eqb}
-use Rattle.std.proofs.lemmas.List.{get_or-set_same, get_or-set_other, length-append}
-use Rattle.std.proofs.lemmas.Option.{same_Some}
-use Rattle.spin_base.specs.declared.chips.Chip.{Chip}
-use Rattle.spin_base.specs.declared.chips.Port.{Port}
-use Rattle.spin_base.specs.declared.routes.Out.{Out}
-use Rattle.spin_base.specs.declared.copies.Delivery.{Delivery}
-use Rattle.spin_base.specs.declared.copies.DumpRec.{DumpRec}
-use Rattle.spin_base.specs.declared.copies.McCopy.{McCopy}
-use Rattle.spin_base.specs.WithRoom.{WithRoom}
-use Rattle.spin_base.specs.Hops.{onward}
+use Rattle.std.proofs.{Math.ListN.length-set, lemmas.Bool.cases_eq, lemmas.Bool.cond-true, lemmas.Bool.cond-false, lemmas.Bool.eq-eqb, lemmas.Bool.ne_eqb, lemmas.List.get_or-set_same}
+use Rattle.std.proofs.lemmas.{List.get_or-set_other, List.length-append, Option.same_Some}
+use Rattle.spin_base.specs.declared.{chips.Chip.Chip, chips.Port.Port, routes.Out.Out, copies.Delivery.Delivery, copies.DumpRec.DumpRec, copies.McCopy.McCopy}
+use Rattle.spin_base.specs.{WithRoom.WithRoom, Hops.onward}
 use Rattle.spin_base.proofs.Places.{slice_get-set_same, slice_get-set_other}
-use Rattle.chip_node.specs.declared.ends.End.{End}
-use Rattle.chip_node.specs.declared.ends.Served.{Served}
-use Rattle.chip_node.specs.declared.ends.Served.TheVariants.{Sent, Dumped}
-use Rattle.chip_node.specs.declared.holdings.Holdings.{Holdings}
-use Rattle.chip_node.specs.Going.{EndGoes, EndStays, Goes, Stays}
-use Rattle.chip_node.specs.Items.{Item, Service, brought, deliveries, entered, got, injection_place, left, lost, lost_at, port_place, recorded, sent, sent_by, served, took, where_same}
-use Rattle.chip_node.specs.Passing.{EndSends, EndServes, EndTakes, SendsBehind, SendsThere}
-use Rattle.chip_node.proofs.Flows.{end_goes_none}
-use Rattle.chip_node.proofs.EndSteps.{end_goes_refuses, end_goes_sends, end_goes_takes}
-use Rattle.chip_node.proofs.Stays.{end_stays_same}
+use Rattle.chip_node.specs.declared.{ends.End.End, ends.Served.Served, ends.Served.TheVariants.Sent, ends.Served.TheVariants.Dumped, holdings.Holdings.Holdings}
+use Rattle.chip_node.specs.{Going.EndGoes, Going.EndStays, Going.Goes, Going.Stays, Items.Item, Items.Service, Items.brought, Items.deliveries, Items.entered, Items.got, Items.injection_place}
+use Rattle.chip_node.specs.{Items.left, Items.lost, Items.lost_at, Items.port_place, Items.recorded, Items.sent, Items.sent_by, Items.served, Items.took, Items.where_same, Passing.EndSends}
+use Rattle.chip_node.specs.Passing.{EndServes, EndTakes, SendsBehind, SendsThere}
+use Rattle.chip_node.proofs.{Flows.end_goes_none, EndSteps.end_goes_refuses, EndSteps.end_goes_sends, EndSteps.end_goes_takes, Stays.end_stays_same}
 
 -- ---- places
 
@@ -56,14 +43,10 @@ written_long : (before after : List End) (q : ℕ) (old new : End) → Writes be
 written_long before after q old new w = ap length w.stands ∙ length-set before q new
 
 written_here : (before after : List End) (q : ℕ) (old new x y : End) → Writes before after q old new → slice_get before q ≡ Some x → slice_get after q ≡ Some y → (old ≡ x) × (new ≡ y)
-written_here before after q old new x y w at also = (
-  same_Some old x (sym w.stood ∙ at),
-  same_Some new y (sym (slice_get-set_same before q old new w.stood) ∙ (sym (ap (λ (l : List End). slice_get l q) w.stands) ∙ also)),
-)
+written_here before after q old new x y w at also = grind (arith, same_Some old x (sym w.stood ∙ at), slice_get-set_same before q old new w.stood)
 
 written_there : (before after : List End) (q p : ℕ) (old new x y : End) → Writes before after q old new → p ≢ q → slice_get before p ≡ Some x → slice_get after p ≡ Some y → x ≡ y
-written_there before after q p old new x y w other at also =
-    same_Some x y (sym at ∙ (sym (slice_get-set_other before q p new other) ∙ (sym (ap (λ (l : List End). slice_get l p) w.stands) ∙ also)))
+written_there before after q p old new x y w other at also = grind (arith, slice_get-set_other before q p new other, same_Some)
 
 ends_at : (cap patience : ℕ) (before after : List End) (items : List Item) (q : ℕ) (old new : End) → Writes before after q old new
     → EndGoes cap patience (entered q items) (left q items) (lost_at q items) old new → ((p : ℕ) → p ≢ q → PassesBy items p)
@@ -110,8 +93,7 @@ same_unsent a b same v = ap (λ (l : List (List McCopy)). slice_index_or l v [])
 
 -- A log that grew by some items has as much room less.
 grown : {T : Type 0} (a b : WithRoom T) (more : List T) → b.items ≡ a.items ++ more → b.spare + length more ≡ a.spare → b.spare + length b.items ≡ a.spare + length a.items
-grown a b more items spare =
-    omega (arith, ap length items, length-append a.items more, spare)
+grown a b more items spare = grind (arith, length-append a.items more)
 
 -- the router took a copy
 pub took_goes : (cap patience i : ℕ) (port : Port) (k : McCopy) (a b : Holdings) (old new : End) → Writes a.ends.items b.ends.items (port_place i port) old new → EndTakes k old new
@@ -238,5 +220,4 @@ served_goes cap patience i c (Some q) o k fate a b h unsent deliveries dumped sp
 pub served_elsewhere : (cap patience : ℕ) (place : Option ℕ) (k : McCopy) (fate : Served) (before after : List End) (q : ℕ) → SendsBehind cap patience place k fate before after →
     place ≢ Some q → slice_get after q ≡ slice_get before q
 served_elsewhere cap patience None k fate before after q h other = ap (λ (l : List End). slice_get l q) h.1
-served_elsewhere cap patience (Some p) k fate before after q h other =
-    ap (λ (l : List End). slice_get l q) h.stands ∙ slice_get-set_other before p q h.new (λ e. other (ap Some (sym e)))
+served_elsewhere cap patience (Some p) k fate before after q h other = grind (arith, slice_get-set_other)

@@ -2,22 +2,10 @@
 use Rattle.std.proofs.Common.{◌≡◌, ℕ, ◌+◌, ◌<◌, List, [], ◌∷◌, ◌++◌, length, get_or, Option, Some, None, refl, sym, ap, subst, ◌∙◌, append-nil, arith}
 use Rattle.std.specs.List.{slice_get}
 use Rattle.std.proofs.lemmas.Option.{slice_get-get_or, slice_get_read, slice_get_within}
-use Rattle.spin_base.specs.declared.chips.Chip.{Chip}
-use Rattle.spin_base.specs.declared.copies.DumpRec.{DumpRec}
-use Rattle.spin_base.specs.declared.copies.McCopy.{McCopy}
-use Rattle.spin_base.specs.declared.routes.Out.{Out}
-use Rattle.spin_base.specs.WithRoom.{WithRoom}
-use Rattle.spin_base.specs.Outputs.{IsOutput, out_number}
-use Rattle.spin_base.proofs.Outputs.{out_number_below}
-use Rattle.spin_base.proofs.Places.{one_item_at}
-use Rattle.chip_node.specs.declared.ends.End.{End}
-use Rattle.chip_node.specs.declared.ends.Served.{Served}
-use Rattle.chip_node.specs.declared.ends.Served.TheVariants.{Sent, Dumped}
-use Rattle.chip_node.specs.declared.nodes.Behind.{Behind}
-use Rattle.chip_node.specs.Acting.{place_at_router, place_in}
-use Rattle.chip_node.specs.Going.{HoldsSender, IsSending}
-use Rattle.chip_node.specs.Items.{recorded}
-use Rattle.chip_node.specs.Passing.{SendsBehind}
+use Rattle.spin_base.specs.{declared.chips.Chip.Chip, declared.copies.DumpRec.DumpRec, declared.copies.McCopy.McCopy, declared.routes.Out.Out, WithRoom.WithRoom, Outputs.IsOutput, Outputs.out_number}
+use Rattle.spin_base.proofs.{Outputs.out_number_below, Places.one_item_at}
+use Rattle.chip_node.specs.declared.{ends.End.End, ends.Served.Served, ends.Served.TheVariants.Sent, ends.Served.TheVariants.Dumped, nodes.Behind.Behind}
+use Rattle.chip_node.specs.{Acting.place_at_router, Acting.place_in, Going.HoldsSender, Going.IsSending, Items.recorded, Passing.SendsBehind}
 
 -- ---- the place behind an output
 
@@ -44,8 +32,7 @@ module _ {ends : List End} {q : ℕ} (s : HoldsSender ends q) (x : End) (read : 
 -- ---- records
 
 pub sent_recorded : (c : Chip) (o : Out) (k : McCopy) (fate : Served) (a b : WithRoom DumpRec) → fate ≡ Sent → b ≡ a → b.items ≡ a.items ++ recorded c (record { out = o; copy = k; fate = fate }) fate
-sent_recorded c o k fate a b is same =
-    subst (λ (f : Served). b.items ≡ a.items ++ recorded c (record { out = o; copy = k; fate = f }) f) (sym is) (ap (λ (l : WithRoom DumpRec). l.items) same ∙ sym (append-nil a.items))
+sent_recorded c o k fate a b is same = grind (arith, append-nil a.items)
 
 pub dumped_recorded : (c : Chip) (o : Out) (k : McCopy) (fate : Served) (a b : List DumpRec) → fate ≡ Dumped → b ≡ a ++ record { chip = c; out = o; copy = k } ∷ [] →
     b ≡ a ++ recorded c (record { out = o; copy = k; fate = fate }) fate
@@ -54,9 +41,7 @@ dumped_recorded c o k fate a b is more = subst (λ (f : Served). b ≡ a ++ reco
 -- A record takes as much room as it says, and a copy that was sent none.
 pub sent_room : (c : Chip) (o : Out) (k : McCopy) (fate : Served) (a b : WithRoom DumpRec) → fate ≡ Sent → b ≡ a →
     b.spare + length (recorded c (record { out = o; copy = k; fate = fate }) fate) ≡ a.spare
-sent_room c o k fate a b is same =
-    let spare = ap (λ (l : WithRoom DumpRec). l.spare) same in
-    subst (λ (f : Served). b.spare + length (recorded c (record { out = o; copy = k; fate = f }) f) ≡ a.spare) (sym is) (omega (arith, spare))
+sent_room c o k fate a b is same = grind arith
 
 pub dumped_room : (c : Chip) (o : Out) (k : McCopy) (fate : Served) (a b : ℕ) → fate ≡ Dumped → b + 1 ≡ a → b + length (recorded c (record { out = o; copy = k; fate = fate }) fate) ≡ a
 dumped_room c o k fate a b is more = subst (λ (f : Served). b + length (recorded c (record { out = o; copy = k; fate = f }) f) ≡ a) (sym is) more

@@ -1,29 +1,15 @@
 -- Outputs of a copy that are served one after the other.
-use Rattle.std.proofs.Common.{◌≡◌, ◌≢◌, ℕ, ◌+◌, ◌<◌, List, [], ◌∷◌, ◌++◌, length, map, take, get_or, Some, None, refl, sym, ap, subst, ◌∙◌, arith}
-use Rattle.std.specs.List.{All, AllPairs, AllWithin, slice_get}
-use Rattle.std.proofs.lemmas.List.{get_or_default, map-append, take_more}
-use Rattle.spin_base.specs.declared.copies.McCopy.{McCopy}
-use Rattle.spin_base.specs.declared.routes.Out.{Out}
-use Rattle.spin_base.specs.Outputs.{IsOutput}
+use Rattle.std.proofs.Common.{◌≡◌, ◌≢◌, ℕ, ◌+◌, ◌<◌, List, [], ◌∷◌, ◌++◌, length, map, take, get_or, Some, None, sym, ap, subst, ◌∙◌, arith}
+use Rattle.std.specs.List.{AllWithin, slice_get}
+use Rattle.std.proofs.lemmas.List.{get_or_default, map-append, take_more, Elements.All-nil, Elements.All-cons, Elements.All-append}
+use Rattle.spin_base.specs.{declared.copies.McCopy.McCopy, declared.routes.Out.Out, Outputs.IsOutput}
 use Rattle.link_queue.specs.declared.links.Link.{Link}
-use Rattle.chip_node.specs.declared.holdings.Holdings.{Holdings}
-use Rattle.chip_node.specs.declared.nodes.RouterNode.{RouterNode}
-use Rattle.chip_node.specs.Acting.{IsReadyRouter, ServesOuts, place_at_router, service_items}
-use Rattle.chip_node.specs.Going.{Goes}
-use Rattle.chip_node.specs.Items.{Item, Service, served}
-use Rattle.std.proofs.lemmas.List.Elements.{All-nil, All-cons, All-append}
-use Rattle.chip_node.specs.declared.ends.Served.TheVariants.{Dumped}
-use Rattle.chip_node.specs.Taking.{HasRoomBehind}
-use Rattle.chip_node.proofs.Flows.{goes_none, goes_on}
-use Rattle.chip_node.proofs.Stays.{stays_same}
+use Rattle.chip_node.specs.{declared.holdings.Holdings.Holdings, declared.nodes.RouterNode.RouterNode, Acting.IsReadyRouter, Acting.ServesOuts, Acting.place_at_router, Acting.service_items}
+use Rattle.chip_node.specs.{Going.Goes, Items.Item, Items.Service, Items.served, declared.ends.Served.TheVariants.Dumped, Taking.AreOuts, Taking.HasRoomBehind}
+use Rattle.chip_node.proofs.{Flows.goes_none, Flows.goes_on, Stays.stays_same}
 
 pub serves_none : (cap patience : ℕ) (r : RouterNode) (k : McCopy) (a : Holdings) → ServesOuts cap patience r [] k a a
-serves_none cap patience r k a = record {
-  done = [];
-  each_once = refl;
-  nowhere = All-nil (λ (s : Service). place_at_router r.behind.now s.out ≡ None → s.fate ≡ Dumped);
-  goes = goes_none cap patience a a (stays_same a);
-}
+serves_none cap patience r k a = grind (arith, goes_none cap patience a a (stays_same a), stays_same a, All-nil)
 
 -- one output more
 pub serves_more : (cap patience : ℕ) (r : RouterNode) (k : McCopy) (a b c : Holdings) (outs : List Out) (i : ℕ) (s : Service) → i < length outs → s.out ≡ get_or outs i s.out → s.copy ≡ k
@@ -56,14 +42,14 @@ serves_more cap patience r k a b c outs i s below read of nowhere h goes = recor
     item x = served r.index r.chip (place_at_router r.behind.now x.out) x
 
 -- the outputs from one on still have room, where the queue behind the one before alone has changed
-pub room_left : (cap : ℕ) (links : List Link) (r : RouterNode) (a b : Holdings) (outs : List Out) (i : ℕ) (o : Out) → IsReadyRouter links r a → All IsOutput outs
-    → AllPairs (λ x y. x ≢ y) outs → i < length outs → o ≡ get_or outs i o
+pub room_left : (cap : ℕ) (links : List Link) (r : RouterNode) (a b : Holdings) (outs : List Out) (i : ℕ) (o : Out) → IsReadyRouter links r a → AreOuts outs
+    → i < length outs → o ≡ get_or outs i o
     → AllWithin (HasRoomBehind cap r a) outs i (length outs) → ((q : ℕ) → place_at_router r.behind.now o ≢ Some q → slice_get b.ends.items q ≡ slice_get a.ends.items q)
     → AllWithin (HasRoomBehind cap r b) outs (i + 1) (length outs)
-room_left cap links r a b outs i o ready numbered differ below read room elsewhere = λ j d from inside q e behind stands.
+room_left cap links r a b outs i o ready are below read room elsewhere = λ j d from inside q e behind stands.
     (let p = get_or outs j d in
-    let o_is : IsOutput o = subst IsOutput (sym read) (numbered i o below) in
-    let p_is : IsOutput p = numbered j d inside in
-    let apart : o ≢ p = λ same. differ i j d (omega arith) inside (get_or_default outs i d o below ∙ (sym read ∙ same)) in
+    let o_is : IsOutput o = subst IsOutput (sym read) (are.numbered i o below) in
+    let p_is : IsOutput p = are.numbered j d inside in
+    let apart : o ≢ p = λ same. are.differ i j d (omega arith) inside (get_or_default outs i d o below ∙ (sym read ∙ same)) in
     let other : place_at_router r.behind.now o ≢ Some q = λ also. apart (ready.differ o p q also behind o_is p_is) in
     room j d (omega arith) inside q e behind (sym (elsewhere q other) ∙ stands))

@@ -2,19 +2,11 @@
 use Rattle.std.proofs.Common.{◌≡◌, ℕ, ◌+◌, ◌*◌, ◌≤◌, List, [], ◌++◌, length, get_or, Some, refl, sym, ap, subst, ◌∙◌, append-nil, append_assoc, length-append, arith}
 use Rattle.std.specs.List.{slice_get}
 use Rattle.std.proofs.lemmas.Option.{slice_get_within, slice_get-get_or, same_Some}
-use Rattle.spin_base.specs.declared.copies.McCopy.{McCopy}
-use Rattle.spin_base.specs.declared.copies.Delivery.{Delivery}
-use Rattle.spin_base.specs.declared.copies.DumpRec.{DumpRec}
-use Rattle.spin_base.specs.WithRoom.{WithRoom}
+use Rattle.spin_base.specs.{declared.copies.McCopy.McCopy, declared.copies.Delivery.Delivery, declared.copies.DumpRec.DumpRec, WithRoom.WithRoom}
 use Rattle.spin_base.proofs.Places.{All-at, slice_get_there}
 use Rattle.link_queue.specs.Ends.{sending, taking}
-use Rattle.link_queue.specs.TheRule.{StartsWith}
-use Rattle.chip_node.specs.declared.ends.End.{End}
-use Rattle.chip_node.specs.declared.ends.End.TheVariants.{Away, Own, Sends, Takes}
-use Rattle.chip_node.specs.declared.ends.InEnd.{InEnd}
-use Rattle.chip_node.specs.declared.ends.OutEnd.{OutEnd}
-use Rattle.chip_node.specs.declared.holdings.Holdings.{Holdings}
-use Rattle.chip_node.specs.Going.{EndStays, EndHasRoom, IsIdle, IsIdleAt, HasAmpleRoom, SenderGoes, Stays, TakerGoes}
+use Rattle.chip_node.specs.declared.ends.{End.End, End.TheVariants.Away, End.TheVariants.Own, End.TheVariants.Sends, End.TheVariants.Takes, InEnd.InEnd, OutEnd.OutEnd}
+use Rattle.chip_node.specs.{declared.holdings.Holdings.Holdings, Going.EndStays, Going.EndHasRoom, Going.IsIdle, Going.IsIdleAt, Going.HasAmpleRoom, Going.SenderGoes, Going.Stays, Going.TakerGoes}
 
 -- ---- ends of links, one step after the other
 
@@ -35,22 +27,11 @@ sender_on patience c d e f x y z h k = record {
 }
 
 pub taker_on : (w v : List McCopy) (x y z : InEnd) → TakerGoes w x y → TakerGoes v y z → TakerGoes (w ++ v) x z
-taker_on w v x y z h k = record {
-  link = k.link ∙ h.link;
-  first = k.first ∙ h.first;
-  took = k.took ∙ (ap (λ l. l ++ v) h.took ∙ append_assoc (taking x.rx).took w v);
-}
+taker_on w v x y z h k = grind (arith, append_assoc (taking x.rx).took w v)
 
 -- an end that is as it was
 pub sender_same : (x : OutEnd) → SenderGoes 0 [] [] x x
-sender_same x = record {
-  link = refl;
-  first = refl;
-  sent = sym (append-nil (sending x.tx).sent);
-  notes = [];
-  fulls = sym (append-nil (sending x.tx).fulls);
-  patient = omega arith;
-}
+sender_same x = grind (arith, append-nil (sending x.tx).sent, append-nil (sending x.tx).fulls)
 
 pub taker_same : (x : InEnd) → TakerGoes [] x x
 taker_same x = record { link = refl; first = refl; took = sym (append-nil (taking x.rx).took) }
@@ -73,9 +54,7 @@ end_idle_before : (x y : End) → EndStays x y → IsIdle y → IsIdle x
 end_idle_before Away y h idle = tt
 end_idle_before (Own a) y h idle = subst IsIdle h idle
 end_idle_before (Sends a) y h idle = tt
-end_idle_before (Takes a) y (b, is, h) idle =
-    let whole : StartsWith (taking b.rx).took (taking b.rx).first = subst IsIdle is idle in
-    (whole.0, ap (λ l. l ++ whole.0) (sym h.first) ∙ (whole.1 ∙ (h.took ∙ append-nil (taking a.rx).took)))
+end_idle_before (Takes a) y (b, is, h) idle = grind (arith, append-nil (taking a.rx).took)
 
 end_roomy_on : (cap : ℕ) (x y : End) → EndStays x y → EndHasRoom cap x → EndHasRoom cap y
 end_roomy_on cap Away y h room = subst (EndHasRoom cap) (sym h) tt
@@ -86,13 +65,7 @@ end_roomy_on cap (Takes a) y (b, is, h) room = subst (EndHasRoom cap) (sym is) t
 -- ---- all that is held
 
 pub stays_same : (a : Holdings) → Stays a a
-stays_same a = record {
-  ends_long = refl;
-  ends = λ q x y at also. subst (EndStays x) (same_Some x y (sym at ∙ also)) (end_stays_same x);
-  unsent = refl;
-  deliveries = refl;
-  dumps = refl;
-}
+stays_same a = grind (arith, same_Some, end_stays_same)
 
 -- the end that stands at a place before where one stands there after
 pub end_before : (a b : List End) (q : ℕ) (y : End) → length b ≡ length a → slice_get b q ≡ Some y → (x : End) × (slice_get a q ≡ Some x)

@@ -1,26 +1,14 @@
 -- A router's turn: looks at its ports until one gives a copy, which is routed.
-use Rattle.std.proofs.Common.{◌≡◌, ℕ, zero, suc, ◌+◌, ◌*◌, ◌%◌, ◌<◌, ◌≤◌, List, [], ◌∷◌, map, get_or, refl, sym, ap, subst, ◌∙◌, inl, inr, arith}
+use Rattle.std.proofs.Common.{◌≡◌, ℕ, zero, suc, ◌+◌, ◌%◌, ◌<◌, ◌≤◌, List, [], ◌∷◌, map, get_or, refl, ap, ◌∙◌, arith}
 use Rattle.std.proofs.lemmas.Bool.{cases_lt}
-use Rattle.spin_base.specs.declared.blocks.Entry.{Entry}
-use Rattle.spin_base.specs.declared.chips.Dir.TheVariants.{East, NorthEast, North, West, SouthWest, South}
-use Rattle.spin_base.specs.declared.chips.Port.{Port}
-use Rattle.spin_base.specs.declared.chips.Port.TheVariants.{Link, Local}
-use Rattle.spin_base.specs.declared.copies.McCopy.{McCopy}
-use Rattle.spin_base.specs.declared.routes.Out.{Out}
-use Rattle.spin_base.specs.Links.{dir_number, port_number}
+use Rattle.spin_base.specs.declared.{blocks.Entry.Entry, chips.Dir.TheVariants.East, chips.Dir.TheVariants.NorthEast, chips.Dir.TheVariants.North, chips.Dir.TheVariants.West}
+use Rattle.spin_base.specs.declared.{chips.Dir.TheVariants.SouthWest, chips.Dir.TheVariants.South, chips.Port.Port, chips.Port.TheVariants.Link, chips.Port.TheVariants.Local, copies.McCopy.McCopy}
+use Rattle.spin_base.specs.{declared.routes.Out.Out, Links.dir_number, Links.port_number}
 use Rattle.spin_base.proofs.Outputs.{dir_number_below}
-use Rattle.chip_node.specs.declared.holdings.Holdings.{Holdings}
-use Rattle.chip_node.specs.declared.nodes.RouterNode.{RouterNode}
-use Rattle.chip_node.specs.Acting.{RoutesOne, ServesOuts, service_items}
-use Rattle.chip_node.specs.Going.{Goes, IsIdleAt, Stays}
-use Rattle.chip_node.specs.Items.{Item, port_place, took}
-use Rattle.chip_node.specs.Routing.{outputs_at}
-use Rattle.chip_node.specs.declared.routers.Look.{Look}
-use Rattle.chip_node.specs.declared.routers.Look.TheVariants.{Empty, NoRoom, Took}
-use Rattle.chip_node.specs.Taking.{Looks}
-use Rattle.chip_node.proofs.Flows.{goes_on, stays_goes}
-use Rattle.chip_node.proofs.GoingRound.{GoneBy, IsPlaceOf, gone_all}
-use Rattle.chip_node.proofs.Stays.{idle_before, roomy_on, stays_on}
+use Rattle.chip_node.specs.{declared.holdings.Holdings.Holdings, declared.nodes.RouterNode.RouterNode, Acting.RoutesOne, Acting.ServesOuts, Acting.service_items, Going.Goes, Going.IsIdleAt}
+use Rattle.chip_node.specs.{Going.Stays, Items.Item, Items.port_place, Items.took, Routing.outputs_at, declared.routers.Look.Look, declared.routers.Look.TheVariants.Empty}
+use Rattle.chip_node.specs.{declared.routers.Look.TheVariants.NoRoom, declared.routers.Look.TheVariants.Took, Taking.Looks}
+use Rattle.chip_node.proofs.{Flows.goes_on, Flows.stays_goes, GoingRound.GoneBy, GoingRound.IsPlaceOf, GoingRound.gone_all, Stays.idle_before, Stays.roomy_on, Stays.stays_on}
 
 -- a copy was taken after looks that did nothing, and each of its outputs was served
 pub routes_one : (cap patience : ℕ) (entries : List Entry) (r : RouterNode) (port : Port) (k : McCopy) (outs : List Out) (a b c d : Holdings) → Stays a b
@@ -34,11 +22,7 @@ routes_one cap patience entries r port k outs a b c d stays takes given serves =
 
 -- the place of a turn's step among seven ports
 pub port_step : (number steps : ℕ) → steps < 7 → IsPlaceOf (number % 7) 7 steps ((number % 7 + steps) % 7)
-port_step number steps low =
-    elim (cases_lt (number % 7 + steps) 7) [
-      | inl before ↦ inl (omega arith)
-      | inr past ↦ inr (omega arith)
-    ]
+port_step number steps low = grind (arith, cases_lt (number % 7 + steps) 7)
 
 -- what holds at each place that was gone by holds at each port
 pub ports_gone : (P : ℕ → Type 0) (start steps : ℕ) → 7 ≤ steps → GoneBy P start 7 steps → (port : Port) → P (port_number port)
@@ -48,8 +32,7 @@ ports_gone P start steps end gone Local = gone_all P start 7 steps end gone 6 (o
 -- at the port of a number nothing is there to take, and was not before
 pub next_idle : (a b : Holdings) (i at : ℕ) (p : Port) → Stays a b → port_number p ≡ at → IsIdleAt b.ends.items (port_place i p) → (port : Port) → port_number port ≡ at →
     IsIdleAt a.ends.items (port_place i port)
-next_idle a b i at p stays number idle port same =
-    subst (λ n. IsIdleAt a.ends.items (7 * i + n)) (number ∙ sym same) (idle_before a b (port_place i p) stays idle)
+next_idle a b i at p stays number idle port same = grind (arith, idle_before a b (port_place i p) stays idle)
 
 -- ---- the ports in the order of their numbers
 
@@ -72,8 +55,7 @@ pub looks_on : (cap patience : ℕ) (entries : List Entry) (r : RouterNode) (por
 looks_on most patience entries r port a b (Took t) c s l = record {
   goes = stays_goes most patience a b c _ s l.goes;
   given = l.given;
-  numbered = l.numbered;
-  differ = l.differ;
+  outs = l.outs;
   room = l.room;
 }
 looks_on most patience entries r port a b Empty c s l = (stays_on a b c s l.0, idle_before a b _ s l.1)

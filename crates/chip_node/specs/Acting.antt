@@ -28,10 +28,9 @@ place_in (Some (Some b)) = Some b.place
 abbrev pub place_at_router : List (Option Behind) → Out → Option ℕ
 place_at_router behind o = place_in (slice_get behind (out_number o))
 
--- A router's turn may begin: it has an entry for each of 24 outputs, no two of which lead to one queue, or to a port of its own; it holds
--- the sending end of each queue behind one; and ends of links are ends of the links at their places.
+-- A router's turn may begin: no two of its outputs lead to one queue, and none to a port of its own; it holds the sending end of each
+-- queue behind one; and ends of links are ends of the links at their places.
 pub record IsReadyRouter (links : List Link) (r : RouterNode) (h : Holdings) : Type 0 where
-  pub outputs : length r.behind.now ≡ 24
   pub senders : (o : Out) (q : ℕ) → place_at_router r.behind.now o ≡ Some q → HoldsSender h.ends.items q
   pub differ : (o p : Out) (q : ℕ) → place_at_router r.behind.now o ≡ Some q → place_at_router r.behind.now p ≡ Some q → IsOutput o → IsOutput p → o ≡ p
   pub apart : (o : Out) (port : Port) → place_at_router r.behind.now o ≡ Some (port_place r.index port) → ⊥

@@ -13,6 +13,14 @@ use Rattle.chip_node.specs.declared.ends.Served.{Served}
 use Rattle.chip_node.specs.declared.ends.Served.TheVariants.{Sent, Dumped}
 use Rattle.chip_node.specs.Offers.{Sends as SendsOffer, RefusesOffers}
 use Rattle.spin_base.specs.WithRoom.{WithRoom}
+use Rattle.link_queue.specs.declared.links.Link.{Link}
+use Rattle.chip_node.specs.Going.{EndHasRoom, IsEndOf, IsSending}
+
+-- A copy may be offered by an end: it is a sending end, of the link at its place, and a lane has room for the copy or is full.
+pub record MayOffer (links : List Link) (cap : ℕ) (e : End) : Type 0 where
+  pub end : IsEndOf links e
+  pub sends : IsSending e
+  pub room : EndHasRoom cap e
 
 -- a copy entered the lane, which was not full; or an offer of the sending end was taken
 abbrev pub EndSends : ℕ → ℕ → McCopy → End → End → Type 0

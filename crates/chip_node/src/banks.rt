@@ -33,14 +33,14 @@ impl CoreBank {
             → IsIdleBank around.entry.capacity self.now hold.old }
         ensures ends { AreEndsOf around.entry.links.now hold.new.ends.items }
     {
-        let sent = self.send_marked(rt, around, hold, awake, number, all);
+        let sent = self.send(rt, around, hold, awake, number, all);
         let got = self.collect(rt, around, hold, number);
         both(sent, got)
     }
 
-    // Offers an unsent copy, where the chip is marked for it or all is looked at. Where there is none, the mark goes. Where one was sent,
-    // the chip's router is awake, and its local port marked.
-    fn send_marked<R: Wait>(
+    // Offers the first unsent copy of the first vertex that has one, where the chip is marked for it or all is looked at. Where there is
+    // none, the mark goes. Where one was sent, the chip's router is awake, and its local port marked.
+    fn send<R: Wait>(
         &self,
         rt: &R,
         around: Around,
@@ -59,41 +59,25 @@ impl CoreBank {
         if !all && awake.marks(self.index) >> UNSENT & 1 == 0 {
             return Turn::Nothing;
         }
-        let sent = self.send(rt, around, hold, number);
-        match sent {
-            Turn::Moved => awake.wake(Behind {
-                place: Port::COUNT * self.index + 6,
-                taker: 2 * self.index,
-            }),
-            Turn::Nothing => awake.unmark(self.index, UNSENT),
-            Turn::Waits => {}
-        }
-        sent
-    }
-
-    // Offers the first unsent copy of the first vertex that has one.
-    fn send<R: Wait>(&self, rt: &R, around: Around, hold: &mut Holdings, number: u32) -> Turn
-        requires { IsReadyBank around.links.now self.now hold.old }
-        ensures acts { HalfActs around.entry.capacity around.entry.patience (SendsOne self.now)
-            hold.old result hold.new }
-        ensures idle { result ≢ Moved → HasAmpleRoom around.entry.capacity hold.old
-            → CannotSend around.entry.capacity self.now hold.old }
-        ensures ready { IsReadyBank around.entry.links.now self.now hold.new }
-    {
         let Some((vertex, copy)) = self.waiting(hold, number) else {
+            awake.unmark(self.index, UNSENT);
             return Turn::Nothing;
         };
-        let place = (Port::COUNT * self.index + 6) as usize;
-        if !hold.ends[place].has_room(around.capacity) {
+        let place = Port::COUNT * self.index + 6;
+        if !hold.ends[place as usize].has_room(around.capacity) {
             return Turn::Waits;
         }
         let bounds = Bounds {
             capacity: around.capacity,
             patience: 1,
         };
-        match hold.ends[place].send(rt, around.links, copy, bounds) {
+        match hold.ends[place as usize].send(rt, around.links, copy, bounds) {
             Served::Sent => {
                 let _ = hold.unsent[vertex].pop();
+                awake.wake(Behind {
+                    place,
+                    taker: 2 * self.index,
+                });
                 Turn::Moved
             }
             Served::Dumped => Turn::Waits,

@@ -1,11 +1,10 @@
 // The ends of queues that routers and banks hold: a lane, or an end of a link with the place of that link.
-ghost use Rattle.std.specs.Prelude.{◌≡◌, [], IsFalse, IsTrue, IfSome, IfNone, MatchOption};
-ghost use Rattle.link_queue.specs.Ends.{sending, taking};
-ghost use Rattle.link_queue.specs.Moves.{MatchOffered, TakesOffer, TakesCopy, FindsNothing};
-ghost use Rattle.chip_node.specs.Ends.{IsInEndOf, IsOutEndOf};
-ghost use Rattle.chip_node.specs.Offers.{RefusesOffers, IsServedAs};
-ghost use Rattle.chip_node.specs.Going.{EndHasRoom, EndStays, IsEndOf, IsSending, TakerGoes};
-ghost use Rattle.chip_node.specs.Passing.{EndLacks, EndServes, EndTakes, IsSeen};
+ghost use Rattle.std.specs.Prelude.{◌≡◌, IsFalse, IsTrue, IfSome, IfNone};
+ghost use Rattle.link_queue.specs.Ends.{sending};
+ghost use Rattle.chip_node.specs.Ends.{IsOutEndOf};
+ghost use Rattle.chip_node.specs.Offers.{IsServedAs};
+ghost use Rattle.chip_node.specs.Going.{EndHasRoom, EndStays, IsEndOf};
+ghost use Rattle.chip_node.specs.Passing.{EndLacks, EndServes, EndTakes, IsSeen, MayOffer};
 
 use crate::lanes::Lane;
 use link_queue::{Link, Offered, Rx, Tx, finds_nothing, offer, take};
@@ -50,47 +49,7 @@ pub enum Served {
     Dumped,
 }
 
-impl InEnd {
-    // Takes the copy at the front of the end's link.
-    pub(crate) fn take<R: Wait>(&mut self, rt: &R, links: &[Link]) -> Option<McCopy>
-        requires { IsInEndOf links.now self.old }
-        ensures answer { MatchOption result (FindsNothing (taking self.old.rx) (taking self.new.rx))
-            (λ k. TakesCopy (taking self.old.rx) k (taking self.new.rx)) }
-        ensures link { self.new.link ≡ self.old.link }
-        ensures end { IsInEndOf links.now self.new }
-    {
-        take(rt, &links[self.link as usize], &mut self.rx)
-    }
-}
-
-impl InEnd {
-    // `true` comes only where, since this end last took a copy, its link was found empty, and leaves it one note more. `false` promises
-    // nothing of the link.
-    pub(crate) fn finds_nothing(&mut self, links: &[Link]) -> bool
-        requires { IsInEndOf links.now self.old }
-        ensures yes { IsTrue result → FindsNothing (taking self.old.rx) (taking self.new.rx) }
-        ensures no { IsFalse result → TakerGoes [] self.old self.new }
-        ensures link { self.new.link ≡ self.old.link }
-        ensures end { IsInEndOf links.now self.new }
-    {
-        finds_nothing(&links[self.link as usize], &mut self.rx)
-    }
-}
-
 impl OutEnd {
-    // Offers a copy to the end's link once.
-    pub(crate) fn offer<R: Wait>(&mut self, rt: &R, links: &[Link], copy: McCopy) -> Offered
-        requires { IsOutEndOf links.now self.old }
-        ensures answer { MatchOffered result
-            (TakesOffer (sending self.old.tx) copy (sending self.new.tx))
-            (λ back. (back ≡ copy) × RefusesOffers 1 (sending self.old.tx) (sending self.new.tx)) }
-        ensures link { self.new.link ≡ self.old.link }
-        ensures end { IsOutEndOf links.now self.new }
-        ensures cap { (sending self.new.tx).cap ≡ (sending self.old.tx).cap }
-    {
-        offer(rt, &links[self.link as usize], &mut self.tx, copy)
-    }
-
     // Offers a copy to the end's link up to `patience` times, until one offer is taken.
     pub(crate) fn send<R: Wait>(
         &mut self,
@@ -106,7 +65,7 @@ impl OutEnd {
         ensures end { IsOutEndOf links.now self.new }
     {
         for _ in 0..patience {
-            match self.offer(rt, links, copy) {
+            match offer(rt, &links[self.link as usize], &mut self.tx, copy) {
                 Offered::Taken => return Served::Sent,
                 Offered::Full(_) => {}
             }
@@ -151,7 +110,7 @@ impl End {
     {
         match self {
             End::Own(lane) => lane.pop(),
-            End::Takes(end) => end.take(rt, links),
+            End::Takes(end) => take(rt, &links[end.link as usize], &mut end.rx),
             End::Away => None,
             End::Sends(_) => None,
         }
@@ -166,7 +125,7 @@ impl End {
         ensures end { IsEndOf links.now self.new }
     {
         match self {
-            End::Takes(end) => end.finds_nothing(links),
+            End::Takes(end) => finds_nothing(&links[end.link as usize], &mut end.rx),
             End::Own(_) => false,
             End::Away => false,
             End::Sends(_) => false,
@@ -181,9 +140,7 @@ impl End {
         copy: McCopy,
         bounds: Bounds,
     ) -> Served
-        requires end { IsEndOf links.now self.old }
-        requires sends { IsSending self.old }
-        requires room { EndHasRoom bounds.capacity self.old }
+        requires { MayOffer links.now bounds.capacity self.old }
         ensures served { EndServes bounds.capacity bounds.patience copy result self.old self.new }
         ensures end { IsEndOf links.now self.new }
     {

@@ -1,5 +1,5 @@
 // The router and the bank of a chip, and what they stand between.
-ghost use Rattle.std.specs.Prelude.{◌<◌};
+ghost use Rattle.std.specs.Prelude.{◌≡◌, ◌<◌, length};
 
 use spin_base::{Chip, Shared};
 use tcam_find::Tcam;
@@ -20,6 +20,7 @@ pub struct RouterNode<'a> {
     pub table: &'a Tcam,
     pub behind: &'a [Option<Behind>],
     ghost within: { index < 4096 },
+    ghost outputs: { length behind.now ≡ 24 },
 }
 
 /// The vertices of a live chip: on its cores, and devices on its links. The queue of vertex `v` has the place `cores + v`, and the

@@ -25,9 +25,9 @@ impl Ring {
 
     /// The place that is so many steps behind the start.
     pub fn place_after(self, step: usize) -> usize
-        requires { step < self.count }
-        ensures inside { result < self.count }
-        ensures place { (result ≡ self.start + step) ⊎ (result + self.count ≡ self.start + step) }
+        ensures inside { step < self.count → result < self.count }
+        ensures place { step < self.count
+            → (result ≡ self.start + step) ⊎ (result + self.count ≡ self.start + step) }
     {
         if step < self.count - self.start {
             self.start + step

@@ -1,11 +1,11 @@
 // A chip's router between queues.
-ghost use Rattle.std.specs.Prelude.{◌≡◌, ◌≢◌, ◌≤◌, ◌<◌, ◌+◌, [], ◌∷◌, ℕ, None, Some, length, slice_get, All, AllPairs, IsTrue};
+ghost use Rattle.std.specs.Prelude.{◌≡◌, ◌≢◌, ◌≤◌, ◌<◌, ◌+◌, [], ◌∷◌, ℕ, None, Some, length, slice_get, All, IsTrue};
 ghost use Rattle.spin_base.specs.Outputs.{IsOutput, all_outs};
 ghost use Rattle.chip_node.specs.Acting.{IsIdleRouter, IsReadyRouter, RouterActs, ServesOuts, place_at_router, service_items};
 ghost use Rattle.chip_node.specs.Going.{AreEndsOf, Goes, HasAmpleRoom};
 ghost use Rattle.chip_node.specs.Items.{port_place};
 ghost use Rattle.chip_node.specs.Passing.{SendsBehind};
-ghost use Rattle.chip_node.specs.Taking.{HasRoomBehind, HasRoomForOuts, HasRoomIn, Looks};
+ghost use Rattle.chip_node.specs.Taking.{AreOuts, MayServe, HasRoomBehind, HasRoomForOuts, HasRoomIn, Looks};
 ghost use Rattle.chip_node.specs.declared.ends.Served.TheVariants.{Dumped};
 ghost use Rattle.chip_node.specs.declared.holdings.Turn.TheVariants.{Moved};
 
@@ -112,23 +112,14 @@ impl RouterNode<'_> {
                     None => Look::Empty,
                 }
             }
-            Seen::Unknown => self.look_over(rt, around, hold, port),
+            Seen::Unknown => {
+                // Room is asked for only where the link wasn't found empty.
+                if hold.ends[place].finds_nothing(around.links) {
+                    return Look::Empty;
+                }
+                self.take_over(rt, around, hold, port)
+            }
         }
-    }
-
-    // Looks at the link of a port: room is asked for only where the link wasn't found empty.
-    fn look_over<R: Wait>(self, rt: &R, around: Around, hold: &mut Holdings, port: Port) -> Look
-        requires ready { IsReadyRouter around.links.now self hold.old }
-        requires place { port_place self.index port < length hold.old.ends.items }
-        ensures looks { Looks around.entry.capacity around.entry.patience self.entry.table.now
-            self.entry port hold.old result hold.new }
-        ensures ready { IsReadyRouter around.entry.links.now self.entry hold.new }
-    {
-        let place = (Port::COUNT * self.index) as usize + usize::from(port.number());
-        if hold.ends[place].finds_nothing(around.links) {
-            return Look::Empty;
-        }
-        self.take_over(rt, around, hold, port)
     }
 
     // Takes the first copy of the link of a port, where there is room at each output.
@@ -154,7 +145,6 @@ impl RouterNode<'_> {
 
     // Whether there is room for a copy at each output, and for as many records.
     fn has_room_everywhere(self, around: Around, hold: &Holdings) -> bool
-        requires { length self.behind.now ≡ 24 }
         ensures yes { IsTrue result
             → HasRoomForOuts around.entry.capacity self.entry all_outs hold.now }
         ensures no { HasAmpleRoom around.entry.capacity hold.now → IsTrue result }
@@ -172,12 +162,11 @@ impl RouterNode<'_> {
 
     // Whether there is room for a copy at each of these outputs, and for as many records.
     fn has_room(self, around: Around, hold: &Holdings, outs: &[Out]) -> bool
-        requires outputs { length self.behind.now ≡ 24 }
-        requires numbered { All IsOutput outs.now }
-        requires few { length outs.now ≤ 24 }
+        requires { All IsOutput outs.now }
         ensures yes { IsTrue result
             → HasRoomForOuts around.entry.capacity self.entry outs.entry.now hold.now }
-        ensures no { HasAmpleRoom around.entry.capacity hold.now → IsTrue result }
+        ensures no { length outs.entry.now ≤ 24 → HasAmpleRoom around.entry.capacity hold.now
+            → IsTrue result }
     {
         if hold.dumps.spare() < outs.len() {
             return false;
@@ -192,8 +181,7 @@ impl RouterNode<'_> {
 
     // Whether the queue behind an output takes a copy without more room, or takes none.
     fn has_room_at(self, around: Around, hold: &Holdings, out: Out) -> bool
-        requires outputs { length self.behind.now ≡ 24 }
-        requires numbered { IsOutput out }
+        requires { IsOutput out }
         ensures yes { IsTrue result → HasRoomBehind around.entry.capacity self.entry hold.now out }
         ensures no { HasAmpleRoom around.entry.capacity hold.now → IsTrue result }
     {
@@ -211,8 +199,7 @@ impl RouterNode<'_> {
         copy: McCopy,
     )
         requires ready { IsReadyRouter around.links.now self hold.old }
-        requires numbered { All IsOutput outs.now }
-        requires differ { AllPairs (λ a b. a ≢ b) outs.now }
+        requires outs { AreOuts outs.now }
         requires room { HasRoomForOuts around.capacity self outs.now hold.old }
         ensures serves { ServesOuts around.entry.capacity around.entry.patience self.entry
             outs.entry.now copy hold.old hold.new }
@@ -235,10 +222,7 @@ impl RouterNode<'_> {
         out: Out,
         copy: McCopy,
     ) -> Served
-        requires ready { IsReadyRouter around.links.now self hold.old }
-        requires numbered { IsOutput out }
-        requires room { HasRoomBehind around.capacity self hold.old out }
-        requires spare { 1 ≤ hold.old.dumps.spare }
+        requires { MayServe around.links.now around.capacity self hold.old out }
         ensures goes { Goes around.entry.capacity around.entry.patience hold.old
             (service_items self.entry (record { out = out; copy = copy; fate = result } ∷ []))
             hold.new }
@@ -270,9 +254,7 @@ impl RouterNode<'_> {
         out: Out,
         copy: McCopy,
     ) -> Served
-        requires ready { IsReadyRouter around.links.now self hold.old }
-        requires numbered { IsOutput out }
-        requires room { HasRoomBehind around.capacity self hold.old out }
+        requires { MayServe around.links.now around.capacity self hold.old out }
         ensures sends { SendsBehind around.entry.capacity around.entry.patience
             (place_at_router self.entry.behind.now out) copy result hold.old.ends.items
             hold.new.ends.items }

@@ -1,7 +1,7 @@
 // Where a router sends a copy.
-ghost use Rattle.std.specs.Prelude.{◌≡◌, ◌≢◌, ◌≤◌, All, AllPairs, length};
-ghost use Rattle.spin_base.specs.Outputs.{IsOutput};
+ghost use Rattle.std.specs.Prelude.{◌≡◌, ◌≤◌, length};
 ghost use Rattle.chip_node.specs.Routing.{outputs_at};
+ghost use Rattle.chip_node.specs.Taking.{AreOuts};
 
 use spin_base::{McCopy, Outs, Port};
 use tcam_find::Tcam;
@@ -9,8 +9,7 @@ use tcam_find::Tcam;
 /// The outputs that a table gives a copy that came in at this port: none where it has the greatest hop number.
 pub fn outputs_of(table: &Tcam, port: Port, copy: McCopy) -> Outs
     ensures given { result.items ≡ outputs_at table.now port copy }
-    ensures numbered { All IsOutput result.items }
-    ensures differ { AllPairs (λ a b. a ≢ b) result.items }
+    ensures outs { AreOuts result.items }
     ensures few { length result.items ≤ 24 }
 {
     if copy.hop == u32::MAX {

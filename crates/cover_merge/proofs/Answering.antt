@@ -38,9 +38,7 @@ module _ (rows : List Row) (places : List ℕ) (s r : ℕ) (first later : Row) (
   clear_from missed d outside = pair_read rows (λ (x y : Row). Misses x.block y) r s later first in_r in_s is_later is_first missed d
 
   pub missed_from : IsClearOf rows places s r → has_row places r ≡ false → Misses later.block first
-  missed_from clear outside =
-      let a : get_or rows r first ≡ later = get_or_default rows r first later in_r ∙ sym is_later in
-      subst (λ (x : Row). Misses later.block x) (sym is_first) (subst (λ (x : Row). Misses x.block (get_or rows s first)) a (clear first outside))
+  missed_from clear outside = grind (arith, get_or_default rows r first later in_r, get_or rows s first)
 
   pub answer_of : (found missed : Bool) → found ≡ has_row places r → (IsTrue missed) ↔ (Misses later.block first) → missed ≡ false → (IsTrue found) ↔ (IsClearOf rows places s r)
   answer_of true missed is tells came = (λ t d outside. absurd (true≢false (is ∙ outside)), λ clear. refl)

@@ -1,19 +1,11 @@
 -- Taking rows out, and the table after a merge.
-use Rattle.std.proofs.Common.{◌≡◌, ℕ, zero, suc, ◌+◌, ◌<◌, ◌≤◌, ◌==◌, ◌||◌, ◌≢◌, Bool, true, false, cond, List, [], ◌∷◌, ◌++◌, length, get_or, take, drop, inl, inr, ◌⊎◌, refl, sym, ap, ◌∙◌, subst, Option, length-take, arith}
-use Rattle.std.specs.Prelude.{All, not, insert, remove, map}
-use Rattle.std.specs.Prelude.{Result, Ok, Err, OnOk}
-use Rattle.std.specs.List.{flat_map, cons_option}
-use Rattle.std.proofs.lemmas.Bool.{eq-eqb, ne_eqb, or_from}
-use Rattle.std.proofs.lemmas.Bool.Decides.{eqb_tells}
-use Rattle.std.proofs.lemmas.List.Elements.{All-head, All-tail, All-weaker}
-use Rattle.std.proofs.lemmas.Grind.{flat_map-append}
-use Rattle.std.proofs.lemmas.List.{append-nil, take_more, get_or_default}
-use Rattle.std.proofs.lemmas.Option.{slice_get-get_or}
+use Rattle.std.proofs.Common.{◌≡◌, ℕ, zero, suc, ◌+◌, ◌<◌, ◌≤◌, ◌==◌, ◌||◌, ◌≢◌, Bool, true, false, cond, List, [], ◌∷◌, ◌++◌, length, get_or, take, drop, inl, inr, ◌⊎◌, refl, sym, ap, ◌∙◌, subst}
+use Rattle.std.proofs.Common.{Option, length-take, arith}
+use Rattle.std.specs.{Prelude.All, Prelude.not, Prelude.insert, Prelude.remove, Prelude.map, Prelude.Result, Prelude.Ok, Prelude.Err, Prelude.OnOk, List.flat_map, List.cons_option}
+use Rattle.std.proofs.lemmas.{Bool.eq-eqb, Bool.ne_eqb, Bool.or_from, Bool.Decides.eqb_tells, List.Elements.All-head, List.Elements.All-tail, List.Elements.All-weaker, Grind.flat_map-append}
+use Rattle.std.proofs.lemmas.{List.append-nil, List.take_more, List.get_or_default, Option.slice_get-get_or}
 use Rattle.spin_base.specs.declared.blocks.Block.{Block}
-use Rattle.tern_word.specs.declared.tables.Alias.{Alias}
-use Rattle.tern_word.specs.declared.tables.Row.{Row}
-use Rattle.tern_word.specs.SoundTable.{IsOrdered}
-use Rattle.tern_word.specs.Ternary.{generality, merge_of}
+use Rattle.tern_word.specs.{declared.tables.Alias.Alias, declared.tables.Row.Row, SoundTable.IsOrdered, Ternary.generality, Ternary.merge_of}
 use Rattle.cover_merge.specs.Merge.{has_row, rows_at, picked, kept, merge_rows, merged_row, merged_block, place_for, insert_place, after, IsMergeSet, aliases_at}
 use Rattle.cover_merge.proofs.Positions.{rows_at-push, member_before, has-at, place_for-le}
 
@@ -69,9 +61,7 @@ module _ (s : ℕ) (rest : List ℕ) (above : All (λ t. s < t) rest) where
   pub kept_longer : {X : Type 0} (j m : ℕ) (xs : List X) → s ≡ j + m → m < length xs → m < length (left rest j xs)
   kept_longer j m [] at within = absurd (omega arith)
   kept_longer j zero (x ∷ xs) at within = rw (kept_in rest j x xs (first_kept j (omega arith))) (omega arith)
-  kept_longer j (suc m) (x ∷ xs) at within =
-      let tail : m < length (left rest (suc j) xs) = kept_longer (suc j) m xs (omega arith) (omega arith) in
-      rw (kept_in rest j x xs (first_kept j (omega arith))) (omega arith)
+  kept_longer j (suc m) (x ∷ xs) at within = grind (arith, kept_longer (suc j) m xs (omega arith) (omega arith), kept_in rest j x xs (first_kept j (omega arith)), first_kept j (omega arith))
 
   pub kept_remove : {X : Type 0} (j m : ℕ) (xs : List X) → s ≡ j + m → m < length xs → remove (left rest j xs) m ≡ left (s ∷ rest) j xs
   kept_remove j m [] at within = absurd (omega arith)
@@ -156,17 +146,7 @@ pub row_made : (rows : List Row) (places : List ℕ) (d : Row) (b : Block) (a : 
     → b ≡ merged_block rows places → a ≡ aliases_at rows places
     → ◌≡◌ {A = Row} (record { block = b; route = (get_or rows (get_or places 0 0) d).route; aliases = a }) (merged_row rows places)
 row_made rows [] d b a in_range some block aliases = absurd (omega arith)
-row_made rows (s ∷ places) d b a in_range some block aliases =
-    let row = get_or rows s d in
-    let here = slice_get-get_or rows s d (in_range 0 s (omega arith)) in
-    ap (λ (x : Block). let r : Row = record { block = x; route = row.route; aliases = a } in r) block
-    ∙ ap (λ (l : List Alias). let r : Row = record { block = merged_block rows (s ∷ places); route = row.route; aliases = l } in r) aliases
-    ∙ ap (λ (o : Option Row). let r : Row = record {
-      block = merge_of (map (λ (x : Row). x.block) (cons_option o (rows_at rows places)));
-      route = row.route;
-      aliases = flat_map (λ (x : Row). x.aliases) (cons_option o (rows_at rows places));
-    } in r) here
-    ∙ sym (ap (λ (o : Option Row). merge_rows (cons_option o (rows_at rows places))) here)
+row_made rows (s ∷ places) d b a in_range some block aliases = grind (arith, get_or rows s d, slice_get-get_or rows s d (in_range 0 s (omega arith)))
 
 -- an outcome that says P of `Ok` says what follows from P
 pub on_ok : {T E : Type 0} (r : Result T E) (P Q : Type 0) → (P → Q) → OnOk r P → OnOk r Q

@@ -1,14 +1,11 @@
 -- Counting, for each bit, the places that it keeps: one pass over the places, with a counter a bit.
-use Rattle.std.proofs.Common.{◌≡◌, ◌≢◌, ◌⊎◌, ℕ, zero, suc, ◌+◌, ◌-◌, ◌*◌, ◌^◌, ◌%◌, ◌<◌, ◌≤◌, ◌==◌, ◌&&◌, Bool, true, false, cond, List, length, get_or, set, take, refl, sym, ap, subst, ◌∙◌, inl, inr, ◌++◌, ◌∷◌, [], length-append, length-take, arith}
-use Rattle.std.specs.Prelude.{MatchOption, Option, None, Some, bit_and, bit_xor, min, filter, not}
-use Rattle.std.specs.Int.{bit_at, bit_not, trailing_zeros, w32}
-use Rattle.std.proofs.lemmas.Bool.{cases_eq}
-use Rattle.std.proofs.lemmas.Grind.{get_or-set_at}
-use Rattle.std.proofs.lemmas.List.{get_or-set_other, take_all, take_more}
-use Rattle.std.proofs.lemmas.List.Elements.{filter-append}
-use Rattle.std.proofs.lemmas.List.Sums.{count_by-le-length, length-filter}
-use Rattle.std.proofs.lemmas.Nat.{and_le_l}
-use Rattle.std.proofs.lemmas.Nat.Bits.{bit_at-lt, bit_at_and, bit_at_not, bit_at_xor, bit_at-zero, bit_at-trailing_zeros, bit_at_clear_same, bit_at_clear_other}
+use Rattle.std.proofs.Common.{◌≡◌, ◌≢◌, ◌⊎◌, ℕ, zero, suc, ◌+◌, ◌-◌, ◌*◌, ◌^◌, ◌%◌, ◌<◌, ◌≤◌, ◌==◌, ◌&&◌, Bool, true, false, cond, List, length, get_or, set, take, refl, sym, ap, subst, ◌∙◌, inl, inr}
+use Rattle.std.proofs.Common.{◌++◌, ◌∷◌, [], length-append, length-take, arith}
+use Rattle.std.specs.{Prelude.MatchOption, Prelude.Option, Prelude.None, Prelude.Some, Prelude.bit_and, Prelude.bit_xor, Prelude.min, Prelude.filter, Prelude.not, Int.bit_at, Int.bit_not}
+use Rattle.std.specs.Int.{trailing_zeros, w32}
+use Rattle.std.proofs.lemmas.{Bool.cases_eq, Grind.get_or-set_at, List.get_or-set_other, List.take_all, List.take_more, List.Elements.filter-append, List.Sums.count_by-le-length}
+use Rattle.std.proofs.lemmas.{List.Sums.length-filter, Nat.and_le_l, Nat.Bits.bit_at-lt, Nat.Bits.bit_at_and, Nat.Bits.bit_at_not, Nat.Bits.bit_at_xor, Nat.Bits.bit_at-zero}
+use Rattle.std.proofs.lemmas.Nat.Bits.{bit_at-trailing_zeros, bit_at_clear_same, bit_at_clear_other}
 use Rattle.spin_base.specs.declared.blocks.Block.{Block}
 use Rattle.tern_word.specs.declared.tables.Row.{Row}
 use Rattle.cover_merge.specs.Refinement.{can_choose, parts, keeps, kept_by, kept_count, IsBestBit}
@@ -152,15 +149,7 @@ module _ (rows : List Row) (places : List ℕ) (merged met : Block) (k : ℕ) (w
 
   pub kept_more : (free word s : ℕ) → s ≡ get_or places k 0 → ((j : ℕ) → j < 32 → bit_at free j ≡ cond (can_choose merged met j) 1 0) → ((j : ℕ) → j < 32 → bit_at word j ≡ cond (keeps rows met j s) (bit_at free j) 0)
       → (new : List ℕ) → ((j : ℕ) → j < 32 → get_or new j 0 ≡ get_or counts j 0 + bit_at word j) → AreKeptCounts new rows (take (k + 1) places) merged met
-  kept_more free word s read free_is word_is new new_is j low =
-      let can = can_choose merged met j in
-      let p = keeps rows met j in
-      new_is j low
-      ∙ ap (λ n. n + bit_at word j) (so_far j low)
-      ∙ ap (λ n. kept_count rows (take k places) merged met j + n) (word_is j low ∙ ap (λ n. cond (p s) n 0) (free_is j low))
-      ∙ more p can (take k places) s
-      ∙ ap (λ x. kept_count rows (take k places ++ x ∷ []) merged met j) read
-      ∙ ap (λ l. kept_count rows l merged met j) (sym (take_more places k 0 within))
+  kept_more free word s read free_is word_is new new_is j low = grind (arith, low, more (keeps rows met j) (can_choose merged met j) (take k places) s, take_more places k 0 within)
 
 -- the place of the greatest count is the best bit
 pub best_of : (rows : List Row) (places : List ℕ) (merged met : Block) (counts : List ℕ) (n : ℕ) → length places ≤ n → AreKeptCounts counts rows (take n places) merged met → (found : Option ℕ)

@@ -1,18 +1,14 @@
 -- The places of a route, and pairs.
-use Rattle.std.proofs.Common.{◌≡◌, ◌≢◌, ℕ, zero, suc, ◌+◌, ◌-◌, ◌<◌, ◌≤◌, ◌==◌, Bool, true, false, cond, List, [], ◌∷◌, ◌++◌, length, get_or, take, inl, inr, ◌⊎◌, refl, sym, ap, ◌∙◌, subst, length-take, append-nil, arith}
+use Rattle.std.proofs.Common.{◌≡◌, ◌≢◌, ℕ, zero, suc, ◌+◌, ◌-◌, ◌<◌, ◌≤◌, ◌==◌, Bool, true, false, cond, List, [], ◌∷◌, ◌++◌, length, get_or, take, inl, inr, ◌⊎◌, refl, sym, ap, ◌∙◌, subst}
+use Rattle.std.proofs.Common.{length-take, append-nil, arith}
 use Rattle.std.specs.Prelude.{All, AllPairs}
-use Rattle.std.proofs.lemmas.Bool.{cases_lt, eqb-true, eq-eqb}
-use Rattle.std.proofs.lemmas.Bool.Decides.{eqb_tells}
-use Rattle.std.proofs.lemmas.List.{take_more, take_all, get_or_default}
-use Rattle.std.proofs.lemmas.List.Elements.{All-nil, All-cons}
+use Rattle.std.proofs.lemmas.{Bool.cases_lt, Bool.eqb-true, Bool.eq-eqb, Bool.Decides.eqb_tells, List.take_more, List.take_all, List.get_or_default, List.Elements.All-nil, List.Elements.All-cons}
 use Rattle.std.proofs.lemmas.List.Kept.{AllPairs-cons}
 use Rattle.tern_word.specs.declared.tables.Row.{Row}
-use Rattle.cover_merge.specs.Merge.{IsOneRoute, IsMergeSet, merge_rows}
-use Rattle.cover_merge.proofs.Positions.{pair_set}
+use Rattle.cover_merge.specs.{Merge.IsOneRoute, Merge.IsMergeSet, Merge.merge_rows, Links.AreNexts, Links.IsNextOfRoute, Links.IsFirstOfRoute, Covering.places_of, Covering.IsLegalPair}
+use Rattle.cover_merge.specs.Covering.{IsFirstPartner, HasNoLegalPair, IsFirstLegalPair}
+use Rattle.cover_merge.proofs.{Positions.pair_set, Lists.AllPairs-nil}
 use Rattle.spin_base.proofs.RouteBits.{same_route}
-use Rattle.cover_merge.proofs.Lists.{AllPairs-nil}
-use Rattle.cover_merge.specs.Links.{AreNexts, IsNextOfRoute, IsFirstOfRoute}
-use Rattle.cover_merge.specs.Covering.{places_of, IsLegalPair, IsFirstPartner, HasNoLegalPair, IsFirstLegalPair}
 
 -- ---- the places of a route
 
@@ -27,15 +23,10 @@ places_of-append bits i (x ∷ xs) ys =
     by_test false us vs = refl
 
 places_of-next : (bits k : ℕ) (rows : List Row) (d : Row) → k < length rows → places_of bits 0 (take (k + 1) rows) ≡ places_of bits 0 (take k rows) ++ cond ((get_or rows k d).route.bits == bits) (k ∷ []) []
-places_of-next bits k rows d within =
-    let here : 0 + length (take k rows) ≡ k = omega (arith, length-take k rows) in
-    ap (places_of bits 0) (take_more rows k d within)
-    ∙ places_of-append bits 0 (take k rows) (get_or rows k d ∷ [])
-    ∙ ap (λ j. places_of bits 0 (take k rows) ++ cond ((get_or rows k d).route.bits == bits) (j ∷ []) []) here
+places_of-next bits k rows d within = grind (arith, length-take k rows, take_more rows k d within, places_of-append bits 0 (take k rows) (get_or rows k d ∷ []), get_or rows k d)
 
 pub places_of-here : (bits k : ℕ) (rows : List Row) (d : Row) → k < length rows → (get_or rows k d).route.bits ≡ bits → places_of bits 0 (take (k + 1) rows) ≡ places_of bits 0 (take k rows) ++ k ∷ []
-places_of-here bits k rows d within same =
-    places_of-next bits k rows d within ∙ ap (λ b. places_of bits 0 (take k rows) ++ cond b (k ∷ []) []) (eq-eqb (get_or rows k d).route.bits bits same)
+places_of-here bits k rows d within same = grind (arith, places_of-next bits k rows d within, eq-eqb (get_or rows k d).route.bits bits same, get_or rows k d)
 
 pub places_of-not : (bits k : ℕ) (rows : List Row) (d : Row) → k < length rows → (get_or rows k d).route.bits ≢ bits → places_of bits 0 (take (k + 1) rows) ≡ places_of bits 0 (take k rows)
 places_of-not bits k rows d within differ =
@@ -54,13 +45,7 @@ record IsPlaceOf (bits i : ℕ) (rows : List Row) (s : ℕ) : Type 0 where
   route : (d : Row) → (get_or rows (s - i) d).route.bits ≡ bits
 
 later_place : (bits i : ℕ) (r : Row) (rows : List Row) (s : ℕ) → IsPlaceOf bits (suc i) rows s → IsPlaceOf bits i (r ∷ rows) s
-later_place bits i r rows s place =
-    let step : s - i ≡ suc (s - suc i) = omega (arith, place.from) in
-    record {
-      from = omega (arith, place.from);
-      below = omega (arith, place.below);
-      route = λ d. subst (λ n. (get_or (r ∷ rows) n d).route.bits ≡ bits) (sym step) (place.route d);
-    }
+later_place bits i r rows s place = grind (arith, get_or)
 
 places_are : (bits i : ℕ) (rows : List Row) → All (IsPlaceOf bits i rows) (places_of bits i rows)
 places_are bits i [] = All-nil (IsPlaceOf bits i [])
@@ -86,18 +71,11 @@ places_ascend bits i (r ∷ rows) = by_test (r.route.bits == bits) (places_ascen
     by_test false rest are = rest
 
 has_bits : (bits : ℕ) (rows : List Row) (k d : ℕ) → k < length (places_of bits 0 rows) → (e : Row) → (get_or rows (get_or (places_of bits 0 rows) k d) e).route.bits ≡ bits
-has_bits bits rows k d within e =
-    let place = places_are bits 0 rows k d within in
-    let whole : get_or (places_of bits 0 rows) k d - 0 ≡ get_or (places_of bits 0 rows) k d = omega arith in
-    subst (λ n. (get_or rows n e).route.bits ≡ bits) whole (place.route e)
+has_bits bits rows k d within e = grind (arith, places_are bits 0 rows k d within, get_or)
 
 -- they are places of one route
 pub places_of-one_route : (bits : ℕ) (rows : List Row) → IsOneRoute rows (places_of bits 0 rows)
-places_of-one_route bits rows = record {
-  ascending = places_ascend bits 0 rows;
-  in_range = λ k d within. let place = places_are bits 0 rows k d within in omega (arith, place.below);
-  one_route = λ a b d less within e. same_route (get_or rows (get_or (places_of bits 0 rows) a d) e).route (get_or rows (get_or (places_of bits 0 rows) b d) e).route (has_bits bits rows a d (omega arith) e ∙ sym (has_bits bits rows b d within e));
-}
+places_of-one_route bits rows = grind (arith, places_ascend bits 0 rows, places_are, same_route, get_or, has_bits)
 
 -- a route stands in the table, or has no places
 pub route_cases : (bits i : ℕ) (rows : List Row) → ((j : ℕ) × (j < length rows) × ((d : Row) → (get_or rows j d).route.bits ≡ bits)) ⊎ (places_of bits i rows ≡ [])

@@ -1,29 +1,18 @@
 -- What a chosen merge keeps: soundness and the served blocks; and that each merge makes the table shorter.
-use Rattle.std.proofs.Common.{◌≡◌, ℕ, zero, suc, ◌+◌, ◌^◌, ◌<◌, ◌≤◌, List, [], ◌∷◌, ◌++◌, length, get_or, take, drop, inl, inr, ◌⊎◌, refl, sym, ap, ◌∙◌, subst, append_assoc, append-nil, take-append-drop, length-append, length-take, arith}
-use Rattle.std.specs.Prelude.{All, AllPairs, map, not}
-use Rattle.std.specs.List.{Contains, flat_map, cons_option}
-use Rattle.std.specs.List.Sorted.{IsPermutation}
-use Rattle.std.proofs.Math.Seq.{drop-cons}
-use Rattle.std.proofs.lemmas.Grind.{flat_map-append}
-use Rattle.std.proofs.lemmas.List.{map-append, get_or_default}
-use Rattle.std.proofs.lemmas.Option.{slice_get-get_or}
-use Rattle.std.proofs.lemmas.List.Elements.{All-nil, All-cons, All-head, All-tail, All-append, All-take, All-drop, All-contains_itself}
+use Rattle.std.proofs.Common.{◌≡◌, ℕ, zero, suc, ◌+◌, ◌^◌, ◌<◌, ◌≤◌, List, [], ◌∷◌, ◌++◌, length, get_or, take, drop, inl, inr, ◌⊎◌, refl, sym, ap, ◌∙◌, subst, append_assoc, append-nil}
+use Rattle.std.proofs.Common.{take-append-drop, length-append, length-take, arith}
+use Rattle.std.specs.{Prelude.All, Prelude.AllPairs, Prelude.map, Prelude.not, List.Contains, List.flat_map, List.cons_option, List.Sorted.IsPermutation}
+use Rattle.std.proofs.{Math.Seq.drop-cons, lemmas.Grind.flat_map-append, lemmas.List.map-append, lemmas.List.get_or_default, lemmas.Option.slice_get-get_or, lemmas.List.Elements.All-nil}
+use Rattle.std.proofs.lemmas.List.Elements.{All-cons, All-head, All-tail, All-append, All-take, All-drop, All-contains_itself}
 use Rattle.std.proofs.lemmas.List.Sorted.{IsPermutation-refl, IsPermutation-trans, IsPermutation-append_left, IsPermutation-append_comm}
 use Rattle.spin_base.specs.declared.routes.Route.{Route}
-use Rattle.tern_word.specs.declared.tables.Alias.{Alias}
-use Rattle.tern_word.specs.declared.tables.Row.{Row}
-use Rattle.tern_word.specs.Ternary.{generality}
-use Rattle.tern_word.specs.SoundTable.{IsSound, Original, served_by, served}
-use Rattle.cover_merge.specs.Merge.{has_row, picked, kept, rows_at, merge_rows, merged_row, merged_block, insert_place, after, SameRoute, IsOneRoute, IsMergeSet, IsLegal}
-use Rattle.cover_merge.proofs.Lists.{All-picked, All-from_map, AllPairs-head, AllPairs-tail}
-use Rattle.cover_merge.proofs.Positions.{has-place, rows_at-from, place_for-le}
-use Rattle.cover_merge.specs.Refinement.{Refines, ends_empty, ends_legal, goes_up, goes_down}
-use Rattle.cover_merge.specs.Covering.{places_of, IsChosen, HasNoChosen, HasRoutesOf, Covers, short, stuck, merged}
-use Rattle.cover_merge.specs.declared.covering.Merge.{Merge}
-use Rattle.cover_merge.specs.Merges.{sets_of}
-use Rattle.cover_merge.proofs.RefineLemmas.{one_route_after, legal_here}
-use Rattle.cover_merge.proofs.ApplyLemmas.{kept_none, kept_longer, kept_remove, picked-append, kept_in, first_kept, route_is}
-use Rattle.cover_merge.proofs.ChooseLemmas.{places_of-one_route}
+use Rattle.tern_word.specs.{declared.tables.Alias.Alias, declared.tables.Row.Row, Ternary.generality, SoundTable.IsSound, SoundTable.Original, SoundTable.served_by, SoundTable.served}
+use Rattle.cover_merge.specs.Merge.{has_row, kept, rows_at, merge_rows, merged_row, merged_block, insert_place, after, SameRoute, IsOneRoute, IsMergeSet, IsLegal}
+use Rattle.cover_merge.specs.{Refinement.Refines, Refinement.ends_empty, Refinement.ends_legal, Refinement.goes_up, Refinement.goes_down, Covering.places_of, Covering.IsChosen, Covering.HasNoChosen}
+use Rattle.cover_merge.specs.{Covering.HasRoutesOf, Covering.Covers, Covering.short, Covering.stuck, Covering.merged, declared.covering.Merge.Merge, Merges.sets_of}
+use Rattle.cover_merge.proofs.{Lists.All-picked, Lists.All-from_map, Lists.AllPairs-head, Lists.AllPairs-tail, Positions.has-place, Positions.rows_at-from, Positions.place_for-le}
+use Rattle.cover_merge.proofs.{RefineLemmas.one_route_after, RefineLemmas.legal_here, ApplyLemmas.kept_none, ApplyLemmas.kept_longer, ApplyLemmas.kept_remove, ApplyLemmas.picked-append}
+use Rattle.cover_merge.proofs.{ApplyLemmas.kept_in, ApplyLemmas.first_kept, ApplyLemmas.route_is, ChooseLemmas.places_of-one_route}
 
 -- ---- a chosen merge is legal
 
@@ -35,10 +24,8 @@ refined_legal rows places answer sound set (goes_up p next a two step rest) = re
 refined_legal rows places answer sound set (goes_down p next a two step rest) = refined_legal rows next a sound (one_route_after rows p set next (inr step)) rest
 
 pub chosen_legal : (rows : List Row) (set : List ℕ) → IsSound rows → IsChosen rows set → (IsMergeSet rows set) × (IsLegal rows set)
-chosen_legal rows set sound (inl largest) = elim (refined_legal rows (places_of largest.bits 0 rows) set sound (places_of-one_route largest.bits rows) largest.refined) [
-  | inl none ↦ absurd (omega (arith, largest.two, ap length none))
-  | inr legal ↦ legal
-]
+chosen_legal rows set sound (inl largest) =
+    grind (arith, refined_legal rows (places_of largest.bits 0 rows) set sound (places_of-one_route largest.bits rows) largest.refined, places_of-one_route largest.bits rows)
 chosen_legal rows set sound (inr found) = subst (λ s. (IsMergeSet rows s) × (IsLegal rows s)) (sym found.1.pair) (found.1.legal.set, found.1.legal.legal)
 
 -- ---- what stays and what goes
@@ -152,11 +139,7 @@ served_merged rows (s ∷ rest) set =
 
 module _ (rows : List Row) (places : List ℕ) (set : IsMergeSet rows places) where
   kept_parts : kept places 0 rows ≡ kept places 0 (take (insert_place rows places) rows) ++ kept places (insert_place rows places) (drop (insert_place rows places) rows)
-  kept_parts =
-      let p = insert_place rows places in
-      let q = λ (k : ℕ). not (has_row places k) in
-      let front_length : 0 + length (take p rows) ≡ p = omega (arith, length-take p rows, place_for-le rows (generality (merged_block rows places))) in
-      ap (λ l. picked q 0 l) (sym (take-append-drop p rows)) ∙ picked-append q 0 (take p rows) (drop p rows) ∙ ap (λ n. picked q 0 (take p rows) ++ picked q n (drop p rows)) front_length
+  kept_parts = grind (arith, length-take (insert_place rows places) rows, place_for-le rows (generality (merged_block rows places)), take-append-drop (insert_place rows places) rows, picked-append)
 
   pub served_after : IsPermutation (served rows) (served (after rows places))
   served_after =

@@ -1,19 +1,12 @@
 -- At most one refined set, one chosen merge, one covered table.
 use Rattle.std.proofs.Common.{◌≡◌, ℕ, ◌<◌, ◌≤◌, inl, inr, List, [], ◌∷◌, length, get_or, refl, sym, ap, ◌∙◌, subst, arith}
-use Rattle.std.proofs.lemmas.Bool.{cases_order}
-use Rattle.std.proofs.lemmas.Option.{get_or_from_slice_get, slice_get_within}
-use Rattle.spin_base.specs.declared.blocks.Block.{Block}
-use Rattle.spin_base.specs.declared.routes.Route.{Route}
-use Rattle.tern_word.specs.declared.tables.Alias.{Alias}
-use Rattle.tern_word.specs.declared.tables.Row.{Row}
-use Rattle.tern_word.specs.Ternary.{Intersects}
-use Rattle.tern_word.specs.SoundTable.{Misses}
-use Rattle.cover_merge.specs.Merge.{insert_place, after, merge_rows, merged_block, PassesUpCheck, PassesDown, PassesDownCheck}
-use Rattle.cover_merge.specs.Refinement.{IsLastFailing, set_without, IsUpStep, IsFirstMet, IsFirstMetFrom, kept_by, IsBestBit, IsNarrowed, IsDownStep, Refines, ends_empty, ends_legal, goes_up, goes_down}
+use Rattle.std.proofs.lemmas.{Bool.cases_order, Option.get_or_from_slice_get, Option.slice_get_within}
+use Rattle.spin_base.specs.declared.{blocks.Block.Block, routes.Route.Route}
+use Rattle.tern_word.specs.{declared.tables.Alias.Alias, declared.tables.Row.Row, Ternary.Intersects, SoundTable.Misses}
+use Rattle.cover_merge.specs.{Merge.insert_place, Merge.after, Merge.merge_rows, Merge.merged_block, Merge.PassesUpCheck, Merge.PassesDown, Merge.PassesDownCheck, Refinement.IsLastFailing}
+use Rattle.cover_merge.specs.Refinement.{set_without, IsUpStep, IsFirstMet, IsFirstMetFrom, kept_by, IsBestBit, IsNarrowed, IsDownStep, Refines, ends_empty, ends_legal, goes_up, goes_down}
 use Rattle.cover_merge.specs.Covering.{places_of, IsNoRival, IsLargest, HasNoLargest, IsFirstLegalPair, IsChosen, HasNoChosen, Covers, short, stuck, merged}
-use Rattle.cover_merge.specs.Merges.{sets_of}
-use Rattle.cover_merge.specs.declared.covering.Merge.{Merge}
-use Rattle.cover_merge.specs.declared.covering.Covered.{Covered}
+use Rattle.cover_merge.specs.{Merges.sets_of, declared.covering.Merge.Merge, declared.covering.Covered.Covered}
 use Rattle.cover_merge.proofs.ChooseLemmas.{route_cases}
 
 -- ---- the first alias that a block meets
@@ -25,17 +18,10 @@ first_not_later : (b : Block) (aliases : List Alias) (met other : Block) (one : 
 first_not_later b aliases met other one two less = two.before one.at one.alias less (subst (Intersects b) (sym (first_alias b aliases met one one.alias)) one.meets)
 
 one_first : (b : Block) (aliases : List Alias) (met other : Block) → IsFirstMet b aliases met → IsFirstMet b aliases other → met ≡ other
-one_first b aliases met other one two = elim (cases_order one.at two.at) [
-  | inl same ↦ sym (first_alias b aliases met one one.alias) ∙ ap (λ n. (get_or aliases n one.alias).block) same ∙ first_alias b aliases other two one.alias
-  | inr apart ↦ elim apart [
-    | inl less ↦ absurd (first_not_later b aliases met other one two less)
-    | inr more ↦ absurd (first_not_later b aliases other met two one more)
-  ]
-]
+one_first b aliases met other one two = grind (arith, cases_order one.at two.at, first_alias b aliases met one one.alias, first_alias b aliases other two one.alias, get_or, first_not_later)
 
 met_not_missed : (b : Block) (row : Row) (met : Block) → IsFirstMet b row.aliases met → Misses b row → ⊥
-met_not_missed b row met first misses =
-    misses first.at first.alias (slice_get_within row.aliases first.at first.alias first.found) (subst (Intersects b) (sym (first_alias b row.aliases met first first.alias)) first.meets)
+met_not_missed b row met first misses = grind (arith, slice_get_within row.aliases first.at first.alias first.found, first_alias b row.aliases met first first.alias)
 
 module _ (rows : List Row) where
   -- ---- the same in rows
@@ -79,13 +65,7 @@ module _ (rows : List Row) where
   up_fails old new step up = step.last.failing (up step.place step.last.member)
 
   one_bit : (old : List ℕ) (joined met : Block) (i j : ℕ) → i < 32 → j < 32 → IsBestBit rows old joined met i → IsBestBit rows old joined met j → i ≡ j
-  one_bit old joined met i j low_i low_j one two = elim (cases_order i j) [
-    | inl same ↦ same
-    | inr apart ↦ elim apart [
-      | inl less ↦ absurd (omega (arith, one.highest j low_j less, two.most i low_i))
-      | inr more ↦ absurd (omega (arith, two.highest i low_i more, one.most j low_j))
-    ]
-  ]
+  one_bit old joined met i j low_i low_j one two = grind (arith, cases_order i j)
 
   one_narrowed : (old : List ℕ) (joined met : Block) (xs ys : List ℕ) → IsNarrowed rows old joined met xs → IsNarrowed rows old joined met ys → xs ≡ ys
   one_narrowed old joined met xs ys (inl (i, low_i, one, is)) (inl (j, low_j, two, too)) = is ∙ ap (λ n. kept_by rows met n old) (one_bit old joined met i j low_i low_j one two) ∙ sym too
@@ -94,9 +74,7 @@ module _ (rows : List Row) where
   one_narrowed old joined met xs ys (inr none) (inr also) = none.1 ∙ sym also.1
 
   one_down : (old xs ys : List ℕ) → IsDownStep rows old xs → IsDownStep rows old ys → xs ≡ ys
-  one_down old xs ys one two =
-      let met : one.met ≡ two.met = one_met (merged_block rows old) (insert_place rows old) one.met two.met one.first two.first in
-      one_narrowed old (merged_block rows old) two.met xs ys (subst (λ b. IsNarrowed rows old (merged_block rows old) b xs) met one.narrowed) two.narrowed
+  one_down old xs ys one two = grind (arith, one_met (merged_block rows old) (insert_place rows old) one.met two.met one.first two.first, one_narrowed)
 
   down_fails : (old new : List ℕ) → IsDownStep rows old new → PassesDownCheck rows old → ⊥
   down_fails old new step down = met_fails (merged_block rows old) (insert_place rows old) step.met step.first down
@@ -152,16 +130,7 @@ module _ (rows : List Row) where
       (omega (arith, same, rival.no_larger), λ less. omega (arith, same, rival.smaller (omega (arith, one.two)) less))
 
   one_largest : (xs ys : List ℕ) → IsLargest rows xs → IsLargest rows ys → xs ≡ ys
-  one_largest xs ys one two =
-      let up = largest_bound xs ys one two in
-      let down = largest_bound ys xs two one in
-      elim (cases_order one.bits two.bits) [
-        | inl same ↦ one_refined (places_of two.bits 0 rows) xs ys (subst (λ b. Refines rows (places_of b 0 rows) xs) same one.refined) two.refined
-        | inr apart ↦ elim apart [
-          | inl less ↦ absurd (omega (arith, up.0, down.1 less))
-          | inr more ↦ absurd (omega (arith, down.0, up.1 more))
-        ]
-      ]
+  one_largest xs ys one two = grind (arith, largest_bound xs ys one two, largest_bound ys xs two one, cases_order one.bits two.bits, one_refined)
 
   largest_or_none : (set : List ℕ) → IsLargest rows set → HasNoLargest rows → ⊥
   largest_or_none set largest none =
@@ -228,10 +197,7 @@ same_merges : (xs ys : List Merge) → sets_of xs ≡ sets_of ys → xs ≡ ys
 same_merges [] [] same = refl
 same_merges [] (y ∷ ys) same = absurd (omega (arith, ap length same))
 same_merges (x ∷ xs) [] same = absurd (omega (arith, ap length same))
-same_merges (x ∷ xs) (y ∷ ys) same =
-    let first : x.places ≡ y.places = cc in
-    let rest : sets_of xs ≡ sets_of ys = cc in
-    ap (λ (p : List ℕ). let m : Merge = record { places = p } in m ∷ xs) first ∙ ap (λ l. y ∷ l) (same_merges xs ys rest)
+same_merges (x ∷ xs) (y ∷ ys) same = grind (arith, same_merges xs ys (cc))
 
 pub one_covered : (target : ℕ) (table : List Row) (c e : Covered) → Covers target table (sets_of c.merges) c.table.rows → Covers target table (sets_of e.merges) e.table.rows → c ≡ e
 one_covered target table c e one two =

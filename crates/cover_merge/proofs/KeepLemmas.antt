@@ -1,27 +1,17 @@
 -- What is kept of routes: the greatest, and what a merge leaves.
 use Rattle.std.proofs.Common.{◌≡◌, ◌≢◌, ℕ, ◌+◌, ◌<◌, ◌≤◌, ◌⊎◌, List, [], length, get_or, set, inl, inr, refl, sym, ap, ◌∙◌, subst, arith}
 use Rattle.std.specs.Prelude.{All, Option, Some, None}
-use Rattle.std.proofs.Math.ListN.{get_or-eq_default}
-use Rattle.std.proofs.lemmas.Bool.{cases_lt, cases_eq}
-use Rattle.std.proofs.lemmas.Grind.{get_or-set_at}
-use Rattle.std.proofs.lemmas.List.{get_or_default, get_or-set_other, length-set}
+use Rattle.std.proofs.{Math.ListN.get_or-eq_default, lemmas.Bool.cases_lt, lemmas.Bool.cases_eq, lemmas.Grind.get_or-set_at, lemmas.List.get_or_default, lemmas.List.get_or-set_other}
+use Rattle.std.proofs.lemmas.List.{length-set}
 use Rattle.spin_base.specs.declared.blocks.Block.{Block}
-use Rattle.tern_word.specs.declared.tables.Row.{Row}
-use Rattle.tern_word.specs.SoundTable.{IsSound, Misses}
-use Rattle.tern_word.specs.Ternary.{generality}
-use Rattle.cover_merge.specs.Merge.{after, merged_block, merge_rows, IsOneRoute, IsLegalMerge, PassesUpCheck, PassesDownCheck}
-use Rattle.cover_merge.specs.Refinement.{IsDownStep, Refines, ends_empty}
-use Rattle.cover_merge.specs.Kept.{IsKept, IsGone, LeadsWithin, RefinesWithin}
-use Rattle.cover_merge.specs.Covering.{places_of, IsNoRival, IsLargest, HasNoLargest}
-use Rattle.cover_merge.specs.Links.{place_of_route, IsEachOnce, AreLinks, AreNumbers, IsFirstOfRoute}
-use Rattle.cover_merge.specs.Known.{AreAllKept, AreRoutesKept, AreStillKept, IsApart, IsFreshlyRefined, MissesAllOf, IsMostBefore}
-use Rattle.cover_merge.specs.declared.choosing.Fresh.{Fresh}
-use Rattle.cover_merge.specs.declared.keeping.Kept.{Kept}
+use Rattle.tern_word.specs.{declared.tables.Row.Row, SoundTable.IsSound, SoundTable.Misses, Ternary.generality}
+use Rattle.cover_merge.specs.{Merge.after, Merge.merged_block, Merge.merge_rows, Merge.IsOneRoute, Merge.IsLegalMerge, Merge.PassesUpCheck, Merge.PassesDownCheck, Refinement.IsDownStep}
+use Rattle.cover_merge.specs.{Refinement.Refines, Refinement.ends_empty, Kept.IsKept, Kept.IsGone, Kept.LeadsWithin, Kept.RefinesWithin, Covering.places_of, Covering.IsNoRival, Covering.IsLargest}
+use Rattle.cover_merge.specs.{Covering.HasNoLargest, Links.place_of_route, Links.IsEachOnce, Links.AreLinks, Links.AreNumbers, Links.IsFirstOfRoute, Known.AreAllKept, Known.AreRoutesKept}
+use Rattle.cover_merge.specs.{Known.AreStillKept, Known.IsApart, Known.IsFreshlyRefined, Known.MissesAllOf, Known.IsMostBefore, declared.choosing.Fresh.Fresh, declared.keeping.Kept.Kept}
 use Rattle.cover_merge.specs.declared.keeping.Most.{Most}
-use Rattle.cover_merge.proofs.LinkLemmas.{number_of_route, route_there, routes_all}
-use Rattle.cover_merge.proofs.KeptLemmas.{forgets, kept_after, merge_other, no_rival_kept, size_of_kept}
-use Rattle.cover_merge.proofs.ChooseLemmas.{route_cases}
-use Rattle.cover_merge.proofs.KeptLemmasSteps.{gone_checked, gone_down, gone_legal, gone_up}
+use Rattle.cover_merge.proofs.{LinkLemmas.number_of_route, LinkLemmas.route_there, LinkLemmas.routes_all, KeptLemmas.forgets, KeptLemmas.kept_after, KeptLemmas.merge_other, KeptLemmas.no_rival_kept}
+use Rattle.cover_merge.proofs.{KeptLemmas.size_of_kept, ChooseLemmas.route_cases, KeptLemmasSteps.gone_checked, KeptLemmasSteps.gone_down, KeptLemmasSteps.gone_legal, KeptLemmasSteps.gone_up}
 
 pub none_some : (it : Kept) → None ≡ Some it → ⊥
 none_some it is = cc
@@ -47,20 +37,12 @@ less_of k c apart less = by_case (cases_lt k c)
 -- ---- the greatest
 
 pub most_first : (routes : List ℕ) (kept : List (Option Kept)) (most : Most) → most.size ≡ 0 → IsMostBefore routes kept 0 most
-most_first routes kept most none = record {
-  inside = λ some. absurd (omega (arith, none, some));
-  own = λ some. absurd (omega (arith, none, some));
-  bits = λ some. absurd (omega (arith, none, some));
-  no_larger = λ c it less. absurd (omega (arith, less));
-  smaller = λ c it less. absurd (omega (arith, less));
-}
+most_first routes kept most none = grind arith
 
 module _ (routes : List ℕ) (kept : List (Option Kept)) (c : ℕ) (most : Most) (old : IsMostBefore routes kept c most) where
   module _ (own : Kept) (here_is : get_or kept c None ≡ Some own) (bits : ℕ) (read : bits ≡ get_or routes c 0) where
     last_is : (k : ℕ) (it : Kept) → k < c + 1 → c ≤ k → get_or kept k None ≡ Some it → (it ≡ own) × (get_or routes k 0 ≡ bits)
-    last_is k it less from is =
-        let same : k ≡ c = omega (arith, less, from) in
-        (some_same it own (sym is ∙ ap (λ i. get_or kept i None) same ∙ here_is), ap (λ i. get_or routes i 0) same ∙ sym read)
+    last_is k it less from is = grind (arith, some_same, get_or)
 
     pub most_stays : (own.size < most.size) ⊎ ((own.size ≡ most.size) × (most.bits ≤ bits)) → IsMostBefore routes kept (c + 1) most
     most_stays loses = record {
@@ -150,9 +132,7 @@ module _ (routes : List ℕ) (rows : List Row) (numbers : List ℕ) (are : AreNu
 -- the places of a route that were gathered from its first row on
 pub places_read : (routes : List ℕ) (rows : List Row) (nexts heads : List ℕ) → AreLinks routes rows nexts heads → (c : ℕ) → c < length routes → (x : ℕ) → x ≡ get_or heads c x → (places : List ℕ)
     → ((bits : ℕ) → IsFirstOfRoute rows bits x → places ≡ places_of bits 0 rows) → places ≡ places_of (get_or routes c 0) 0 rows
-places_read routes rows nexts heads links c low x read places found =
-    let at : get_or heads c 0 ≡ x = get_or_default heads c 0 x (omega (arith, links.one_each, low)) ∙ sym read in
-    found (get_or routes c 0) (subst (IsFirstOfRoute rows (get_or routes c 0)) at (links.head c low))
+places_read routes rows nexts heads links c low x read places found = grind (arith, get_or_default heads c 0 x (omega (arith, links.one_each, low)), get_or routes c 0)
 
 -- ---- one route more of which something is kept
 
@@ -208,6 +188,11 @@ left_set P Q old now new c v inside is before others here = record {
     by_case k it found (inr apart) =
         let was = before.each k it (sym (get_or-set_other now c k v None apart) ∙ found) in
         (was.0, others k it apart was.1)
+
+-- what is left where nothing is kept of one route
+pub forgotten : (kept : List (Option Kept)) (n : ℕ) → n < length kept → AreStillKept (λ k it. k ≢ n) kept (set kept n None)
+forgotten kept n low =
+    left_set (λ (k : ℕ) (it : Kept). k ≡ k) (λ (k : ℕ) (it : Kept). k ≢ n) kept kept _ n None low refl (left_all (λ (k : ℕ) (it : Kept). k ≡ k) kept (λ k it is. refl)) (λ k it apart same. apart) (λ it is. absurd (none_some it is))
 
 -- of one route more it is shown
 pub left_more : (P : Kept → Type 0) (old now : List (Option Kept)) (i : ℕ) → AreStillKept (λ k it. k < i → P it) old now → ((it : Kept) → get_or now i None ≡ Some it → P it) → AreStillKept (λ k it. k < i + 1 → P it) old now

@@ -1,31 +1,20 @@
 -- What is kept of a route is true in the table after a merge that leaves it alone.
-use Rattle.std.proofs.Common.{◌≡◌, ◌≢◌, ◌==◌, ◌||◌, ℕ, zero, suc, ◌+◌, ◌<◌, ◌≤◌, ◌⊎◌, Bool, true, false, cond, Option, Some, List, [], ◌∷◌, length, get_or, inl, inr, refl, sym, ap, ◌∙◌, subst, arith}
-use Rattle.std.specs.Prelude.{All, not, map, filter, slice_get}
-use Rattle.std.specs.List.{cons_option}
-use Rattle.std.specs.Option.{option_map_or}
+use Rattle.std.proofs.Common.{◌≡◌, ◌≢◌, ◌==◌, ◌||◌, ℕ, zero, suc, ◌+◌, ◌<◌, ◌≤◌, ◌⊎◌, Bool, true, false, cond, Some, List, [], ◌∷◌, length, get_or, inl, inr, refl, sym, ap, ◌∙◌, subst, arith}
+use Rattle.std.specs.{Prelude.All, Prelude.not, Prelude.map, Prelude.filter, Prelude.slice_get, List.cons_option}
 use mathlib.Core.Bool.{true≢false}
-use Rattle.std.proofs.lemmas.Bool.{cases_Bool, cases_lt, cases_order, eq-eqb, ne_eqb}
-use Rattle.std.proofs.lemmas.Bool.Decides.{eqb_tells}
-use Rattle.std.proofs.lemmas.List.{get_or_default, length-map}
-use Rattle.std.proofs.lemmas.List.Elements.{All-nil, All-cons, All-head, All-tail, All-map, All-filter}
-use Rattle.std.proofs.lemmas.Option.{slice_get-get_or, get_or_from_slice_get, slice_get_within}
-use Rattle.spin_base.specs.declared.blocks.Block.{Block}
-use Rattle.spin_base.specs.declared.routes.Route.{Route}
-use Rattle.tern_word.specs.declared.tables.Alias.{Alias}
-use Rattle.tern_word.specs.declared.tables.Row.{Row}
-use Rattle.tern_word.specs.Ternary.{Intersects, LiesIn, Wants, generality, merge_of}
-use Rattle.tern_word.specs.SoundTable.{IsSound, Misses, HoldsItsAliases}
+use Rattle.std.proofs.lemmas.{Bool.cases_Bool, Bool.cases_lt, Bool.cases_order, Bool.eq-eqb, Bool.ne_eqb, Bool.Decides.eqb_tells, List.get_or_default, List.length-map, List.Elements.All-nil}
+use Rattle.std.proofs.lemmas.{List.Elements.All-cons, List.Elements.All-head, List.Elements.All-tail, List.Elements.All-map, List.Elements.All-filter, Option.slice_get-get_or}
+use Rattle.std.proofs.lemmas.Option.{get_or_from_slice_get, slice_get_within}
+use Rattle.spin_base.specs.declared.{blocks.Block.Block, routes.Route.Route}
+use Rattle.tern_word.specs.{declared.tables.Alias.Alias, declared.tables.Row.Row, Ternary.Intersects, Ternary.LiesIn, Ternary.Wants, Ternary.generality, Ternary.merge_of, SoundTable.IsSound}
+use Rattle.tern_word.specs.SoundTable.{Misses, HoldsItsAliases}
 use Rattle.tern_word.proofs.BlockLaws.{Intersects-sym, Intersects-wider, LiesIn-trans, LiesIn-from_wants, generality-mono, merge_of-is_merge}
 use Rattle.cover_merge.specs.Merge.{has_row, rows_at, merged_row, merged_block, place_for, insert_place, after, IsMergeSet, IsLegal, PassesUp, PassesUpCheck, PassesDown, PassesDownCheck}
-use Rattle.cover_merge.specs.Refinement.{IsLastFailing, IsUpStep, IsFirstMetFrom, can_choose, parts, keeps, kept_by, kept_count, IsNarrowed, IsDownStep, Refines}
-use Rattle.cover_merge.specs.Covering.{places_of, IsNoRival}
-use Rattle.cover_merge.specs.Kept.{RefinesWithin, IsKept, IsLeftBy}
+use Rattle.cover_merge.specs.Refinement.{IsLastFailing, IsUpStep, IsFirstMetFrom, can_choose, keeps, kept_by, kept_count, IsNarrowed, IsDownStep, Refines}
+use Rattle.cover_merge.specs.{Covering.places_of, Covering.IsNoRival, Kept.RefinesWithin, Kept.IsKept, Kept.IsLeftBy}
 use Rattle.cover_merge.proofs.Positions.{has-at, has-place, has-later, All-has, rows_at-from, rows_at-has, rows_at-length, some_blocks, place_for-le, place_for-below, place_for-above, member_le}
-use Rattle.cover_merge.proofs.Lists.{All-from_map}
-use Rattle.cover_merge.proofs.Legal.{HoldsItsAliases-merge, narrower_misses, member_lies}
-use Rattle.cover_merge.proofs.ApplyLemmas.{block_is}
-use Rattle.cover_merge.proofs.Determined.{one_refined}
-use Rattle.cover_merge.proofs.KeptLemmasMoved.{moved, moved_less, moved_get, moved_onto, moved_places}
+use Rattle.cover_merge.proofs.{Lists.All-from_map, Legal.HoldsItsAliases-merge, Legal.narrower_misses, Legal.member_lies, ApplyLemmas.block_is, Determined.one_refined, KeptLemmasMoved.moved}
+use Rattle.cover_merge.proofs.KeptLemmasMoved.{moved_less, moved_get, moved_onto, moved_places}
 
 -- ---- lists of places
 
@@ -75,9 +64,7 @@ under_misses b row other under misses = narrower_misses b row.block other under.
 
 -- a block that was down-checked misses such a row, or is no less general
 under_apart : (joined outer b : Block) (low : ℕ) → (Intersects joined outer → ⊥) ⊎ (generality joined ≤ low) → LiesIn b outer → low ≤ generality b → (row : Row) → IsUnder joined row → (Misses b row) ⊎ (generality row.block ≤ generality b)
-under_apart joined outer b low (inl apart) lies high row under = inl (λ k d within meets.
-    let a = (get_or row.aliases k d).block in
-    apart (Intersects-wider joined b outer lies (Intersects-sym b joined (Intersects-wider b a joined (LiesIn-trans a row.block joined (under.holds k d within) under.lies) meets))))
+under_apart joined outer b low (inl apart) lies high row under = grind (arith, get_or, Intersects-wider, Intersects-sym, LiesIn-trans)
 under_apart joined outer b low (inr less) lies high row under = inr (omega (arith, under.low, less, high))
 
 -- a row outside the merge, whose aliases it misses
@@ -94,11 +81,7 @@ module _ (rows : List Row) (merge : List ℕ) (sound : IsSound rows) (set : IsMe
   to = moved rows merge
 
   member_under : (k : ℕ) (d : Row) → k < length rows → has_row merge k ≡ true → IsUnder (merged_block rows merge) (get_or rows k d)
-  member_under k d within found = record {
-    lies = member_lies rows merge set (merged_block rows merge) refl k d found;
-    holds = sound.inside k d within;
-    low = member_le rows merge set.set.in_range k d found;
-  }
+  member_under k d within found = grind (arith, member_lies rows merge set (merged_block rows merge) refl k d found, member_le rows merge set.set.in_range k d found)
 
   merged_under : IsUnder (merged_block rows merge) (merged_row rows merge)
   merged_under =
@@ -114,22 +97,10 @@ module _ (rows : List Row) (merge : List ℕ) (sound : IsSound rows) (set : IsMe
   to_less j k out less = moved_less rows merge sound.ordered set j k out less
 
   pub from_less : (j k : ℕ) → has_row merge k ≡ false → to j < to k → j < k
-  from_less j k out less = elim (cases_order j k) [
-    | inl same ↦ absurd (omega (arith, ap to same, less))
-    | inr apart ↦ elim apart [
-      | inl low ↦ low
-      | inr high ↦ absurd (omega (arith, to_less k j out high, less))
-    ]
-  ]
+  from_less j k out less = grind (arith, cases_order j k, to_less)
 
   pub same_test : (s k : ℕ) → has_row merge s ≡ false → has_row merge k ≡ false → (to s == to k) ≡ (s == k)
-  same_test s k out gone = elim (cases_order s k) [
-    | inl same ↦ eq-eqb (to s) (to k) (ap to same) ∙ sym (eq-eqb s k same)
-    | inr apart ↦ elim apart [
-      | inl low ↦ ne_eqb (to s) (to k) (λ is. omega (arith, to_less s k out low, is)) ∙ sym (ne_eqb s k (λ is. omega (arith, low, is)))
-      | inr high ↦ ne_eqb (to s) (to k) (λ is. omega (arith, to_less k s gone high, is)) ∙ sym (ne_eqb s k (λ is. omega (arith, high, is)))
-    ]
-  ]
+  same_test s k out gone = grind (arith, cases_order s k, eq-eqb, ne_eqb, to_less)
 
   pub get_to : (s : ℕ) (d : Row) → s < length rows → has_row merge s ≡ false → get_or new (to s) d ≡ get_or rows s d
   get_to s d inside out = (moved_get rows merge sound.ordered set s d inside out).1
@@ -289,9 +260,7 @@ module _ (rows : List Row) (merge : List ℕ) (sound : IsSound rows) (set : IsMe
     -- ---- the best bit
 
     kept_to : (met : Block) (i : ℕ) → kept_by new met i (map to places) ≡ map to (kept_by rows met i places)
-    kept_to met i =
-        filter_to to (keeps new met i) (keeps rows met i) places (λ k d within.
-        ap (λ (o : Option Row). option_map_or (λ (r : Row). parts r.block met i) o false) (slice_to (get_or places k d) (left k d within).inside (left k d within).out))
+    kept_to met i = grind (arith, filter_to, slice_to, get_or)
 
     count_to : (joined met : Block) (i : ℕ) → kept_count new (map to places) joined met i ≡ kept_count rows places joined met i
     count_to joined met i = ap (λ n. cond (can_choose joined met i) n 0) (ap length (kept_to met i) ∙ length-map (kept_by rows met i places) to)
@@ -379,12 +348,7 @@ module _ (rows : List Row) (outer : Block) (low : ℕ) where
 
     -- A route whose kept number loses to another route's set is no rival of it.
     pub no_rival_kept : (other n : ℕ) → size ≤ n → (0 < n → bits < other → size < n) → IsNoRival rows bits other n
-    no_rival_kept other n no_larger smaller = record {
-      set = is_kept.set;
-      refined = forgets (places_of bits 0 rows) is_kept.set is_kept.refined;
-      no_larger = omega (arith, no_larger, is_kept.size_is);
-      smaller = λ some less. omega (arith, smaller some less, is_kept.size_is);
-    }
+    no_rival_kept other n no_larger smaller = grind (arith, forgets (places_of bits 0 rows) is_kept.set is_kept.refined)
 
 -- A merge is of another route where its first row is.
 pub merge_other : (rows : List Row) (merge : List ℕ) (first bits : ℕ) (z : Row) → IsMergeSet rows merge → (get_or rows (get_or merge 0 0) z).route.bits ≡ first → first ≢ bits

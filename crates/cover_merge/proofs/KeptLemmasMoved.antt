@@ -1,16 +1,12 @@
 -- Where the rows outside a merge stand in the table after it.
 use Rattle.std.proofs.Common.{◌≡◌, ◌≢◌, ◌==◌, ℕ, zero, suc, ◌+◌, ◌<◌, ◌≤◌, ◌⊎◌, Bool, true, false, cond, List, [], ◌∷◌, length, get_or, inl, inr, refl, sym, ap, ◌∙◌, subst, arith}
 use Rattle.std.specs.Prelude.{not, insert, map}
-use Rattle.std.proofs.lemmas.Bool.{cases_Bool, cases_lt, cases_eq, not-true, not-false, not_from_false, ne_eqb}
-use Rattle.std.proofs.lemmas.List.Edits.{get_or-insert_at, get_or-insert_below, length-insert}
-use Rattle.std.proofs.lemmas.Simd.{map-map}
-use Rattle.tern_word.specs.declared.tables.Row.{Row}
-use Rattle.tern_word.specs.Ternary.{generality}
-use Rattle.tern_word.specs.SoundTable.{IsOrdered}
-use Rattle.cover_merge.specs.Merge.{has_row, picked, kept, merge_rows, merged_row, merged_block, insert_place, after, IsMergeSet}
-use Rattle.cover_merge.specs.Covering.{places_of}
-use Rattle.cover_merge.proofs.Positions.{has-at, All-has, place_for-le}
-use Rattle.cover_merge.proofs.ApplyLemmas.{left, none_from, members_before, after_is, route_is}
+use Rattle.std.proofs.lemmas.{Bool.cases_Bool, Bool.cases_lt, Bool.cases_eq, Bool.not-true, Bool.not-false, Bool.not_from_false, Bool.ne_eqb, List.Edits.get_or-insert_at}
+use Rattle.std.proofs.lemmas.{List.Edits.get_or-insert_below, List.Edits.length-insert, Simd.map-map}
+use Rattle.tern_word.specs.{declared.tables.Row.Row, Ternary.generality, SoundTable.IsOrdered}
+use Rattle.cover_merge.specs.{Merge.has_row, Merge.picked, Merge.kept, Merge.merge_rows, Merge.merged_row, Merge.merged_block, Merge.insert_place, Merge.after, Merge.IsMergeSet, Covering.places_of}
+use Rattle.cover_merge.proofs.{Positions.has-at, Positions.All-has, Positions.place_for-le, ApplyLemmas.left, ApplyLemmas.none_from, ApplyLemmas.members_before, ApplyLemmas.after_is}
+use Rattle.cover_merge.proofs.ApplyLemmas.{route_is}
 
 -- ---- the place of a picked item
 
@@ -219,10 +215,7 @@ module _ (rows : List Row) (merge : List ℕ) (ordered : IsOrdered rows) (set : 
     longer = omega (arith, length-insert xs p m in_xs)
 
     put_within : (k : ℕ) → k < length xs → put p k < length (insert xs p m)
-    put_within k within = elim (cases_lt k p) [
-      | inl low ↦ omega (arith, longer, put_low p k low, within)
-      | inr high ↦ omega (arith, longer, put_high p k high, within)
-    ]
+    put_within k within = grind (arith, cases_lt k p, longer, put_low, put_high)
 
     pub item_moved : (k : ℕ) (d : X) → k < length xs → has_row merge k ≡ false → (moved rows merge k < length (left merge 0 (insert xs p m))) × (get_or (left merge 0 (insert xs p m)) (moved rows merge k) d ≡ get_or xs k d)
     item_moved k d within out =
@@ -258,8 +251,7 @@ module _ (rows : List Row) (merge : List ℕ) (ordered : IsOrdered rows) (set : 
             out i is (inr high) = none_behind i high
 
   pub moved_get : (k : ℕ) (d : Row) → k < length rows → has_row merge k ≡ false → (moved rows merge k < length (after rows merge)) × (get_or (after rows merge) (moved rows merge k) d ≡ get_or rows k d)
-  moved_get k d within out =
-      subst (λ l. (moved rows merge k < length l) × (get_or l (moved rows merge k) d ≡ get_or rows k d)) (after_is rows merge ordered set) (item_moved rows (merged_row rows merge) refl k d within out)
+  moved_get k d within out = grind (arith, get_or rows k d, after_is rows merge ordered set, item_moved rows (merged_row rows merge) refl k d within out)
 
   -- each row after the merge is one that moved, or the merged one
   pub moved_onto : (l : ℕ) → l < length (after rows merge) → ((k : ℕ) × (k < length rows) × (has_row merge k ≡ false) × (moved rows merge k ≡ l)) ⊎ ((d : Row) → get_or (after rows merge) l d ≡ merged_row rows merge)

@@ -1,20 +1,13 @@
 -- Steps of refinement one after another, and the bounds of the blocks that are down-checked on the way.
 use Rattle.std.proofs.Common.{◌≡◌, ℕ, ◌+◌, ◌<◌, ◌≤◌, ◌⊎◌, true, List, [], length, get_or, inl, inr, sym, subst, arith}
-use Rattle.std.specs.Prelude.{All, not, remove}
-use Rattle.std.specs.Prelude.{◌==◌}
-use Rattle.std.proofs.lemmas.List.{get_or_default}
-use Rattle.std.proofs.lemmas.List.Elements.{All-nil, All-filter}
+use Rattle.std.specs.Prelude.{All, not, remove, ◌==◌}
+use Rattle.std.proofs.lemmas.List.{get_or_default, Elements.All-nil, Elements.All-filter}
 use Rattle.spin_base.specs.declared.blocks.Block.{Block}
-use Rattle.tern_word.specs.declared.tables.Row.{Row}
-use Rattle.tern_word.specs.Ternary.{LiesIn, generality}
-use Rattle.tern_word.specs.SoundTable.{IsOrdered}
+use Rattle.tern_word.specs.{declared.tables.Row.Row, Ternary.LiesIn, Ternary.generality, SoundTable.IsOrdered}
 use Rattle.tern_word.proofs.BlockLaws.{LiesIn-trans, generality_le}
-use Rattle.cover_merge.specs.Merge.{has_row, merged_block, place_for, IsOneRoute, PassesUpCheck, PassesDownCheck}
-use Rattle.cover_merge.specs.Refinement.{IsLastFailing, IsUpStep, IsNarrowed, IsDownStep, keeps}
-use Rattle.cover_merge.specs.Kept.{RefinesWithin, LeadsWithin, IsGone}
-use Rattle.cover_merge.proofs.Positions.{has-at, has-place, All-has}
-use Rattle.cover_merge.proofs.SiftLemmas.{sift_step}
-use Rattle.cover_merge.proofs.KeptLemmas.{fewer_lies}
+use Rattle.cover_merge.specs.{Merge.has_row, Merge.merged_block, Merge.place_for, Merge.IsOneRoute, Merge.PassesUpCheck, Merge.PassesDownCheck, Refinement.IsLastFailing, Refinement.IsUpStep}
+use Rattle.cover_merge.specs.{Refinement.IsNarrowed, Refinement.IsDownStep, Refinement.keeps, Kept.RefinesWithin, Kept.LeadsWithin, Kept.IsGone}
+use Rattle.cover_merge.proofs.{Positions.has-at, Positions.has-place, Positions.All-has, SiftLemmas.sift_step, KeptLemmas.fewer_lies}
 
 -- each place of a set is one of it
 all_of : (set : List ℕ) → All (λ s. has_row set s ≡ true) set
@@ -94,15 +87,8 @@ module _ (rows : List Row) where
 
     -- Before a down-check `outer` becomes the merge of the set where it is the first, and `low` its generality.
     pub gone_checked : (wide : Block) → 2 ≤ length set → ((32 < low) × (wide ≡ merged_block rows set)) ⊎ ((low ≤ 32) × (wide ≡ outer)) → IsGone rows start set wide (generality (merged_block rows set))
-    gone_checked wide two (inl first) = record {
-      leads = λ b least inside less. gone.leads b least (λ checked. absurd (omega (arith, first.0, checked))) (omega (arith, less, first.0, generality_le (merged_block rows set)));
-      within = λ checked some. (subst (LiesIn (merged_block rows set)) (sym first.1) (λ k small inside. inside), omega arith);
-    }
-    gone_checked wide two (inr later) =
-        let old = gone.within later.0 (omega (arith, two)) in record {
-          leads = λ b least inside less. gone.leads b least (λ checked. subst (λ x. LiesIn x b) later.1 (inside (generality_le (merged_block rows set)))) (omega (arith, less, old.1));
-          within = λ checked some. (subst (LiesIn (merged_block rows set)) (sym later.1) old.0, omega arith);
-        }
+    gone_checked wide two (inl first) = grind (arith, generality_le (merged_block rows set))
+    gone_checked wide two (inr later) = grind (arith, generality_le (merged_block rows set))
 
   module _ (start set : List ℕ) (outer : Block) (two : 2 ≤ length set) (gone : IsGone rows start set outer (generality (merged_block rows set))) where
     lies_here : LiesIn (merged_block rows set) outer

@@ -1,16 +1,13 @@
 -- On a sound table both checks are true exactly where the table after the merge is sound.
-use Rattle.std.proofs.Common.{◌≡◌, ℕ, ◌+◌, ◌-◌, ◌<◌, ◌≤◌, ◌⊎◌, inl, inr, true, false, List, [], ◌∷◌, length, get_or, take, drop, refl, sym, ap, ◌∙◌, subst, length-take, length-drop, get_or-take, get_or-drop, arith}
-use Rattle.std.specs.Prelude.{All, not, map}
-use Rattle.std.specs.List.{flat_map}
-use Rattle.std.proofs.lemmas.Bool.{cases_Bool, cases_lt, not-true, not_from_false}
-use Rattle.std.proofs.lemmas.List.{get_or_default}
+use Rattle.std.proofs.Common.{◌≡◌, ℕ, ◌+◌, ◌-◌, ◌<◌, ◌≤◌, ◌⊎◌, inl, inr, true, false, List, [], ◌∷◌, length, get_or, take, drop, refl, sym, ap, ◌∙◌, subst, length-take, length-drop, get_or-take}
+use Rattle.std.proofs.Common.{get_or-drop, arith}
+use Rattle.std.specs.{Prelude.All, Prelude.not, Prelude.map, List.flat_map}
+use Rattle.std.proofs.lemmas.{Bool.cases_Bool, Bool.cases_lt, Bool.not-true, Bool.not_from_false, List.get_or_default, List.Elements.All-cons, List.Elements.All-append, List.Elements.All-take}
+use Rattle.std.proofs.lemmas.List.Elements.{All-drop}
 use mathlib.Core.Bool.{true≢false}
-use Rattle.std.proofs.lemmas.List.Elements.{All-cons, All-append, All-take, All-drop}
 use Rattle.spin_base.specs.declared.blocks.Block.{Block}
-use Rattle.tern_word.specs.declared.tables.Alias.{Alias}
-use Rattle.tern_word.specs.declared.tables.Row.{Row}
-use Rattle.tern_word.specs.Ternary.{Intersects, LiesIn, generality, merge_of}
-use Rattle.tern_word.specs.SoundTable.{Misses, HoldsItsAliases, IsSound}
+use Rattle.tern_word.specs.{declared.tables.Alias.Alias, declared.tables.Row.Row, Ternary.Intersects, Ternary.LiesIn, Ternary.generality, Ternary.merge_of, SoundTable.Misses}
+use Rattle.tern_word.specs.SoundTable.{HoldsItsAliases, IsSound}
 use Rattle.tern_word.proofs.BlockLaws.{Intersects-sym, Intersects-wider, LiesIn-trans, LiesIn-merge}
 use Rattle.cover_merge.specs.Merge.{has_row, rows_at, kept, merge_rows, merged_row, merged_block, insert_place, IsLegal, IsMergeSet, PassesUpCheck, PassesDownCheck}
 use Rattle.cover_merge.proofs.Lists.{All-picked, picked-at, picked-from, All-from_map, All-flat_map, All-from_flat_map, AllPairs-around, AllPairs-into, AllPairs-out}
@@ -74,9 +71,7 @@ module _ (rows : List Row) (places : List ℕ) (sound : IsSound rows) (in_range 
       (before, get_or-take (insert_place rows places) rows k d before)
 
   back_row : (k : ℕ) (d : Row) → k < length (drop (insert_place rows places) rows) → (insert_place rows places + k < length rows) × (get_or (drop (insert_place rows places) rows) k d ≡ get_or rows (insert_place rows places + k) d)
-  back_row k d within =
-      let inside : insert_place rows places + k < length rows = omega (arith, length-drop (insert_place rows places) rows, within) in
-      (inside, get_or-drop (insert_place rows places) rows k d)
+  back_row k d within = grind (arith, length-drop (insert_place rows places) rows, get_or-drop (insert_place rows places) rows k d)
 
   -- ---- order
 

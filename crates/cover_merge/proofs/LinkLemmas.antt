@@ -1,18 +1,14 @@
 -- Numbers of routes, and the rows of one route one after another.
-use Rattle.std.proofs.Common.{◌≡◌, ◌≢◌, ℕ, zero, suc, ◌+◌, ◌<◌, ◌≤◌, ◌⊎◌, ◌==◌, Bool, true, false, cond, List, [], ◌∷◌, ◌++◌, length, length-append, get_or, take, drop, inl, inr, refl, sym, ap, ◌∙◌, subst, arith}
+use Rattle.std.proofs.Common.{◌≡◌, ◌≢◌, ℕ, zero, suc, ◌+◌, ◌<◌, ◌≤◌, ◌⊎◌, ◌==◌, Bool, true, false, cond, List, [], ◌∷◌, ◌++◌, length, length-append, get_or, take, drop, inl, inr, refl, sym, ap, ◌∙◌}
+use Rattle.std.proofs.Common.{subst, arith}
 use Rattle.std.specs.Prelude.{All, map, not, insert}
-use Rattle.std.proofs.lemmas.Bool.{cases_lt, eq-eqb}
-use Rattle.std.proofs.lemmas.Bool.Decides.{eqb_tells}
-use Rattle.std.proofs.lemmas.List.{get_or_default, get_or_append_left, take_all}
-use Rattle.std.proofs.Math.Seq.{get_or-append_seam}
-use Rattle.std.proofs.lemmas.List.Elements.{All-cons, All-append, All-take, All-drop}
+use Rattle.std.proofs.lemmas.{Bool.cases_lt, Bool.eq-eqb, Bool.Decides.eqb_tells, List.get_or_default, List.get_or_append_left, List.take_all}
+use Rattle.std.proofs.{Math.Seq.get_or-append_seam, lemmas.List.Elements.All-cons, lemmas.List.Elements.All-append, lemmas.List.Elements.All-take, lemmas.List.Elements.All-drop}
 use Rattle.spin_base.specs.declared.routes.Route.{Route}
-use Rattle.tern_word.specs.declared.tables.Row.{Row}
-use Rattle.tern_word.specs.SoundTable.{IsOrdered}
-use Rattle.cover_merge.specs.Merge.{has_row, picked, merged_row, insert_place, after, IsMergeSet, merge_rows}
-use Rattle.cover_merge.proofs.Lists.{All-picked}
-use Rattle.cover_merge.specs.Links.{place_of_route, IsEachOnce, AreRoutes, IsRouteAdded, AreNumbers, IsAhead, IsNextOfRoute, IsFirstOfRoute, AreLinks}
-use Rattle.cover_merge.proofs.ApplyLemmas.{left, after_is, route_is}
+use Rattle.tern_word.specs.{declared.tables.Row.Row, SoundTable.IsOrdered}
+use Rattle.cover_merge.specs.{Merge.has_row, Merge.picked, Merge.merged_row, Merge.insert_place, Merge.after, Merge.IsMergeSet, Merge.merge_rows, Links.place_of_route, Links.IsEachOnce}
+use Rattle.cover_merge.specs.Links.{AreRoutes, IsRouteAdded, AreNumbers, IsAhead, IsNextOfRoute, IsFirstOfRoute, AreLinks}
+use Rattle.cover_merge.proofs.{Lists.All-picked, ApplyLemmas.left, ApplyLemmas.after_is, ApplyLemmas.route_is}
 
 -- ---- the place of a route
 
@@ -77,21 +73,7 @@ route_last (r ∷ routes) bits none = by_test (eqb_tells r bits) none (route_las
 
 pub added_last : (bits n : ℕ) (old new : List ℕ) → n ≡ place_of_route old bits → n ≡ length old → new ≡ old ++ bits ∷ [] → IsRouteAdded bits old new
 added_last bits n old new is none now =
-    let many = ap length now ∙ length-append old (bits ∷ []) in
-    let there : place_of_route new bits ≡ length old = ap (λ l. place_of_route l bits) now ∙ route_last old bits (sym is ∙ none) in record {
-      found = omega (arith, there, many);
-      stays = λ other before. let same = ap (λ l. place_of_route l other) now ∙ route_stays old bits other before in omega (arith, same, before, many);
-      one_more = omega (arith, many);
-      once = λ each c within. elim (cases_lt c (length old)) [
-        | inl earlier ↦
-            let read : get_or new c 0 ≡ get_or old c 0 = ap (λ l. get_or l c 0) now ∙ get_or_append_left old (bits ∷ []) 0 c earlier in
-            ap (place_of_route new) read ∙ ap (λ l. place_of_route l (get_or old c 0)) now ∙ route_stays old bits (get_or old c 0) (omega (arith, each c earlier, earlier)) ∙ each c earlier
-        | inr behind ↦
-            let last : length old ≡ c = omega (arith, behind, within, many) in
-            let read : get_or new c 0 ≡ bits = ap (λ l. get_or l c 0) now ∙ ap (λ i. get_or (old ++ bits ∷ []) i 0) (sym last) ∙ get_or-append_seam old bits [] 0 in
-            ap (place_of_route new) read ∙ there ∙ last
-      ];
-    }
+    grind (arith, length-append old (bits ∷ []), route_last old bits (sym is ∙ none), get_or-append_seam old bits, route_stays, cases_lt, get_or, get_or_append_left)
 
 pub added_again : (bits n : ℕ) (old : List ℕ) → n ≡ place_of_route old bits → n ≢ length old → n ≤ length old → IsRouteAdded bits old old
 added_again bits n old is there most = record {
@@ -179,17 +161,10 @@ module _ (routes : List ℕ) (rows : List Row) (numbers : List ℕ) (are : AreNu
   same_number j k d in_j in_k same = number_at j d in_j ∙ ap (place_of_route routes) same ∙ sym (number_at k d in_k)
 
   pub next_from : (k x : ℕ) → k < length rows → IsAhead numbers (k + 1) (get_or numbers k 0) x → IsNextOfRoute rows k x
-  next_from k x inside ahead = record {
-    behind = omega (arith, ahead.reached);
-    same = λ d within. same_route x k d within inside (ahead.same (omega (arith, as_many, within)));
-    between = λ j d after before within same. ahead.none j (omega (arith, after)) before (omega (arith, as_many, within)) (same_number j k d within inside same);
-  }
+  next_from k x inside ahead = grind (arith, as_many, same_route, same_number)
 
   pub first_from : IsEachOnce routes → (c x : ℕ) → c < length routes → IsAhead numbers 0 c x → IsFirstOfRoute rows (get_or routes c 0) x
-  first_from once c x low ahead = record {
-    same = λ d within. sym (route_of x d within) ∙ ap (λ n. get_or routes n 0) (ahead.same (omega (arith, as_many, within)));
-    before = λ j d less within same. ahead.none j (omega arith) less (omega (arith, as_many, within)) (number_of_route once j c d within low same);
-  }
+  first_from once c x low ahead = grind (arith, as_many, route_of, get_or, number_of_route)
 
 pub links_made : (routes : List ℕ) (rows : List Row) (numbers : List ℕ) → IsEachOnce routes → AreNumbers routes rows numbers → (nexts heads : List ℕ)
     → length nexts ≡ length numbers → length heads ≡ length routes

@@ -26,9 +26,7 @@ module _ {X : Type 0} (P : X → Type 0) where
   -- what holds of the picked items holds at each place that passes
   pub picked-at : (q : ℕ → Bool) (i : ℕ) (xs : List X) → All P (picked q i xs) → (k j : ℕ) (d : X) → j ≡ i + k → k < length xs → q j ≡ true → P (get_or xs k d)
   picked-at q i [] all k j d place in_range pass = absurd (omega arith)
-  picked-at q i (x ∷ xs) all zero j d place in_range pass =
-      let here : i ≡ j = omega arith in
-      head_of_cond (q i) x (picked q (suc i) xs) (ap q here ∙ pass) all
+  picked-at q i (x ∷ xs) all zero j d place in_range pass = grind (arith, head_of_cond (q i) x (picked q (suc i) xs) (ap q (omega arith) ∙ pass) all)
   picked-at q i (x ∷ xs) all (suc k) j d place in_range pass =
       picked-at q (suc i) xs (rest_of_cond (q i) x (picked q (suc i) xs) all) k j d (omega arith) (omega arith) pass
 

@@ -1,31 +1,20 @@
 -- A pair of rows that is legal after a merge was legal before it, where neither loses a row behind it by the merge.
-use Rattle.std.proofs.Common.{◌≡◌, ◌==◌, ◌||◌, ℕ, zero, suc, ◌<◌, ◌≤◌, ◌⊎◌, true, false, List, [], ◌∷◌, length, get_or, take, drop, length-append, length-take, length-drop, inl, inr, refl, sym, ap, ◌∙◌, subst, arith}
-use Rattle.std.specs.Prelude.{All, insert, map, not, slice_get}
-use Rattle.std.specs.List.{cons_option}
+use Rattle.std.proofs.Common.{◌≡◌, ℕ, zero, suc, ◌<◌, ◌≤◌, ◌⊎◌, true, false, List, [], ◌∷◌, length, get_or, take, drop, length-append, length-take, length-drop, inl, inr, refl, sym, ap, ◌∙◌, subst}
+use Rattle.std.proofs.Common.{arith}
+use Rattle.std.specs.Prelude.{All, insert, map, not}
 use mathlib.Core.Bool.{true≢false}
-use Rattle.std.proofs.lemmas.Bool.{cases_Bool, cases_lt}
-use Rattle.std.proofs.lemmas.List.Elements.{All-nil, All-cons}
-use Rattle.std.proofs.lemmas.List.Kept.{AllPairs-cons}
-use Rattle.spin_base.specs.declared.blocks.Block.{Block}
-use Rattle.spin_base.specs.declared.routes.Route.{Route}
-use Rattle.tern_word.specs.declared.tables.Row.{Row}
-use Rattle.tern_word.specs.Ternary.{generality, merge_of}
-use Rattle.tern_word.specs.SoundTable.{IsSound, Misses}
+use Rattle.std.proofs.lemmas.{Bool.cases_Bool, Bool.cases_lt, List.Elements.All-nil, List.Elements.All-cons, List.Kept.AllPairs-cons}
+use Rattle.spin_base.specs.declared.{blocks.Block.Block, routes.Route.Route}
+use Rattle.tern_word.specs.{declared.tables.Row.Row, Ternary.generality, Ternary.merge_of, SoundTable.IsSound, SoundTable.Misses}
 use Rattle.tern_word.proofs.BlockLaws.{generality-merge}
 use Rattle.cover_merge.specs.Merge.{has_row, rows_at, merged_row, merged_block, place_for, insert_place, after, SameRoute, IsMergeSet, IsLegal, PassesUp, PassesUpCheck, PassesDown, PassesDownCheck}
-use Rattle.cover_merge.specs.Covering.{IsLegalPair}
-use Rattle.cover_merge.specs.declared.rivals.Rival.{Rival}
-use Rattle.cover_merge.specs.declared.times.Times.{Times}
-use Rattle.cover_merge.specs.Links.{place_of_route}
-use Rattle.cover_merge.specs.Rivals.{AreRivalsAt, HasSerial, MeetsNone, is_at_one}
-use Rattle.cover_merge.specs.Tried.{AreTriedUpTo, AreTouched, AreNoLater, IsFresh, LosesNone}
-use Rattle.cover_merge.proofs.Lists.{All-from_map, picked_lengths}
-use Rattle.cover_merge.proofs.Positions.{All-has, at_one_of, has-at, has-place, rows_at-has, place_for-le, place_for-below, place_for-above}
-use Rattle.cover_merge.proofs.Legal.{Misses-members, legal_from_checks, up_from_legal, down_from_legal}
-use Rattle.cover_merge.proofs.ApplyLemmas.{left, after_is, block_is, route_is}
-use Rattle.cover_merge.proofs.TriedLemmas.{all_before}
-use Rattle.cover_merge.proofs.KeptLemmasMoved.{moved, merged_at, item_moved, item_merged, item_onto}
-use Rattle.cover_merge.proofs.KeptLemmas.{from_less, to_less, same_test, get_to, slice_to, before_to}
+use Rattle.cover_merge.specs.{Covering.IsLegalPair, declared.rivals.Rival.Rival, declared.times.Times.Times, Links.place_of_route, Rivals.AreRivalsAt, Rivals.HasSerial, Rivals.MeetsNone}
+use Rattle.cover_merge.specs.{Rivals.is_at_one, Tried.AreTriedUpTo, Tried.AreTouched, Tried.AreNoLater, Tried.IsFresh, Tried.LosesNone}
+use Rattle.cover_merge.proofs.{Lists.All-from_map, Lists.picked_lengths, Positions.All-has, Positions.at_one_of, Positions.has-at, Positions.has-place, Positions.rows_at-has, Positions.place_for-le}
+use Rattle.cover_merge.proofs.{Positions.place_for-below, Positions.place_for-above, Legal.Misses-members, Legal.legal_from_checks, Legal.up_from_legal, Legal.down_from_legal, ApplyLemmas.left}
+use Rattle.cover_merge.proofs.{ApplyLemmas.after_is, ApplyLemmas.block_is, ApplyLemmas.route_is, TriedLemmas.all_before, KeptLemmasMoved.moved, KeptLemmasMoved.merged_at, KeptLemmasMoved.item_moved}
+use Rattle.cover_merge.proofs.{KeptLemmasMoved.item_merged, KeptLemmasMoved.item_onto, KeptLemmas.from_less, KeptLemmas.to_less, KeptLemmas.same_test, KeptLemmas.get_to, KeptLemmas.slice_to}
+use Rattle.cover_merge.proofs.KeptLemmas.{before_to}
 
 -- the merge of the blocks of rows
 abbrev block_of : List Row → Block
@@ -69,14 +58,10 @@ module _ (rows : List Row) (merge : List ℕ) (sound : IsSound rows) (set : IsMe
     image = to i ∷ to j ∷ []
 
     has_image : (k : ℕ) → has_row merge k ≡ false → has_row image (to k) ≡ has_row pair k
-    has_image k out =
-        ap (λ b. b || ((to j == to k) || false)) (same_test rows merge sound set legal i k out_i out)
-        ∙ ap (λ b. (i == k) || (b || false)) (same_test rows merge sound set legal j k out_j out)
+    has_image k out = grind (arith, same_test rows merge sound set legal i k out_i out, same_test rows merge sound set legal j k out_j out)
 
     block_same : merged_block new image ≡ merged_block rows pair
-    block_same =
-        ap (λ o. block_of (cons_option o (cons_option (slice_get new (to j)) []))) (slice_to rows merge sound set legal i in_i out_i)
-        ∙ ap (λ o. block_of (cons_option (slice_get rows i) (cons_option o []))) (slice_to rows merge sound set legal j in_j out_j)
+    block_same = grind (arith, slice_to rows merge sound set legal i in_i out_i, slice_to rows merge sound set legal j in_j out_j)
 
     up_before : (g s : ℕ) → s < length rows → has_row merge s ≡ false → LosesNone rows merge s → PassesUp new image (to s) (place_for new g) → PassesUp rows pair s (place_for rows g)
     up_before g s inside out loses up k behind before d outside =
@@ -190,15 +175,9 @@ module _ (rows : List Row) (merge : List ℕ) (sound : IsSound rows) (set : IsMe
               → ((k : ℕ) × (k < length times) × (has_row merge k ≡ false) × (to k ≡ l) × (get_or after_times l e ≡ get_or times k e)) ⊎ (get_or after_times l e ≡ nothing)
               → ((k : ℕ) × (k < length times) × (has_row merge k ≡ false) × (to k ≡ m) × (get_or after_times m e ≡ get_or times k e)) ⊎ (get_or after_times m e ≡ nothing) → ⊥
           by_places l m e less earlier pair (inr is) other = omega (arith, earlier, ap (λ (x : Times). x.tried) is, fresh.tried)
-          by_places l m e less earlier pair (inl (i, in_i, out_i, at_i, is_i)) (inr is) =
-              omega (arith, earlier, ap (λ (x : Times). x.changed) is, fresh.changed, ap (λ (x : Times). x.tried) is_i, (marks.bound i e in_i).0)
+          by_places l m e less earlier pair (inl (i, in_i, out_i, at_i, is_i)) (inr is) = grind arith
           by_places l m e less earlier pair (inl (i, in_i, out_i, at_i, is_i)) (inl (j, in_j, out_j, at_j, is_j)) =
-              let told : (get_or times j e).changed < (get_or times i e).tried = omega (arith, earlier, ap (λ (x : Times). x.changed) is_j, ap (λ (x : Times). x.tried) is_i) in
-              marks.tried i j e (from_less rows merge sound set legal i j out_j (omega (arith, less, at_i, at_j))) in_j told
-              (pair_before i j (omega (arith, in_i, one_each)) (omega (arith, in_j, one_each)) out_i out_j
-              (tried_loses i (get_or times j e).changed e told (touched i e in_i))
-              (old_loses j e (omega (arith, told, (marks.bound i e in_i).0)) (touched j e in_j))
-              (subst (λ n. IsLegalPair new n (to j)) (sym at_i) (subst (λ n. IsLegalPair new l n) (sym at_j) pair)))
+              grind (arith, from_less rows merge sound set legal i j out_j (omega (arith, less, at_i, at_j)), get_or times j e, pair_before, tried_loses, old_loses)
 
       pub marks_carried : AreTouched merge now rows times → AreTriedUpTo now rows times → AreTriedUpTo now new (carried_times p)
       marks_carried touched marks = subst (λ n. AreTriedUpTo now new (carried_times n)) (sym place) (marks_after touched marks)

@@ -1,20 +1,14 @@
 -- Places of rows: those of a set, and the insertion place of a merge.
-use Rattle.std.proofs.Common.{◌≡◌, ℕ, zero, suc, ◌+◌, ◌-◌, ◌<◌, ◌≤◌, true, false, cond, ◌||◌, Option, Some, None, List, [], ◌∷◌, ◌++◌, length, get_or, take, drop, refl, sym, ap, ◌∙◌, zero-add, add_comm, length-take, length-drop, get_or-take, get_or-drop, subst, inl, inr, ◌⊎◌, arith}
-use Rattle.std.specs.Prelude.{All, AllPairs, map, nat_le, ◌==◌, slice_get}
-use Rattle.std.specs.List.{cons_option}
-use Rattle.std.proofs.lemmas.List.{take_more, map-append}
-use Rattle.std.proofs.lemmas.Bool.{eq-eqb, or_left, or_right}
-use Rattle.std.proofs.lemmas.Bool.Decides.{leb_tells, eqb_tells, nat_tests}
-use Rattle.std.proofs.lemmas.List.Elements.{All-take, All-drop, filter_map-append, All-nil, All-cons, All-head, All-tail}
-use Rattle.std.proofs.lemmas.List.Sums.{sum_by-append, count_by-le-length}
-use Rattle.std.proofs.lemmas.Option.{slice_get-get_or, get_or_from_slice_get}
+use Rattle.std.proofs.Common.{◌≡◌, ℕ, zero, suc, ◌+◌, ◌-◌, ◌<◌, ◌≤◌, true, false, cond, ◌||◌, Option, Some, None, List, [], ◌∷◌, ◌++◌, length, get_or, take, drop, refl, sym, ap, ◌∙◌, zero-add}
+use Rattle.std.proofs.Common.{add_comm, length-take, length-drop, get_or-take, get_or-drop, subst, inl, inr, ◌⊎◌, arith}
+use Rattle.std.specs.{Prelude.All, Prelude.AllPairs, Prelude.map, Prelude.nat_le, Prelude.◌==◌, Prelude.slice_get, List.cons_option}
+use Rattle.std.proofs.lemmas.{List.take_more, List.map-append, Bool.eq-eqb, Bool.or_left, Bool.or_right, Bool.Decides.leb_tells, Bool.Decides.eqb_tells, Bool.Decides.nat_tests, List.Elements.All-take}
+use Rattle.std.proofs.lemmas.List.{Elements.All-drop, Elements.filter_map-append, Elements.All-nil, Elements.All-cons, Elements.All-head, Elements.All-tail, Sums.sum_by-append}
+use Rattle.std.proofs.lemmas.{List.Sums.count_by-le-length, Option.slice_get-get_or, Option.get_or_from_slice_get}
 use Rattle.spin_base.specs.declared.blocks.Block.{Block}
-use Rattle.tern_word.specs.declared.tables.Row.{Row}
-use Rattle.tern_word.specs.Ternary.{generality, merge_of, merge_two}
-use Rattle.tern_word.specs.SoundTable.{IsOrdered}
+use Rattle.tern_word.specs.{declared.tables.Row.Row, Ternary.generality, Ternary.merge_of, Ternary.merge_two, SoundTable.IsOrdered}
 use Rattle.tern_word.proofs.BlockLaws.{generality-merge, merge_of-push}
-use Rattle.cover_merge.specs.Merge.{SameRoute, has_row, rows_at, merged_block, place_for, insert_place, IsMergeSet}
-use Rattle.cover_merge.specs.Rivals.{is_at_one}
+use Rattle.cover_merge.specs.{Merge.SameRoute, Merge.has_row, Merge.rows_at, Merge.merged_block, Merge.place_for, Merge.insert_place, Merge.IsMergeSet, Rivals.is_at_one}
 use Rattle.cover_merge.proofs.Lists.{All-from_map, AllPairs-head, AllPairs-tail}
 
 -- ---- places of a set

@@ -1,21 +1,14 @@
 -- Rows that a block meets, and a rival that is put into a list.
-use Rattle.std.proofs.Common.{◌≡◌, ℕ, ◌+◌, ◌<◌, ◌≤◌, ◌==◌, false, List, [], ◌∷◌, ◌++◌, length, get_or, get_or-take, take, set, inl, inr, ◌⊎◌, true, sym, ap, ◌∙◌, subst, length-append, length-take, length-set, arith}
+use Rattle.std.proofs.Common.{◌≡◌, ℕ, ◌+◌, ◌<◌, ◌≤◌, ◌==◌, false, List, [], ◌∷◌, ◌++◌, length, get_or, get_or-take, take, set, inl, inr, ◌⊎◌, true, sym, ap, ◌∙◌, subst, length-append, length-take}
+use Rattle.std.proofs.Common.{length-set, arith}
 use Rattle.std.specs.Prelude.{All, AllPairs, insert, not}
-use Rattle.std.proofs.Math.Seq.{get_or-append_seam}
-use Rattle.std.proofs.lemmas.Bool.{cases_lt, eq-eqb, or_left, or_right}
-use Rattle.std.proofs.lemmas.List.{get_or_append_left, get_or_default, take_more}
-use Rattle.std.proofs.lemmas.List.Elements.{All-append, All-cons, All-nil}
-use Rattle.std.proofs.lemmas.List.Kept.{AllPairs-cons, AllPairs-filter}
-use Rattle.std.proofs.lemmas.List.Folds.{list_any-append}
+use Rattle.std.proofs.{Math.Seq.get_or-append_seam, lemmas.Bool.cases_lt, lemmas.Bool.eq-eqb, lemmas.Bool.or_left, lemmas.Bool.or_right, lemmas.List.get_or_append_left, lemmas.List.get_or_default}
+use Rattle.std.proofs.lemmas.List.{take_more, Elements.All-append, Elements.All-cons, Elements.All-nil, Kept.AllPairs-cons, Kept.AllPairs-filter, Folds.list_any-append}
 use Rattle.std.proofs.lemmas.Grind.{get_or-set_at}
 use Rattle.spin_base.specs.declared.blocks.Block.{Block}
-use Rattle.tern_word.specs.declared.tables.Row.{Row}
-use Rattle.tern_word.specs.SoundTable.{IsSound, Misses}
-use Rattle.cover_merge.specs.Merge.{IsLegalMerge, PassesDown, has_row, insert_place}
-use Rattle.cover_merge.specs.Rivals.{AreMet, IsPutIn, is_at_one, rivals_left}
-use Rattle.cover_merge.specs.declared.rivals.Rival.{Rival}
-use Rattle.cover_merge.proofs.Legal.{down_from_legal}
-use Rattle.cover_merge.proofs.Lists.{AllPairs-append, AllPairs-nil}
+use Rattle.tern_word.specs.{declared.tables.Row.Row, SoundTable.IsSound, SoundTable.Misses}
+use Rattle.cover_merge.specs.{Merge.IsLegalMerge, Merge.PassesDown, Merge.has_row, Merge.insert_place, Rivals.AreMet, Rivals.IsPutIn, Rivals.is_at_one, Rivals.rivals_left, declared.rivals.Rival.Rival}
+use Rattle.cover_merge.proofs.{Legal.down_from_legal, Lists.AllPairs-append, Lists.AllPairs-nil}
 
 -- ---- rows that a block meets
 
@@ -37,9 +30,7 @@ module _ (block : Block) (rows : List Row) (met : List ℕ) (so_far : AreMet blo
   missed_still s within missed d = subst (Misses block) (sym (get_or_append_left rows (row ∷ []) d s within)) (missed d)
 
   at_last : (s : ℕ) → s < length more → length rows ≤ s → (d : Row) → row ≡ get_or more s d
-  at_last s within from d =
-      let last : length rows ≡ s = omega (arith, long, within, from) in
-      sym (get_or-append_seam rows row [] d) ∙ ap (λ n. get_or more n d) last
+  at_last s within from d = grind (arith, long, get_or-append_seam rows row, get_or)
 
   pub none_met : Misses block row → AreMet block more met
   none_met missed = record {
@@ -72,9 +63,7 @@ module _ (block : Block) (rows : List Row) (met : List ℕ) (so_far : AreMet blo
 -- the same of what the code reads
 pub next_missed : (block : Block) (rows : List Row) (i : ℕ) (met now : List ℕ) (row : Row) → i < length rows → AreMet block (take i rows) met → row ≡ get_or rows i row → Misses block row → now ≡ met → AreMet block (take (i + 1) rows) now
 next_missed block rows i met now row within so_far is missed same =
-    subst (AreMet block (take (i + 1) rows)) (sym same)
-    (subst (λ l. AreMet block l met) (sym (take_more rows i row within))
-    (none_met block (take i rows) met so_far (get_or rows i row) (subst (Misses block) is missed)))
+    grind (arith, take_more rows i row within, none_met block (take i rows) met so_far (get_or rows i row) (subst (Misses block) is missed), get_or rows i row)
 
 pub next_met : (block : Block) (rows : List Row) (i place : ℕ) (met now : List ℕ) (row : Row) → i < length rows → AreMet block (take i rows) met → row ≡ get_or rows i row → (Misses block row → ⊥) → place ≡ i → now ≡ met ++ place ∷ [] → AreMet block (take (i + 1) rows) now
 next_met block rows i place met now row within so_far is meets at pushed =
@@ -86,9 +75,7 @@ next_met block rows i place met now row within so_far is meets at pushed =
 -- the rows from a place on are missed
 -- a legal merge meets no alias of a row from its place on
 pub missed_behind : (rows : List Row) (places : List ℕ) (block : Block) (place : ℕ) → IsSound rows → IsLegalMerge rows places block → place ≡ insert_place rows places → PassesDown rows block place
-missed_behind rows places block place sound merge at =
-    subst (PassesDown rows block) (sym at)
-    (subst (λ b. PassesDown rows b (insert_place rows places)) (sym merge.block) (down_from_legal rows places sound merge.set.set.in_range merge.legal))
+missed_behind rows places block place sound merge at = grind (arith, down_from_legal rows places sound merge.set.set.in_range merge.legal)
 
 pub met_front : (block : Block) (rows : List Row) (place i : ℕ) (met : List ℕ) → i ≡ place → place ≤ length rows → PassesDown rows block place → AreMet block (take i rows) met → AreMet block rows met
 met_front block rows place i met at fits behind front = record {
@@ -112,13 +99,7 @@ met_front block rows place i met at fits behind front = record {
 
 -- no rival of the list is more general
 pub put_last : (v : Rival) (old new : List Rival) (at : ℕ) → at ≤ length old → length old ≤ at → ((k : ℕ) (e : Rival) → k < at → (get_or old k e).general ≤ v.general) → new ≡ insert old at v → IsPutIn v old new
-put_last v old new at within end before is = record {
-  at = at;
-  within = within;
-  before = before;
-  behind = λ k e from inside. absurd (omega (arith, end, from, inside));
-  result = is;
-}
+put_last v old new at within end before is = grind arith
 
 -- the rival at its place is more general, and so are those behind it
 pub put_before : (v x : Rival) (old new : List Rival) (at : ℕ) → AllPairs (λ (v w : Rival). v.general ≤ w.general) old → at < length old → ((k : ℕ) (e : Rival) → k < at → (get_or old k e).general ≤ v.general)
@@ -159,6 +140,4 @@ module _ (serials places : List ℕ) (of : List (List Rival)) (serial place : �
   -- the list that is written, the second at this place
   pub put_written : (merged : Rival) (new first list : List Rival) → left ≡ rivals_left serials places (get_or of place []) → list ≡ new → IsPutIn merged left new
       → IsPutIn merged (rivals_left serials places (get_or of place [])) (get_or (set (set of serial first) serial list) place [])
-  put_written merged new first list is made put =
-      let written : get_or (set (set of serial first) serial list) place [] ≡ list = get_or-set_at (set of serial first) serial place list [] (sym same) (omega (arith, length-set of serial first, same, inside)) in
-      subst (λ l. IsPutIn merged l (get_or (set (set of serial first) serial list) place [])) is (subst (IsPutIn merged left) (sym (written ∙ made)) put)
+  put_written merged new first list is made put = grind (arith, get_or-set_at (set of serial first) serial place list, length-set of serial first, get_or (set (set of serial first) serial list) place)

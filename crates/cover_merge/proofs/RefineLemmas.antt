@@ -1,26 +1,17 @@
 -- What one turn of a refinement tells of the rules.
-use Rattle.std.proofs.Common.{◌≡◌, ◌≢◌, ℕ, zero, suc, ◌-◌, ◌/◌, ◌^◌, ◌<◌, ◌≤◌, ◌==◌, ◌&&◌, Bool, true, false, cond, Option, List, [], ◌∷◌, length, get_or, inl, inr, ◌⊎◌, refl, sym, ap, ◌∙◌, subst, arith}
-use Rattle.std.specs.Prelude.{bit_and, not, filter, map, All, AllPairs, IsTrue, ◌↔◌}
-use Rattle.std.specs.Int.{bit_at}
-use Rattle.std.specs.Option.{option_map_or}
-use Rattle.std.proofs.lemmas.Bool.{cases_lt}
+use Rattle.std.proofs.Common.{◌≡◌, ◌≢◌, ℕ, zero, suc, ◌-◌, ◌/◌, ◌^◌, ◌<◌, ◌≤◌, ◌==◌, ◌&&◌, Bool, true, false, cond, Option, List, [], ◌∷◌, length, get_or, inl, inr, ◌⊎◌, refl, sym, ap, ◌∙◌, subst}
+use Rattle.std.proofs.Common.{arith}
+use Rattle.std.specs.{Prelude.bit_and, Prelude.not, Prelude.filter, Prelude.map, Prelude.All, Prelude.AllPairs, Prelude.IsTrue, Prelude.◌↔◌, Int.bit_at, Option.option_map_or}
+use Rattle.std.proofs.lemmas.{Bool.cases_lt, List.Sums.length-filter, List.Sums.count_by-le-length, List.Elements.All-nil, List.Elements.All-cons, List.Elements.All-map, List.Elements.All-filter}
+use Rattle.std.proofs.lemmas.{List.Kept.AllPairs-filter, Bool.Decides.eqb_tells, Nat.Bits.bit_at-lt, Nat.Bits.bit_at_above, Nat.Bits.shr_and_one, Option.slice_get-get_or}
 use mathlib.Core.Bool.{false≢true}
-use Rattle.std.proofs.lemmas.List.Sums.{length-filter, count_by-le-length}
-use Rattle.std.proofs.lemmas.List.Elements.{All-nil, All-cons, All-map, All-filter}
-use Rattle.std.proofs.lemmas.List.Kept.{AllPairs-filter}
-use Rattle.std.proofs.lemmas.Bool.Decides.{eqb_tells}
-use Rattle.std.proofs.lemmas.Nat.Bits.{bit_at-lt, bit_at_above, shr_and_one}
-use Rattle.std.proofs.lemmas.Option.{slice_get-get_or}
 use Rattle.spin_base.specs.declared.blocks.Block.{Block}
-use Rattle.tern_word.specs.declared.tables.Row.{Row}
-use Rattle.tern_word.specs.Ternary.{Wants, generality}
+use Rattle.tern_word.specs.{declared.tables.Row.Row, Ternary.Wants, Ternary.generality, SoundTable.IsSound}
 use Rattle.tern_word.proofs.BlockLaws.{merge_of-is_merge}
 use Rattle.cover_merge.specs.Merge.{has_row, rows_at, merged_block, place_for, insert_place, SameRoute, IsOneRoute, IsMergeSet, IsLegal, PassesUp, PassesUpCheck, PassesDownCheck}
-use Rattle.tern_word.specs.SoundTable.{IsSound}
-use Rattle.cover_merge.proofs.Legal.{legal_from_checks}
-use Rattle.cover_merge.proofs.Answering.{fails}
-use Rattle.cover_merge.proofs.Positions.{has-at, has-place, All-has, rows_at-from, rows_at-length, some_blocks}
 use Rattle.cover_merge.specs.Refinement.{can_choose, parts, keeps, kept_by, IsLastFailing, IsUpStep, IsFirstMetFrom, IsNarrowed, IsDownStep}
+use Rattle.cover_merge.proofs.{Legal.legal_from_checks, Answering.fails, Positions.has-at, Positions.has-place, Positions.All-has, Positions.rows_at-from, Positions.rows_at-length}
+use Rattle.cover_merge.proofs.Positions.{some_blocks}
 
 -- ---- the tests of bits
 
@@ -173,11 +164,7 @@ module _ (rows : List Row) (old : List ℕ) (set : IsOneRoute rows old) where
   }
 
   emptied : IsOneRoute rows []
-  emptied = record {
-    ascending = λ i j d less within. absurd (omega arith);
-    in_range = All-nil (λ s. s < length rows);
-    one_route = λ i j d less within. absurd (omega arith);
-  }
+  emptied = grind (arith, All-nil)
 
   pub one_route_after : (new : List ℕ) → (IsUpStep rows old new) ⊎ (IsDownStep rows old new) → IsOneRoute rows new
   one_route_after new (inl step) = subst (IsOneRoute rows) (sym step.result) (filtered (λ t. not (t == step.place)))

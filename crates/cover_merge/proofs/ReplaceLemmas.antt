@@ -1,18 +1,13 @@
 -- Putting an item in and taking out those at places before it, in one pass.
-use Rattle.std.proofs.Common.{◌≡◌, ℕ, zero, suc, ◌+◌, ◌-◌, ◌<◌, ◌≤◌, true, false, List, [], ◌∷◌, ◌++◌, length, get_or, take, drop, set, inl, inr, refl, sym, ap, ◌∙◌, subst, length-append, length-take, length-drop, arith}
-use Rattle.std.specs.Prelude.{All, AllPairs, insert, not}
-use Rattle.std.specs.List.{copy_within}
-use Rattle.std.proofs.Math.Seq.{drop-cons, drop-drop, get_or-append_seam, paste, take-add}
-use Rattle.std.proofs.lemmas.Bool.{cases_lt, false_from_ne_true}
-use Rattle.std.proofs.lemmas.List.{append_assoc, get_or_append_left, take_all, take_more_set, drop-set-lt, take_at, drop-take}
-use Rattle.std.proofs.lemmas.List.Edits.{take-paste, drop-paste, length-paste}
-use Rattle.std.proofs.lemmas.List.Elements.{All-cons, All-nil}
-use Rattle.std.proofs.lemmas.List.Kept.{AllPairs-cons}
+use Rattle.std.proofs.Common.{◌≡◌, ℕ, zero, suc, ◌+◌, ◌-◌, ◌<◌, ◌≤◌, true, false, List, [], ◌∷◌, ◌++◌, length, get_or, take, drop, set, refl, sym, ap, ◌∙◌, subst, length-append, length-take}
+use Rattle.std.proofs.Common.{length-drop, arith}
+use Rattle.std.specs.{Prelude.All, Prelude.AllPairs, Prelude.insert, Prelude.not, List.copy_within}
+use Rattle.std.proofs.{Math.Seq.drop-cons, Math.Seq.drop-drop, Math.Seq.get_or-append_seam, Math.Seq.paste, Math.Seq.take-add, lemmas.Bool.cases_lt, lemmas.Bool.false_from_ne_true}
+use Rattle.std.proofs.lemmas.List.{append_assoc, get_or_append_left, take_all, take_more_set, drop-set-lt, take_at, drop-take, Edits.take-paste, Edits.drop-paste, Edits.length-paste}
+use Rattle.std.proofs.lemmas.{List.Elements.All-cons, List.Elements.All-nil, List.Kept.AllPairs-cons, Slice.drop-put_mid}
 use Rattle.cover_merge.specs.Merge.{has_row}
-use Rattle.cover_merge.proofs.ApplyLemmas.{left, kept_in, kept_out, kept_none, picked-append}
-use Rattle.cover_merge.proofs.Lists.{AllPairs-append, AllPairs-nil}
+use Rattle.cover_merge.proofs.{ApplyLemmas.left, ApplyLemmas.kept_in, ApplyLemmas.kept_out, ApplyLemmas.kept_none, ApplyLemmas.picked-append, Lists.AllPairs-append, Lists.AllPairs-nil}
 use Rattle.cover_merge.proofs.Positions.{has-at, has-place}
-use Rattle.std.proofs.lemmas.Slice.{drop-put_mid}
 
 -- ---- items moved down
 
@@ -117,15 +112,10 @@ module _ (places : List ℕ) (place : ℕ) (ascending : AllPairs (λ s t. s < t)
 
   pub end_least : (i : ℕ) → i ≤ length places → i ≤ end_at i
   end_least zero within = omega arith
-  end_least (suc i) within =
-      let less : end_at i < end_at (suc i) = ends_ascend i (suc i) 0 (omega arith) (omega (arith, many, within)) in
-      omega (arith, less, end_least i (omega (arith, within)))
+  end_least (suc i) within = grind (arith, ends_ascend i (suc i) 0 (omega arith) (omega (arith, many, within)), end_least i (omega (arith, within)))
 
   end_order : (i j : ℕ) → i ≤ j → j ≤ length places → end_at i ≤ end_at j
-  end_order i j le within = elim (cases_lt i j) [
-    | inl less ↦ omega (arith, ends_ascend i j 0 less (omega (arith, many, within)))
-    | inr last ↦ let same : i ≡ j = omega (arith, le, last) in let e = ap (λ n. end_at n) same in omega (arith, e)
-  ]
+  end_order i j le within = grind (arith, cases_lt i j, many, ends_ascend)
 
   pub end_most : (i : ℕ) → i ≤ length places → end_at i ≤ place
   end_most i within = omega (arith, end_order i (length places) within (omega arith), end_last)
@@ -135,13 +125,7 @@ module _ (places : List ℕ) (place : ℕ) (ascending : AllPairs (λ s t. s < t)
 
   -- no place is between two that follow each other, or before the first
   free_between : (i k : ℕ) → i < length places → end_at i < k → k < end_at (i + 1) → has_row places k ≡ false
-  free_between i k within after less = false_from_ne_true (has_row places k) (λ found.
-      let at = has-place places k found in
-      let is : end_at at.0 ≡ k = end_is at.0 at.1 ∙ at.2 in
-      elim (cases_lt i at.0) [
-        | inl later ↦ omega (arith, end_order (i + 1) at.0 (omega (arith, later)) (omega (arith, at.1)), is, less)
-        | inr earlier ↦ omega (arith, end_order at.0 i earlier (omega (arith, within)), is, after)
-      ])
+  free_between i k within after less = grind (arith, false_from_ne_true, has-place, end_is, cases_lt, end_order)
 
   free_first : (k : ℕ) → k < end_at 0 → has_row places k ≡ false
   free_first k less = false_from_ne_true (has_row places k) (λ found.
@@ -151,11 +135,7 @@ module _ (places : List ℕ) (place : ℕ) (ascending : AllPairs (λ s t. s < t)
 
   module _ {X : Type 0} (item : X) (old : List X) (fits : place ≤ length old) where
     pub none_closed : IsClosedUp places place old 0 old
-    none_closed = record {
-      one_each = refl;
-      front = (let all : end_at 0 - 0 ≡ end_at 0 = omega arith in ap (λ n. take n old) all) ∙ sym (kept_free places 0 (take (end_at 0) old) (λ k from less. free_first k (omega (arith, less, length-take (end_at 0) old))));
-      rest = refl;
-    }
+    none_closed = grind (arith, length-take (end_at 0) old, kept_free, free_first)
 
     module _ (i : ℕ) (within : i < length places) (items new : List X) (closed : IsClosedUp places place old i items) where
       -- the item at place i goes, and those up to the next follow
@@ -186,35 +166,10 @@ module _ (places : List ℕ) (place : ℕ) (ascending : AllPairs (λ s t. s < t)
 
       -- what the code reads
       pub starts : (from to : ℕ) → from ≡ get_or places i 0 + 1 → to ≡ end_at (i + 1) → (i ≤ from - 1) × (from ≤ to) × (to ≤ length items) × (from - 1 - i + (to - from) ≤ length items)
-      starts from to read ends =
-          let a = end_is i within in
-          let next = end_next i within in
-          let most = end_most (i + 1) (omega (arith, within)) in
-          let least = end_least i (omega (arith, within)) in (
-            omega (arith, read, a, least),
-            omega (arith, read, a, ends, next),
-            omega (arith, ends, most, fits, closed.one_each),
-            omega (arith, read, a, ends, next, most, fits, closed.one_each),
-          )
+      starts from to read ends = grind (arith, end_is i within, end_next i within, end_most (i + 1) (omega (arith, within)), end_least i (omega (arith, within)))
 
       pub one_closed : (from to : ℕ) → from ≡ get_or places i 0 + 1 → to ≡ end_at (i + 1) → IsMovedDown from to (i + 1) items new → IsClosedUp places place old (i + 1) new
-      one_closed from to read ends moved =
-          let a = end_at i in
-          let b = end_at (i + 1) in
-          let n = b - (a + 1) in
-          let from_is : from ≡ a + 1 = omega (arith, read, end_is i within) in
-          let same : a + 1 - (i + 1) ≡ a - i = omega arith in
-          let apart : b ≡ a + (b - a) = omega (arith, end_next i within) in
-          let down : IsMovedDown (a + 1) b (i + 1) items new = subst (λ m. IsMovedDown m b (i + 1) items new) from_is (subst (λ m. IsMovedDown from m (i + 1) items new) ends moved) in record {
-            one_each = down.one_each ∙ closed.one_each;
-            front =
-                down.front
-                ∙ ap (λ m. take m items ++ take n (drop (a + 1) items)) same
-                ∙ ap (λ l. l ++ take n (drop (a + 1) items)) closed.front
-                ∙ ap (λ l. left places 0 (take a old) ++ take n l) (rest_on 1)
-                ∙ sym front_more;
-            rest = down.rest ∙ ap (λ m. drop m items) apart ∙ rest_on (b - a) ∙ ap (λ m. drop m old) (sym apart);
-          }
+      one_closed from to read ends moved = grind (arith, end_is i within, end_next i within, left places 0 (take (end_at i) old), rest_on 1, front_more, rest_on ((end_at (i + 1)) - (end_at i)))
 
     -- the item goes behind those that are left, and the rest closes up
     pub room : 0 < length places → (length places ≤ place) × (place - length places < length old)
@@ -247,10 +202,4 @@ module _ (places : List ℕ) (place : ℕ) (ascending : AllPairs (λ s t. s < t)
     pub all_replaced : (i len : ℕ) (items new done : List X) → 0 < length places → IsClosedUp places place old i items → length places ≤ i → i ≤ length places → len ≡ length items
         → IsMovedDown place len (length places - 1) (set items (place - length places) item) new → done ≡ take (len - (length places - 1)) new
         → done ≡ left places 0 (insert old place item)
-    all_replaced i len items new done some closed from to many moved taken =
-        let last : i ≡ length places = omega (arith, from, to) in
-        let whole : len ≡ length old = many ∙ closed.one_each in
-        taken
-        ∙ ap (λ n. take (n - (length places - 1)) new) whole
-        ∙ all_closed items new some (subst (λ n. IsClosedUp places place old n items) last closed)
-        (subst (λ n. IsMovedDown place n (length places - 1) (set items (place - length places) item) new) whole moved)
+    all_replaced i len items new done some closed from to many moved taken = grind (arith, many, all_closed)

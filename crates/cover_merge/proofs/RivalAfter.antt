@@ -1,28 +1,19 @@
 -- The rivals of rows in the table after a merge.
-use Rattle.std.proofs.Common.{◌≡◌, ◌≢◌, ◌==◌, ◌||◌, ◌^◌, ℕ, zero, suc, ◌+◌, ◌<◌, ◌≤◌, ◌⊎◌, Bool, true, false, cond, List, [], ◌∷◌, ◌++◌, length, get_or, take, drop, inl, inr, refl, sym, ap, ◌∙◌, subst, take-append-drop, length-append, length-take, length-drop, get_or-take, get_or-drop, arith}
+use Rattle.std.proofs.Common.{◌≡◌, ◌≢◌, ◌==◌, ◌||◌, ◌^◌, ℕ, zero, suc, ◌+◌, ◌<◌, ◌≤◌, ◌⊎◌, Bool, true, false, cond, List, [], ◌∷◌, ◌++◌, length, get_or, take, drop, inl, inr, refl, sym, ap, ◌∙◌}
+use Rattle.std.proofs.Common.{subst, take-append-drop, length-append, length-take, length-drop, get_or-take, get_or-drop, arith}
 use Rattle.std.specs.Prelude.{All, AllPairs, filter, insert, not}
-use Rattle.std.proofs.Math.Seq.{get_or-append_seam}
-use Rattle.std.proofs.lemmas.Bool.{cases_Bool, cases_eq, cases_lt, eq-eqb, ne_eqb, not-true, not_from_false}
-use Rattle.std.proofs.lemmas.List.{get_or_append_left}
-use Rattle.std.proofs.lemmas.List.Edits.{length-insert}
-use Rattle.std.proofs.lemmas.List.Elements.{All-nil, All-head, All-tail, All-cons, All-append, All-take, All-drop, All-filter, filter_passes}
-use Rattle.std.proofs.lemmas.List.Kept.{AllPairs-cons, AllPairs-filter}
+use Rattle.std.proofs.{Math.Seq.get_or-append_seam, lemmas.Bool.cases_Bool, lemmas.Bool.cases_eq, lemmas.Bool.cases_lt, lemmas.Bool.eq-eqb, lemmas.Bool.ne_eqb, lemmas.Bool.not-true}
+use Rattle.std.proofs.lemmas.{Bool.not_from_false, List.get_or_append_left, List.Edits.length-insert, List.Elements.All-nil, List.Elements.All-head, List.Elements.All-tail, List.Elements.All-cons}
+use Rattle.std.proofs.lemmas.List.{Elements.All-append, Elements.All-take, Elements.All-drop, Elements.All-filter, Elements.filter_passes, Kept.AllPairs-cons, Kept.AllPairs-filter}
 use Rattle.spin_base.specs.declared.blocks.Block.{Block}
-use Rattle.tern_word.specs.declared.tables.Row.{Row}
-use Rattle.tern_word.specs.SoundTable.{IsSound, Misses}
-use Rattle.tern_word.specs.Ternary.{generality}
-use Rattle.cover_merge.specs.Merge.{has_row, merge_rows, merged_row, merged_block, place_for, insert_place, after, IsMergeSet, IsLegal}
-use Rattle.cover_merge.specs.Rivals.{AreMet, AreRivalsAt, AreRivalsAfter, HasSerial, IsPutIn, IsRivalBehind, IsRivalOf, IsRivaled, MeetsAliasOf, MeetsNone, is_at_one, rivals_left}
-use Rattle.cover_merge.specs.Spans.{AreSpansOf}
-use Rattle.cover_merge.specs.declared.rivals.Rival.{Rival}
-use Rattle.cover_merge.specs.declared.rivals.Rivals.{Rivals}
-use Rattle.cover_merge.proofs.Legal.{narrower_misses, member_lies}
-use Rattle.cover_merge.proofs.Lists.{All-picked, AllPairs-head, AllPairs-tail, AllPairs-append, AllPairs-left, AllPairs-right, AllPairs-across, picked_lengths}
-use Rattle.cover_merge.proofs.Positions.{has-place, place_for-le}
-use Rattle.cover_merge.proofs.ApplyLemmas.{left, first_kept, members_before, block_is, route_is, after_is}
-use Rattle.cover_merge.proofs.CoverLemmas.{shorter}
-use Rattle.cover_merge.proofs.KeptLemmas.{from_less, to_less}
-use Rattle.cover_merge.proofs.KeptLemmasMoved.{rank, moved, merged_at, moved_get, item_moved, item_merged, item_onto}
+use Rattle.tern_word.specs.{declared.tables.Row.Row, SoundTable.IsSound, SoundTable.Misses, Ternary.generality}
+use Rattle.cover_merge.specs.{Merge.has_row, Merge.merge_rows, Merge.merged_row, Merge.merged_block, Merge.place_for, Merge.insert_place, Merge.after, Merge.IsMergeSet, Merge.IsLegal, Rivals.AreMet}
+use Rattle.cover_merge.specs.Rivals.{AreRivalsAt, AreRivalsAfter, HasSerial, IsPutIn, IsRivalBehind, IsRivalOf, IsRivaled, MeetsAliasOf, MeetsNone, is_at_one, rivals_left}
+use Rattle.cover_merge.specs.{Spans.AreSpansOf, declared.rivals.Rival.Rival, declared.rivals.Rivals.Rivals}
+use Rattle.cover_merge.proofs.{Legal.narrower_misses, Legal.member_lies, Lists.All-picked, Lists.AllPairs-head, Lists.AllPairs-tail, Lists.AllPairs-append, Lists.AllPairs-left, Lists.AllPairs-right}
+use Rattle.cover_merge.proofs.{Lists.AllPairs-across, Lists.picked_lengths, Positions.has-place, Positions.place_for-le, ApplyLemmas.left, ApplyLemmas.first_kept, ApplyLemmas.members_before}
+use Rattle.cover_merge.proofs.{ApplyLemmas.block_is, ApplyLemmas.route_is, ApplyLemmas.after_is, CoverLemmas.shorter, KeptLemmas.from_less, KeptLemmas.to_less, KeptLemmasMoved.rank}
+use Rattle.cover_merge.proofs.KeptLemmasMoved.{moved, merged_at, moved_get, item_moved, item_merged, item_onto}
 
 -- ---- numbers in a list of rivals
 
@@ -100,10 +91,7 @@ all_insert P v old new put here all =
 module _ (rows : List Row) (serials places : List ℕ) (apart : (i j : ℕ) → i < length rows → j < length rows → get_or serials i 0 ≡ get_or serials j 0 → i ≡ j) where
   -- numbers are one where the rows are
   same_serial : (i j : ℕ) → i < length rows → j < length rows → (get_or serials i 0 == get_or serials j 0) ≡ (i == j)
-  same_serial i j in_i in_j = elim (cases_eq i j) [
-    | inl same ↦ eq-eqb (get_or serials i 0) (get_or serials j 0) (ap (λ n. get_or serials n 0) same) ∙ sym (eq-eqb i j same)
-    | inr other ↦ ne_eqb (get_or serials i 0) (get_or serials j 0) (λ is. other (apart i j in_i in_j is)) ∙ sym (ne_eqb i j other)
-  ]
+  same_serial i j in_i in_j = grind (arith, cases_eq i j, get_or serials i 0, get_or serials j 0, eq-eqb, ne_eqb)
 
   at_place : (set : List ℕ) (r : ℕ) → All (λ s. s < length rows) set → r < length rows → is_at_one serials set (get_or serials r 0) ≡ has_row set r
   at_place [] r in_range inside = refl
@@ -161,10 +149,7 @@ pub record AreRenewed (rows : List Row) (serials places : List ℕ) (block : Blo
   pub others : (s : ℕ) → s < length rows → ((i : ℕ) → i < k → get_or met i 0 ≢ s) → get_or now (get_or serials s 0) [] ≡ get_or old (get_or serials s 0) []
 
 pub none_renewed : (rows : List Row) (serials places : List ℕ) (block : Block) (merged : Rival) (met : List ℕ) (old : List (List Rival)) → AreRenewed rows serials places block merged met 0 old old
-none_renewed rows serials places block merged met old = record {
-  done = λ i less. absurd (omega (arith, less));
-  others = λ s inside apart. refl;
-}
+none_renewed rows serials places block merged met old = grind arith
 
 module _ (rows : List Row) (serials places : List ℕ) (block : Block) (merged : Rival) (met : List ℕ) (are_met : AreMet block rows met) (old : List (List Rival))
     (each : (s : ℕ) → s < length rows → AreRivalsAt rows serials s (get_or old (get_or serials s 0) [])) (apart : (i j : ℕ) → i < length rows → j < length rows → get_or serials i 0 ≡ get_or serials j 0 → i ≡ j) (set : IsMergeSet rows places) where
@@ -218,9 +203,7 @@ module _ (s : ℕ) (rest : List ℕ) (above : All (λ t. s < t) rest) where
   -- at or before the first place, it makes no difference
   first_same : (n : ℕ) → n ≤ s → below_out (s ∷ rest) n ≡ below_out rest n
   first_same zero le = refl
-  first_same (suc n) le =
-      ap (λ b. cond (not (b || has_row rest n)) (suc (below_out (s ∷ rest) n)) (below_out (s ∷ rest) n)) (ne_eqb s n (λ same. omega (arith, same, le)))
-      ∙ ap (λ m. cond (not (has_row rest n)) (suc m) m) (first_same n (omega arith))
+  first_same (suc n) le = grind (arith, first_same n (omega arith), ne_eqb)
 
   -- behind it, there is one fewer
   first_fewer : (n : ℕ) → s < n → suc (below_out (s ∷ rest) n) ≡ below_out rest n
@@ -254,9 +237,7 @@ stands_at rows places sound set = all_out places (insert_place rows places) set.
 
 -- the insertion place, as the code finds it
 pub place_is : (rows one two : List Row) (places members : List ℕ) (general place : ℕ) → one ≡ rows → two ≡ rows → members ≡ places → general ≡ generality (merged_block one members) → place ≡ place_for two general → place ≡ insert_place rows places
-place_is rows one two places members general place first second same level found =
-    found ∙ ap (λ l. place_for l general) second
-    ∙ ap (place_for rows) (level ∙ ap (λ l. generality (merged_block l members)) first ∙ ap (λ l. generality (merged_block rows l)) same)
+place_is rows one two places members general place first second same level found = grind arith
 
 -- ---- the rivals of all rows after a merge
 
@@ -318,9 +299,7 @@ module _ (rows : List Row) (places : List ℕ) (sound : IsSound rows) (set : IsM
 
   -- the numbers, as the code makes them
   pub carried_is : (members now items : List ℕ) (place serial : ℕ) → members ≡ places → now ≡ serials → place ≡ insert_place rows places → serial ≡ n → items ≡ left members 0 (insert now place serial) → items ≡ carried
-  carried_is members now items place serial same kept is number made =
-      made ∙ ap (λ l. left l 0 (insert now place serial)) same ∙ ap (λ l. left places 0 (insert l place serial)) kept
-      ∙ ap (λ m. left places 0 (insert serials m serial)) is ∙ ap (λ m. left places 0 (insert serials (insert_place rows places) m)) number
+  carried_is members now items place serial same kept is number made = grind (arith, left)
 
   module _ (legal : IsLegal rows places) (below : All (λ k. k < n) serials) (apart : (i j : ℕ) → i < length rows → j < length rows → get_or serials i 0 ≡ get_or serials j 0 → i ≡ j) where
     in_use : (k : ℕ) → k < length rows → get_or serials k 0 < n
@@ -354,12 +333,7 @@ module _ (rows : List Row) (places : List ℕ) (sound : IsSound rows) (set : IsM
 
     module _ (merged : Rival) (serial : merged.serial ≡ n) (general : merged.general ≡ generality (merged_block rows places)) (bits : (d : Row) → merged.bits ≡ (get_or rows (get_or places 0 0) d).route.bits) where
       merged_is : IsRivalOf new carried at merged
-      merged_is = record {
-        inside = at_inside;
-        serial = serial ∙ sym serial_at;
-        general = λ d. general ∙ sym (ap generality (block_at d));
-        bits = λ d. bits d ∙ sym (ap (λ (r : Row). r.route.bits) (merged_get d).1 ∙ ap (λ r. r.bits) (route_is rows places d set.set.in_range (omega (arith, set.two))));
-      }
+      merged_is = grind (arith, at_inside, serial_at, block_at, merged_get, route_is)
 
       module _ (k : ℕ) (inside : k < length rows) (out : has_row places k ≡ false) (list : List Rival) (was : AreRivalsAfter rows serials places (merged_block rows places) merged k list) where
         -- no row before a row meets an alias of it, as the table after the merge is sound

@@ -1,29 +1,20 @@
 -- Rivals of rows: what they tell of the up-check, and how they are found.
-use Rattle.std.proofs.Common.{◌≡◌, ℕ, zero, suc, ◌+◌, ◌<◌, ◌≤◌, ◌^◌, ◌⊎◌, ◌↔◌, IsTrue, Bool, true, false, List, [], ◌∷◌, ◌++◌, length, get_or, refl, sym, ap, subst, subst₂, ◌∙◌, length-append, arith, inl, inr}
+use Rattle.std.proofs.Common.{◌≡◌, ℕ, zero, suc, ◌+◌, ◌<◌, ◌≤◌, ◌^◌, ◌⊎◌, ◌↔◌, IsTrue, Bool, true, false, List, [], ◌∷◌, ◌++◌, length, get_or, refl, sym, ap, subst, subst₂, ◌∙◌, length-append, arith}
+use Rattle.std.proofs.Common.{inl, inr}
 use Rattle.std.specs.Prelude.{All, AllPairs, bit_and, ◌==◌}
-use Rattle.std.proofs.lemmas.Bool.{cases_order, cases_lt, eqb-false, eqb-true, or_parts, false_from_ne_true}
+use Rattle.std.proofs.lemmas.{Bool.cases_order, Bool.cases_lt, Bool.eqb-false, Bool.eqb-true, Bool.or_parts, Bool.false_from_ne_true, List.get_or_append_left, List.get_or_default, List.get_or_past}
+use Rattle.std.proofs.lemmas.{List.get_or_push, List.Folds.list_any-append, List.Folds.Any-from_list_any, Option.get_or_from_slice_get, Option.slice_get_within, List.Elements.All-nil}
+use Rattle.std.proofs.lemmas.List.{Elements.All-push, Elements.All-weaker, Elements.pair_read, Quantifiers.all_pairs_push}
 use mathlib.Core.Bool.{true≢false}
 use borrow.Author.Count.{below_more}
-use Rattle.std.proofs.lemmas.List.{get_or_append_left, get_or_default, get_or_past, get_or_push}
-use Rattle.std.proofs.lemmas.List.Folds.{list_any-append, Any-from_list_any}
-use Rattle.std.proofs.lemmas.Option.{get_or_from_slice_get, slice_get_within}
-use Rattle.std.proofs.lemmas.List.Elements.{All-nil, All-push, All-weaker, pair_read}
-use Rattle.std.proofs.lemmas.List.Quantifiers.{all_pairs_push}
 use Rattle.spin_base.specs.declared.blocks.Block.{Block}
-use Rattle.tern_word.specs.declared.tables.Alias.{Alias}
-use Rattle.tern_word.specs.declared.tables.Row.{Row}
-use Rattle.tern_word.specs.Ternary.{Intersects, LiesIn, generality}
-use Rattle.tern_word.specs.SoundTable.{IsOrdered, IsSound, Misses}
+use Rattle.tern_word.specs.{declared.tables.Alias.Alias, declared.tables.Row.Row, Ternary.Intersects, Ternary.LiesIn, Ternary.generality, SoundTable.IsOrdered, SoundTable.IsSound, SoundTable.Misses}
 use Rattle.tern_word.proofs.BlockLaws.{Intersects-sym, Intersects-wider}
 use Rattle.cover_merge.specs.Merge.{has_row, merge_rows, merged_block, insert_place, SameRoute, IsOneRoute, IsMergeSet, IsLegal, place_for, PassesUp, PassesDown}
-use Rattle.cover_merge.proofs.Lists.{AllPairs-nil}
-use Rattle.cover_merge.proofs.Positions.{at_one_of, has-at, has-place, place_for-above, place_for-below, place_for-le}
-use Rattle.cover_merge.proofs.Answering.{answers_no, fails}
-use Rattle.cover_merge.proofs.Legal.{up_from_legal, down_from_legal, legal_from_checks}
-use Rattle.cover_merge.specs.declared.rivals.Rival.{Rival}
-use Rattle.cover_merge.specs.declared.rivals.Rivals.{Rivals}
-use Rattle.cover_merge.specs.Rivals.{AreJoined, AreRivalsAt, HasSerial, IsOriginal, IsRivalBehind, IsRivalOf, IsRivaled, MeetsAliasOf, MeetsNone, is_at_one}
-use Rattle.cover_merge.specs.Spans.{AreSpansOf, AreSpansOfAll}
+use Rattle.cover_merge.specs.{declared.rivals.Rival.Rival, declared.rivals.Rivals.Rivals, Rivals.AreJoined, Rivals.AreRivalsAt, Rivals.HasSerial, Rivals.IsOriginal, Rivals.IsRivalBehind}
+use Rattle.cover_merge.specs.{Rivals.IsRivalOf, Rivals.IsRivaled, Rivals.MeetsAliasOf, Rivals.MeetsNone, Rivals.is_at_one, Spans.AreSpansOf, Spans.AreSpansOfAll}
+use Rattle.cover_merge.proofs.{Lists.AllPairs-nil, Positions.at_one_of, Positions.has-at, Positions.has-place, Positions.place_for-above, Positions.place_for-below, Positions.place_for-le}
+use Rattle.cover_merge.proofs.{Answering.answers_no, Answering.fails, Legal.up_from_legal, Legal.down_from_legal, Legal.legal_from_checks}
 
 -- ---- the rows of a set
 
@@ -75,12 +66,7 @@ missed_read rows s r first e t in_s in_r is_first tells came d =
 
 -- no row behind one that was read is of lesser generality
 pub general_behind : (rows : List Row) (place : ℕ) (a : Row) (g : ℕ) → IsOrdered rows → place < length rows → g ≡ generality (get_or rows place a).block → (k : ℕ) (d : Row) → place ≤ k → k < length rows → g ≤ generality (get_or rows k d).block
-general_behind rows place a g ordered inside level k d from within =
-    let here : generality (get_or rows place d).block ≡ g = ap (λ (x : Row). generality x.block) (get_or_default rows place d a inside) ∙ sym level in
-    elim (cases_lt place k) [
-      | inl less ↦ omega (arith, here, ordered place k d less within)
-      | inr last ↦ let same : place ≡ k = omega arith in let e = ap (λ i. generality (get_or rows i d).block) same in omega (arith, here, e)
-    ]
+general_behind rows place a g ordered inside level k d from within = grind (arith, get_or_default rows place d a inside, cases_lt place k, get_or)
 
 -- ---- a pair
 
@@ -111,12 +97,7 @@ module _ (rows : List Row) (i j : ℕ) (set : IsMergeSet rows (i ∷ j ∷ [])) 
 
 -- no row up to one of at most a generality is above it
 pub general_before : (rows : List Row) (place : ℕ) (a : Row) (g : ℕ) → IsOrdered rows → place < length rows → generality (get_or rows place a).block ≤ g → (k : ℕ) (d : Row) → k < place + 1 → generality (get_or rows k d).block ≤ g
-general_before rows place a g ordered inside low k d from = elim (cases_lt k place) [
-  | inl less ↦
-      let e = ap (λ (x : Row). generality x.block) (get_or_default rows place d a inside) in
-      omega (arith, e, ordered k place d less inside)
-  | inr last ↦ let same : place ≡ k = omega arith in subst (λ i. generality (get_or rows i d).block ≤ g) same (subst (λ (x : Row). generality x.block ≤ g) (get_or_default rows place a d inside) low)
-]
+general_before rows place a g ordered inside low k d from = grind (arith, cases_lt k place, get_or_default rows place d a inside, get_or_default rows place a d inside, get_or)
 
 -- a row that is more general stands at the place or behind it
 pub behind_place : (rows : List Row) (r : ℕ) (a : Row) (g : ℕ) → IsOrdered rows → r < length rows → a ≡ get_or rows r a → g < generality a.block → place_for rows g ≤ r
@@ -143,11 +124,7 @@ module _ (rows : List Row) (rivals : Rivals) (rivaled : IsRivaled rows rivals) w
   module _ (places : List ℕ) (in_range : All (λ r. r < length rows) places) where
     -- as numbers are apart, no other row has the number of one at a place of the set
     at_place : (r : ℕ) → r < length rows → is_at_one numbers places (get_or numbers r 0) ≡ true → has_row places r ≡ true
-    at_place r inside found =
-        let at = Any-from_list_any (λ x. get_or numbers x 0 == get_or numbers r 0) places found in
-        let low : at.1 < length rows = subst (λ x. x < length rows) at.3 (in_range at.0 at.1 at.2) in
-        let same : at.1 ≡ r = rivaled.apart at.1 r low inside (eqb-true (get_or numbers at.1 0) (get_or numbers r 0) at.4) in
-        subst (λ x. has_row places x ≡ true) (get_or_default places at.0 0 at.1 at.2 ∙ at.3 ∙ same) (has-at places at.0 at.2)
+    at_place r inside found = grind (arith, get_or numbers r 0, Any-from_list_any, eqb-true, get_or_default, has-at)
 
     module _ (s : ℕ) (list : List Rival) (are : AreRivalsAt rows rivals.serials.items s list) (g : ℕ) where
       -- where each rival that is at most so general is at one of the places, the row passes
@@ -225,14 +202,7 @@ joined_none rows joined is = subst (AreJoinedTo rows 0) (sym is) (record { ascen
 module _ (rows : List Row) (n : ℕ) (joined : List ℕ) (are : AreJoinedTo rows n joined) where
   -- an original row more
   pub joined_stay : (a : Row) → n < length rows → a ≡ get_or rows n a → IsOriginal a → AreJoinedTo rows (n + 1) joined
-  joined_stay a inside read own = record {
-    ascending = are.ascending;
-    before = All-weaker (λ s. s < n) (λ s. s < n + 1) (λ s less. omega (arith, less)) joined are.before;
-    original = λ s d less outside. elim (cases_lt s n) [
-      | inl earlier ↦ are.original s d earlier outside
-      | inr last ↦ let same : n ≡ s = omega (arith, less, last) in subst (λ i. IsOriginal (get_or rows i d)) same (subst IsOriginal (read ∙ get_or_default rows n a d inside) own)
-    ];
-  }
+  joined_stay a inside read own = grind (arith, All-weaker, cases_lt, get_or, get_or_default)
 
   -- any other
   pub joined_more : (new : List ℕ) → new ≡ joined ++ n ∷ [] → AreJoinedTo rows (n + 1) new
@@ -246,28 +216,17 @@ module _ (rows : List Row) (n : ℕ) (joined : List ℕ) (are : AreJoinedTo rows
   })
 
   pub joined_all : n ≡ length rows → AreJoined rows joined
-  joined_all all = record {
-    ascending = are.ascending;
-    inside = All-weaker (λ s. s < n) (λ s. s < length rows) (λ s less. omega (arith, less, all)) joined are.before;
-    original = λ s d inside outside. are.original s d (omega (arith, inside, all)) outside;
-  }
+  joined_all all = grind (arith, All-weaker)
 
 -- ---- rivals, found from the front
 
 -- one that was read meets an alias of the other
 pub met_read : (rows : List Row) (s r : ℕ) (first e : Row) (t : Bool) → s < length rows → r < length rows → first ≡ get_or rows s first → (IsTrue t) ↔ (Misses (get_or rows r e).block first) → t ≡ false → MeetsAliasOf rows r s
-met_read rows s r first e t in_s in_r is_first tells came d misses =
-    fails (Misses (get_or rows r e).block first) t tells came
-    (subst (λ (x : Row). Misses x.block first) (get_or_default rows r d e in_r) (subst (Misses (get_or rows r d).block) (get_or_default rows s d first in_s ∙ sym is_first) misses))
+met_read rows s r first e t in_s in_r is_first tells came d misses = grind (arith, get_or rows r e, get_or_default rows r d e in_r, get_or rows r d, get_or_default rows s d first in_s, fails)
 
 -- a row that was read, as a rival
 pub rival_read : (rows : List Row) (serials : List ℕ) (r : ℕ) (a : Row) (v : Rival) → r < length rows → a ≡ get_or rows r a → v.serial ≡ get_or serials r 0 → v.general ≡ generality a.block → v.bits ≡ a.route.bits → IsRivalOf rows serials r v
-rival_read rows serials r a v inside read serial general bits = record {
-  inside = inside;
-  serial = serial;
-  general = λ d. general ∙ ap (λ (x : Row). generality x.block) (read ∙ get_or_default rows r a d inside);
-  bits = λ d. bits ∙ ap (λ (x : Row). x.route.bits) (read ∙ get_or_default rows r a d inside);
-}
+rival_read rows serials r a v inside read serial general bits = grind (arith, get_or_default)
 
 -- the list has just the rivals of row s that stand before place n
 pub record AreRivalsTo (rows : List Row) (serials : List ℕ) (s n : ℕ) (list : List Rival) : Type 0 where
@@ -413,12 +372,7 @@ pub record AreNumberedTo (rows : List Row) (n : ℕ) (serials : List ℕ) (of : 
   pub each : (k : ℕ) (d : List Rival) → k < n → AreRivalsByPlace rows k (get_or of k d)
 
 pub numbered_none : (rows : List Row) (serials : List ℕ) (of : List (List Rival)) → serials ≡ [] → of ≡ [] → AreNumberedTo rows 0 serials of
-numbered_none rows serials of no_serials no_lists = record {
-  as_many = ap length no_serials;
-  lists = ap length no_lists;
-  is_place = λ k less. absurd (omega (arith, less));
-  each = λ k d less. absurd (omega (arith, less));
-}
+numbered_none rows serials of no_serials no_lists = grind arith
 
 module _ (rows : List Row) (n : ℕ) (serials : List ℕ) (of : List (List Rival)) (are : AreNumberedTo rows n serials of) where
   pub numbered_more : (more : List ℕ) (lists : List (List Rival)) (list : List Rival) → more ≡ serials ++ n ∷ [] → lists ≡ of ++ list ∷ [] → AreRivalsByPlace rows n list → AreNumberedTo rows (n + 1) more lists

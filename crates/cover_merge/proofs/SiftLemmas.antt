@@ -1,25 +1,19 @@
 -- Places taken out one after another, the greatest first.
-use Rattle.std.proofs.Common.{◌≡◌, ◌≢◌, ℕ, zero, suc, ◌+◌, ◌<◌, ◌≤◌, ◌⊎◌, ◌==◌, ◌||◌, IsTrue, Bool, true, false, cond, List, [], ◌∷◌, ◌++◌, length, get_or, take, inl}
-use Rattle.std.proofs.Common.{inr, refl, sym, ap, ◌∙◌, subst, length-append, length-take, set, drop, ◌-◌, ◌↔◌, append_assoc, add-one, length-drop, get_or-take, arith, take-append-drop}
+use Rattle.std.proofs.Common.{◌≡◌, ◌≢◌, ℕ, zero, suc, ◌+◌, ◌<◌, ◌≤◌, ◌⊎◌, ◌==◌, ◌||◌, IsTrue, Bool, true, false, cond, List, [], ◌∷◌, ◌++◌, length, get_or, take, inl, inr, refl, sym, ap, ◌∙◌, subst}
+use Rattle.std.proofs.Common.{length-append, length-take, set, drop, ◌-◌, ◌↔◌, append_assoc, add-one, length-drop, get_or-take, arith, take-append-drop}
 use Rattle.std.specs.Prelude.{All, AllPairs, filter, map, not, remove}
 use mathlib.Core.Bool.{true≢false}
-use Rattle.std.proofs.lemmas.Bool.{cases_lt, eq-eqb}
-use Rattle.std.proofs.lemmas.Bool.Decides.{eqb_tells}
-use Rattle.std.proofs.lemmas.List.{get_or_append_left, get_or_default, get_or_push, take_more, take-set-le, drop-set, get_or-append_right}
-use Rattle.std.proofs.lemmas.List.Edits.{get_or-remove_above, remove-append_left}
-use Rattle.std.proofs.lemmas.List.Elements.{All-append, All-filter, All-head, All-map, All-tail, All-take}
-use Rattle.std.proofs.lemmas.Option.{slice_get-get_or}
+use Rattle.std.proofs.lemmas.{Bool.cases_lt, Bool.eq-eqb, Bool.Decides.eqb_tells, List.get_or_append_left, List.get_or_default, List.get_or_push, List.take_more, List.take-set-le, List.drop-set}
+use Rattle.std.proofs.lemmas.List.{get_or-append_right, Edits.get_or-remove_above, Edits.remove-append_left, Elements.All-append, Elements.All-filter, Elements.All-head, Elements.All-map}
+use Rattle.std.proofs.lemmas.{List.Elements.All-tail, List.Elements.All-take, Option.slice_get-get_or}
 use Rattle.spin_base.specs.declared.blocks.Block.{Block}
-use Rattle.tern_word.specs.declared.tables.Row.{Row}
-use Rattle.tern_word.specs.Ternary.{Wants, generality, merge_two}
-use Rattle.tern_word.specs.SoundTable.{IsOrdered}
+use Rattle.tern_word.specs.{declared.tables.Row.Row, Ternary.Wants, Ternary.generality, Ternary.merge_two, SoundTable.IsOrdered}
 use Rattle.tern_word.proofs.BlockLaws.{generality-mono, merge_of-is_merge}
 use Rattle.cover_merge.specs.Merge.{has_row, merge_rows, rows_at, merged_block, place_for, insert_place, SameRoute, IsOneRoute, PassesUp, PassesUpCheck}
-use Rattle.cover_merge.proofs.Lists.{All-from_map, All-left, All-right, AllPairs-head, AllPairs-tail}
-use Rattle.cover_merge.proofs.Positions.{All-has, has-at, merged_block-push, place_for-above, place_for-below, place_for-le, rows_at-from, rows_at-has, rows_at-length, some_blocks}
 use Rattle.cover_merge.specs.Refinement.{IsLastFailing, IsUpStep, set_without}
-use Rattle.cover_merge.proofs.RefineLemmas.{last_found, one_route_after}
-use Rattle.cover_merge.proofs.RivalLemmas.{one_route}
+use Rattle.cover_merge.proofs.{Lists.All-from_map, Lists.All-left, Lists.All-right, Lists.AllPairs-head, Lists.AllPairs-tail, Positions.All-has, Positions.has-at, Positions.merged_block-push}
+use Rattle.cover_merge.proofs.Positions.{place_for-above, place_for-below, place_for-le, rows_at-from, rows_at-has, rows_at-length, some_blocks}
+use Rattle.cover_merge.proofs.{RefineLemmas.last_found, RefineLemmas.one_route_after, RivalLemmas.one_route}
 
 -- ---- merges of the first places
 
@@ -52,15 +46,7 @@ behind_within n front back k in_range within =
 
 pub merges_more : (rows : List Row) (set : List ℕ) (done : List Block) (k : ℕ) (n : Block) → length done ≡ k → ((j : ℕ) (d : Block) → j < length done → get_or done j d ≡ merged_block rows (take (j + 1) set)) → n ≡ merged_block rows (take (k + 1) set)
     → (j : ℕ) (d : Block) → j < length (done ++ n ∷ []) → get_or (done ++ n ∷ []) j d ≡ merged_block rows (take (j + 1) set)
-merges_more rows set done k n many each now j d inside =
-    let count = length-append done (n ∷ []) in
-    elim (cases_lt j (length done)) [
-      | inl before ↦ get_or_append_left done (n ∷ []) d j before ∙ each j d before
-      | inr last ↦
-          let same : j ≡ length done = omega (arith, count, inside, last) in
-          let at : k ≡ j = omega (arith, same, many) in
-          get_or_push done n d j (sym same) ∙ now ∙ ap (λ i. merged_block rows (take (i + 1) set)) at
-    ]
+merges_more rows set done k n many each now j d inside = grind (arith, length-append done (n ∷ []), cases_lt j (length done), get_or_append_left, get_or_push)
 
 -- ---- a place taken out
 
@@ -286,9 +272,7 @@ module _ (rows : List Row) (xs : List ℕ) (i w : ℕ) (some : 0 < i) (gap : i �
 
   -- where it stays, all are left
   pub kept_now : (x : ℕ) → x ≡ get_or xs (i - 1) x → take (i - 1) (set xs (w - 1) x) ++ drop (w - 1) (set xs (w - 1) x) ≡ take i xs ++ drop w xs
-  kept_now x read =
-      let at : i - 1 + 1 ≡ i = omega (arith, some) in
-      ap (λ y. take (i - 1) (set xs (w - 1) y) ++ drop (w - 1) (set xs (w - 1) y)) (read ∙ get_or_default xs (i - 1) x 0 (omega (arith, some, gap, inside))) ∙ gap_kept xs (i - 1) w (omega (arith, some, gap)) inside ∙ ap (λ n. take n xs ++ drop w xs) at
+  kept_now x read = grind (arith, get_or_default xs (i - 1) x 0 (omega (arith, some, gap, inside)), gap_kept xs (i - 1) w (omega (arith, some, gap)) inside)
 
 -- ---- all places at once
 

@@ -1,20 +1,14 @@
 -- Pairs that were tried stay illegal until one of their rows loses a row behind it.
-use Rattle.std.proofs.Common.{◌≡◌, ◌≢◌, ℕ, suc, ◌+◌, ◌-◌, ◌<◌, ◌≤◌, ◌⊎◌, Bool, true, false, List, [], ◌∷◌, length, get_or, take, drop, inl, inr, sym, ap, ◌∙◌, subst, set, length-take, length-drop, get_or-take, get_or-drop, arith}
+use Rattle.std.proofs.Common.{◌≡◌, ◌≢◌, ℕ, suc, ◌+◌, ◌-◌, ◌<◌, ◌≤◌, ◌⊎◌, Bool, true, false, List, [], ◌∷◌, length, get_or, take, drop, inl, inr, sym, ap, ◌∙◌, subst, set, length-take, length-drop}
+use Rattle.std.proofs.Common.{get_or-take, get_or-drop, arith}
 use Rattle.std.specs.Prelude.{All, not}
-use Rattle.std.proofs.lemmas.List.Elements.{All-head}
-use Rattle.std.proofs.lemmas.Bool.{cases_Bool, cases_lt, cases_eq, cases_order}
-use Rattle.std.proofs.lemmas.Grind.{get_or-set_at}
-use Rattle.std.proofs.lemmas.List.{get_or_default, get_or-set_other, length-set}
+use Rattle.std.proofs.lemmas.{List.Elements.All-head, Bool.cases_Bool, Bool.cases_lt, Bool.cases_eq, Bool.cases_order, Grind.get_or-set_at, List.get_or_default, List.get_or-set_other, List.length-set}
 use Rattle.spin_base.specs.declared.routes.Route.{Route}
-use Rattle.tern_word.specs.declared.tables.Row.{Row}
-use Rattle.tern_word.specs.SoundTable.{IsOrdered}
-use Rattle.cover_merge.specs.Merge.{has_row, kept, merge_rows, merged_row, insert_place, after, IsMergeSet}
-use Rattle.cover_merge.proofs.ChooseLemmas.{ArePlaces}
-use Rattle.cover_merge.proofs.Lists.{All-left, All-right, picked-at}
-use Rattle.cover_merge.specs.declared.times.Times.{Times}
-use Rattle.cover_merge.specs.Links.{IsEachOnce, IsNextOfRoute, place_of_route}
-use Rattle.cover_merge.specs.Covering.{IsLegalPair}
-use Rattle.cover_merge.specs.Tried.{AreTried, AreTriedUpTo, AreNoLater, IsFresh, IsTriedNow, IsNextSince, AreNewerOf}
+use Rattle.tern_word.specs.{declared.tables.Row.Row, SoundTable.IsOrdered}
+use Rattle.cover_merge.specs.{Merge.has_row, Merge.kept, Merge.merge_rows, Merge.merged_row, Merge.insert_place, Merge.after, Merge.IsMergeSet, declared.times.Times.Times, Links.IsEachOnce}
+use Rattle.cover_merge.specs.{Links.IsNextOfRoute, Links.place_of_route, Covering.IsLegalPair, Tried.AreTried, Tried.AreTriedUpTo, Tried.AreNoLater, Tried.IsFresh, Tried.IsTriedNow, Tried.IsNextSince}
+use Rattle.cover_merge.specs.Tried.{AreNewerOf}
+use Rattle.cover_merge.proofs.{ChooseLemmas.ArePlaces, Lists.All-left, Lists.All-right, Lists.picked-at}
 
 -- ---- the times of one row in place of others
 
@@ -48,11 +42,7 @@ module _ (now : ℕ) (rows : List Row) (gs : List Times) (s : ℕ) (g : Times) (
 
   -- that of a row that changed now
   pub fresh_put : IsFresh now g → AreTriedUpTo now rows (set gs s g)
-  fresh_put fresh = tried_put (record {
-    behind = λ j e less within told. absurd (omega (arith, told, fresh.tried));
-    before = λ i e less told. absurd (omega (arith, told, fresh.changed, (marks.bound i e (omega (arith, less, inside))).0));
-    bound = (omega (arith, fresh.tried), omega (arith, fresh.changed));
-  })
+  fresh_put fresh = grind (arith, tried_put)
 
   -- that of a row that is no legal pair with a later one
   pub marked_put : (old : Times) → old ≡ get_or gs s old → IsTriedNow now old g → ((b : ℕ) → IsLegalPair rows s b → ⊥) → AreTriedUpTo now rows (set gs s g)
@@ -92,16 +82,10 @@ module _ (routes latest : List ℕ) (rows : List Row) (gs : List Times) (now : �
 -- ---- the times of all rows
 
 pub fresh_marked : (rows : List Row) (gs : List Times) → All (IsFresh 0) gs → AreTriedUpTo 0 rows gs
-fresh_marked rows gs all = record {
-  tried = λ i j e less within told. absurd (omega (arith, told, (all i e (omega (arith, less, within))).tried));
-  bound = λ k e within. let fresh = all k e within in (omega (arith, fresh.tried), omega (arith, fresh.changed));
-}
+fresh_marked rows gs all = grind arith
 
 pub marked_later : (now : ℕ) (rows : List Row) (gs : List Times) (then : ℕ) → now ≤ then → AreTriedUpTo now rows gs → AreTriedUpTo then rows gs
-marked_later now rows gs then le marks = record {
-  tried = marks.tried;
-  bound = λ k e within. let held = marks.bound k e within in (omega (arith, le, held.0), omega (arith, le, held.1));
-}
+marked_later now rows gs then le marks = grind arith
 
 -- ---- the table after a merge
 
@@ -135,25 +119,11 @@ module _ (rows : List Row) (places : List ℕ) (ordered : IsOrdered rows) (merge
 
 -- up to the next row of the route there is none of it
 pub since_first : (rows : List Row) (gs : List Times) (k x time : ℕ) → IsNextOfRoute rows k x → IsNextSince rows gs k time x
-since_first rows gs k x time next = record {
-  behind = next.behind;
-  same = next.same;
-  between = λ j d e from to within bits. absurd (next.between j d from to within bits);
-}
+since_first rows gs k x time next = grind arith
 
 -- from a row that changed no later on to the next that did
 since_more : (rows : List Row) (gs : List Times) (k x y time t : ℕ) → x < length rows → IsNextSince rows gs k time x → ((e : Times) → (get_or gs x e).changed < time) → t ≤ time → IsNextSince rows gs x t y → IsNextSince rows gs k time y
-since_more rows gs k x y time t inside old low le next = record {
-  behind = omega (arith, old.behind, next.behind);
-  same = λ d within. next.same d within ∙ old.same d inside;
-  between = λ j d e from to within bits. elim (cases_order j x) [
-    | inl at ↦ subst (λ n. (get_or gs n e).changed < time) (sym at) (low e)
-    | inr apart ↦ elim apart [
-      | inl before ↦ old.between j d e from before within bits
-      | inr after ↦ omega (arith, le, next.between j d e after to within (bits ∙ sym (old.same d inside)))
-    ]
-  ];
-}
+since_more rows gs k x y time t inside old low le next = grind (arith, cases_order, get_or)
 
 -- the next of a row's changes, which is of the row's route
 pub newer_next : (rows : List Row) (gs : List Times) (newer : List ℕ) (k x time : ℕ) (d : Row) (z : Times) → AreNewerOf (get_or rows k d).route.bits (suc k) rows gs newer → x < length rows → IsNextSince rows gs k time x
@@ -162,9 +132,7 @@ newer_next rows gs newer k x time d z newer_are inside old = newer_are x d z old
 
 pub since_turn : (rows : List Row) (gs : List Times) (newer : List ℕ) (k x y time h : ℕ) (d : Row) (z : Times) → AreNewerOf (get_or rows k d).route.bits (suc k) rows gs newer → x < length rows → IsNextSince rows gs k (suc time) x
     → ((e : Times) → (get_or gs x e).changed ≡ h) → h ≤ time → y ≡ get_or newer x 0 → IsNextSince rows gs k (suc time) y
-since_turn rows gs newer k x y time h d z newer_are inside old is_h le is =
-    since_more rows gs k x y (suc time) (suc (get_or gs x z).changed) inside old (λ e. omega (arith, is_h e, le)) (omega (arith, is_h z, le))
-    (subst (IsNextSince rows gs x (suc (get_or gs x z).changed)) (sym is) (newer_next rows gs newer k x (suc time) d z newer_are inside old))
+since_turn rows gs newer k x y time h d z newer_are inside old is_h le is = grind (arith, get_or gs x z, newer_next rows gs newer k x (suc time) d z newer_are inside old, since_more)
 
 -- each of the places of a route, from the one of this number on, has its next one that changed later
 abbrev pub AreNewerAt : ℕ → List ℕ → List Row → List Times → List ℕ → Type 0
@@ -286,10 +254,4 @@ settled_none routes latest rows gs i same tried none_later low b pair =
 
 -- what holds before a place, there, and behind it
 pub each_on : (P : ℕ → Type 0) (i j x : ℕ) → ((b : ℕ) → i < b → b < j → P b) → P j → ((b : ℕ) → j < b → b < x → P b) → (b : ℕ) → i < b → b < x → P b
-each_on P i j x before here after b from to = elim (cases_order b j) [
-  | inl at ↦ subst P (sym at) here
-  | inr apart ↦ elim apart [
-    | inl earlier ↦ before b from earlier
-    | inr later ↦ after b later to
-  ]
-]
+each_on P i j x before here after b from to = grind (arith, cases_order b j)

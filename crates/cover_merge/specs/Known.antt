@@ -7,14 +7,14 @@ use Rattle.tern_word.specs.SoundTable.{Misses}
 use Rattle.cover_merge.specs.Rivals.{IsRivaled}
 use Rattle.cover_merge.specs.Covering.{places_of}
 use Rattle.cover_merge.specs.Kept.{IsKept, RefinesWithin}
-use Rattle.cover_merge.specs.Links.{IsEachOnce, AreNumbers}
+use Rattle.cover_merge.specs.Links.{IsEachOnce, AreLinks, AreNumbers}
 use Rattle.cover_merge.specs.Tried.{AreNewerOf, AreNoLater, AreTriedUpTo}
 use Rattle.cover_merge.specs.declared.choosing.Changes.{Changes}
 use Rattle.cover_merge.specs.declared.choosing.Fresh.{Fresh}
 use Rattle.cover_merge.specs.declared.keeping.Kept.{Kept}
 use Rattle.cover_merge.specs.declared.keeping.Most.{Most}
 use Rattle.cover_merge.specs.declared.knowing.Known.{Known}
-use Rattle.cover_merge.specs.declared.times.Times.{Times}
+use Rattle.cover_merge.specs.declared.links.Links.{Links}
 
 -- What is kept of the routes is so, for each of which something is kept.
 abbrev pub AreRoutesKept : List ℕ → List Row → List (Option Kept) → Type 0
@@ -84,8 +84,23 @@ abbrev pub IsFreshlyRefined : List ℕ → List Row → Fresh → Type 0
 IsFreshlyRefined routes rows fresh =
     0 < length fresh.set → (outer : Block) × (low : ℕ) × (RefinesWithin rows outer low (places_of (slice_index routes fresh.number) 0 rows) fresh.set)
 
--- for each route that is ready, the next rows that changed later are those of all its rows
-pub record AreChanges (rows : List Row) (times : List Times) (routes : List ℕ) (changes : Changes) : Type 0 where
+-- what is known of the table, and the links of its rows
+pub record IsLinked (rows : List Row) (k : Known) (l : Links) : Type 0 where
+  pub known : IsKnown rows k
+  pub links : AreLinks k.routes.items rows l.next.items l.heads.items
+
+-- The same, and of each route something is kept. The set at hand, where it has places, is one to which the rows of its route
+-- are refined.
+pub record AreSetsKept (rows : List Row) (known : Known) (links : Links) (set : Fresh) : Type 0 where
+  pub linked : IsLinked rows known links
+  pub all : AreAllKept known.routes.items known.kept.items
+  pub fresh : IsFreshlyRefined known.routes.items rows set
+
+-- What is known of the table and the links of its rows; and for each route that is ready, the next rows that changed later
+-- are those of all its rows.
+pub record AreChanges (rows : List Row) (known : Known) (links : Links) (changes : Changes) : Type 0 where
+  pub linked : IsLinked rows known links
   pub places : length changes.newer.items ≡ length rows
-  pub one_each : length changes.ready.items ≡ length routes
-  pub newer : (c : ℕ) (e : Bool) → c < length routes → slice_index_or changes.ready.items c e ≡ true → AreNewerOf (slice_index routes c) 0 rows times changes.newer.items
+  pub one_each : length changes.ready.items ≡ length known.routes.items
+  pub newer : (c : ℕ) (e : Bool) → c < length known.routes.items → slice_index_or changes.ready.items c e ≡ true
+      → AreNewerOf (slice_index known.routes.items c) 0 rows known.times.items changes.newer.items

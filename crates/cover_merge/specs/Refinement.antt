@@ -8,7 +8,7 @@ use Rattle.tern_word.specs.declared.tables.Alias.{Alias}
 use Rattle.tern_word.specs.declared.tables.Row.{Row}
 use Rattle.tern_word.specs.Ternary.{Intersects}
 use Rattle.tern_word.specs.SoundTable.{Misses}
-use Rattle.cover_merge.specs.Merge.{has_row, merged_block, insert_place, PassesUp, PassesUpCheck, PassesDownCheck}
+use Rattle.cover_merge.specs.Merge.{has_row, merged_block, insert_place, IsMergeSet, PassesUp, PassesUpCheck, PassesDownCheck}
 
 -- the greatest place of the set for which the up-check with insertion place p fails
 pub record IsLastFailing (rows : List Row) (places : List ℕ) (p s : ℕ) : Type 0 where
@@ -30,6 +30,12 @@ pub record IsUpStep (rows : List Row) (old new : List ℕ) : Type 0 where
   pub place : ℕ
   pub last : IsLastFailing rows old (insert_place rows old) place
   pub result : new ≡ set_without place old
+
+-- a set that can be merged, of which the up-check is true, and the merge of its blocks
+pub record IsUpChecked (rows : List Row) (places : List ℕ) (b : Block) : Type 0 where
+  pub set : IsMergeSet rows places
+  pub merged : b ≡ merged_block rows places
+  pub up : PassesUpCheck rows places
 
 -- the block of the first of the aliases that the block b meets
 pub record IsFirstMet (b : Block) (aliases : List Alias) (met : Block) : Type 0 where

@@ -6,7 +6,7 @@ use Rattle.tern_word.specs.declared.tables.Alias.{Alias}
 use Rattle.tern_word.specs.declared.tables.Row.{Row}
 use Rattle.tern_word.specs.Ternary.{generality}
 use Rattle.tern_word.specs.SoundTable.{IsSound, Misses}
-use Rattle.cover_merge.specs.Merge.{has_row}
+use Rattle.cover_merge.specs.Merge.{has_row, merged_block, IsLegalMerge, SameRoute}
 use Rattle.cover_merge.specs.Spans.{AreSpansOf}
 use Rattle.cover_merge.specs.declared.rivals.Rival.{Rival}
 use Rattle.cover_merge.specs.declared.rivals.Rivals.{Rivals}
@@ -86,6 +86,25 @@ pub record AreMet (block : Block) (rows : List Row) (met : List ℕ) : Type 0 wh
   pub inside : All (λ s. s < length rows) met
   pub meets : All (λ s. (d : Row) → Misses block (slice_index_or rows s d) → ⊥) met
   pub all : (s : ℕ) → s < length rows → ((d : Row) → Misses block (slice_index_or rows s d)) ⊎ (has_row met s ≡ true)
+
+-- The rows at the places are a legal merge, each row has its rivals, and the merge meets an alias of the rows at these other
+-- places, and of no row else.
+pub record CanMerge (rows : List Row) (rivals : Rivals) (places others : List ℕ) : Type 0 where
+  pub rivaled : IsRivaled rows rivals
+  pub merge : IsLegalMerge rows places (merged_block rows places)
+  pub met : AreMet (merged_block rows places) rows others
+
+-- row s and those at the places have numbers, and by its number row s has a list of rivals
+pub record HasLists (rivals : Rivals) (places : List ℕ) (s : ℕ) : Type 0 where
+  pub inside : s < length rivals.serials.items
+  pub below : slice_index rivals.serials.items s < length rivals.of.items
+  pub in_range : All (λ r. r < length rivals.serials.items) places
+
+-- row s, and places of rows, of which those behind it have its route
+pub record AreAlikeBehind (rows : List Row) (places : List ℕ) (s : ℕ) : Type 0 where
+  pub inside : s < length rows
+  pub one_route : (r : ℕ) → s < r → has_row places r ≡ true → SameRoute rows s r
+  pub in_range : All (λ r. r < length rows) places
 
 -- A row is original where its block is that of an alias, as before any merge. In a sound table it meets no alias of an
 -- earlier row: that row's block would meet this alias.

@@ -56,10 +56,11 @@ abbrev pub AreNewerOf : ℕ → ℕ → List Row → List Times → List ℕ →
 AreNewerOf bits place rows times newer =
     (k : ℕ) (d : Row) (e : Times) → place ≤ k → k < length rows → (slice_index_or rows k d).route.bits ≡ bits → IsNextSince rows times k (suc (slice_index_or times k e).changed) (slice_index newer k)
 
--- Each row has its times and its next row of its route; and each one of this route, from the place on, its next one that
--- changed later.
-pub record AreChangesFrom (bits place : ℕ) (rows : List Row) (times : List Times) (next later : List ℕ) : Type 0 where
+-- Each row has its times and its next row of its route; and each one of the route of row k, from the place on, its next one
+-- that changed later.
+pub record AreChangesFrom (k place : ℕ) (rows : List Row) (times : List Times) (next later : List ℕ) : Type 0 where
+  pub inside : k < length rows
   pub one_each : length times ≡ length rows
   pub nexts : AreNexts rows next
-  pub newer : AreNewerOf bits place rows times later
+  pub newer : (d : Row) → AreNewerOf (slice_index_or rows k d).route.bits place rows times later
   pub places : length later ≡ length rows

@@ -1,5 +1,5 @@
 // The table after a merge.
-ghost use Rattle.std.specs.Prelude.{◌≡◌, ◌<◌, ◌≤◌, ◌^◌, ◌++◌, ◌∷◌, [], All, IfOk, OnOk, OnErr, length, slice_index, insert, not, take, drop, ◌-◌};
+ghost use Rattle.std.specs.Prelude.{◌≡◌, ◌<◌, ◌≤◌, ◌++◌, ◌∷◌, [], All, IfOk, OnOk, OnErr, length, slice_index, insert, not, take, drop, ◌-◌};
 ghost use Rattle.tern_word.specs.SoundTable.{IsOrdered};
 ghost use Rattle.cover_merge.specs.Merge.{IsMergeSet, after, has_row, kept, merged_row, picked, rows_at, aliases_at};
 
@@ -14,7 +14,6 @@ use tern_word::{Alias, Row, Table, generality};
 /// Merges the rows at the places: they go out, and the merge stands before the row that was at its insertion place.
 /// After a refusal the table is as before.
 pub fn apply(alloc: Global, table: &mut Table, places: &Seq<u32>) -> Result<(), Memory>
-    requires few { length table.old.rows < 2 ^ 32 }
     requires ordered { IsOrdered table.old.rows }
     requires set { IsMergeSet table.old.rows places.now }
     ensures ok { OnOk result (table.new.rows ≡ after table.old.rows places.now) }
@@ -71,10 +70,10 @@ fn put_in(rows: &mut Vec<Row>, merged: Row, gaps: Gaps)
         let to = next_place(gaps, i + 1);
         move_down(rows, from, to, i + 1);
     }
-    rows[place as usize - places.len()] = merged;
+    rows[place - places.len()] = merged;
     let len = rows.len();
     let gap = places.len() - 1;
-    move_down(rows, place as usize, len, gap);
+    move_down(rows, place, len, gap);
     rows.truncate(len - gap);
 }
 
@@ -103,10 +102,10 @@ pub(crate) fn replace_all<T: Copy>(items: &mut Vec<T>, gaps: Gaps, item: T)
         let to = next_place(gaps, i + 1);
         items.copy_within(from..to, from - 1 - i);
     }
-    items[place as usize - places.len()] = item;
+    items[place - places.len()] = item;
     let len = items.len();
     let gap = places.len() - 1;
-    items.copy_within(place as usize..len, place as usize - gap);
+    items.copy_within(place..len, place - gap);
     items.truncate(len - gap);
 }
 
@@ -118,6 +117,6 @@ fn next_place(gaps: Gaps, i: usize) -> usize
     if i < gaps.places.len() {
         gaps.places[i] as usize
     } else {
-        gaps.place as usize
+        gaps.place
     }
 }

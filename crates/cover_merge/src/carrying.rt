@@ -1,11 +1,11 @@
 // What is known from one merge to the next.
-ghost use Rattle.std.specs.Prelude.{◌≡◌, ◌<◌, ◌≤◌, [], ℕ, List, All, AllPairs, IfOk, OnOk, MatchBool, ⊤, length, slice_index, slice_index_or};
+ghost use Rattle.std.specs.Prelude.{◌≡◌, ◌<◌, ◌≤◌, [], ℕ, List, AllPairs, IfOk, OnOk, MatchBool, ⊤, length, slice_index, slice_index_or};
 ghost use Rattle.tern_word.specs.declared.tables.Row.{Row as ARow};
 ghost use Rattle.tern_word.specs.Ternary.{generality};
-ghost use Rattle.cover_merge.specs.Merge.{IsLegalMerge, IsMergeSet, after, merged_block};
+ghost use Rattle.cover_merge.specs.Merge.{IsMergeSet, after, merged_block};
 ghost use Rattle.cover_merge.specs.Known.{AreStillKept, HasSameRoutes, IsKnownAt, MissesAllOf};
 ghost use Rattle.cover_merge.specs.Links.{place_of_route};
-ghost use Rattle.cover_merge.specs.Rivals.{AreMet, AreRivalsAfter, IsPutIn, IsRivaled, rivals_left};
+ghost use Rattle.cover_merge.specs.Rivals.{AreMet, AreRivalsAfter, CanMerge, HasLists, IsPutIn, IsRivaled, rivals_left};
 ghost use Rattle.cover_merge.specs.Tried.{AreNoLater, AreTouched, AreTriedUpTo, IsTouchedAt, LosesNone};
 
 use crate::applying::{apply, replace_all};
@@ -27,7 +27,7 @@ pub(crate) fn met_places(alloc: Global, merge: LegalMerge) -> Result<Vec<u32>, M
 {
     let rows = merge.rows;
     let mut met = Vec::new(alloc);
-    for s in 0..merge.gaps.place as usize {
+    for s in 0..merge.gaps.place {
         if !is_missed(merge.block, &rows[s]) {
             met.push(s as u32)?;
         }
@@ -37,10 +37,11 @@ pub(crate) fn met_places(alloc: Global, merge: LegalMerge) -> Result<Vec<u32>, M
 
 /// Carries over when rows were tried and changed to the table after the merge. The merged row changed now.
 pub(crate) fn carry_times(merge: LegalMerge, times: &mut Vec<Times>, now: usize)
-    requires one_each { length times.old.items ≡ length merge.rows.now }
-    requires marks { (AreTriedUpTo now merge.rows.now times.old.items) × (AreTouched merge.gaps.places.now now merge.rows.now times.old.items) }
+    requires { length times.old.items ≡ length merge.rows.now }
     ensures one_each { length times.new.items ≡ length (after merge.entry.rows.now merge.entry.gaps.places.now) }
-    ensures marks { AreTriedUpTo now (after merge.entry.rows.now merge.entry.gaps.places.now) times.new.items }
+    ensures marks { AreTriedUpTo now merge.entry.rows.now times.old.items
+        → AreTouched merge.entry.gaps.places.now now merge.entry.rows.now times.old.items
+        → AreTriedUpTo now (after merge.entry.rows.now merge.entry.gaps.places.now) times.new.items }
     ensures latest { (routes latest : List ℕ) → AreNoLater routes latest merge.entry.rows.now times.old.items
         → ((d : ARow) → slice_index latest (place_of_route routes
         (slice_index_or merge.entry.rows.now (slice_index merge.entry.gaps.places.now 0) d).route.bits) ≡ now)
@@ -71,7 +72,7 @@ pub(crate) fn touch(merge: LegalMerge, known: &mut Known, met: &[u32], now: usiz
     }
 }
 
-// The same of row `s`, an alias of which the merge meets.
+// The same of row `s`, an alias of which the merge meets: it changed now where it loses a row behind it.
 fn touch_at(merge: LegalMerge, known: &mut Known, now: usize, s: usize)
     requires known { IsKnownAt now merge.rows.now known.old }
     requires inside { s < length merge.rows.now }
@@ -86,25 +87,9 @@ fn touch_at(merge: LegalMerge, known: &mut Known, now: usize, s: usize)
 {
     let number = known.numbers[s] as usize;
     known.kept[number] = None;
-    change_at(merge, known, now, s);
-}
-
-// Says of row `s` that it changed now, where it loses a row behind it.
-fn change_at(merge: LegalMerge, known: &mut Known, now: usize, s: usize)
-    requires known { IsKnownAt now merge.rows.now known.old }
-    requires inside { s < length merge.rows.now }
-    ensures known { IsKnownAt now merge.entry.rows.now known.new }
-    ensures touched { IsTouchedAt merge.entry.gaps.places.now now merge.entry.rows.now s known.old.times.items known.new.times.items }
-    ensures times { (c : ℕ) → slice_index known.old.latest.items c ≡ now
-        → slice_index known.new.latest.items c ≡ now }
-    ensures rivals { known.new.rivals ≡ known.old.rivals }
-    ensures same { HasSameRoutes known.old known.new }
-    ensures kept { known.new.kept.items ≡ known.old.kept.items }
-{
     if !loses(merge, &known.rivals, s) {
         return;
     }
-    let number = known.numbers[s] as usize;
     known.latest[number] = now;
     known.times[s] = changed(now);
 }
@@ -135,9 +120,7 @@ pub(crate) fn merge_rows(
     places: &Seq<u32>,
     met: &[u32],
 ) -> Result<(), Memory>
-    requires rivaled { IsRivaled table.old.rows rivals.old }
-    requires merge { IsLegalMerge table.old.rows places.now (merged_block table.old.rows places.now) }
-    requires met { AreMet (merged_block table.old.rows places.now) table.old.rows met.now }
+    requires { CanMerge table.old.rows rivals.old places.now met.now }
     ensures table { OnOk result (table.new.rows ≡ after table.old.rows places.now) }
     ensures rivaled { OnOk result (IsRivaled table.new.rows rivals.new) }
 {
@@ -151,7 +134,7 @@ pub(crate) fn merge_rows(
         place,
     };
     replace_all(&mut rivals.serials, gaps, merged.serial);
-    let at = place as usize - members.len();
+    let at = place - members.len();
     let list = rivals_behind(alloc, table.rows.as_slice(), &rivals.serials, at)?;
     rivals.of.push(list)?;
     push_spans(alloc, table.rows.as_slice(), &mut rivals.spans, at)?;
@@ -182,9 +165,7 @@ fn renew_all(
     met: &[u32],
     merged: Rival,
 ) -> Result<(), Memory>
-    requires rivaled { IsRivaled rows.now rivals.old }
-    requires set { IsMergeSet rows.now places.now }
-    requires met { AreMet (merged_block rows.now places.now) rows.now met.now }
+    requires can { CanMerge rows.now rivals.old places.now met.now }
     requires merged { (merged.serial ≡ length rivals.old.of.items) × (merged.general ≡ generality (merged_block rows.now places.now)) }
     ensures serials { OnOk result (rivals.new.serials.items ≡ rivals.old.serials.items) }
     ensures one_each { OnOk result (length rivals.new.of.items ≡ length rivals.old.of.items) }
@@ -207,14 +188,13 @@ fn renew(
     merged: Rival,
     s: usize,
 ) -> Result<(), Memory>
-    requires inside { s < length rivals.old.serials.items }
-    requires below { slice_index rivals.old.serials.items s < length rivals.old.of.items }
-    requires places { All (λ r. r < length rivals.old.serials.items) places.now }
-    requires ordered { AllPairs (λ v w. v.general ≤ w.general) (slice_index_or rivals.old.of.items (slice_index rivals.old.serials.items s) []) }
+    requires { HasLists rivals.old places.now s }
     ensures serials { rivals.new.serials.items ≡ rivals.old.serials.items }
     ensures one_each { length rivals.new.of.items ≡ length rivals.old.of.items }
     ensures spans { rivals.new.spans.items ≡ rivals.old.spans.items }
-    ensures own { OnOk result (IsPutIn merged (rivals_left rivals.old.serials.items places.now
+    ensures own { OnOk result (AllPairs (λ v w. v.general ≤ w.general)
+        (slice_index_or rivals.old.of.items (slice_index rivals.old.serials.items s) [])
+        → IsPutIn merged (rivals_left rivals.old.serials.items places.now
         (slice_index_or rivals.old.of.items (slice_index rivals.old.serials.items s) []))
         (slice_index_or rivals.new.of.items (slice_index rivals.old.serials.items s) [])) }
     ensures others { (k : ℕ) → (k ≡ slice_index rivals.old.serials.items s → ⊥)
@@ -230,8 +210,8 @@ fn renew(
 
 // Puts a rival into its place in the order of generality, behind those that are at most as general.
 fn put_rival(list: &mut Vec<Rival>, rival: Rival) -> Result<(), Memory>
-    requires { AllPairs (λ v w. v.general ≤ w.general) list.old.items }
-    ensures { OnOk result (IsPutIn rival list.old.items list.new.items) }
+    ensures { OnOk result (AllPairs (λ v w. v.general ≤ w.general) list.old.items
+        → IsPutIn rival list.old.items list.new.items) }
 {
     let mut at = 0;
     while at < list.len() && list[at].general <= rival.general {

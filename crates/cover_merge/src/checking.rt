@@ -82,13 +82,12 @@ pub fn place_for(rows: &[Row], g: u32) -> u32
 
 /// Whether no row outside the set between the places `s` and `p` meets an alias of row `s`.
 pub fn passes_up(rows: &[Row], places: &[u32], s: u32, p: u32) -> bool
-    requires few { length rows.now < 2 ^ 32 }
     requires within { s < length rows.now }
     requires place { p ≤ length rows.now }
     ensures { IsTrue result ↔ PassesUp rows.now places.now s p }
 {
-    for r in s + 1..p {
-        if !is_clear(rows, places, s, r) {
+    for r in s as usize + 1..p as usize {
+        if !is_clear(rows, places, s, r as u32) {
             return false;
         }
     }

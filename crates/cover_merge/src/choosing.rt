@@ -1,18 +1,17 @@
 // Which rows are merged next.
-ghost use Rattle.std.specs.Prelude.{◌≡◌, ◌<◌, ◌^◌, ℕ, suc, [], ◌∷◌, All, IfOk, OnOk, IsTrue, MatchBool, MatchOption, None, Some, ⊤, ◌⊎◌, length, slice_index, slice_index_or};
-ghost use Rattle.cover_merge.specs.Rivals.{IsRivaled};
+ghost use Rattle.std.specs.Prelude.{◌≡◌, ◌<◌, ℕ, suc, [], ◌∷◌, IfOk, OnOk, IsTrue, MatchBool, MatchOption, None, Some, ⊤, ◌⊎◌, length, slice_index, slice_index_or};
 ghost use Rattle.cover_merge.specs.Tried.{AreNewerOf, AreChangesFrom, AreTried, IsNextSince};
 ghost use Rattle.cover_merge.specs.declared.keeping.Kept.{Kept as AKept};
 ghost use Rattle.cover_merge.specs.declared.times.Times.{Times as ATimes};
 ghost use Rattle.tern_word.specs.declared.tables.Row.{Row as ARow};
-ghost use Rattle.cover_merge.specs.Links.{AreLinks, AreNexts, IsFirstOfRoute};
+ghost use Rattle.cover_merge.specs.Links.{AreLinks, IsFirstOfRoute};
 ghost use Rattle.cover_merge.specs.Kept.{RefinesWithin};
-ghost use Rattle.cover_merge.specs.Known.{AreAllKept, IsFreshlyRefined, IsKnown, IsKnownAt, AreChanges};
+ghost use Rattle.cover_merge.specs.Known.{AreSetsKept, IsKnownAt, IsLinked, AreChanges};
 ghost use Rattle.cover_merge.specs.Covering.{places_of, IsFirstPartner, IsLargest, HasNoLargest, IsLegalPair, HasNoLegalPair, IsFirstLegalPair, IsChosen, HasNoChosen};
 
 use crate::keeping::{Kept, most_of};
 use crate::knowing::Known;
-use crate::links::{Links, links_of};
+use crate::links::{LinkedRows, Links, links_of};
 use crate::meeting::{LastMet, none_met};
 use crate::refining::{Refined, refine_within};
 use crate::rivaled::RivaledRows;
@@ -53,21 +52,16 @@ struct Fresh {
 // Refines the rows of each route of which nothing is kept, and keeps how many places are left. The largest of these sets, so
 // that it need not be refined once more.
 fn keep_all(alloc: Global, rows: &[Row], known: &mut Known, links: &Links) -> Result<Fresh, Memory>
-    requires known { IsKnown rows.now known.old }
-    requires links { AreLinks known.old.routes.items rows.now links.now.next.items
-        links.now.heads.items }
-    ensures known { OnOk result (IsKnown rows.now known.new) }
-    ensures all { OnOk result (AreAllKept known.new.routes.items known.new.kept.items) }
-    ensures fresh { IfOk result (IsFreshlyRefined known.new.routes.items rows.now) }
+    requires { IsLinked rows.now known.old links.now }
+    ensures kept { IfOk result (AreSetsKept rows.now known.new links.now) }
     ensures times { OnOk result (known.new.times.items ≡ known.old.times.items) }
-    ensures routes { OnOk result (known.new.routes.items ≡ known.old.routes.items) }
 {
     let mut fresh = Fresh {
         number: 0,
         set: Seq::new(alloc),
     };
     for c in 0..known.routes.len() {
-        if is_known(&known.kept, c) {
+        if is_known(known.kept[c]) {
             continue;
         }
         let Refined { set, kept } = refined_of(alloc, rows, known, links, c)?;
@@ -77,12 +71,11 @@ fn keep_all(alloc: Global, rows: &[Row], known: &mut Known, links: &Links) -> Re
     Ok(fresh)
 }
 
-// Whether something is kept of the route of this number.
-fn is_known(kept: &[Option<Kept>], c: usize) -> bool
-    requires { c < length kept.now }
-    ensures { MatchBool result ((it : AKept) × (slice_index_or kept.now c None ≡ Some it)) ⊤ }
+// Whether something is kept of a route.
+fn is_known(kept: Option<Kept>) -> bool
+    ensures { MatchBool result ((it : AKept) × (kept ≡ Some it)) ⊤ }
 {
-    match kept[c] {
+    match kept {
         Some(_it) => true,
         None => false,
     }
@@ -106,15 +99,14 @@ fn refined_of(
     links: &Links,
     c: usize,
 ) -> Result<Refined, Memory>
-    requires known { IsKnown rows.now known.now }
-    requires links { AreLinks known.now.routes.items rows.now links.now.next.items
-        links.now.heads.items }
+    requires linked { IsLinked rows.now known.now links.now }
     requires inside { c < length known.now.routes.items }
     ensures refined { IfOk result (λ r. RefinesWithin rows.now r.kept.outer r.kept.low
         (places_of (slice_index known.now.routes.items c) 0 rows.now) r.set) }
     ensures size { IfOk result (λ r. length r.set ≡ r.kept.size) }
 {
-    let places = places_from(alloc, rows, links, links.heads[c])?;
+    let linked = LinkedRows { rows, links };
+    let places = places_from(alloc, linked, links.heads[c])?;
     let table = RivaledRows {
         rows,
         rivals: &known.rivals,
@@ -130,11 +122,7 @@ fn largest(
     links: &Links,
     fresh: Fresh,
 ) -> Result<Option<Seq<u32>>, Memory>
-    requires known { IsKnown rows.now known.now }
-    requires all { AreAllKept known.now.routes.items known.now.kept.items }
-    requires links { AreLinks known.now.routes.items rows.now links.now.next.items
-        links.now.heads.items }
-    requires fresh { IsFreshlyRefined known.now.routes.items rows.now fresh }
+    requires { AreSetsKept rows.now known.now links.now fresh }
     ensures { IfOk result (λ found. MatchOption found (HasNoLargest rows.now) (λ set.
         IsLargest rows.now set)) }
 {
@@ -150,12 +138,12 @@ fn largest(
 }
 
 // The places of all rows of a route whose first is that at the place.
-fn places_from(alloc: Global, rows: &[Row], links: &Links, first: u32) -> Result<Seq<u32>, Memory>
-    requires few { length rows.now < 2 ^ 32 }
-    requires nexts { AreNexts rows.now links.now.next.items }
-    ensures { IfOk result (λ places. (bits : ℕ) → IsFirstOfRoute rows.now bits first
-        → places ≡ places_of bits 0 rows.now) }
+fn places_from(alloc: Global, linked: LinkedRows, first: u32) -> Result<Seq<u32>, Memory>
+    ensures { IfOk result (λ places. (bits : ℕ) → IsFirstOfRoute linked.entry.rows.now bits first
+        → places ≡ places_of bits 0 linked.entry.rows.now) }
 {
+    let rows = linked.rows;
+    let links = linked.links;
     let mut places = Vec::new(alloc);
     let mut place = first as usize;
     while place < rows.len() {
@@ -173,7 +161,7 @@ struct Changes {
 }
 
 // The first legal pair. A row that is no legal pair with a later one is marked, and is not tried again until a row of its
-// route changes.
+// route changes: till then it is settled.
 fn first_pair(
     alloc: Global,
     rows: &[Row],
@@ -194,27 +182,28 @@ fn first_pair(
     };
     let mut last = none_met();
     for i in 0..rows.len() {
-        if is_settled(known, i) {
+        let number = known.numbers[i] as usize;
+        if known.latest[number] < known.times[i].tried {
             continue;
         }
         make_ready(alloc, rows, known, links, &mut changes, i)?;
-        if let Some(j) = partner(rows, known, links, &changes.newer, i as u32, &mut last) {
+        let table = RivaledRows {
+            rows,
+            rivals: &known.rivals,
+        };
+        if let Some(j) = partner(
+            table,
+            &known.times,
+            links,
+            &changes.newer,
+            i as u32,
+            &mut last,
+        ) {
             return Ok(Some(two_places(alloc, i as u32, j)?));
         }
         known.times[i] = marked(known.times[i], now);
     }
     Ok(None)
-}
-
-// Whether no row of the route of row `i` changed since this row was tried: then it is no legal pair with a later one.
-fn is_settled(known: &Known, i: usize) -> bool
-    requires inside { i < length known.now.times.items }
-    requires one_each { length known.now.numbers.items ≡ length known.now.times.items }
-    requires below { All (λ c. c < length known.now.latest.items) known.now.numbers.items }
-    ensures { IsTrue result → (e : ATimes) → slice_index known.now.latest.items (slice_index known.now.numbers.items i)
-        < (slice_index_or known.now.times.items i e).tried }
-{
-    known.latest[known.numbers[i] as usize] < known.times[i].tried
 }
 
 // Makes the changes of the route of row `i` ready, where they are not yet.
@@ -226,22 +215,19 @@ fn make_ready(
     changes: &mut Changes,
     i: usize,
 ) -> Result<(), Memory>
-    requires known { IsKnown rows.now known.now }
-    requires links { AreLinks known.now.routes.items rows.now links.now.next.items
-        links.now.heads.items }
-    requires changes { AreChanges rows.now known.now.times.items known.now.routes.items changes.old }
+    requires changes { AreChanges rows.now known.now links.now changes.old }
     requires inside { i < length rows.now }
-    ensures changes { OnOk result (AreChanges rows.now known.now.times.items known.now.routes.items changes.new) }
+    ensures changes { OnOk result (AreChanges rows.now known.now links.now changes.new) }
     ensures own { OnOk result ((d : ARow) → AreNewerOf (slice_index_or rows.now i d).route.bits 0
         rows.now known.now.times.items changes.new.newer.items) }
 {
     let c = known.numbers[i] as usize;
     if !changes.ready[c] {
+        let linked = LinkedRows { rows, links };
         find_newer(
             alloc,
-            rows,
+            linked,
             &known.times,
-            links,
             &mut changes.newer,
             links.heads[c],
         )?;
@@ -253,24 +239,24 @@ fn make_ready(
 // Finds for each row of the route whose first row is that at the place the next of it that changed later.
 fn find_newer(
     alloc: Global,
-    rows: &[Row],
+    linked: LinkedRows,
     times: &[Times],
-    links: &Links,
     newer: &mut Vec<u32>,
     first: u32,
 ) -> Result<(), Memory>
-    requires few { length rows.now < 2 ^ 32 }
-    requires one_each { (length times.now ≡ length rows.now) × (length newer.old.items ≡ length rows.now) }
-    requires nexts { AreNexts rows.now links.now.next.items }
-    requires first { (bits : ℕ) × IsFirstOfRoute rows.now bits first }
-    ensures one_each { OnOk result (length newer.new.items ≡ length rows.now) }
-    ensures own { OnOk result ((bits : ℕ) → IsFirstOfRoute rows.now bits first
-        → AreNewerOf bits 0 rows.now times.now newer.new.items) }
-    ensures others { OnOk result ((bits k : ℕ) (d : ARow) → IsFirstOfRoute rows.now bits first
-        → k < length rows.now → ((slice_index_or rows.now k d).route.bits ≡ bits → ⊥)
+    requires one_each { (length times.now ≡ length linked.rows.now) × (length newer.old.items ≡ length linked.rows.now) }
+    requires first { (bits : ℕ) × IsFirstOfRoute linked.rows.now bits first }
+    ensures one_each { OnOk result (length newer.new.items ≡ length linked.entry.rows.now) }
+    ensures own { OnOk result ((bits : ℕ) → IsFirstOfRoute linked.entry.rows.now bits first
+        → AreNewerOf bits 0 linked.entry.rows.now times.now newer.new.items) }
+    ensures others { OnOk result ((bits k : ℕ) (d : ARow) → IsFirstOfRoute linked.entry.rows.now bits first
+        → k < length linked.entry.rows.now
+        → ((slice_index_or linked.entry.rows.now k d).route.bits ≡ bits → ⊥)
         → slice_index newer.new.items k ≡ slice_index newer.old.items k) }
 {
-    let list = places_from(alloc, rows, links, first)?;
+    let rows = linked.rows;
+    let links = linked.links;
+    let list = places_from(alloc, linked, first)?;
     let places = list.as_slice();
     let mut k = places.len();
     while k > 0 {
@@ -313,9 +299,7 @@ fn changed_after(
     k: u32,
     time: usize,
 ) -> u32
-    requires changes { (d : ARow) → AreChangesFrom (slice_index_or rows.now k d).route.bits (suc k)
-        rows.now times.now links.now.next.items newer.now }
-    requires inside { k < length rows.now }
+    requires { AreChangesFrom k (suc k) rows.now times.now links.now.next.items newer.now }
     ensures { IsNextSince rows.now times.now k (suc time) result }
 {
     let mut place = links.next[k as usize];
@@ -339,9 +323,7 @@ fn next_to_try(
     k: u32,
     time: usize,
 ) -> u32
-    requires changes { (d : ARow) → AreChangesFrom (slice_index_or rows.now k d).route.bits 0 rows.now
-        times.now links.now.next.items newer.now }
-    requires inside { k < length rows.now }
+    requires { AreChangesFrom k 0 rows.now times.now links.now.next.items newer.now }
     ensures { IsNextSince rows.now times.now k time result }
 {
     let next = links.next[k as usize];
@@ -363,26 +345,19 @@ fn two_places(alloc: Global, i: u32, j: u32) -> Result<Seq<u32>, Memory>
 
 // The first row behind row `i` that can be merged with it: only those of its route can that changed since it was tried.
 fn partner(
-    rows: &[Row],
-    known: &Known,
+    table: RivaledRows,
+    times: &[Times],
     links: &Links,
     newer: &[u32],
     i: u32,
     last: &mut LastMet,
 ) -> Option<u32>
-    requires rivaled { IsRivaled rows.now known.now.rivals }
-    requires tried { AreTried rows.now known.now.times.items }
-    requires changes { (d : ARow) → AreChangesFrom (slice_index_or rows.now i d).route.bits 0 rows.now
-        known.now.times.items links.now.next.items newer.now }
-    requires inside { i < length rows.now }
-    ensures { MatchOption result ((b : ℕ) → IsLegalPair rows.now i b
-        → ⊥) (λ j. IsFirstPartner rows.now i j) }
+    requires tried { AreTried table.rows.now times.now }
+    requires changes { AreChangesFrom i 0 table.rows.now times.now links.now.next.items newer.now }
+    ensures { MatchOption result ((b : ℕ) → IsLegalPair table.entry.rows.now i b
+        → ⊥) (λ j. IsFirstPartner table.entry.rows.now i j) }
 {
-    let table = RivaledRows {
-        rows,
-        rivals: &known.rivals,
-    };
-    let times = known.times.as_slice();
+    let rows = table.rows;
     let tried = tried_at(times, i as usize);
     let mut j = next_to_try(rows, times, links, newer, i, tried);
     while (j as usize) < rows.len() {

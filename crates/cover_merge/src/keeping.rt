@@ -82,24 +82,22 @@ pub(crate) fn forget_own(kept: &mut Vec<Option<Kept>>, own: usize)
 pub(crate) fn forget_near(kept: &mut Vec<Option<Kept>>, merged: Block)
     ensures { AreStillKept (λ c it. IsApart merged it) kept.old.items kept.new.items }
 {
-    let general = generality(merged);
     for c in 0..kept.len() {
-        if is_apart(kept[c], merged, general) {
+        if is_apart(kept[c], merged) {
             continue;
         }
         kept[c] = None;
     }
 }
 
-// Whether the block, which is so general, is apart from all that was down-checked.
-fn is_apart(kept: Option<Kept>, merged: Block, general: u32) -> bool
-    requires { general ≡ generality merged }
+// Whether the block is apart from all that was down-checked.
+fn is_apart(kept: Option<Kept>, merged: Block) -> bool
     ensures { MatchBool result ((it : AKept) → kept ≡ Some it → IsApart merged it) ⊤ }
 {
     let Some(it) = kept else {
         return true;
     };
-    if general <= it.low {
+    if generality(merged) <= it.low {
         return true;
     }
     if intersects(merged, it.outer) {

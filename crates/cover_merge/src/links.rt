@@ -1,7 +1,7 @@
 // The rows of one route, one after another.
 ghost use Rattle.std.specs.Prelude.{◌≡◌, ◌+◌, ◌<◌, ◌^◌, ℕ, List, All, IfOk, OnOk, length, slice_index};
 ghost use Rattle.cover_merge.specs.Merge.{after};
-ghost use Rattle.cover_merge.specs.Links.{place_of_route, AreRoutes, IsRouteAdded, IsEachOnce, AreNumbers, IsAhead, AreLinks};
+ghost use Rattle.cover_merge.specs.Links.{place_of_route, AreRoutes, IsRouteAdded, IsEachOnce, AreNexts, AreNumbers, IsAhead, AreLinks};
 
 use crate::applying::replace_all;
 use crate::merging::LegalMerge;
@@ -14,6 +14,15 @@ use tern_word::Row;
 pub(crate) struct Links {
     pub(crate) next: Vec<u32>,
     pub(crate) heads: Vec<u32>,
+}
+
+/// The rows of a table, fewer than 2^32, and the next row of the route of each.
+#[derive(Clone, Copy)]
+pub(crate) struct LinkedRows<'a> {
+    pub(crate) rows: &'a [Row],
+    pub(crate) links: &'a Links,
+    pub ghost few: { length rows.now < 2 ^ 32 },
+    pub ghost nexts: { AreNexts rows.now links.now.next.items },
 }
 
 /// The routes of the rows, each once.

@@ -134,11 +134,11 @@ fn meets_alias(aliases: &[Alias], block: Block, k: usize) -> bool
 }
 
 /// The first alias that the block meets, of the first row from place `p` on that has one.
-pub(crate) fn first_met_from(table: RivaledRows, block: Block, p: u32) -> Option<Met>
+pub(crate) fn first_met_from(table: RivaledRows, block: Block, p: usize) -> Option<Met>
     ensures { MatchOption result (PassesDown table.entry.rows.now block p) (λ met.
         IsFirstMetFrom table.entry.rows.now block p met.block) }
 {
-    for r in p as usize..table.rows.len() {
+    for r in p..table.rows.len() {
         if let Some(met) = first_met_in(table, r, block) {
             return Some(met);
         }

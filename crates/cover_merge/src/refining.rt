@@ -4,9 +4,9 @@ ghost use Rattle.std.specs.Int.{bit_at};
 ghost use Rattle.spin_base.specs.declared.blocks.Block.{Block as ABlock};
 ghost use Rattle.tern_word.specs.Ternary.{all_keys};
 ghost use Rattle.tern_word.specs.SoundTable.{IsSound};
-ghost use Rattle.cover_merge.specs.Merge.{has_row, IsOneRoute, IsMergeSet, IsLegal, merged_block, insert_place, place_for, PassesUp, PassesUpCheck, PassesDown, PassesDownCheck};
+ghost use Rattle.cover_merge.specs.Merge.{has_row, IsOneRoute, IsMergeSet, IsLegal, merged_block, insert_place, place_for, PassesUp, PassesDown, PassesDownCheck};
 ghost use Rattle.cover_merge.specs.Kept.{IsSifted, RefinesWithin};
-ghost use Rattle.cover_merge.specs.Refinement.{AreMerges, can_choose, keeps, parts, kept_by, kept_count, IsBestBit, IsNarrowed, IsDownStep, Refines};
+ghost use Rattle.cover_merge.specs.Refinement.{AreMerges, can_choose, keeps, parts, kept_by, kept_count, IsBestBit, IsUpChecked, IsNarrowed, IsDownStep, Refines};
 
 use crate::keeping::Kept;
 use crate::meeting::first_met_from;
@@ -211,9 +211,7 @@ fn merge_from(rows: &[Row], merges: &[Block], front: &[u32], back: &[u32]) -> Bl
 
 // Narrows the set where the down-check fails. Whether it was true, and the set stays as it was.
 fn narrow(table: RivaledRows, set: &mut Vec<u32>, merged: Block) -> bool
-    requires set { IsMergeSet table.rows.now set.old.items }
-    requires merged { merged ≡ merged_block table.rows.now set.old.items }
-    requires up { PassesUpCheck table.rows.now set.old.items }
+    requires { IsUpChecked table.rows.now set.old.items merged }
     ensures { MatchBool result ((PassesDownCheck table.entry.rows.now set.old.items)
         × (set.new.items ≡ set.old.items)) ((IsDownStep table.entry.rows.now set.old.items set.new.items)
         × (length set.new.items < length set.old.items)) }

@@ -1,9 +1,9 @@
 // Rivals of rows: whether a row can be merged, without a look at the rows behind it.
-ghost use Rattle.std.specs.Prelude.{◌≡◌, ◌<◌, ◌≤◌, ◌^◌, ◌↔◌, ◌∷◌, [], ℕ, true, All, IfOk, IsTrue, List, length, slice_index};
-ghost use Rattle.tern_word.specs.SoundTable.{HoldsItsAliases, IsOrdered, Misses};
+ghost use Rattle.std.specs.Prelude.{◌≡◌, ◌<◌, ◌≤◌, ◌^◌, ◌↔◌, ◌∷◌, [], ℕ, All, IfOk, IsTrue, List, length, slice_index};
+ghost use Rattle.tern_word.specs.SoundTable.{HoldsItsAliases, IsOrdered, IsSound, Misses};
 ghost use Rattle.tern_word.specs.Ternary.{generality};
-ghost use Rattle.cover_merge.specs.Merge.{has_row, place_for, SameRoute, IsMergeSet, IsLegal, PassesUp};
-ghost use Rattle.cover_merge.specs.Rivals.{AreJoined, AreRivalsAt, IsOriginal, IsRivalOf, IsRivaled, is_at_one};
+ghost use Rattle.cover_merge.specs.Merge.{place_for, IsMergeSet, IsLegal, PassesUp};
+ghost use Rattle.cover_merge.specs.Rivals.{AreAlikeBehind, AreJoined, AreRivalsAt, IsOriginal, IsRivalOf, IsRivaled, is_at_one};
 
 use crate::meeting::{LastMet, passes_behind};
 use crate::merged_block;
@@ -114,8 +114,7 @@ pub(crate) fn rivals_behind(
     serials: &[usize],
     s: usize,
 ) -> Result<Seq<Rival>, Memory>
-    requires ordered { IsOrdered rows.now }
-    requires holds { All HoldsItsAliases rows.now }
+    requires sound { IsSound rows.now }
     requires one_each { length serials.now ≡ length rows.now }
     requires inside { s < length rows.now }
     ensures { IfOk result (AreRivalsAt rows.now serials.now s) }
@@ -143,9 +142,7 @@ pub(crate) fn is_missed(block: Block, row: &Row) -> bool
 /// Whether no row behind row `s`, of generality at most `general` and not at one of the places, meets an alias of it. The
 /// places behind it are of rows of its route.
 pub(crate) fn passes(table: RivaledRows, places: &[u32], s: u32, general: u32) -> bool
-    requires inside { s < length table.rows.now }
-    requires one_route { (r : ℕ) → s < r → has_row places.now r ≡ true → SameRoute table.rows.now s r }
-    requires in_range { All (λ r. r < length table.rows.now) places.now }
+    requires { AreAlikeBehind table.rows.now places.now s }
     ensures { IsTrue result ↔ PassesUp table.entry.rows.now places.now s (place_for table.entry.rows.now general) }
 {
     let rows = table.rows;
@@ -179,9 +176,8 @@ pub(crate) fn is_at_one(serials: &[usize], places: &[u32], serial: usize) -> boo
 }
 
 /// The number of rows whose generality is at most `general`: the place behind them.
-pub(crate) fn place_in(rows: &[Row], general: u32) -> u32
-    requires few { length rows.now < 2 ^ 32 }
-    requires ordered { IsOrdered rows.now }
+pub(crate) fn place_in(rows: &[Row], general: u32) -> usize
+    requires { IsOrdered rows.now }
     ensures value { result ≡ place_for rows.now general }
     ensures bound { result ≤ length rows.now }
 {
@@ -195,7 +191,7 @@ pub(crate) fn place_in(rows: &[Row], general: u32) -> u32
             high = middle;
         }
     }
-    low as u32
+    low
 }
 
 /// Whether the merge of two rows of one route is legal.

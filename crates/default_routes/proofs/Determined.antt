@@ -1,15 +1,12 @@
 -- At most one list of kept places, and one final table.
-use Rattle.std.proofs.Common.{◌≡◌, ℕ, suc, Some, List, [], ◌∷◌, length, refl, sym, ap, ◌∙◌, subst, arith}
-use Rattle.std.specs.Prelude.{map, slice_get}
+use Rattle.std.proofs.Common.{◌≡◌, ℕ, suc, Some, List, [], ◌∷◌, length, refl, sym, ap, ◌∙◌, arith}
+use Rattle.std.specs.Prelude.{slice_get}
 use Rattle.std.proofs.lemmas.Option.{slice_get_within, same_Some}
 use Rattle.spin_base.specs.declared.blocks.Entry.{Entry}
 use Rattle.tern_word.specs.declared.tables.Row.{Row}
-use Rattle.tern_word.specs.Entries.{entry_of}
 use Rattle.cover_merge.specs.Merge.{rows_at}
 use Rattle.cover_merge.proofs.Determined.{one_covering}
-use Rattle.default_routes.specs.declared.stripping.Final.{Final}
-use Rattle.default_routes.specs.KeptRows.{IsStrippable, KeptFrom, ends, goes, stays, AreKept}
-use Rattle.default_routes.specs.FinalTable.{IsFinalOf}
+use Rattle.default_routes.specs.{declared.stripping.Final.Final, KeptRows.IsStrippable, KeptRows.KeptFrom, KeptRows.ends, KeptRows.goes, KeptRows.stays, KeptRows.AreKept, FinalTable.IsFinalOf}
 
 module _ (rows : List Row) where
   none_behind : (i : ℕ) (ys : List ℕ) → length rows ≡ i → KeptFrom rows i ys → [] ≡ ys
@@ -19,9 +16,7 @@ module _ (rows : List Row) where
 
   -- the row at a place can go behind one list of kept places, and stays behind another
   both_ways : (n : ℕ) (r s : Row) (xs ys : List ℕ) → slice_get rows n ≡ Some r → slice_get rows n ≡ Some s → xs ≡ ys → IsStrippable r (rows_at rows xs) → (IsStrippable s (rows_at rows ys) → ⊥) → ⊥
-  both_ways n r s xs ys here there same strip keep =
-      let row : r ≡ s = same_Some r s (sym here ∙ there) in
-      keep (subst (λ l. IsStrippable s (rows_at rows l)) same (subst (λ x. IsStrippable x (rows_at rows xs)) row strip))
+  both_ways n r s xs ys here there same strip keep = grind (arith, same_Some r s (sym here ∙ there))
 
   after_going : (n : ℕ) (row : Row) (xs ys : List ℕ) → slice_get rows n ≡ Some row → IsStrippable row (rows_at rows xs) → ((zs : List ℕ) → KeptFrom rows (suc n) zs → xs ≡ zs) → KeptFrom rows n ys → xs ≡ ys
   after_going n row xs ys here strip one ends = absurd (omega (arith, slice_get_within rows n row here))
@@ -46,10 +41,4 @@ same_entries : (f g : Final) → f.entries ≡ g.entries → f ≡ g
 same_entries f g same = ap (λ (l : List Entry). let v : Final = record { entries = l } in v) same
 
 pub one_table : (target : ℕ) (table : List Row) (f g : Final) → IsFinalOf target table f → IsFinalOf target table g → f ≡ g
-one_table target table f g one other =
-    let rows : one.rows ≡ other.rows = (one_covering target table one.sets other.sets one.rows other.rows one.covered other.covered).1 in
-    let places : one.kept ≡ other.kept = one_list other.rows one.kept other.kept (subst (λ (rs : List Row). AreKept rs one.kept) rows one.are_kept) other.are_kept in
-    same_entries f g (one.entries
-    ∙ (ap (λ (rs : List Row). map entry_of (rows_at rs one.kept)) rows
-    ∙ (ap (λ (l : List ℕ). map entry_of (rows_at other.rows l)) places
-    ∙ sym other.entries)))
+one_table target table f g one other = grind (arith, one_covering target table one.sets other.sets one.rows other.rows one.covered other.covered, one_list, same_entries)

@@ -1,33 +1,20 @@
 -- The loaded rows route as the table given does.
 use Rattle.std.proofs.Common.{◌≡◌, ℕ, ◌+◌, ◌<◌, arith, Bool, true, false, cond, Some, List, [], ◌∷◌, ◌++◌, ◌≤◌, ◌⊎◌, length, get_or, take, refl, sym, ap, ◌∙◌, subst}
-use Rattle.std.specs.Prelude.{All, map, find}
-use Rattle.std.specs.List.{Contains}
-use Rattle.std.specs.List.Sorted.{IsPermutation}
-use Rattle.std.specs.Option.{option_map_or}
-use Rattle.std.proofs.lemmas.List.{length-map, map_push, take_more}
-use Rattle.std.proofs.lemmas.List.Elements.{All-head, All-map, All-tail}
-use Rattle.std.proofs.lemmas.List.Sorted.{All-permutation, IsPermutation-sym}
+use Rattle.std.specs.{Prelude.All, Prelude.map, Prelude.find, List.Contains, List.Sorted.IsPermutation, Option.option_map_or}
+use Rattle.std.proofs.lemmas.List.{length-map, map_push, take_more, Elements.All-head, Elements.All-map, Elements.All-tail, Sorted.All-permutation, Sorted.IsPermutation-sym}
 use Rattle.std.proofs.lemmas.Option.{slice_get-get_or}
-use Rattle.spin_base.specs.declared.chips.Port.{Port}
-use Rattle.spin_base.specs.declared.blocks.Entry.{Entry}
-use Rattle.spin_base.specs.Lookup.{matches, default_route, lookup}
-use Rattle.tern_word.specs.declared.tables.Row.{Row}
-use Rattle.tern_word.specs.Entries.{entry_of}
-use Rattle.tern_word.specs.SoundTable.{IsSound, Original, served}
-use Rattle.cover_merge.specs.Merge.{after, rows_at}
+use Rattle.spin_base.specs.{declared.chips.Port.Port, declared.blocks.Entry.Entry, Lookup.matches, Lookup.default_route, Lookup.lookup}
+use Rattle.tern_word.specs.{declared.tables.Row.Row, Entries.entry_of, SoundTable.IsSound, SoundTable.Original, SoundTable.served}
+use Rattle.cover_merge.specs.{Merge.after, Merge.rows_at, Covering.Covers, Covering.HasNoLegalPair, Covering.HasRoutesOf, Covering.merged, Covering.short, Covering.stuck}
 use Rattle.cover_merge.proofs.Positions.{All-has, rows_at-from, rows_at-length, rows_at-push}
-use Rattle.cover_merge.specs.Covering.{Covers, HasNoLegalPair, HasRoutesOf, merged, short, stuck}
-use Rattle.default_routes.specs.declared.stripping.Final.{Final}
-use Rattle.default_routes.specs.KeptRows.{AreKept, ArePlaces, Routes}
-use Rattle.default_routes.specs.FinalTable.{HaveRoutesOf, IsFinalOf, IsShortened, MatchesNoKey, RoutesAlone}
+use Rattle.default_routes.specs.{declared.stripping.Final.Final, KeptRows.AreKept, KeptRows.ArePlaces, KeptRows.Routes, FinalTable.HaveRoutesOf, FinalTable.IsFinalOf, FinalTable.IsShortened}
+use Rattle.default_routes.specs.FinalTable.{MatchesNoKey, RoutesAlone}
 use Rattle.default_routes.proofs.StripLemmas.{kept_places}
 
 -- entries that match no key change no lookup
 lookup_past : (rest : List Entry) (key : ℕ) (port : Port) → All MatchesNoKey rest → lookup rest key port ≡ default_route port
 lookup_past [] key port none = refl
-lookup_past (e ∷ rest) key port none =
-    ap (λ b. option_map_or (λ (x : Entry). x.route) (cond b (Some e) (find (λ (x : Entry). matches x key) rest)) (default_route port)) (All-head MatchesNoKey e rest none key)
-    ∙ lookup_past rest key port (All-tail MatchesNoKey e rest none)
+lookup_past (e ∷ rest) key port none = grind (arith, All-head MatchesNoKey e rest none key, lookup_past rest key port (All-tail MatchesNoKey e rest none), All-tail MatchesNoKey e rest none)
 
 lookup_alone : (entries rest : List Entry) (key : ℕ) (port : Port) → All MatchesNoKey rest → lookup (entries ++ rest) key port ≡ lookup entries key port
 lookup_alone [] rest key port none = lookup_past rest key port none

@@ -1,19 +1,12 @@
 -- A sound table that has no more rows than wanted is covered as it stands.
 use Rattle.std.proofs.Common.{◌≡◌, ℕ, ◌≤◌, List, [], length, get_or, map, refl, inl, arith}
 use Rattle.std.specs.Prelude.{All}
-use Rattle.std.proofs.lemmas.List.Elements.{Contains-get_or}
-use Rattle.std.proofs.lemmas.List.Sorted.{IsPermutation-refl}
+use Rattle.std.proofs.lemmas.List.{Elements.Contains-get_or, Sorted.IsPermutation-refl}
 use Rattle.spin_base.proofs.Members.{Contains-map}
-use Rattle.tern_word.specs.declared.tables.Row.{Row}
-use Rattle.tern_word.specs.Entries.{entry_of}
-use Rattle.tern_word.specs.SoundTable.{IsSound, served}
-use Rattle.cover_merge.specs.Merge.{rows_at}
-use Rattle.cover_merge.specs.Covering.{short}
-use Rattle.default_routes.specs.declared.stripping.Final.{Final}
-use Rattle.default_routes.specs.KeptRows.{AreKept}
-use Rattle.default_routes.specs.FinalTable.{HaveRoutesOf, IsShortened, RoutesAlone}
-use Rattle.default_routes.proofs.FinalLemmas.{loaded_routes, serves_given, shortened}
-use Rattle.default_routes.proofs.StripLemmas.{kept_places, kept_serve}
+use Rattle.tern_word.specs.{declared.tables.Row.Row, Entries.entry_of, SoundTable.IsSound, SoundTable.served}
+use Rattle.cover_merge.specs.{Merge.rows_at, Covering.short}
+use Rattle.default_routes.specs.{declared.stripping.Final.Final, KeptRows.AreKept, FinalTable.HaveRoutesOf, FinalTable.IsShortened, FinalTable.RoutesAlone}
+use Rattle.default_routes.proofs.{FinalLemmas.loaded_routes, FinalLemmas.serves_given, FinalLemmas.shortened, StripLemmas.kept_places, StripLemmas.kept_serve}
 
 module _ (target : ℕ) (rows : List Row) (kept : List ℕ) (f : Final) (few : length rows ≤ target) (sound : IsSound rows) (are : AreKept rows kept)
     (entries : f.entries ≡ map entry_of (rows_at rows kept)) where

@@ -1,39 +1,25 @@
 -- Kept rows route as all rows do.
-use Rattle.std.proofs.Common.{◌≡◌, ℕ, suc, ◌+◌, ◌-◌, ◌^◌, ◌<◌, ◌≤◌, ◌⊎◌, inl, inr, ◌==◌, Bool, true, false, cond, Some, List, [], ◌∷◌, ◌++◌, reverse, length, get_or, take, refl, sym, ap, ◌∙◌, subst, arith}
+use Rattle.std.proofs.Common.{◌≡◌, ℕ, suc, ◌+◌, ◌-◌, ◌^◌, ◌<◌, ◌≤◌, ◌⊎◌, inl, inr, ◌==◌, Bool, true, false, cond, Some, List, [], ◌∷◌, ◌++◌, reverse, length, get_or, take, refl, sym, ap, ◌∙◌, subst}
+use Rattle.std.proofs.Common.{arith}
 use Rattle.std.specs.Prelude.{All, AllPairs, map, find, slice_get, bit_and, MatchBool, IsTrue, ◌↔◌, if◌then◌else◌}
-use Rattle.std.specs.List.{cons_option}
-use Rattle.std.specs.Option.{option_map_or}
-use Rattle.std.proofs.lemmas.Bool.{cases_lt, eq-eqb}
-use Rattle.std.proofs.lemmas.Bool.Decides.{eqb_tells}
-use Rattle.std.proofs.lemmas.List.{get_or_default, get_or-reverse, length-reverse, reverse-append, reverse-reverse, take_more}
-use Rattle.std.proofs.lemmas.List.Quantifiers.{all_pairs_push}
-use Rattle.std.proofs.lemmas.List.Elements.{All-nil, All-append, All-cons, All-head, All-tail, All-weaker, All-map, All-more}
-use Rattle.std.proofs.lemmas.List.Kept.{AllPairs-cons}
-use Rattle.std.proofs.lemmas.Option.{slice_get_read, get_or_from_slice_get, slice_get_within}
-use Rattle.spin_base.specs.declared.chips.Dir.{Dir}
-use Rattle.spin_base.specs.declared.chips.Dir.TheVariants.{East, NorthEast, North, West, SouthWest, South}
-use Rattle.spin_base.specs.declared.chips.Port.{Port}
-use Rattle.spin_base.specs.declared.chips.Port.TheVariants.{Link}
-use Rattle.spin_base.specs.declared.blocks.Entry.{Entry}
-use Rattle.spin_base.specs.declared.routes.Route.{Route}
-use Rattle.spin_base.specs.Lookup.{matches, straight_on, default_route, lookup}
-use Rattle.tern_word.specs.declared.tables.Alias.{Alias}
-use Rattle.tern_word.specs.declared.tables.Row.{Row}
-use Rattle.tern_word.specs.Entries.{entry_of}
-use Rattle.tern_word.specs.Ternary.{Matches}
-use Rattle.tern_word.specs.SoundTable.{HoldsItsAliases, Misses, IsSound, Original, served_by, served}
+use Rattle.std.specs.{List.cons_option, Option.option_map_or}
+use Rattle.std.proofs.lemmas.{Bool.cases_lt, Bool.eq-eqb, Bool.Decides.eqb_tells, List.get_or_default, List.get_or-reverse, List.length-reverse, List.reverse-append, List.reverse-reverse}
+use Rattle.std.proofs.lemmas.List.{take_more, Quantifiers.all_pairs_push, Elements.All-nil, Elements.All-append, Elements.All-cons, Elements.All-head, Elements.All-tail, Elements.All-weaker}
+use Rattle.std.proofs.lemmas.{List.Elements.All-map, List.Elements.All-more, List.Kept.AllPairs-cons, Option.slice_get_read, Option.get_or_from_slice_get, Option.slice_get_within}
+use Rattle.spin_base.specs.declared.chips.Dir.{Dir, TheVariants.East, TheVariants.NorthEast, TheVariants.North, TheVariants.West, TheVariants.SouthWest, TheVariants.South}
+use Rattle.spin_base.specs.{declared.chips.Port.Port, declared.chips.Port.TheVariants.Link, declared.blocks.Entry.Entry, declared.routes.Route.Route, Lookup.matches, Lookup.straight_on}
+use Rattle.spin_base.specs.Lookup.{default_route, lookup}
+use Rattle.tern_word.specs.{declared.tables.Alias.Alias, declared.tables.Row.Row, Entries.entry_of, Ternary.Matches, SoundTable.HoldsItsAliases, SoundTable.Misses, SoundTable.IsSound}
+use Rattle.tern_word.specs.SoundTable.{Original, served_by, served}
 use Rattle.cover_merge.specs.Merge.{has_row, rows_at}
-use Rattle.cover_merge.proofs.Answering.{fails}
-use Rattle.cover_merge.proofs.Lists.{AllPairs-nil, All-flat_map}
-use Rattle.cover_merge.proofs.Positions.{has-at, has-place, rows_at-from, rows_at-has}
+use Rattle.cover_merge.proofs.{Answering.fails, Lists.AllPairs-nil, Lists.All-flat_map, Positions.has-at, Positions.has-place, Positions.rows_at-from, Positions.rows_at-has}
 use Rattle.spin_base.proofs.RouteBits.{same_route}
 use Rattle.default_routes.specs.KeptRows.{IsStrippable, KeptFrom, ends, goes, stays, AreKept, ArePlaces, RoutesAll, Routes}
 
 -- ---- lookup, entry by entry
 
 pub lookup_hit : (r : Row) (rows : List Row) (key : ℕ) (port : Port) → Matches r.block key → lookup (map entry_of (r ∷ rows)) key port ≡ r.route
-lookup_hit r rows key port hit =
-    ap (λ b. option_map_or (λ (e : Entry). e.route) (cond b (Some (entry_of r)) (find (λ (e : Entry). matches e key) (map entry_of rows))) (default_route port)) (eq-eqb (bit_and key r.block.mask) r.block.key hit)
+lookup_hit r rows key port hit = grind (arith, eq-eqb (bit_and key r.block.mask) r.block.key hit)
 
 pub lookup_miss : (r : Row) (rows : List Row) (key : ℕ) (port : Port) → (Matches r.block key → ⊥) → lookup (map entry_of (r ∷ rows)) key port ≡ lookup (map entry_of rows) key port
 lookup_miss r rows key port miss =
@@ -157,9 +143,7 @@ module _ (row : Row) (later : List Row) (d : Dir) (bits : (straight_on d).bits �
   strips arrives clear = record { arrival = d; route = same_route row.route (straight_on d) (sym bits); arrives = arrives; clear = clear }
 
   pub strips_by : IsStrippable row later → All (λ (a : Alias). a.port ≡ Link d) row.aliases
-  strips_by strip =
-      let same : strip.arrival ≡ d = straight_injective strip.arrival d (ap (λ (r : Route). r.bits) (sym strip.route) ∙ sym bits) in
-      subst (λ x. All (λ (a : Alias). a.port ≡ Link x) row.aliases) same strip.arrives
+  strips_by strip = grind (arith, straight_injective)
 
 pub strips_not : (row : Row) (later : List Row) → ((d : Dir) → (straight_on d).bits ≡ row.route.bits → ⊥) → IsStrippable row later → ⊥
 strips_not row later none strip = none strip.arrival (ap (λ (r : Route). r.bits) (sym strip.route))
@@ -261,13 +245,7 @@ ascends_more rows i d least mask key within is masked low ascending below = (
 -- rows of one mask whose keys ascend are apart
 pub apart_from_keys : (rows : List Row) (mask : ℕ) → All HoldsItsAliases rows → AllPairs (λ (r s : Row). r.block.key < s.block.key) rows →
     All (λ (r : Row). r.block.mask ≡ mask) rows → AllPairs (λ (r s : Row). Misses s.block r) rows
-apart_from_keys rows mask hold ascending masked i j d less inside m e among met =
-    let here : i < length rows = omega (arith, less, inside) in
-    let in_row : Matches (get_or rows i d).block met.key = hold i d here m e among met.key met.small met.second in
-    let masks : (get_or rows i d).block.mask ≡ (get_or rows j d).block.mask = masked i d here ∙ sym (masked j d inside) in
-    let same : (get_or rows i d).block.key ≡ (get_or rows j d).block.key = sym in_row ∙ (ap (λ n. bit_and met.key n) masks ∙ met.first) in
-    let below : (get_or rows i d).block.key < (get_or rows j d).block.key = ascending i j d less inside in
-    omega (arith, same, below)
+apart_from_keys rows mask hold ascending masked i j d less inside m e among met = grind arith
 
 -- then no later kept row meets an alias of the row before
 pub later_clear : (rows : List Row) (kept : List ℕ) (i : ℕ) (d : Row) → AllPairs (λ (r s : Row). Misses s.block r) rows →

@@ -2,8 +2,8 @@
 use Rattle.std.proofs.Common.{◌≡◌, ℕ, zero, suc, ◌+◌, ◌/◌, ◌<◌, ◌%◌, List, [], ◌∷◌, ◌++◌, length, All, get_or, refl, ap, ◌∙◌, add-one, arith, length-append}
 use Rattle.std.proofs.lemmas.{List.Elements.All-nil, List.Elements.All-push, Nat.mod_below}
 use Rattle.rand_xoshiro.specs.Xoshiro256.{plus_plus}
-use Rattle.job_gen.specs.declared.draws.{DrawnNet.DrawnNet, DrawnPacket.DrawnPacket, Drawn.Drawn}
-use Rattle.job_gen.specs.Draws.{draw, draws, drawn_sdram, drawn_target, drawn_net, drawn_packet, drawn_from, keys_at}
+use Rattle.job_gen.specs.{declared.draws.DrawnNet.DrawnNet, declared.draws.DrawnPacket.DrawnPacket, declared.draws.Drawn.Drawn, Draws.draw, Draws.draws, Draws.drawn_sdram, Draws.drawn_target}
+use Rattle.job_gen.specs.Draws.{drawn_net, drawn_packet, drawn_from, keys_at}
 
 -- a draw is what the generator's next word gives
 pub draw_from : (m w : ℕ) (before after : List ℕ) → (w, after) ≡ plus_plus before → (w % m, after) ≡ draw m before
@@ -24,11 +24,7 @@ draws_none {A} f g xs none = ap (λ (l : List A). (l, g)) none
 pub draws_more : {A : Type 0} (f : ℕ → List ℕ → A × List ℕ) (n : ℕ) (first before after : List ℕ) (xs : List A) (x : A)
     → (xs, before) ≡ draws f n first → (x, after) ≡ f n before → (xs ++ x ∷ [], after) ≡ draws f (n + 1) first
 unfolding draws
-draws_more {A} f n first before after xs x so_far last =
-    rw add-one (
-    ap (λ (q : A × List ℕ). (xs ++ q.0 ∷ [], q.1)) last
-    ∙ ap (λ (p : List A × List ℕ). (p.0 ++ (f n p.1).0 ∷ [], (f n p.1).1)) so_far
-    )
+draws_more {A} f n first before after xs x so_far last = grind (arith, add-one)
 
 -- there are as many as were asked for
 pub length-draws : {A : Type 0} (f : ℕ → List ℕ → A × List ℕ) (n : ℕ) (g : List ℕ) → length (draws f n g).0 ≡ n
@@ -49,8 +45,7 @@ draws_each P f (suc n) g each =
 -- one more, put at the back of what was drawn
 pub draws_push : {A : Type 0} (f : ℕ → List ℕ → A × List ℕ) (n : ℕ) (first before after : List ℕ) (xs new : List A) (x : A)
     → new ≡ xs ++ x ∷ [] → (xs, before) ≡ draws f n first → (x, after) ≡ f n before → (new, after) ≡ draws f (n + 1) first
-draws_push {A} f n first before after xs new x pushed so_far last =
-    ap (λ (l : List A). (l, after)) pushed ∙ draws_more f n first before after xs x so_far last
+draws_push {A} f n first before after xs new x pushed so_far last = grind (arith, draws_more f n first before after xs x so_far last)
 
 -- ---- nets and packets, from their draws
 
@@ -61,15 +56,7 @@ pub net_from : (i source more keys : ℕ) (targets g0 g1 g2 g3 g4 : List ℕ)
     → (source, g1) ≡ draw 200 g0 → (more, g2) ≡ draw 8 g1 → (targets, g3) ≡ draws drawn_target (1 + more) g2 → (keys, g4) ≡ draw 16 g3
     → (net_with source targets (1 + keys), g4) ≡ drawn_net i g0
 unfolding drawn_net
-net_from i source more keys targets g0 g1 g2 g3 g4 one two three four =
-    ap (λ (p : ℕ × List ℕ). (net_with source targets (1 + p.0), p.1)) four
-    ∙ ap (λ (p : List ℕ × List ℕ). (net_with source p.0 (1 + (draw 16 p.1).0), (draw 16 p.1).1)) three
-    ∙ ap (λ (p : ℕ × List ℕ). (net_with source (draws drawn_target (1 + p.0) p.1).0 (1 + (draw 16 (draws drawn_target (1 + p.0) p.1).1).0), (draw 16 (draws drawn_target (1 + p.0) p.1).1).1)) two
-    ∙ ap (λ (p : ℕ × List ℕ). (
-      net_with p.0 (draws drawn_target (1 + (draw 8 p.1).0) (draw 8 p.1).1).0 (1 + (draw 16 (draws drawn_target (1 + (draw 8 p.1).0) (draw 8 p.1).1).1).0),
-      (draw 16
-          (draws drawn_target (1 + (draw 8 p.1).0) (draw 8 p.1).1).1).1,
-    )) one
+net_from i source more keys targets g0 g1 g2 g3 g4 one two three four = grind arith
 
 -- the keys of the net at a place
 pub keys_there : (nets : List DrawnNet) (k : ℕ) (d : DrawnNet) → k < length nets → (get_or nets k d).keys ≡ keys_at nets k
@@ -85,9 +72,7 @@ pub packet_from : (nets : List DrawnNet) (i keys index payload : ℕ) (g0 g1 g2 
     → keys ≡ keys_at nets (i / 4) → (index, g1) ≡ draw keys g0 → (payload, g2) ≡ draw 4294967296 g1
     → (packet_with (i / 4) index payload, g2) ≡ drawn_packet nets i g0
 unfolding drawn_packet
-packet_from nets i keys index payload g0 g1 g2 same one two =
-    ap (λ (p : ℕ × List ℕ). (packet_with (i / 4) index p.0, p.1)) two
-    ∙ ap (λ (p : ℕ × List ℕ). (packet_with (i / 4) p.0 (draw 4294967296 p.1).0, (draw 4294967296 p.1).1)) (one ∙ ap (λ m. draw m g0) same)
+packet_from nets i keys index payload g0 g1 g2 same one two = grind arith
 
 -- ---- a whole job
 
@@ -98,10 +83,7 @@ pub job_from : (g0 g1 g2 g3 sdrams : List ℕ) (nets : List DrawnNet) (packets :
     → (sdrams, g1) ≡ draws drawn_sdram 200 g0 → (nets, g2) ≡ draws drawn_net 300 g1 → (packets, g3) ≡ draws (drawn_packet nets) 1200 g2
     → drawn_with sdrams nets packets ≡ drawn_from g0
 unfolding drawn_from
-job_from g0 g1 g2 g3 sdrams nets packets one two three =
-    ap (λ (p : List DrawnPacket × List ℕ). drawn_with sdrams nets p.0) three
-    ∙ ap (λ (p : List DrawnNet × List ℕ). drawn_with sdrams p.0 (draws (drawn_packet p.0) 1200 p.1).0) two
-    ∙ ap (λ (p : List ℕ × List ℕ). drawn_with p.0 (draws drawn_net 300 p.1).0 (draws (drawn_packet (draws drawn_net 300 p.1).0) 1200 (draws drawn_net 300 p.1).1).0) one
+job_from g0 g1 g2 g3 sdrams nets packets one two three = grind arith
 
 pub number_drawn : {A : Type 0} (f : ℕ → List ℕ → A × List ℕ) (n : ℕ) (g h : List ℕ) (xs : List A) → (xs, h) ≡ draws f n g → length xs ≡ n
 number_drawn {A} f n g h xs is = ap (λ (p : List A × List ℕ). length p.0) is ∙ length-draws f n g

@@ -2,8 +2,7 @@
 use Rattle.std.proofs.Common.{◌≤◌, List, length, map, arith}
 use Rattle.std.proofs.lemmas.List.{length-map, Sorted.length_permutation}
 use Rattle.spin_base.specs.declared.chips.Chip.{Chip}
-use Rattle.machine_desc.specs.Description.{Description}
-use Rattle.machine_desc.specs.declared.nets.NetPlan.{NetPlan}
+use Rattle.machine_desc.specs.{Description.Description, declared.nets.NetPlan.NetPlan}
 use Rattle.tern_word.specs.declared.tables.Row.{Row}
 use Rattle.net_tables.specs.PlainTable.{row_of, IsPlainTable}
 use Rattle.net_tables.proofs.Whole.{few_originals}

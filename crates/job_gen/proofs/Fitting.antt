@@ -1,8 +1,6 @@
 -- Generated jobs have room, keys and ways.
 use Rattle.std.proofs.Common.{◌≡◌, ℕ, ◌+◌, ◌<◌, ◌≤◌, List, [], ◌∷◌, length, take, All, Some, MatchOption, slice_get, refl, sym, ◌∙◌, subst, arith}
-use Rattle.std.proofs.lemmas.{Bool.and_parts, List.length-map}
-use Rattle.std.proofs.lemmas.List.Elements.{All-nil, All-cons, All-head, All-tail}
-use Rattle.std.proofs.lemmas.Option.{slice_get_within}
+use Rattle.std.proofs.lemmas.{Bool.and_parts, List.length-map, List.Elements.All-nil, List.Elements.All-cons, List.Elements.All-head, List.Elements.All-tail, Option.slice_get_within}
 use Rattle.spin_base.proofs.Places.{All-at, slice_get_there}
 use Rattle.spin_base.specs.declared.chips.{Chip.Chip, Spot.Spot}
 use Rattle.machine_desc.specs.Live.{is_live_chip, IsLiveChip}
@@ -10,11 +8,9 @@ use Rattle.app_graph.specs.declared.graphs.Net.{Net}
 use Rattle.place_fit.specs.Placement.{IsCoreFor, HasDeviceRoom, device_spot, IsPlacement, HasNoRoom}
 use Rattle.key_alloc.specs.KeyBlocks.{fixed_of, AreKeysOut}
 use Rattle.net_plans.specs.CutOffTargets.{IsFirstNetCutOff}
-use Rattle.job_gen.specs.declared.draws.{DrawnNet.DrawnNet, Drawn.Drawn}
-use Rattle.job_gen.specs.{Draws.drawn, DrawnFacts.IsDrawnNet, DrawnFacts.IsDrawn, Values.numbered, Board.generated_board}
+use Rattle.job_gen.specs.{declared.draws.DrawnNet.DrawnNet, declared.draws.Drawn.Drawn, Draws.drawn, DrawnFacts.IsDrawnNet, DrawnFacts.IsDrawn, Values.numbered, Board.generated_board}
 use Rattle.job_gen.specs.Generated.{generated_vertex, net_of, packet_of, graph_of, generated_run, job_of_drawn, gen_job}
-use Rattle.job_gen.proofs.{DrawnLaws.is_drawn, ListReading.length-numbered, Joined.not_cut_off, Keyed.NeedsFew, Keyed.keys_are_left}
-use Rattle.job_gen.proofs.Roomy.{IsSmall, room_is_left}
+use Rattle.job_gen.proofs.{DrawnLaws.is_drawn, ListReading.length-numbered, Joined.not_cut_off, Keyed.NeedsFew, Keyed.keys_are_left, Roomy.IsSmall, Roomy.room_is_left}
 
 -- what each numbered item has
 all_numbered : {X A : Type 0} (P : X → Type 0) (Q : A → Type 0) (f : ℕ → X → A) → ((i : ℕ) (x : X) → P x → Q (f i x)) → (i : ℕ) (xs : List X) → All P xs → All Q (numbered f i xs)

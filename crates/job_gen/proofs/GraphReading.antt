@@ -3,19 +3,15 @@ use Rattle.std.proofs.Common.{◌≡◌, ℕ, zero, suc, ◌+◌, ◌<◌, ◌�
 use Rattle.std.proofs.lemmas.{Bool.le-leb, Bool.and_from, List.map-id}
 use Rattle.std.specs.Prelude.{slice_get, option_and_then, is_some, unwrap_or}
 use Rattle.app_graph.specs.declared.graphs.{Vertex.Vertex, Net.Net}
-use Rattle.job_text.specs.Fields.{is_within, is_name}
+use Rattle.job_text.specs.Fields.{is_within}
 use Rattle.job_text.proofs.Items.{list_of-items_of}
-use Rattle.job_readers.specs.Members.{number_member_faults, number_member, list_member, member_since}
-use Rattle.job_readers.specs.Places.{name_place_in, reference_faults, reference_value, new_name_faults}
-use Rattle.job_readers.specs.GraphPart.{name_value, name_faults, at_faults, at_value, device_faults, device_value, vertex_faults, vertex_value, next_vertex_faults}
-use Rattle.job_readers.specs.GraphPart.{vertex_names_of, sender_at, sender_in, net_source_faults, source_value, target_faults, target_value, has_item, some_faults}
-use Rattle.job_readers.specs.GraphPart.{targets_faults, targets_value, keys_value, fixed_faults, fixed_value, net_faults, net_value, next_net_faults, net_names}
-use Rattle.job_gen.specs.declared.draws.DrawnNet.{DrawnNet}
-use Rattle.job_gen.specs.DrawnFacts.{IsDrawnNet}
-use Rattle.job_gen.specs.Values.{numbered, generated_vertex_name, vertex_data, name_data, net_data}
+use Rattle.job_readers.specs.{Members.number_member_faults, Members.number_member, Members.list_member, Members.member_since, Places.name_place_in, Places.reference_faults, Places.reference_value}
+use Rattle.job_readers.specs.{Places.new_name_faults, GraphPart.name_value, GraphPart.name_faults, GraphPart.at_faults, GraphPart.at_value, GraphPart.device_faults, GraphPart.device_value}
+use Rattle.job_readers.specs.GraphPart.{vertex_faults, vertex_value, next_vertex_faults, vertex_names_of, sender_at, sender_in, net_source_faults, source_value, target_faults, target_value, has_item}
+use Rattle.job_readers.specs.GraphPart.{some_faults, targets_faults, targets_value, keys_value, fixed_faults, fixed_value, net_faults, net_value, next_net_faults, net_names}
+use Rattle.job_gen.specs.{declared.draws.DrawnNet.DrawnNet, DrawnFacts.IsDrawnNet, Values.numbered, Values.generated_vertex_name, Values.vertex_data, Values.name_data, Values.net_data}
 use Rattle.job_gen.specs.Generated.{generated_vertex, net_of}
-use Rattle.job_gen.proofs.NameLemmas.{AreBelow, absent, found, named}
-use Rattle.job_gen.proofs.ListReading.{items_clean, items_are}
+use Rattle.job_gen.proofs.{NameLemmas.AreBelow, NameLemmas.absent, NameLemmas.found, NameLemmas.named, ListReading.items_clean, ListReading.items_are}
 
 pub within : (low high n : ℕ) → low ≤ n → n ≤ high → is_within low high n ≡ true
 within low high n above below = and_from _ _ (le-leb low n above) (le-leb n high below)
@@ -25,11 +21,7 @@ within low high n above below = and_from _ _ (le-leb low n above) (le-leb n high
 pub vertex_clean : (before : List Vertex) (path : List ℕ) (i sdram : ℕ) → AreBelow 118 i (map (λ (v : Vertex). v.name) before) → i < 1000 → sdram ≤ 1048576
     → next_vertex_faults 1 before path (vertex_data i sdram) ≡ []
 unfolding vertex_faults name_faults new_name_faults number_member_faults at_faults device_faults member_since vertex_names_of vertex_data
-vertex_clean before path i sdram below small few =
-    let name : is_name (118 ∷ decimal i) ≡ true = named 118 i (omega arith) (omega arith) small in
-    let new : name_place_in (map (λ (v : Vertex). v.name) before) (118 ∷ decimal i) ≡ None = absent 118 i _ small below in
-    let memory : is_within 0 134217728 sdram ≡ true = within 0 134217728 sdram (omega arith) (omega arith) in
-    rw (name, new, memory) refl
+vertex_clean before path i sdram below small few = grind (arith, named 118 i (omega arith) (omega arith) small, within 0 134217728 sdram (omega arith) (omega arith), absent)
 
 pub vertex_is : (i sdram : ℕ) → vertex_value 1 (vertex_data i sdram) ≡ generated_vertex i sdram
 unfolding vertex_value name_value number_member at_value device_value member_since vertex_data generated_vertex
@@ -63,9 +55,7 @@ module _ (sdrams : List ℕ) (many : length sdrams ≡ 200) where
 
   target_clean : (path : List ℕ) (t : ℕ) → t < 200 → target_faults (vertex_names_of (numbered generated_vertex 0 sdrams)) path (name_data t) ≡ []
   unfolding target_faults reference_faults name_data
-  target_clean path t below =
-      let name : is_name (118 ∷ decimal t) ≡ true = named 118 t (omega arith) (omega arith) (omega arith) in
-      rw (name, place t below) refl
+  target_clean path t below = grind (arith, named 118 t (omega arith) (omega arith) (omega arith), place t below)
 
   target_is : (t : ℕ) → t < 200 → target_value (vertex_names_of (numbered generated_vertex 0 sdrams)) (name_data t) ≡ t
   unfolding target_value reference_value name_data
@@ -75,9 +65,7 @@ module _ (sdrams : List ℕ) (many : length sdrams ≡ 200) where
 
   source_clean : (path : List ℕ) (i : ℕ) (net : DrawnNet) → net.source < 200 → net_source_faults (numbered generated_vertex 0 sdrams) path (net_data i net) ≡ []
   unfolding net_source_faults net_data name_data
-  source_clean path i net below =
-      let name : is_name (118 ∷ decimal net.source) ≡ true = named 118 net.source (omega arith) (omega arith) (omega arith) in
-      rw (name, sender net.source below) refl
+  source_clean path i net below = grind (arith, named 118 net.source (omega arith) (omega arith) (omega arith), sender net.source below)
 
   source_is : (i : ℕ) (net : DrawnNet) → net.source < 200 → source_value (numbered generated_vertex 0 sdrams) (net_data i net) ≡ net.source
   unfolding source_value net_data name_data
@@ -107,9 +95,7 @@ module _ (sdrams : List ℕ) (many : length sdrams ≡ 200) where
   own_name : (before : List Net) (path : List ℕ) (i : ℕ) (net : DrawnNet) → AreBelow 110 i (map (λ (n : Net). n.name) before) → i < 1000
       → name_faults (net_names before) path (net_data i net) ≡ []
   unfolding name_faults new_name_faults net_names net_data
-  own_name before path i net below small =
-      let name : is_name (110 ∷ decimal i) ≡ true = named 110 i (omega arith) (omega arith) small in
-      rw (name, absent 110 i _ small below) refl
+  own_name before path i net below small = grind (arith, named 110 i (omega arith) (omega arith) small, absent)
 
   keys_clean : (path : List ℕ) (i : ℕ) (net : DrawnNet) → 1 ≤ net.keys → net.keys ≤ 16 → number_member_faults path (codes "keys") 1 4294967296 (Some 1) (net_data i net) ≡ []
   unfolding number_member_faults net_data

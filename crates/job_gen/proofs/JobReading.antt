@@ -1,32 +1,23 @@
 -- A generated job is read without a fault, as its definition gives it.
-use Rattle.std.proofs.Common.{◌≡◌, ℕ, ◌+◌, ◌-◌, ◌<◌, ◌≤◌, List, [], ◌∷◌, length, map, codes, decimal, Bool, true, Some, None, if◌then◌else◌, slice_index, refl, ap, ◌∙◌, arith}
+use Rattle.std.proofs.Common.{◌≡◌, ℕ, ◌+◌, ◌-◌, ◌<◌, ◌≤◌, List, [], ◌∷◌, length, map, codes, decimal, Bool, Some, None, if◌then◌else◌, slice_index, refl, ap, ◌∙◌, arith}
 use Rattle.std.proofs.lemmas.{Bool.le-leb, List.length-map}
 use Rattle.std.specs.Prelude.{unwrap_or}
 use Rattle.machine_desc.specs.Live.{live_count_of}
-use Rattle.app_graph.specs.declared.graphs.{Vertex.Vertex, Net.Net}
-use Rattle.app_graph.specs.RunPart.{key_count_of}
-use Rattle.job_text.specs.declared.faults.JobFault.TheVariants.{TooMany}
-use Rattle.job_text.specs.Fields.{is_name, count_faults}
+use Rattle.app_graph.specs.{declared.graphs.Vertex.Vertex, declared.graphs.Net.Net, RunPart.key_count_of}
+use Rattle.job_text.specs.{declared.faults.JobFault.TheVariants.TooMany, Fields.count_faults}
 use Rattle.job_text.proofs.Items.{list_of-items_of}
-use Rattle.job_readers.specs.Items.{items_faults}
-use Rattle.job_readers.specs.Members.{number_member_faults, number_member, optional_number, flag_member_faults, flag_member, list_member_faults, long_list_member_faults, list_member}
-use Rattle.job_readers.specs.Entries.{chip_faults, chip_value}
-use Rattle.job_readers.specs.Places.{name_place_in, reference_faults, reference_value}
-use Rattle.job_readers.specs.Job.{job_own_faults, version_faults, version_value}
-use Rattle.job_readers.specs.MachinePart.{entries_faults, machine_members_faults, machine_members, machine_faults, machine_value}
-use Rattle.job_readers.specs.GraphPart.{name_value, vertex_value, next_vertex_faults, vertices_faults, vertices_value, net_value, next_net_faults}
-use Rattle.job_readers.specs.GraphPart.{net_names, nets_faults, nets_value, graph_members_faults, graph_members, graph_faults, graph_value}
-use Rattle.job_readers.specs.RunPart.{packet_net_faults, packet_net, packet_faults, packet_value, packets_faults, packets_value, events_faults}
-use Rattle.job_readers.specs.RunPart.{events_value, places_faults, run_members_faults, run_members, run_faults, run_value}
-use Rattle.job_readers.specs.WholeJob.{job_faults, job_value}
-use Rattle.job_gen.specs.declared.draws.{DrawnNet.DrawnNet, DrawnPacket.DrawnPacket, Drawn.Drawn}
-use Rattle.job_gen.specs.Draws.{keys_at, drawn}
-use Rattle.job_gen.specs.DrawnFacts.{IsDrawnNet, IsDrawnPacket, IsDrawn}
-use Rattle.job_gen.specs.Values.{numbered, generated_net_name, vertex_data, net_data, packet_data, dead_pairs, machine_data, graph_data, run_data, job_data, gen_value}
-use Rattle.job_gen.specs.Board.{generated_board}
-use Rattle.job_gen.specs.Generated.{generated_vertex, net_of, packet_of, graph_of, generated_run, job_of_drawn, gen_job}
-use Rattle.job_gen.proofs.NameLemmas.{found, named}
-use Rattle.job_gen.proofs.ListReading.{items_clean, items_are, numbered_are, length-numbered, following_clean}
+use Rattle.job_readers.specs.{Items.items_faults, Members.number_member_faults, Members.number_member, Members.optional_number, Members.flag_member_faults, Members.flag_member}
+use Rattle.job_readers.specs.{Members.list_member_faults, Members.long_list_member_faults, Members.list_member, Entries.chip_faults, Entries.chip_value, Places.name_place_in, Places.reference_faults}
+use Rattle.job_readers.specs.{Places.reference_value, Job.job_own_faults, Job.version_faults, Job.version_value, MachinePart.entries_faults, MachinePart.machine_members_faults}
+use Rattle.job_readers.specs.{MachinePart.machine_members, MachinePart.machine_faults, MachinePart.machine_value, GraphPart.name_value, GraphPart.vertex_value, GraphPart.next_vertex_faults}
+use Rattle.job_readers.specs.GraphPart.{vertices_faults, vertices_value, net_value, next_net_faults, net_names, nets_faults, nets_value, graph_members_faults, graph_members, graph_faults, graph_value}
+use Rattle.job_readers.specs.RunPart.{packet_net_faults, packet_net, packet_faults, packet_value, packets_faults, packets_value, events_faults, events_value, places_faults, run_members_faults}
+use Rattle.job_readers.specs.{RunPart.run_members, RunPart.run_faults, RunPart.run_value, WholeJob.job_faults, WholeJob.job_value}
+use Rattle.job_gen.specs.{declared.draws.DrawnNet.DrawnNet, declared.draws.DrawnPacket.DrawnPacket, declared.draws.Drawn.Drawn, Draws.keys_at, Draws.drawn, DrawnFacts.IsDrawnNet}
+use Rattle.job_gen.specs.{DrawnFacts.IsDrawnPacket, DrawnFacts.IsDrawn, Values.numbered, Values.generated_net_name, Values.vertex_data, Values.net_data, Values.packet_data, Values.dead_pairs}
+use Rattle.job_gen.specs.{Values.machine_data, Values.graph_data, Values.run_data, Values.job_data, Values.gen_value, Board.generated_board, Generated.generated_vertex, Generated.net_of}
+use Rattle.job_gen.specs.Generated.{packet_of, graph_of, generated_run, job_of_drawn, gen_job}
+use Rattle.job_gen.proofs.{NameLemmas.found, NameLemmas.named, ListReading.items_clean, ListReading.items_are, ListReading.numbered_are, ListReading.length-numbered, ListReading.following_clean}
 use Rattle.job_gen.proofs.GraphReading.{within, vertex_clean, vertex_is, vertex_named, net_clean, net_is, net_named}
 use Rattle.job_gen.proofs.DrawnLaws.{is_drawn}
 
@@ -124,9 +115,7 @@ module _ (job : Drawn) (drawn : IsDrawn job) where
 
   packet_net_clean : (path : List ℕ) (p : DrawnPacket) → p.net < 300 → packet_net_faults (numbered net_of 0 job.nets) path (packet_data p) ≡ []
   unfolding packet_net_faults reference_faults packet_data
-  packet_net_clean path p below =
-      let name : is_name (110 ∷ decimal p.net) ≡ true = named 110 p.net (omega arith) (omega arith) (omega arith) in
-      rw (name, net_place p.net below) refl
+  packet_net_clean path p below = grind (arith, named 110 p.net (omega arith) (omega arith) (omega arith), net_place p.net below)
 
   index_clean : (path : List ℕ) (p : DrawnPacket) (high : ℕ) → p.index ≤ high → number_member_faults path (codes "index") 0 high None (packet_data p) ≡ []
   unfolding number_member_faults packet_data
@@ -173,9 +162,7 @@ module _ (job : Drawn) (drawn : IsDrawn job) where
 
   run_clean : (path : List ℕ) → run_members_faults 48 (graph_of job) path (run_data job.packets) ≡ []
   unfolding run_members_faults number_member_faults number_member events_faults long_list_member_faults list_member items_faults places_faults graph_of run_data
-  run_clean path =
-      let many : length (numbered generated_vertex 0 job.sdrams) ≡ 200 = length-numbered generated_vertex 0 job.sdrams ∙ drawn.vertices in
-      rw (packets_clean path, many) refl
+  run_clean path = grind (arith, length-numbered generated_vertex 0 job.sdrams, packets_clean path)
 
   run_is : run_members (graph_of job) (run_data job.packets) ≡ generated_run job.packets
   unfolding run_members number_member events_value list_member graph_of generated_run run_data

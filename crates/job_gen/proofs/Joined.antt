@@ -1,13 +1,12 @@
 -- The chips of the board are joined by live links.
-use Rattle.std.proofs.Common.{◌≡◌, ℕ, zero, suc, ◌+◌, ◌<◌, ◌≤◌, List, [], ◌∷◌, ◌++◌, Bool, true, false, not, ◌&&◌, ◌||◌}
-use Rattle.std.proofs.Common.{Option, Some, None, if◌then◌else◌, inl, inr, ◌⊎◌, refl, sym, ap, ◌∙◌, subst, arith}
+use Rattle.std.proofs.Common.{◌≡◌, ℕ, zero, suc, ◌+◌, ◌<◌, ◌≤◌, List, [], ◌∷◌, ◌++◌, Bool, true, false, not, ◌&&◌, ◌||◌, Option, Some, None, if◌then◌else◌, inl, inr, ◌⊎◌, refl, sym, ap, ◌∙◌, subst}
+use Rattle.std.proofs.Common.{arith}
 use Rattle.std.proofs.lemmas.Bool.{agree_below, agree_below_at, and_parts, or_cases, ltb-true, not-true, false≢true}
 use Rattle.std.specs.Prelude.{nat_lt}
 use Rattle.spin_base.specs.declared.chips.{Chip.Chip, Dir.Dir, Dir.TheVariants.West, Dir.TheVariants.SouthWest, Dir.TheVariants.South}
 use Rattle.spin_base.specs.{Equality.chip_eq, Links.opposite_of}
 use Rattle.spin_base.proofs.Equality.{chip_eq_true}
-use Rattle.machine_desc.specs.Description.{Description}
-use Rattle.machine_desc.specs.Live.{far_of, is_live_chip, is_live_link, IsLiveChip, IsLiveLink, LeadsTo, IsLiveWalk, live_count_of}
+use Rattle.machine_desc.specs.{Description.Description, Live.far_of, Live.is_live_chip, Live.is_live_link, Live.IsLiveChip, Live.IsLiveLink, Live.LeadsTo, Live.IsLiveWalk, Live.live_count_of}
 use Rattle.machine_desc.proofs.Far.{inside_parts, live_inside, live_ends, far_back, live_back}
 use Rattle.link_detours.specs.Repair.{last_of, IsWalkTo, IsCutOff}
 use Rattle.job_gen.specs.{Values.dead_pairs, Board.generated_board}
@@ -74,18 +73,7 @@ nearer_at c e d live link far live_e less =
     }
 
 step : (c : Chip) → IsLiveChip generated_board c → (c ≡ origin) ⊎ IsNearer c
-step c live =
-    elim (or_cases (not (is_live_chip generated_board c)) _ (goes c live)) [
-      | inl dead ↦ absurd (false≢true (sym (not-true (is_live_chip generated_board c) dead) ∙ live))
-      | inr rest ↦ elim (or_cases (chip_eq c origin) _ rest) [
-        | inl same ↦ inl (chip_eq_true c origin same)
-        | inr parts ↦ (
-            let both = and_parts (is_live_link generated_board c (toward c)) (is_nearer c (far_of generated_board c (toward c))) parts in
-            let ends = live_ends generated_board c (toward c) both.0 in
-            inr (nearer_at c ends.0 (toward c) live both.0 ends.1 ends.3 both.1)
-            )
-      ]
-    ]
+step c live = grind (arith, goes c live, or_cases, false≢true, chip_eq_true, and_parts, live_ends, nearer_at, not-true)
 
 -- ---- walks
 
@@ -102,13 +90,7 @@ Joins a b = (walk : List Chip) × IsWalkTo generated_board a b walk
 
 join : (a b c : Chip) → Joins a b → Joins b c → Joins a c
 unfolding Joins
-join a b c one two = (
-  one.0 ++ two.0,
-  (
-    walk_more generated_board a one.0 two.0 one.1.0 (subst (λ e. IsLiveWalk generated_board (e ∷ two.0)) (sym one.1.1) two.1.0),
-    last_more a one.0 two.0 ∙ ap (λ e. last_of e two.0) one.1.1 ∙ two.1.1,
-  ),
-)
+join a b c one two = grind (arith, last_more a one.0 two.0, walk_more)
 
 by_link : (a b : Chip) → LeadsTo generated_board a b → Joins a b
 unfolding Joins
@@ -123,10 +105,7 @@ at_origin : (c : Chip) → c ≡ origin → Joins c origin × Joins origin c
 at_origin c same = (subst (λ e. Joins e origin) (sym same) (itself origin), subst (λ e. Joins origin e) (sym same) (itself origin))
 
 home : (k : ℕ) (c : Chip) → steps_of c ≤ k → IsLiveChip generated_board c → Joins c origin × Joins origin c
-home zero c few live = elim (step c live) [
-  | inl same ↦ at_origin c same
-  | inr nearer ↦ absurd (omega (arith, nearer.less))
-]
+home zero c few live = grind (arith, step c live, at_origin)
 home (suc k) c few live = elim (step c live) [
   | inl same ↦ at_origin c same
   | inr nearer ↦ (

@@ -1,10 +1,8 @@
 -- Nets that need at most 16 keys each, and have none fixed: the first i nets take keys below 16 * i, so a range is left.
-use Rattle.std.proofs.Common.{◌≡◌, ℕ, zero, suc, ◌+◌, ◌-◌, ◌*◌, ◌%◌, ◌^◌, ◌<◌, ◌≤◌, List, [], ◌∷◌, ◌++◌, length, take, get_or, leb, ltb}
-use Rattle.std.proofs.Common.{Some, None, MatchOption, slice_get, inl, inr, ◌⊎◌, refl, sym, ap, ◌∙◌, subst, arith}
-use Rattle.std.proofs.lemmas.Bool.{cases_lt, and_parts, leb-true, ltb-true}
-use Rattle.std.proofs.Math.Pow.{pow_mono}
-use Rattle.std.proofs.lemmas.List.{length-take, get_or-take, take_all}
-use Rattle.std.proofs.lemmas.Option.{slice_get_within, slice_get-get_or}
+use Rattle.std.proofs.Common.{◌≡◌, ℕ, zero, suc, ◌+◌, ◌-◌, ◌*◌, ◌%◌, ◌^◌, ◌<◌, ◌≤◌, List, [], ◌∷◌, ◌++◌, length, take, get_or, leb, ltb, Some, None, MatchOption, slice_get, inl, inr, ◌⊎◌, refl, sym}
+use Rattle.std.proofs.Common.{subst, arith}
+use Rattle.std.proofs.{lemmas.Bool.cases_lt, lemmas.Bool.and_parts, lemmas.Bool.leb-true, lemmas.Bool.ltb-true, Math.Pow.pow_mono, lemmas.List.length-take, lemmas.List.get_or-take}
+use Rattle.std.proofs.lemmas.{List.take_all, Option.slice_get_within, Option.slice_get-get_or}
 use Rattle.std.specs.Int.{IsPowerOfTwo}
 use Rattle.spin_base.specs.declared.blocks.Block.{Block}
 use Rattle.app_graph.specs.declared.graphs.Net.{Net}
@@ -63,20 +61,7 @@ size_small : (keys size : ℕ) → keys ≤ 16 → IsSizeFor keys size → size 
 size_small keys size few is = is.least 16 (4, refl) few
 
 divides : (size i : ℕ) → IsPowerOfTwo size → size ≤ 16 → (16 * i) % size ≡ 0
-divides size i power small =
-    elim (power_cases size power) [
-      | inl one ↦ subst (λ s. (16 * i) % s ≡ 0) (sym one) (omega arith)
-      | inr more ↦ elim more [
-        | inl two ↦ subst (λ s. (16 * i) % s ≡ 0) (sym two) (omega arith)
-        | inr more ↦ elim more [
-          | inl four ↦ subst (λ s. (16 * i) % s ≡ 0) (sym four) (omega arith)
-          | inr more ↦ elim more [
-            | inl eight ↦ subst (λ s. (16 * i) % s ≡ 0) (sym eight) (omega arith)
-            | inr large ↦ (let same : size ≡ 16 = omega (arith, large, small) in subst (λ s. (16 * i) % s ≡ 0) (sym same) (omega arith))
-          ]
-        ]
-      ]
-    ]
+divides size i power small = grind (arith, power_cases size power)
 
 -- ---- blocks
 
@@ -133,14 +118,7 @@ module _ (nets : List Net) (needs : (i : ℕ) (net : Net) → slice_get nets i �
 
     all_end : (i : ℕ) → EndAt i blocks
     all_end zero k b below at = absurd (omega arith)
-    all_end (suc i) k b below at = elim (cases_lt k i) [
-      | inl low ↦ all_end i k b low at
-      | inr high ↦ (
-          let same : k ≡ i = omega arith in
-          let here : slice_get blocks i ≡ Some b = ap (slice_get blocks) (sym same) ∙ at in
-          subst (λ j. b.key + size_of b ≤ 16 * (j + 1)) (sym same) (block_ends i b here (all_end i))
-          )
-    ]
+    all_end (suc i) k b below at = grind (arith, cases_lt k i, slice_get blocks i, slice_get blocks, all_end i, block_ends)
 
   pub keys_are_left : (i : ℕ) → AreKeysOut nets i → ⊥
   keys_are_left i out =

@@ -1,28 +1,21 @@
 -- The text of a generated job is short.
-use Rattle.std.proofs.Common.{◌≡◌, ℕ, zero, suc, ◌+◌, ◌*◌, ◌/◌, ◌%◌, ◌^◌, ◌<◌, ◌≤◌, List, [], ◌∷◌, ◌++◌, length, map, All, codes, decimal, Bool, true, false, cond, refl, arith, length-append}
-use Rattle.std.proofs.lemmas.{Bool.cond_both, Bool.and_parts, Bool.ltb-true, Fmt.length-decimal-le, List.length-map}
-use Rattle.std.proofs.lemmas.List.Elements.{All-nil, All-cons, All-head, All-tail, All-get_or, All-map}
-use Rattle.std.specs.Prelude.{nat_lt, ◌&&◌}
-use Rattle.std.specs.{Char.digit_char, List.list_all}
-use Rattle.json.specs.Print.{escape_byte, escape, escape_letter, quoted}
+use Rattle.std.proofs.Common.{◌≡◌, ℕ, zero, suc, ◌+◌, ◌*◌, ◌^◌, ◌<◌, ◌≤◌, List, [], ◌∷◌, ◌++◌, length, map, All, codes, decimal, Bool, true, false, refl, arith, length-append}
+use Rattle.std.proofs.lemmas.{Bool.cond_both, Bool.and_parts, Bool.ltb-true, Fmt.length-decimal-le, List.length-map, List.Elements.All-nil, List.Elements.All-cons, List.Elements.All-head}
+use Rattle.std.proofs.lemmas.List.Elements.{All-tail, All-get_or, All-map}
+use Rattle.std.specs.{Prelude.nat_lt, Prelude.◌&&◌, List.list_all}
+use Rattle.json.specs.Print.{escape_byte, escape, quoted}
 use Rattle.serde_json.specs.Data.{Data, Items, no_items, item, Members, no_members, member, unsigned, number, string, array, object}
-use Rattle.serde_json.specs.View.{items_of}
-use Rattle.serde_json.specs.Written.{compact_text, items_text, members_text, comma_if}
-use Rattle.job_gen.specs.declared.draws.{DrawnNet.DrawnNet, DrawnPacket.DrawnPacket, Drawn.Drawn}
-use Rattle.job_gen.specs.Draws.{keys_at, drawn}
-use Rattle.job_gen.specs.DrawnFacts.{IsDrawnNet, IsDrawnPacket, IsDrawn}
-use Rattle.job_gen.specs.Values.{generated_vertex_name, generated_net_name, vertex_data, name_data, net_data, packet_data, pair_data}
-use Rattle.job_gen.specs.Values.{dead_pairs, machine_data, graph_data, run_data, job_data, gen_value, gen_text_of, numbered}
+use Rattle.serde_json.specs.{View.items_of, Written.compact_text, Written.items_text, Written.members_text, Written.comma_if}
+use Rattle.job_gen.specs.{declared.draws.DrawnNet.DrawnNet, declared.draws.DrawnPacket.DrawnPacket, declared.draws.Drawn.Drawn, Draws.keys_at, Draws.drawn, DrawnFacts.IsDrawnNet}
+use Rattle.job_gen.specs.{DrawnFacts.IsDrawnPacket, DrawnFacts.IsDrawn, Values.generated_vertex_name, Values.generated_net_name, Values.vertex_data, Values.name_data, Values.net_data}
+use Rattle.job_gen.specs.Values.{packet_data, pair_data, dead_pairs, machine_data, graph_data, run_data, job_data, gen_value, gen_text_of, numbered}
 use Rattle.job_gen.proofs.DrawnLaws.{is_drawn}
 
 -- ---- strings
 
 byte_short : (x : ℕ) → length (escape_byte x) ≤ 6
 unfolding escape_byte
-byte_short x =
-    cond_both (nat_lt 0 (escape_letter x)) (92 ∷ escape_letter x ∷ []) (cond (nat_lt x 32) (92 ∷ 117 ∷ 48 ∷ 48 ∷ digit_char (x / 16) ∷ digit_char (x % 16) ∷ []) (x ∷ []))
-    (λ (l : List ℕ). length l ≤ 6) (λ e. omega arith)
-    (λ e. cond_both (nat_lt x 32) (92 ∷ 117 ∷ 48 ∷ 48 ∷ digit_char (x / 16) ∷ digit_char (x % 16) ∷ []) (x ∷ []) (λ (l : List ℕ). length l ≤ 6) (λ f. omega arith) (λ f. omega arith))
+byte_short x = grind (arith, cond_both)
 
 escape_short : (s : List ℕ) → length (escape s) ≤ 6 * length s
 escape_short [] = omega arith
@@ -52,35 +45,15 @@ none_short = record { text = λ later. omega arith }
 
 member_short : (k : List ℕ) (d : Data) (few long : ℕ) {ms : Members} {rest : ℕ} → length k ≤ few → length (compact_text d) ≤ long → AreShort ms rest →
     AreShort (member k d ms) (6 * few + 4 + long + rest)
-member_short k d few long {ms} {rest} name value others = record {
-  text = λ later.
-      let after : length (members_text true ms) ≤ rest = others.text true in
-      omega (
-        arith,
-        comma_short later,
-        quoted_short k,
-        name,
-        value,
-        after,
-        length-append (comma_if later) (quoted k ++ 58 ∷ (compact_text d ++ members_text true ms)),
-        length-append (quoted k) (58 ∷ (compact_text d ++ members_text true ms)),
-        length-append (compact_text d) (members_text true ms),
-      );
-}
+member_short k d few long {ms} {rest} name value others =
+    grind (arith, quoted_short k, length-append (quoted k) (58 ∷ (compact_text d ++ members_text true ms)), length-append (compact_text d) (members_text true ms), comma_short)
 
 object_short : {ms : Members} {n : ℕ} (long : ℕ) → AreShort ms n → n < long → length (compact_text (object ms)) ≤ long
 object_short {ms} {n} long short few = let inside : length (members_text false ms) ≤ n = short.text false in omega (arith, inside, few)
 
 item_short : (later : Bool) (d : Data) (ds : Items) (long rest : ℕ) → length (compact_text d) ≤ long → length (items_text true ds) ≤ rest → length (items_text later (item d ds)) ≤ 1 + long + rest
 item_short later d ds long rest value others =
-    omega (
-      arith,
-      comma_short later,
-      value,
-      others,
-      length-append (comma_if later) (compact_text d ++ items_text true ds),
-      length-append (compact_text d) (items_text true ds),
-    )
+    grind (arith, comma_short later, length-append (comma_if later) (compact_text d ++ items_text true ds), length-append (compact_text d) (items_text true ds))
 
 -- ---- lists
 

@@ -2,8 +2,7 @@
 use Rattle.std.proofs.Common.{◌≡◌, ℕ, suc, ◌+◌, ◌<◌, ◌≤◌, List, [], ◌∷◌, ◌++◌, length, map, All, refl, sym, ap, ◌∙◌, subst, arith, decimal}
 use Rattle.std.proofs.lemmas.List.{map_push, Elements.All-head, Elements.All-tail}
 use Rattle.serde_json.specs.Data.{Data}
-use Rattle.job_text.specs.declared.faults.JobFault.{JobFault}
-use Rattle.job_text.specs.Paths.{item_at}
+use Rattle.job_text.specs.{declared.faults.JobFault.JobFault, Paths.item_at}
 use Rattle.job_readers.specs.Items.{items_faults, following_faults}
 use Rattle.job_gen.specs.Values.{numbered}
 use Rattle.job_gen.proofs.NameLemmas.{AreBelow, below_more}
@@ -13,8 +12,7 @@ pub items_clean : {X : Type 0} (P : X → Type 0) (f : List ℕ → Data → Lis
     → (path : List ℕ) (i : ℕ) (xs : List X) → All P xs → items_faults f path i (map g xs) ≡ []
 unfolding items_faults
 items_clean P f g each path i [] all = refl
-items_clean P f g each path i (x ∷ xs) all =
-    rw (each (item_at path i) x (All-head P x xs all), items_clean P f g each path (i + 1) xs (All-tail P x xs all)) refl
+items_clean P f g each path i (x ∷ xs) all = grind (arith, All-head P x xs all, items_clean P f g each path (i + 1) xs (All-tail P x xs all), All-tail P x xs all)
 
 -- what they are
 pub items_are : {X A : Type 0} (P : X → Type 0) (value : Data → A) (g : X → Data) (h : X → A) → ((x : X) → P x → value (g x) ≡ h x)
@@ -27,8 +25,7 @@ pub numbered_are : {X Y A : Type 0} (P : X → Type 0) (value : Y → A) (g : �
     → (i : ℕ) (xs : List X) → All P xs → map value (numbered g i xs) ≡ numbered h i xs
 unfolding numbered
 numbered_are P value g h each i [] all = refl
-numbered_are P value g h each i (x ∷ xs) all =
-    rw (each i x (All-head P x xs all), numbered_are P value g h each (i + 1) xs (All-tail P x xs all)) refl
+numbered_are P value g h each i (x ∷ xs) all = grind (arith, All-head P x xs all, numbered_are P value g h each (i + 1) xs (All-tail P x xs all), All-tail P x xs all)
 
 pub length-numbered : {X A : Type 0} (f : ℕ → X → A) (i : ℕ) (xs : List X) → length (numbered f i xs) ≡ length xs
 unfolding numbered

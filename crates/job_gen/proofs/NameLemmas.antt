@@ -1,7 +1,7 @@
 -- The names of vertices and nets: a letter and a number. They are names, and different numbers have different ones.
-use Rattle.std.proofs.Common.{◌≡◌, ℕ, zero, suc, ◌+◌, ◌%◌, ◌^◌, ◌<◌, ◌≤◌, List, [], ◌∷◌, ◌++◌, length, map, decimal, true, false, Some, None, refl, ap, ◌∙◌, arith}
-use Rattle.std.proofs.lemmas.Bool.{and_from, le-leb, lt-ltb, false_from_ne_true}
-use Rattle.std.proofs.lemmas.{List.Folds.list_all-append, Fmt.decimal_by_steps, Fmt.decimal_injective, Fmt.length-decimal-le, Slice.Eq.bytes_eq-Decides}
+use Rattle.std.proofs.Common.{◌≡◌, ℕ, zero, suc, ◌+◌, ◌%◌, ◌^◌, ◌<◌, ◌≤◌, List, [], ◌∷◌, ◌++◌, length, map, decimal, true, false, Some, None, refl, ◌∙◌, arith}
+use Rattle.std.proofs.lemmas.{Bool.and_from, Bool.le-leb, Bool.lt-ltb, Bool.false_from_ne_true, List.Folds.list_all-append, Fmt.decimal_by_steps, Fmt.decimal_injective, Fmt.length-decimal-le}
+use Rattle.std.proofs.lemmas.Slice.Eq.{bytes_eq-Decides}
 use Rattle.std.specs.{Prelude.bytes_eq, List.list_all}
 use Rattle.job_text.specs.Fields.{is_printable_byte, is_name}
 use Rattle.job_readers.specs.Places.{name_place_in}
@@ -35,8 +35,7 @@ number_of_name : (c i j : ℕ) → i < 1000 → j < 1000 → c ∷ decimal i ≡
 number_of_name c i j small also same = let digits : decimal i ≡ decimal j = cc in decimal_injective i j (omega arith) (omega arith) digits
 
 pub other_name : (c i j : ℕ) → i < 1000 → j < 1000 → (i ≡ j → ⊥) → bytes_eq (c ∷ decimal i) (c ∷ decimal j) ≡ false
-other_name c i j small also other =
-    false_from_ne_true _ (λ equal. other (number_of_name c i j small also ((bytes_eq-Decides (c ∷ decimal i) (c ∷ decimal j)).0 equal)))
+other_name c i j small also other = grind (arith, bytes_eq-Decides (c ∷ decimal i) (c ∷ decimal j), false_from_ne_true, number_of_name)
 
 -- names of numbers below i
 abbrev pub AreBelow : ℕ → ℕ → List (List ℕ) → Type 0
@@ -45,33 +44,17 @@ AreBelow c i (s ∷ names) = ((j : ℕ) × (j < i) × (s ≡ c ∷ decimal j)) �
 
 pub below_more : (c i : ℕ) (names : List (List ℕ)) → AreBelow c i names → AreBelow c (i + 1) (names ++ (c ∷ decimal i) ∷ [])
 below_more c i [] below = ((i, omega arith, refl), tt)
-below_more c i (s ∷ names) below =
-    let less : below.0.0 < i = below.0.1 in
-    ((below.0.0, omega arith, below.0.2), below_more c i names below.1)
+below_more c i (s ∷ names) below = grind (arith, below_more c i names below.1)
 
 -- the name of i is none of them
 pub absent : (c i : ℕ) (names : List (List ℕ)) → i < 1000 → AreBelow c i names → name_place_in names (c ∷ decimal i) ≡ None
 absent c i [] small below = refl
-absent c i (s ∷ names) small below =
-    let less : below.0.0 < i = below.0.1 in
-    let differs : bytes_eq s (c ∷ decimal i) ≡ false =
-    ap (λ t. bytes_eq t (c ∷ decimal i)) below.0.2 ∙ other_name c below.0.0 i (omega arith) small (λ same. omega arith) in
-    rw (differs, absent c i names small below.1) refl
+absent c i (s ∷ names) small below = grind (arith, absent c i names small below.1, other_name)
 
 -- the names of numbered things, and where they stand
 pub found : {A B : Type 0} (c : ℕ) (name : B → List ℕ) (f : ℕ → A → B) → ((i : ℕ) (x : A) → name (f i x) ≡ c ∷ decimal i)
     → (i k : ℕ) (xs : List A) → k < length xs → i + length xs ≤ 1000 → name_place_in (map name (numbered f i xs)) (c ∷ decimal (i + k)) ≡ Some k
 unfolding numbered
 found c name f names i k [] below small = absurd (omega arith)
-found c name f names i zero (x ∷ xs) below small =
-    let none_more : i + 0 ≡ i = omega arith in
-    let same : bytes_eq (name (f i x)) (c ∷ decimal (i + 0)) ≡ true =
-    ap (λ t. bytes_eq t (c ∷ decimal (i + 0))) (names i x) ∙ ap (λ j. bytes_eq (c ∷ decimal i) (c ∷ decimal j)) none_more ∙ same_name (c ∷ decimal i) in
-    rw same refl
-found c name f names i (suc k) (x ∷ xs) below small =
-    let differs : bytes_eq (name (f i x)) (c ∷ decimal (i + suc k)) ≡ false =
-    ap (λ t. bytes_eq t (c ∷ decimal (i + suc k))) (names i x) ∙ other_name c i (i + suc k) (omega arith) (omega arith) (λ same. omega arith) in
-    let number : i + suc k ≡ i + 1 + k = omega arith in
-    let rest : name_place_in (map name (numbered f (i + 1) xs)) (c ∷ decimal (i + suc k)) ≡ Some k =
-    ap (λ j. name_place_in (map name (numbered f (i + 1) xs)) (c ∷ decimal j)) number ∙ found c name f names (i + 1) k xs (omega arith) (omega arith) in
-    rw (differs, rest) (ap Some (omega arith))
+found c name f names i zero (x ∷ xs) below small = grind (arith, same_name (c ∷ decimal i))
+found c name f names i (suc k) (x ∷ xs) below small = grind (arith, found c name f names (i + 1) k xs (omega arith) (omega arith), other_name)

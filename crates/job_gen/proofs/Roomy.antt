@@ -1,19 +1,16 @@
 -- Fewer than 816 vertices of at most 1,048,576 bytes find room on the board: some chip has fewer than seventeen of them, and so
 -- a free core and the memory.
-use Rattle.std.proofs.Common.{◌≡◌, ℕ, zero, suc, ◌+◌, ◌-◌, ◌*◌, ◌<◌, ◌≤◌, List, [], ◌∷◌, length, take, filter, All, Bool, true, false, not, ◌&&◌}
-use Rattle.std.proofs.Common.{◌||◌, if◌then◌else◌, Option, Some, None, MatchOption, slice_get, inl, inr, ◌⊎◌, refl, sym, ap, ◌∙◌, subst, arith}
+use Rattle.std.proofs.Common.{◌≡◌, ℕ, zero, suc, ◌+◌, ◌-◌, ◌*◌, ◌<◌, ◌≤◌, List, [], ◌∷◌, length, take, filter, All, Bool, true, false, not, ◌&&◌, ◌||◌, if◌then◌else◌, Option, Some, None, MatchOption}
+use Rattle.std.proofs.Common.{slice_get, inl, inr, ◌⊎◌, refl, sym, ap, ◌∙◌, subst, arith}
 use Rattle.std.proofs.lemmas.Bool.{cases_lt, cases_Bool, and_parts, and_from, not-true, not_from_false, true≢false, ne_eqb, le-leb, or_left, or_right, or_cases}
-use Rattle.std.proofs.lemmas.List.Elements.{All-head, All-tail, filter_passes, All-take}
-use Rattle.std.proofs.lemmas.Option.{slice_get_within}
+use Rattle.std.proofs.lemmas.{List.Elements.All-head, List.Elements.All-tail, List.Elements.filter_passes, List.Elements.All-take, Option.slice_get_within}
 use Rattle.std.specs.{Prelude.is_none, List.list_any, List.list_all}
-use Rattle.spin_base.specs.declared.chips.{Chip.Chip, Spot.Spot}
-use Rattle.spin_base.specs.Equality.{chip_eq, spot_eq}
+use Rattle.spin_base.specs.{declared.chips.Chip.Chip, declared.chips.Spot.Spot, Equality.chip_eq, Equality.spot_eq}
 use Rattle.spin_base.proofs.Equality.{chip_eq_same, chip_eq_true, spot_eq_same, spot_eq_true}
-use Rattle.machine_desc.specs.declared.trees.Edge.{Edge}
-use Rattle.machine_desc.specs.Live.{is_live_chip, is_usable, IsLiveChip}
+use Rattle.machine_desc.specs.{declared.trees.Edge.Edge, Live.is_live_chip, Live.is_usable, Live.IsLiveChip}
 use Rattle.app_graph.specs.declared.graphs.Vertex.{Vertex}
-use Rattle.place_fit.specs.Curve.{hilbert, IsCurveLevel, IsChipOrder}
-use Rattle.place_fit.specs.Placement.{core_spot, need_of, used_on, is_free_core, HasRoom, choices, HasDeviceRoom, HasNoRoom}
+use Rattle.place_fit.specs.{Curve.hilbert, Curve.IsCurveLevel, Curve.IsChipOrder, Placement.core_spot, Placement.need_of, Placement.used_on, Placement.is_free_core, Placement.HasRoom}
+use Rattle.place_fit.specs.Placement.{choices, HasDeviceRoom, HasNoRoom}
 use Rattle.job_gen.specs.{Values.dead_pairs, Board.generated_board}
 
 one_if : Bool → ℕ

@@ -1,13 +1,11 @@
 -- How deep the value of a generated job nests, and that no number of it is a float.
-use Rattle.std.proofs.Common.{◌≡◌, ℕ, ◌+◌, ◌≤◌, List, [], ◌∷◌, map, false, Some, refl, sym, ap, ◌∙◌, subst, arith}
+use Rattle.std.proofs.Common.{◌≡◌, ℕ, ◌+◌, ◌≤◌, List, [], ◌∷◌, map, false, Some, refl, ap, ◌∙◌, arith}
 use Rattle.std.specs.Str.{IsUtf8}
-use Rattle.serde_json.specs.{Data.Data, Data.depth, Data.items_depth, Read.read, View.items_of}
-use Rattle.serde_json.specs.Written.{has_float, items_have_float, compact_text}
+use Rattle.serde_json.specs.{Data.Data, Data.depth, Data.items_depth, Read.read, View.items_of, Written.has_float, Written.items_have_float, Written.compact_text}
 use Rattle.job_text.specs.Json.{json_of}
 use Rattle.job_text.proofs.Readings.{json_of-utf8}
-use Rattle.job_gen.specs.declared.draws.{DrawnNet.DrawnNet, DrawnPacket.DrawnPacket, Drawn.Drawn}
-use Rattle.job_gen.specs.Draws.{drawn}
-use Rattle.job_gen.specs.Values.{vertex_data, name_data, net_data, packet_data, pair_data, dead_pairs, machine_data, graph_data, run_data, job_data, gen_value, gen_text_of, numbered}
+use Rattle.job_gen.specs.{declared.draws.DrawnNet.DrawnNet, declared.draws.DrawnPacket.DrawnPacket, declared.draws.Drawn.Drawn, Draws.drawn, Values.vertex_data, Values.name_data, Values.net_data}
+use Rattle.job_gen.specs.Values.{packet_data, pair_data, dead_pairs, machine_data, graph_data, run_data, job_data, gen_value, gen_text_of, numbered}
 
 -- ---- lists
 
@@ -67,11 +65,7 @@ depth-run packets = let each = depth-map 1 packet_data depth-packet packets in o
 
 depth-job : (job : Drawn) → depth (job_data job) ≤ 127
 unfolding job_data
-depth-job job =
-    let graph = depth-graph job in
-    let machine = depth-machine in
-    let run = depth-run job.packets in
-    omega arith
+depth-job job = grind (arith, depth-graph job, depth-machine, depth-run job.packets)
 
 pub depth-gen : (n : ℕ) → depth (gen_value n) ≤ 127
 unfolding gen_value
@@ -132,6 +126,4 @@ text_written bytes d n is written = written (ap has_float is ∙ float-gen n) �
 
 -- and reads back
 pub text_read : (bytes : List ℕ) (d : Data) (n : ℕ) → d ≡ gen_value n → IsUtf8 bytes → (depth d ≤ 127 → read bytes ≡ Some d) → json_of bytes ≡ Some (gen_value n)
-text_read bytes d n is text reads =
-    let shallow : depth d ≤ 127 = subst (λ e. depth e ≤ 127) (sym is) (depth-gen n) in
-    json_of-utf8 bytes text ∙ reads shallow ∙ ap Some is
+text_read bytes d n is text reads = grind (arith, depth-gen n, json_of-utf8 bytes text)

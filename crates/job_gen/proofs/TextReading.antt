@@ -1,24 +1,20 @@
 -- The text of a generated job is read as its value.
 use Rattle.std.proofs.Common.{◌≡◌, ℕ, ◌+◌, ◌%◌, ◌^◌, ◌<◌, ◌≤◌, Bool, true, false, List, [], ◌∷◌, ◌++◌, map, length, codes, decimal, Some, option_and_then, option_map, refl, sym, ap, ◌∙◌, arith}
-use Rattle.std.proofs.lemmas.{Bool.lt-ltb, Fmt.decimal_by_steps}
-use Rattle.std.proofs.lemmas.{List.append-nil, List.Elements.All-head, List.Elements.All-tail, Str.IsUtf8-append}
+use Rattle.std.proofs.lemmas.{Bool.lt-ltb, Fmt.decimal_by_steps, List.append-nil, List.Elements.All-head, List.Elements.All-tail, Str.IsUtf8-append}
 use Rattle.std.specs.{List.All, Str.IsUtf8}
 use Rattle.json.specs.Json as json
 use Rattle.json.specs.{Lex.tokens, Print.quoted}
 use Rattle.json.specs.Tree as tree
-use Rattle.json.proofs.Printed.{Decimals.IsNumber-decimal, Tokens.tokens-print, Trees.ArePrintable-json_tokens, Trees.value-json_tokens}
-use Rattle.json.proofs.Printed.Utf8.{IsUtf8-are_ascii, IsUtf8-quoted}
+use Rattle.json.proofs.Printed.{Decimals.IsNumber-decimal, Tokens.tokens-print, Trees.ArePrintable-json_tokens, Trees.value-json_tokens, Utf8.IsUtf8-are_ascii, Utf8.IsUtf8-quoted}
 use Rattle.serde_json.specs.Data.{Data, null, boolean, number, string, array, object, unsigned, Items, no_items, item, Members, no_members, member, depth, items_depth, members_depth}
-use Rattle.serde_json.specs.{Read.of_items, Read.of_json, Read.of_members, View.items_of}
-use Rattle.serde_json.specs.Written.{compact_text, items_outline, items_text, members_outline, members_text, outline}
+use Rattle.serde_json.specs.{Read.of_items, Read.of_json, Read.of_members, View.items_of, Written.compact_text, Written.items_outline, Written.items_text, Written.members_outline}
+use Rattle.serde_json.specs.Written.{members_text, outline}
 use Rattle.serde_json.proofs.{Numbers.number_of-decimal, Texts.print-outline}
 use Rattle.job_text.specs.Json.{json_of}
 use Rattle.job_text.proofs.Readings.{json_of-utf8}
-use Rattle.job_gen.specs.declared.draws.{DrawnNet.DrawnNet, DrawnPacket.DrawnPacket, Drawn.Drawn}
-use Rattle.job_gen.specs.DrawnFacts.{IsDrawn, IsDrawnNet, IsDrawnPacket}
-use Rattle.job_gen.specs.Draws.{drawn}
-use Rattle.job_gen.specs.Values.{dead_pairs, gen_text_of, gen_value, generated_net_name, generated_vertex_name, graph_data, job_data, machine_data, name_data, net_data}
-use Rattle.job_gen.specs.Values.{numbered, packet_data, pair_data, run_data, vertex_data}
+use Rattle.job_gen.specs.{declared.draws.DrawnNet.DrawnNet, declared.draws.DrawnPacket.DrawnPacket, declared.draws.Drawn.Drawn, DrawnFacts.IsDrawn, DrawnFacts.IsDrawnNet, DrawnFacts.IsDrawnPacket}
+use Rattle.job_gen.specs.{Draws.drawn, Values.dead_pairs, Values.gen_text_of, Values.gen_value, Values.generated_net_name, Values.generated_vertex_name, Values.graph_data, Values.job_data}
+use Rattle.job_gen.specs.Values.{machine_data, name_data, net_data, numbered, packet_data, pair_data, run_data, vertex_data}
 use Rattle.job_gen.proofs.{DrawnLaws.is_drawn, LengthLemmas.IsLow, LengthLemmas.keys_few, LengthLemmas.pairs_low, TextLemmas.depth-gen}
 
 -- ---- what a value needs so that its text is read as it
@@ -104,11 +100,7 @@ item_back d ds first rest = record {
     by_comma false = IsUtf8-append (compact_text d) (items_text true ds) first.text (rest.text true)
 
 array_back : (ds : Items) → ItemsReadBack ds → ReadsBack (array ds)
-array_back ds back = record {
-  numbers = back.numbers;
-  same = ap (option_map array) back.same;
-  text = ascii 91 (items_text false ds) (one_byte 91 (omega arith)) (back.text false);
-}
+array_back ds back = grind (arith, option_map array, ascii 91 (items_text false ds) (one_byte 91 (omega arith)) (back.text false), one_byte 91 (omega arith))
 
 mapped_back : {A : Type 0} (P : A → Type 0) (f : A → Data) → ((x : A) → P x → ReadsBack (f x)) → (xs : List A) → All P xs → ItemsReadBack (items_of (map f xs))
 mapped_back P f each [] all = none_back
@@ -144,11 +136,7 @@ one_more k d ms key value rest = record { numbers = (value.numbers, rest.numbers
     by_comma false = after
 
 object_back : (ms : Members) → MembersAreText ms → of_members (members_outline ms) no_members ≡ Some ms → ReadsBack (object ms)
-object_back ms are same = record {
-  numbers = are.numbers;
-  same = ap (option_map object) same;
-  text = ascii 123 (members_text false ms) (one_byte 123 (omega arith)) (are.text false);
-}
+object_back ms are same = grind (arith, option_map object, ascii 123 (members_text false ms) (one_byte 123 (omega arith)) (are.text false), one_byte 123 (omega arith))
 
 -- ---- the parts of a job
 

@@ -1,8 +1,7 @@
 -- Lists of values that are made one after the other.
-use Rattle.std.proofs.Common.{◌≡◌, ℕ, zero, suc, ◌+◌, ◌<◌, ◌≤◌, List, [], ◌∷◌, ◌++◌, length, map, take, get_or, sym, ap, ◌∙◌, add-one, arith}
+use Rattle.std.proofs.Common.{◌≡◌, ℕ, zero, suc, ◌+◌, ◌<◌, ◌≤◌, List, [], ◌∷◌, ◌++◌, length, map, take, get_or, ap, ◌∙◌, add-one, arith}
 use Rattle.std.proofs.lemmas.List.{take_all, take_more, map_push}
-use Rattle.serde_json.specs.{Data.Data, View.view, View.items_of}
-use Rattle.serde_json.specs.declared.value.Value.{Value}
+use Rattle.serde_json.specs.{Data.Data, View.view, View.items_of, declared.value.Value.Value}
 use Rattle.job_gen.specs.Values.{numbered}
 
 pub numbered_none : {A : Type 0} (f : ℕ → A → Data) (xs : List A) (vs : List Value) → vs ≡ [] → map view vs ≡ numbered f 0 (take 0 xs)
@@ -14,18 +13,11 @@ numbered_more : {A : Type 0} (f : ℕ → A → Data) (k i : ℕ) (xs : List A) 
 unfolding numbered
 numbered_more f k i [] d below = absurd (omega arith)
 numbered_more f k zero (x ∷ xs) d below = let same : k + 0 ≡ k = omega arith in ap (λ j. f j x ∷ []) same
-numbered_more f k (suc i) (x ∷ xs) d below =
-    let same : k + suc i ≡ k + 1 + i = omega arith in
-    ap (λ l. f k x ∷ l) (ap (λ j. numbered f (k + 1) (take i xs) ++ f j (get_or xs i d) ∷ []) same ∙ numbered_more f (k + 1) i xs d (omega arith))
+numbered_more f k (suc i) (x ∷ xs) d below = grind (arith, get_or xs i d, numbered_more f (k + 1) i xs d (omega arith))
 
 pub numbered_push : {A : Type 0} (f : ℕ → A → Data) (i : ℕ) (xs : List A) (d : A) (vs new : List Value) (v : Value) → i < length xs → new ≡ vs ++ v ∷ [] → view v ≡ f i (get_or xs i d)
     → map view vs ≡ numbered f 0 (take i xs) → map view new ≡ numbered f 0 (take (i + 1) xs)
-numbered_push f i xs d vs new v below pushed is so_far =
-    let number : i ≡ 0 + i = omega arith in
-    ap (map view) pushed ∙ map_push view vs v ∙ ap (λ l. l ++ view v ∷ []) so_far
-    ∙ ap (λ e. numbered f 0 (take i xs) ++ e ∷ []) (is ∙ ap (λ j. f j (get_or xs i d)) number)
-    ∙ numbered_more f 0 i xs d below
-    ∙ ap (λ j. numbered f 0 (take j xs)) (sym (add-one i))
+numbered_push f i xs d vs new v below pushed is so_far = grind (arith, map_push view vs v, get_or xs i d, numbered_more f 0 i xs d below, add-one i)
 
 pub numbered_all : {A : Type 0} (f : ℕ → A → Data) (i : ℕ) (xs : List A) (vs : List Value) → length xs ≤ i → map view vs ≡ numbered f 0 (take i xs) →
     items_of (map view vs) ≡ items_of (numbered f 0 xs)
@@ -34,10 +26,7 @@ numbered_all f i xs vs end is = ap items_of (is ∙ ap (numbered f 0) (take_all 
 -- The same where the value of an item does not depend on its place.
 pub mapped_push : {A : Type 0} (f : A → Data) (i : ℕ) (xs : List A) (d : A) (vs new : List Value) (v : Value) → i < length xs → new ≡ vs ++ v ∷ [] → view v ≡ f (get_or xs i d)
     → map view vs ≡ map f (take i xs) → map view new ≡ map f (take (i + 1) xs)
-mapped_push f i xs d vs new v below pushed is so_far =
-    ap (map view) pushed ∙ map_push view vs v ∙ ap (λ l. l ++ view v ∷ []) so_far
-    ∙ ap (λ e. map f (take i xs) ++ e ∷ []) is
-    ∙ sym (ap (map f) (take_more xs i d below) ∙ map_push f (take i xs) (get_or xs i d))
+mapped_push f i xs d vs new v below pushed is so_far = grind (arith, map_push view vs v, take_more xs i d below, map_push f (take i xs) (get_or xs i d), get_or xs i d)
 
 pub mapped_all : {A : Type 0} (f : A → Data) (i : ℕ) (xs : List A) (vs : List Value) → length xs ≤ i → map view vs ≡ map f (take i xs) → items_of (map view vs) ≡ items_of (map f xs)
 mapped_all f i xs vs end is = ap items_of (is ∙ ap (map f) (take_all i xs end))

@@ -1,10 +1,7 @@
 -- Powers of two by their ones, and the block of a key and a mask.
 use Rattle.std.proofs.Common.{◌≡◌, ℕ, zero, suc, ◌+◌, ◌-◌, ◌*◌, ◌/◌, ◌%◌, ◌^◌, ◌<◌, ◌≤◌, true, inl, inr, ap, sym, ◌∙◌, arith}
-use Rattle.std.specs.Int.{IsPowerOfTwo, is_power_of_two}
-use Rattle.std.specs.Int.RustNames.{count_ones}
-use Rattle.std.proofs.lemmas.Bool.{cases_lt, eqb-true}
-use Rattle.std.proofs.lemmas.Nat.{ones-le, ones_cat, zero_from_ones}
-use Rattle.std.proofs.lemmas.Grind.{pow_more}
+use Rattle.std.specs.Int.{IsPowerOfTwo, is_power_of_two, RustNames.count_ones}
+use Rattle.std.proofs.lemmas.{Bool.cases_lt, Bool.eqb-true, Nat.ones-le, Nat.ones_cat, Nat.zero_from_ones, Grind.pow_more}
 use Rattle.tern_word.proofs.BlockLaws.{exponent_le}
 
 -- a number with one 1 is a power of two

@@ -1,9 +1,7 @@
 -- A first fault stays first when more faults are appended, or stand inside.
 use Rattle.std.proofs.Common.{◌≡◌, List, [], ◌∷◌, ◌++◌}
-use Rattle.job_text.specs.declared.faults.JobFault.{JobFault}
-use Rattle.job_text.specs.declared.faults.TextErr.{TextErr}
+use Rattle.job_text.specs.{declared.faults.JobFault.JobFault, declared.faults.TextErr.TextErr, Reading.◌▹◌, Reading.IsFirstFault}
 use Rattle.job_text.specs.declared.faults.TextErr.TheVariants as errors
-use Rattle.job_text.specs.Reading.{◌▹◌, IsFirstFault}
 
 pub fails_before : (e : TextErr) (a b : List JobFault) → IsFirstFault e a → IsFirstFault e (a ++ b)
 fails_before errors.Memory a b h = tt

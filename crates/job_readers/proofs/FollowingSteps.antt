@@ -1,11 +1,8 @@
 -- A loop over items whose faults depend on those before goes on with the faults of those that are left.
-use Rattle.std.proofs.Common.{◌≡◌, ℕ, ◌+◌, ◌<◌, ◌≤◌, List, [], ◌∷◌, ◌++◌, length, map, drop, get_or, refl, ap, subst, sym, ◌∙◌, add-one, drop-cons}
+use Rattle.std.proofs.Common.{arith, ◌≡◌, ℕ, ◌+◌, ◌<◌, ◌≤◌, List, [], ◌∷◌, ◌++◌, length, map, drop, get_or, refl, sym, ◌∙◌, add-one, drop-cons}
 use Rattle.std.proofs.lemmas.List.{drop_all}
 use Rattle.serde_json.specs.Data.{Data}
-use Rattle.job_text.specs.declared.faults.JobFault.{JobFault}
-use Rattle.job_text.specs.declared.faults.TextErr.{TextErr}
-use Rattle.job_text.specs.Reading.{IsFirstFault}
-use Rattle.job_text.specs.Paths.{item_at}
+use Rattle.job_text.specs.{declared.faults.JobFault.JobFault, declared.faults.TextErr.TextErr, Reading.IsFirstFault, Paths.item_at}
 use Rattle.job_readers.specs.Items.{following_faults}
 use Rattle.job_readers.proofs.Firsts.{fails_before}
 
@@ -16,16 +13,12 @@ module _ {V A : Type 0} (g : V → Data) (xs : List V) (i : ℕ) (x : V) (below 
   -- an item without a fault
   pub following-more : (new : List A) → new ≡ before ++ value (g x) ∷ [] → f before at (g x) ≡ [] → following_faults f value before path i (map g (drop i xs)) ≡ total → following_faults f value new path (i + 1) (map g (drop (i + 1) xs)) ≡ total
   unfolding following_faults
-  following-more new pushed good so_far =
-      let none : f before (item_at path i) (g x) ≡ [] = ap (λ p. f before p (g x)) (sym here) ∙ good in
-      ap (λ l. following_faults f value l path (i + 1) (map g (drop (i + 1) xs))) pushed ∙ sym (ap (following_faults f value before path i) left ∙ rw none refl) ∙ so_far
+  following-more new pushed good so_far = grind (arith, left)
 
   -- an item with a fault
   pub following-fail : (e : TextErr) → IsFirstFault e (f before at (g x)) → following_faults f value before path i (map g (drop i xs)) ≡ total → IsFirstFault e total
   unfolding following_faults
-  following-fail e bad so_far =
-      let one : IsFirstFault e (f before (item_at path i) (g x)) = subst (λ p. IsFirstFault e (f before p (g x))) here bad in
-      rw (← so_far, left) (fails_before e (f before (item_at path i) (g x)) (following_faults f value (before ++ value (g x) ∷ []) path (i + 1) (map g (drop (i + 1) xs))) one)
+  following-fail e bad so_far = grind (arith, left, fails_before)
 
 -- no item is left
 pub following-none : {V A : Type 0} (g : V → Data) (xs : List V) (i : ℕ) (f : List A → List ℕ → Data → List JobFault) (value : Data → A) (before : List A) (path : List ℕ) (total : List JobFault) → length xs ≤ i → following_faults f value before path i (map g (drop i xs)) ≡ total → total ≡ []

@@ -1,33 +1,21 @@
 -- What vertices and nets so far have, and that the next one has nothing of it.
 use Rattle.std.proofs.Common.{◌≡◌, ℕ, zero, suc, ◌<◌, ◌^◌, List, [], ◌∷◌, ◌++◌, length, get_or, Bool, true, false, true≢false, Option, Some, None, refl, ap, subst, sym, ◌∙◌, arith}
-use Rattle.std.specs.Prelude.{IfSome, AllPairs, option_to_list, bit_and}
-use Rattle.std.specs.List.{list_any, flat_map}
-use Rattle.std.proofs.lemmas.Bool.{eq-eqb, or_left, or_right}
-use Rattle.std.proofs.lemmas.List.{map_push, flat_map_more}
-use Rattle.std.proofs.lemmas.List.Folds.{list_any-append}
-use Rattle.std.proofs.lemmas.List.Quantifiers.{all_pairs_push}
+use Rattle.std.specs.{Prelude.IfSome, Prelude.AllPairs, Prelude.option_to_list, Prelude.bit_and, List.list_any, List.flat_map}
+use Rattle.std.proofs.lemmas.{Bool.eq-eqb, Bool.or_left, Bool.or_right, List.map_push, List.flat_map_more, List.Folds.list_any-append, List.Quantifiers.all_pairs_push}
 use Rattle.serde_json.specs.Data.{Data}
 use Rattle.spin_base.specs.declared.blocks.Block.{Block}
-use Rattle.machine_desc.specs.declared.trees.Edge.{Edge}
-use Rattle.machine_desc.specs.Equality.{edge_eq}
+use Rattle.machine_desc.specs.{declared.trees.Edge.Edge, Equality.edge_eq}
 use Rattle.machine_desc.proofs.Same.{edge_eq_self}
-use Rattle.app_graph.specs.declared.graphs.Vertex.{Vertex}
-use Rattle.app_graph.specs.declared.graphs.Net.{Net}
-use Rattle.app_graph.specs.ValidGraph.{HaveDifferentDevices, AreFixedApart, ShareNoKey}
+use Rattle.app_graph.specs.{declared.graphs.Vertex.Vertex, declared.graphs.Net.Net, ValidGraph.HaveDifferentDevices, ValidGraph.AreFixedApart, ValidGraph.ShareNoKey}
 use Rattle.tern_word.proofs.BlockLaws.{agree_where_meet}
-use Rattle.job_readers.specs.Blocks.{shares_key}
-use Rattle.job_readers.specs.Hung.{is_among}
-use Rattle.job_readers.specs.GraphPart.{name_value, vertex_faults, vertex_value, next_vertex_faults, vertex_names_of, devices_of, net_faults, net_value, next_net_faults, net_names, fixed_blocks_of}
+use Rattle.job_readers.specs.{Blocks.shares_key, Hung.is_among, GraphPart.name_value, GraphPart.vertex_faults, GraphPart.vertex_value, GraphPart.next_vertex_faults, GraphPart.vertex_names_of}
+use Rattle.job_readers.specs.GraphPart.{devices_of, net_faults, net_value, next_net_faults, net_names, fixed_blocks_of}
 
 -- what one of the items has, is among what all have
 listed_any : {X A : Type 0} (f : X → Option A) (p : A → Bool) (xs : List X) (k : ℕ) (d : X) (a : A) → k < length xs → f (get_or xs k d) ≡ Some a → p a ≡ true → list_any p (flat_map (λ x. option_to_list (f x)) xs) ≡ true
 listed_any f p [] k d a below is holds = absurd (omega arith)
-listed_any f p (x ∷ xs) zero d a below is holds =
-    list_any-append p (option_to_list (f x)) (flat_map (λ y. option_to_list (f y)) xs)
-    ∙ or_left (list_any p (option_to_list (f x))) (list_any p (flat_map (λ y. option_to_list (f y)) xs)) (ap (λ o. list_any p (option_to_list o)) is ∙ or_left (p a) false holds)
-listed_any f p (x ∷ xs) (suc k) d a below is holds =
-    list_any-append p (option_to_list (f x)) (flat_map (λ y. option_to_list (f y)) xs)
-    ∙ or_right (list_any p (option_to_list (f x))) (list_any p (flat_map (λ y. option_to_list (f y)) xs)) (listed_any f p xs k d a (omega arith) is holds)
+listed_any f p (x ∷ xs) zero d a below is holds = grind (arith, or_left (p a) false holds, list_any-append)
+listed_any f p (x ∷ xs) (suc k) d a below is holds = grind (arith, listed_any f p xs k d a (omega arith) is holds, list_any-append, or_right)
 
 -- ---- vertices
 

@@ -1,12 +1,8 @@
 -- A loop over the items of a list goes on with the faults of those that are left.
-use Rattle.std.proofs.Common.{◌≡◌, ℕ, ◌+◌, ◌<◌, ◌≤◌, List, [], ◌∷◌, ◌++◌, length, map, take, drop, get_or, refl, ap, subst, sym, ◌∙◌, add-one, drop-cons}
+use Rattle.std.proofs.Common.{arith, ◌≡◌, ℕ, ◌+◌, ◌<◌, ◌≤◌, List, [], ◌∷◌, ◌++◌, length, map, take, drop, get_or, refl, sym, ◌∙◌, add-one, drop-cons, take_all}
 use Rattle.std.proofs.lemmas.List.{take_more, map-append, drop_all}
-use Rattle.std.proofs.Common.{take_all}
 use Rattle.serde_json.specs.Data.{Data}
-use Rattle.job_text.specs.declared.faults.JobFault.{JobFault}
-use Rattle.job_text.specs.declared.faults.TextErr.{TextErr}
-use Rattle.job_text.specs.Reading.{IsFirstFault}
-use Rattle.job_text.specs.Paths.{item_at}
+use Rattle.job_text.specs.{declared.faults.JobFault.JobFault, declared.faults.TextErr.TextErr, Reading.IsFirstFault, Paths.item_at}
 use Rattle.job_readers.specs.Items.{items_faults}
 use Rattle.job_readers.proofs.Firsts.{fails_before}
 
@@ -17,16 +13,12 @@ module _ {V : Type 0} (g : V → Data) (xs : List V) (i : ℕ) (x : V) (below : 
   -- an item without a fault
   pub items-more : (f : List ℕ → Data → List JobFault) (path at : List ℕ) (total : List JobFault) → at ≡ item_at path i → f at (g x) ≡ [] → items_faults f path i (map g (drop i xs)) ≡ total → items_faults f path (i + 1) (map g (drop (i + 1) xs)) ≡ total
   unfolding items_faults
-  items-more f path at total here good so_far =
-      let none : f (item_at path i) (g x) ≡ [] = ap (λ p. f p (g x)) (sym here) ∙ good in
-      sym (ap (items_faults f path i) left ∙ rw none refl) ∙ so_far
+  items-more f path at total here good so_far = grind (arith, left)
 
   -- an item with a fault
   pub items-fail : (f : List ℕ → Data → List JobFault) (path at : List ℕ) (total : List JobFault) (e : TextErr) → at ≡ item_at path i → IsFirstFault e (f at (g x)) → items_faults f path i (map g (drop i xs)) ≡ total → IsFirstFault e total
   unfolding items_faults
-  items-fail f path at total e here bad so_far =
-      let one : IsFirstFault e (f (item_at path i) (g x)) = subst (λ p. IsFirstFault e (f p (g x))) here bad in
-      rw (← so_far, left) (fails_before e (f (item_at path i) (g x)) (items_faults f path (i + 1) (map g (drop (i + 1) xs))) one)
+  items-fail f path at total e here bad so_far = grind (arith, left, fails_before)
 
   -- one more value
   pub values-more : {A : Type 0} (v : Data → A) (out new : List A) → out ≡ map v (map g (take i xs)) → new ≡ out ++ v (g x) ∷ [] → new ≡ map v (map g (take (i + 1) xs))

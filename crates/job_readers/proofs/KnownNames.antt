@@ -1,21 +1,13 @@
 -- Vertices that were read have names, so a text that is found among these is a name.
-use Rattle.std.proofs.Common.{◌≡◌, ℕ, ◌+◌, List, [], ◌∷◌, ◌++◌, map, codes, Bool, true, false, if◌then◌else◌, Option, Some, None, option_map, refl, ap, sym, subst, ◌∙◌}
-use Rattle.std.specs.Prelude.{◌&&◌, bytes_eq, option_and_then, unwrap_or}
-use Rattle.std.specs.List.{list_all}
-use Rattle.std.specs.Cmp.Derive.{both_true}
+use Rattle.std.proofs.Common.{arith, ◌≡◌, ℕ, ◌+◌, List, [], ◌∷◌, ◌++◌, map, codes, Bool, true, false, if◌then◌else◌, Option, Some, None, option_map, refl, ap, sym, subst, ◌∙◌}
+use Rattle.std.specs.{Prelude.◌&&◌, Prelude.bytes_eq, Prelude.option_and_then, Prelude.unwrap_or, List.list_all, Cmp.Derive.both_true}
 use Rattle.std.proofs.lemmas.Slice.Eq.{bytes_eq-Decides}
-use Rattle.serde_json.specs.Data.{Data}
-use Rattle.serde_json.specs.Find.{as_str}
+use Rattle.serde_json.specs.{Data.Data, Find.as_str}
 use Rattle.app_graph.specs.declared.graphs.Vertex.{Vertex}
-use Rattle.job_text.specs.declared.faults.JobFault.{JobFault}
-use Rattle.job_text.specs.Fields.{is_name, object_faults, range_unless, text_faults, text_value, typed_faults}
-use Rattle.job_text.specs.Members.{member_of}
-use Rattle.job_text.specs.Paths.{item_at, member_at}
-use Rattle.job_text.specs.Reading.{◌▹◌}
-use Rattle.job_readers.specs.Items.{following_faults}
-use Rattle.job_readers.specs.Members.{list_member, list_member_faults}
-use Rattle.job_readers.specs.Places.{double_faults, name_place_in, new_name_faults, unknown_faults}
-use Rattle.job_readers.specs.GraphPart.{name_faults, name_value, next_vertex_faults, sender_at, sender_in, vertex_faults, vertex_names_of, vertex_value, vertices_faults, vertices_value}
+use Rattle.job_text.specs.{declared.faults.JobFault.JobFault, Fields.is_name, Fields.object_faults, Fields.range_unless, Fields.text_faults, Fields.text_value, Fields.typed_faults, Members.member_of}
+use Rattle.job_text.specs.{Paths.item_at, Paths.member_at, Reading.◌▹◌}
+use Rattle.job_readers.specs.{Items.following_faults, Places.double_faults, Places.name_place_in, Places.new_name_faults, Places.unknown_faults, GraphPart.name_faults, GraphPart.name_value}
+use Rattle.job_readers.specs.GraphPart.{next_vertex_faults, sender_at, sender_in, vertex_faults, vertex_names_of, vertex_value, vertices_faults, vertices_value}
 use Rattle.job_readers.proofs.NoFaults.{none_first, none_inside, none_second}
 
 pub and_first : (a b : Bool) → (a && b) ≡ true → a ≡ true
@@ -59,8 +51,7 @@ module _ (place : List ℕ → Option ℕ) (path : List ℕ) (o : Option Data) w
   said t is = ap (λ u. typed_faults is_name path u ▹ unknown_faults path (place (unwrap_or u []))) is
 
   pub found_faults : (s : List ℕ) (i : ℕ) → option_and_then as_str o ≡ Some s → place s ≡ Some i → is_name s ≡ true → (text_faults path o ▹ unknown_faults path (place (text_value o))) ≡ []
-  found_faults s i is at named =
-      said (Some s) is ∙ ap (λ b. range_unless b path ▹ unknown_faults path (place s)) named ∙ ap (unknown_faults path) at
+  found_faults s i is at named = grind (arith, said (Some s) is)
 
   pub found_value : (s : List ℕ) (i : ℕ) → option_and_then as_str o ≡ Some s → place s ≡ Some i → i ≡ unwrap_or (place (text_value o)) 0
   found_value s i is at = sym (ap (λ u. unwrap_or (place (unwrap_or u [])) 0) is ∙ ap (λ p. unwrap_or p 0) at)
@@ -101,6 +92,4 @@ module _ {A : Type 0} (name : A → List ℕ) (f : List A → List ℕ → Data 
 
 pub vertices_known : (version : ℕ) (path : List ℕ) (d : Data) → vertices_faults version path d ≡ [] → list_all is_name (vertex_names_of (vertices_value version d)) ≡ true
 unfolding vertices_faults vertices_value vertex_names_of
-vertices_known version path d none =
-    all_names (λ (v : Vertex). v.name) (next_vertex_faults version) (vertex_value version) (vertex_has_name version) [] (member_at path (codes "vertices")) 0 (list_member (codes "vertices") d)
-    (none_second (list_member_faults path (codes "vertices") true 16384 d) _ none)
+vertices_known version path d none = grind (arith, vertex_has_name version, all_names, none_second)

@@ -1,18 +1,10 @@
 -- The word of a text of 1 to 7 bytes tells it from all others.
-use Rattle.std.proofs.Common.{◌≡◌, ◌≢◌, ℕ, zero, suc, ◌+◌, ◌-◌, ◌*◌, ◌/◌, ◌%◌, ◌^◌, ◌<◌, ◌≤◌, List, [], ◌∷◌, ◌++◌}
-use Rattle.std.proofs.Common.{length, map, Bool, true, false, if◌then◌else◌, Some, cond, refl, ap, sym, subst, ◌∙◌, arith, inl, inr, get_or, replicate, take}
-use Rattle.std.specs.Prelude.{bytes_eq, nat_eq, nat_le, option_map, slice_get}
-use Rattle.std.specs.Hash.FoldHasher.{initial, write}
-use Rattle.std.specs.Str.{IsUtf8}
-use Rattle.std.specs.Int.{from_le_bytes, to_le_bytes, w64}
-use Rattle.std.proofs.Math.Dec.{ltb}
-use Rattle.std.proofs.Math.Seq.{take-append_seam}
-use Rattle.std.proofs.Math.Utf8.{encode, encodes, next, scalar, scalar_cases, scalars}
-use Rattle.std.proofs.lemmas.Bool.{cases_Bool, cases_lt, eqb-true, leb-true, ltb-true}
-use Rattle.std.proofs.lemmas.List.{get_or-append_right, get_or_append_left, length-append, length-replicate, map_push}
-use Rattle.std.proofs.lemmas.Nat.{le_bytes_8}
-use Rattle.std.proofs.lemmas.Option.{get_or_from_slice_get, slice_get-map, slice_get_within}
-use Rattle.std.proofs.lemmas.Slice.Eq.{bytes_eq-Decides}
+use Rattle.std.proofs.Common.{◌≡◌, ◌≢◌, ℕ, zero, suc, ◌+◌, ◌-◌, ◌*◌, ◌/◌, ◌%◌, ◌^◌, ◌<◌, ◌≤◌, List, [], ◌∷◌, ◌++◌, length, map, Bool, true, false, if◌then◌else◌, Some, cond, refl, ap, sym, subst, ◌∙◌}
+use Rattle.std.proofs.Common.{arith, inl, inr, get_or, replicate, take}
+use Rattle.std.specs.{Prelude.bytes_eq, Prelude.nat_eq, Prelude.nat_le, Prelude.slice_get, Hash.FoldHasher.initial, Hash.FoldHasher.write, Str.IsUtf8, Int.from_le_bytes, Int.to_le_bytes, Int.w64}
+use Rattle.std.proofs.Math.{Dec.ltb, Seq.take-append_seam, Utf8.encode, Utf8.encodes, Utf8.next, Utf8.scalar, Utf8.scalar_cases, Utf8.scalars}
+use Rattle.std.proofs.lemmas.{Bool.cases_Bool, Bool.cases_lt, Bool.eqb-true, Bool.leb-true, Bool.ltb-true, List.get_or-append_right, List.get_or_append_left, List.length-append, List.length-replicate}
+use Rattle.std.proofs.lemmas.{List.map_push, Nat.le_bytes_8, Option.get_or_from_slice_get, Option.slice_get-map, Option.slice_get_within, Slice.Eq.bytes_eq-Decides}
 use Rattle.job_readers.specs.Indexed.{hash_for, word_for}
 use Rattle.job_readers.proofs.KnownNames.{and_first, and_second}
 
@@ -96,12 +88,7 @@ zeros_small (suc n) = small_cons 0 (replicate n 0) (omega arith) (zeros_small n)
 
 padded_small : (q : List ℕ) → Small q → length q ≤ 7 → Small (padded q)
 padded_small q small short zero = omega (arith, short)
-padded_small q small short (suc i) =
-    let z : List ℕ = replicate (7 - length q) 0 in
-    elim (cases_lt i (length q)) [
-      | inl below ↦ subst (λ b. b < 256) (sym (get_or_append_left q z 0 i below)) (small i)
-      | inr past ↦ subst (λ b. b < 256) (sym (get_or-append_right q z (length q) i 0 refl past)) (zeros_small (7 - length q) (i - length q))
-    ]
+padded_small q small short (suc i) = grind (arith, cases_lt i (length q), zeros_small (7 - length q) (i - length q), get_or_append_left, get_or-append_right)
 
 -- a word that is not 0 is that of a short text
 short_word : (q : List ℕ) (b : Bool) → nat_le (length q) 7 ≡ b → (if b then from_le_bytes w64 (padded q) else 0) ≢ 0
@@ -121,11 +108,7 @@ same_word p q text_p text_q same some =
     (same_padded p q (sym (bytes_of_word p (utf8_small p text_p) (λ none. some (sym same ∙ none))) ∙ ap (to_le_bytes w64) same ∙ bytes_of_word q (utf8_small q text_q) some))
 
 pub other_word : (p q : List ℕ) → word_for p ≢ word_for q → bytes_eq p q ≡ false
-other_word p q differ =
-    elim (cases_Bool (bytes_eq p q)) [
-      | inl same ↦ absurd (differ (ap word_for ((bytes_eq-Decides p q).0 same)))
-      | inr other ↦ other
-    ]
+other_word p q differ = grind (arith, cases_Bool (bytes_eq p q), bytes_eq-Decides p q)
 
 -- the words of names, and of one name more
 pub words_more : (names more : List (List ℕ)) (s : List ℕ) (words new : List ℕ) (w : ℕ) → words ≡ map word_for names → w ≡ word_for s → new ≡ words ++ w ∷ [] → more ≡ names ++ s ∷ []
@@ -134,9 +117,7 @@ words_more names more s words new w kept told pushed grown = rw (pushed, kept, t
 
 -- the word that stands at a name's place
 pub word_at : (names : List (List ℕ)) (words : List ℕ) (i : ℕ) (n : List ℕ) → words ≡ map word_for names → slice_get names i ≡ Some n → (i < length words) × (get_or words i 0 ≡ word_for n)
-word_at names words i n kept at =
-    let there : slice_get words i ≡ Some (word_for n) = ap (λ l. slice_get l i) kept ∙ slice_get-map word_for names i ∙ ap (λ o. option_map word_for o) at in
-    (slice_get_within words i (word_for n) there, get_or_from_slice_get words i (word_for n) 0 there)
+word_at names words i n kept at = grind (arith, slice_get-map word_for names i, slice_get_within, get_or_from_slice_get)
 
 -- ---- hashes
 

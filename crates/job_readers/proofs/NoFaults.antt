@@ -1,7 +1,6 @@
 -- Where a part has no fault in all, none of what it has inside has one.
 use Rattle.std.proofs.Common.{◌≡◌, List, [], ◌∷◌, ◌++◌, refl}
-use Rattle.job_text.specs.declared.faults.JobFault.{JobFault}
-use Rattle.job_text.specs.Reading.{◌▹◌}
+use Rattle.job_text.specs.{declared.faults.JobFault.JobFault, Reading.◌▹◌}
 
 pub none_first : (faults others : List JobFault) → faults ++ others ≡ [] → faults ≡ []
 none_first [] others none = refl

@@ -1,9 +1,7 @@
 -- The parts of a job in order, each read together with the job's own shape.
 use Rattle.std.proofs.Common.{◌≡◌, List, [], ◌∷◌, ◌++◌, refl}
-use Rattle.job_text.specs.declared.faults.JobFault.{JobFault}
-use Rattle.job_text.specs.declared.faults.TextErr.{TextErr}
+use Rattle.job_text.specs.{declared.faults.JobFault.JobFault, declared.faults.TextErr.TextErr, Reading.◌▹◌, Reading.IsFirstFault}
 use Rattle.job_text.specs.declared.faults.TextErr.TheVariants as errors
-use Rattle.job_text.specs.Reading.{◌▹◌, IsFirstFault}
 use Rattle.job_readers.proofs.Firsts.{fails_before, fails_later}
 
 -- the first part has the first fault

@@ -19,11 +19,7 @@ last-more false n = refl
 
 pub place_in-push : (names : List (List ℕ)) (s q : List ℕ) → name_place_in (names ++ s ∷ []) q ≡ or_else (name_place_in names q) (if bytes_eq s q then Some (length names) else None)
 place_in-push [] s q = refl
-place_in-push (n ∷ names) s q =
-    elim (bytes_eq n q) as (λ b. (if b then Some 0 else option_map (λ i. i + 1) (name_place_in (names ++ s ∷ []) q)) ≡ or_else (if b then Some 0 else option_map (λ i. i + 1) (name_place_in names q)) (if bytes_eq s q then Some (suc (length names)) else None)) [
-      | true ↦ refl
-      | false ↦ ap (option_map (λ i. i + 1)) (place_in-push names s q) ∙ or_else-map (λ i. i + 1) (name_place_in names q) (if bytes_eq s q then Some (length names) else None) ∙ ap (or_else (option_map (λ i. i + 1) (name_place_in names q))) (last-more (bytes_eq s q) (length names))
-    ]
+place_in-push (n ∷ names) s q = grind (arith, place_in-push names s q, last-more (bytes_eq s q) (length names), or_else-map)
 
 map-below : (o : Option ℕ) (n i : ℕ) → ((j : ℕ) → o ≡ Some j → j < n) → option_map (λ j. j + 1) o ≡ Some i → i < suc n
 map-below None n i below e = absurd cc
@@ -40,31 +36,23 @@ place_in-below (n ∷ names) s i e =
 
 -- a name that stands already changes no place
 old_place : (names : List (List ℕ)) (s q : List ℕ) (j : ℕ) → name_place_in names s ≡ Some j → (b : Bool) → bytes_eq s q ≡ b → (o : Option ℕ) → name_place_in names q ≡ o → o ≡ or_else o (if b then Some (length names) else None)
-old_place names s q j there true same None at =
-    let e : s ≡ q = (bytes_eq-Decides s q).0 same in
-    let none : name_place_in names s ≡ None = ap (name_place_in names) e ∙ at in
-    absurd cc
+old_place names s q j there true same None at = grind (arith, bytes_eq-Decides s q)
 old_place names s q j there true same (Some i) at = refl
 old_place names s q j there false same None at = refl
 old_place names s q j there false same (Some i) at = refl
 
 pub place_in-old : (names : List (List ℕ)) (s : List ℕ) (j : ℕ) → name_place_in names s ≡ Some j → (q : List ℕ) → name_place_in names q ≡ name_place_in (names ++ s ∷ []) q
-place_in-old names s j there q =
-    old_place names s q j there (bytes_eq s q) refl (name_place_in names q) refl ∙ sym (place_in-push names s q)
+place_in-old names s j there q = grind (arith, old_place names s q j there (bytes_eq s q) refl (name_place_in names q) refl, place_in-push names s q)
 
 -- a new name has the last place
 new_place : (names : List (List ℕ)) (s q : List ℕ) → name_place_in names s ≡ None → (b : Bool) → bytes_eq s q ≡ b → (o : Option ℕ) → name_place_in names q ≡ o → cond b (Some (length names)) o ≡ or_else o (if b then Some (length names) else None)
 new_place names s q absent true same None at = refl
-new_place names s q absent true same (Some i) at =
-    let e : s ≡ q = (bytes_eq-Decides s q).0 same in
-    let some : name_place_in names s ≡ Some i = ap (name_place_in names) e ∙ at in
-    absurd cc
+new_place names s q absent true same (Some i) at = grind (arith, bytes_eq-Decides s q)
 new_place names s q absent false same None at = refl
 new_place names s q absent false same (Some i) at = refl
 
 pub place_in-new : (names : List (List ℕ)) (s : List ℕ) → name_place_in names s ≡ None → (q : List ℕ) → cond (bytes_eq s q) (Some (length names)) (name_place_in names q) ≡ name_place_in (names ++ s ∷ []) q
-place_in-new names s absent q =
-    new_place names s q absent (bytes_eq s q) refl (name_place_in names q) refl ∙ sym (place_in-push names s q)
+place_in-new names s absent q = grind (arith, new_place names s q absent (bytes_eq s q) refl (name_place_in names q) refl, place_in-push names s q)
 
 some_is : (o : Option ℕ) → is_some o ≡ true → (j : ℕ) × (o ≡ Some j)
 some_is None e = absurd cc

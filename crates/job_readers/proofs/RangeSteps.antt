@@ -1,42 +1,25 @@
 -- Blocks that are ranges: when two share a key, and what their first keys by their last keys tell of one more.
-use Rattle.std.proofs.Common.{◌≡◌, ◌≢◌, ℕ, ◌+◌, ◌-◌, ◌/◌, ◌*◌, ◌%◌, ◌^◌, ◌<◌, ◌≤◌, ◌↔◌, List, [], ◌∷◌, ◌++◌, true, false, true≢false, Option, Some, None, inl, inr, ap, sym, ◌∙◌, subst, arith, Less, Equal, Greater, nat_cmp}
-use Rattle.std.specs.Prelude.{bit_and, Contains, nat_le}
-use Rattle.std.specs.List.{list_any}
-use Rattle.std.specs.Cmp.{nat_cmp_is}
-use Rattle.std.specs.Ordering.{is_eq, is_gt}
-use Rattle.std.proofs.lemmas.Bool.{cases_lt, cases_eq, cases_Bool, cases_order, eqb-true, eq-eqb, le-leb, lt-leb}
-use Rattle.std.proofs.lemmas.Nat.{and_le_r, pow_pos, shr_split}
-use Rattle.std.proofs.lemmas.Nat.Bits.{and_high_mask}
-use Rattle.std.proofs.lemmas.List.Elements.{All-push, All-contains, Contains-append_left, Contains-append_right}
+use Rattle.std.proofs.Common.{◌≡◌, ◌≢◌, ℕ, ◌+◌, ◌-◌, ◌%◌, ◌^◌, ◌<◌, ◌≤◌, ◌↔◌, List, [], ◌∷◌, ◌++◌, true, false, true≢false, Option, Some, None, inl, inr, ap, sym, ◌∙◌, subst, arith, nat_cmp}
+use Rattle.std.specs.{Prelude.bit_and, Prelude.Contains, Prelude.nat_le, List.list_any, Ordering.is_eq, Ordering.is_gt}
+use Rattle.std.proofs.lemmas.{Bool.cases_lt, Bool.cases_eq, Bool.cases_Bool, Bool.cases_order, Bool.eqb-true, Bool.eq-eqb, Bool.le-leb, Bool.lt-leb, Nat.and_le_r, Nat.pow_pos, Nat.shr_split}
+use Rattle.std.proofs.lemmas.{Nat.Bits.and_high_mask, List.Elements.All-push, List.Elements.All-contains, List.Elements.Contains-append_left, List.Elements.Contains-append_right}
 use Rattle.std.proofs.lemmas.List.Folds.{list_any_at, list_any_none}
-use Rattle.spin_base.proofs.Members.{Contains-first}
-use Rattle.spin_base.proofs.Places.{All-each}
+use Rattle.spin_base.proofs.{Members.Contains-first, Places.All-each}
 use Rattle.spin_base.specs.declared.blocks.Block.{Block}
 use Rattle.tern_word.proofs.BlockLaws.{range_keys, key_small, meet_where_agree, agree_where_meet}
-use Rattle.job_readers.specs.Blocks.{IsRange, last_key_of, shares_key}
-use Rattle.job_readers.specs.FixedRanges.{AreRanges}
+use Rattle.job_readers.specs.{Blocks.IsRange, Blocks.last_key_of, Blocks.shares_key, FixedRanges.AreRanges}
 
 -- the last key has 32 bits
 pub last_small : (b : Block) → last_key_of b < 2 ^ 32
-last_small b =
-    let le : b.key ≤ b.mask = subst (λ k. k ≤ b.mask) b.within (and_le_r b.key b.mask) in
-    omega (arith, le, b.small)
+last_small b = grind (arith, and_le_r b.key b.mask)
 
 -- ---- what an order of numbers says
 
 pub is_not_above : (a b : ℕ) → a ≤ b → is_gt (nat_cmp a b) ≡ false
-is_not_above a b le = elim (cases_order a b) [
-  | inl same ↦ ap is_gt (sym (nat_cmp_is a b Equal same))
-  | inr (inl less) ↦ ap is_gt (sym (nat_cmp_is a b Less less))
-  | inr (inr more) ↦ absurd (omega arith)
-]
+is_not_above a b le = grind (arith, cases_order a b)
 
 pub is_other : (a b : ℕ) → b ≢ a → is_eq (nat_cmp a b) ≡ false
-is_other a b other = elim (cases_order a b) [
-  | inl same ↦ absurd (other (sym same))
-  | inr (inl less) ↦ ap is_eq (sym (nat_cmp_is a b Less less))
-  | inr (inr more) ↦ ap is_eq (sym (nat_cmp_is a b Greater more))
-]
+is_other a b other = grind (arith, cases_order a b)
 
 -- ---- the keys of a range
 
@@ -45,10 +28,7 @@ module _ (b : Block) (range : IsRange b) where
   mask_is = let sum = range.2 in omega (arith, sum)
 
   aligned : b.key % 2 ^ range.0 ≡ 0
-  aligned =
-      let whole : b.key / 2 ^ range.0 * 2 ^ range.0 ≡ b.key =
-      sym (and_high_mask 32 range.0 range.1 b.key (key_small b)) ∙ (ap (bit_and b.key) mask_is ∙ b.within) in
-      omega (arith, shr_split b.key range.0, whole)
+  aligned = grind (arith, and_high_mask 32 range.0 range.1 b.key (key_small b), key_small b, mask_is, shr_split b.key range.0)
 
   behind_last : last_key_of b + 1 ≡ b.key + 2 ^ range.0
   behind_last = let sum = range.2 in omega (arith, sum, pow_pos range.0, b.small)
@@ -123,36 +103,16 @@ module _ (blocks : List Block) (first_at : ℕ → Option ℕ) (are : AreRanges 
 
     -- the next one begins behind the block
     next_misses : last_key_of b < first → list_any (shares_key b) blocks ≡ false
-    next_misses behind = none_shares (λ a has from_a to_a. elim (cases_lt last (last_key_of a)) [
-      | inl later ↦ (
-          let next = are.known last first is in
-          let below = are.apart last (last_key_of a) first a.key is (told_of a has) later in
-          omega (arith, below, behind, to_a, next.2, next.3)
-          )
-      | inr not_later ↦ (
-          let same : last_key_of a ≡ last = omega (arith, not_later, least (last_key_of a) a.key from_a (told_of a has)) in
-          let one : Some a.key ≡ Some first = sym (told_of a has) ∙ ap first_at same ∙ is in
-          let key : a.key ≡ first = cc in
-          omega (arith, key, behind, to_a)
-          )
-    ])
+    next_misses behind = grind (arith, none_shares, cases_lt, told_of)
 
     pub next_tells : nat_le first (last_key_of b) ≡ list_any (shares_key b) blocks
-    next_tells = elim (cases_lt (last_key_of b) first) [
-      | inl behind ↦ lt-leb first (last_key_of b) behind ∙ sym (next_misses behind)
-      | inr meets ↦ le-leb first (last_key_of b) meets ∙ sym (next_meets meets)
-    ]
+    next_tells = grind (arith, cases_lt (last_key_of b) first, lt-leb, next_misses, le-leb, next_meets)
 
 -- ---- one more range
 
 -- no range
 pub no_ranges : (first_at : ℕ → Option ℕ) → ((q : ℕ) → first_at q ≡ None) → AreRanges [] first_at
-no_ranges first_at none = record {
-  ranges = λ k d below. absurd (omega arith);
-  told = λ k d below. absurd (omega arith);
-  known = λ last first is. (let no : Some first ≡ None = sym is ∙ none last in absurd cc);
-  apart = λ low high first second is is_second before. (let no : Some first ≡ None = sym is ∙ none low in absurd cc);
-}
+no_ranges first_at none = grind arith
 
 module _ (blocks : List Block) (first_at more : ℕ → Option ℕ) (are : AreRanges blocks first_at) (b : Block) (range : IsRange b) (fresh : list_any (shares_key b) blocks ≡ false) (here : more (last_key_of b) ≡ Some b.key) (others : (q : ℕ) → q ≢ last_key_of b → more q ≡ first_at q) where
   -- one of the blocks does not overlap the new one

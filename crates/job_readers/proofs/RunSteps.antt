@@ -2,9 +2,7 @@
 use Rattle.std.proofs.Common.{◌≡◌, ℕ, ◌<◌, List, length, Some, refl, subst}
 use Rattle.std.specs.Prelude.{slice_get, All}
 use Rattle.std.proofs.lemmas.Option.{get_or_from_slice_get}
-use Rattle.serde_json.specs.Data.{Data}
-use Rattle.serde_json.specs.Find.{as_array}
-use Rattle.serde_json.specs.View.{items_of}
+use Rattle.serde_json.specs.{Data.Data, Find.as_array, View.items_of}
 use Rattle.job_text.proofs.Items.{list_of-items_of}
 use Rattle.job_readers.specs.RunPart.{items_in}
 

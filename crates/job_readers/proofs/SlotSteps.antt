@@ -1,14 +1,11 @@
 -- Places of names by slots, where one name more is put.
-use Rattle.std.proofs.Common.{◌≡◌, ◌≢◌, ℕ, ◌<◌, ◌≤◌, List, [], ◌∷◌, ◌++◌, length, Bool, true, false, cond, if◌then◌else◌, Option, Some, None, refl, ap, sym, ◌∙◌, subst, arith, inl, inr, slice_get, set, get_or, replicate, length-append}
-use Rattle.std.proofs.Math.Nat.{mod-lt}
-use Rattle.std.proofs.lemmas.List.{get_or-replicate, length-replicate, length-set, get_or-set_same, get_or-set_other}
+use Rattle.std.proofs.Common.{◌≡◌, ◌≢◌, ℕ, ◌<◌, ◌≤◌, List, [], ◌∷◌, ◌++◌, length, Bool, true, false, cond, if◌then◌else◌, Option, Some, None, refl, ap, sym, ◌∙◌, subst, arith, inl, inr, slice_get}
+use Rattle.std.proofs.Common.{set, get_or, replicate, length-append}
+use Rattle.std.proofs.{Math.Nat.mod-lt, lemmas.List.get_or-replicate, lemmas.List.length-replicate, lemmas.List.length-set, lemmas.List.get_or-set_same, lemmas.List.get_or-set_other}
+use Rattle.std.proofs.lemmas.{Bool.cases_lt, Bool.cases_Bool, Bool.cases_eq, Option.slice_get_past, Slice.Eq.bytes_eq-Decides}
 use Rattle.std.specs.Prelude.{bytes_eq}
-use Rattle.std.proofs.lemmas.Bool.{cases_lt, cases_Bool, cases_eq}
-use Rattle.std.proofs.lemmas.Option.{slice_get_past}
-use Rattle.std.proofs.lemmas.Slice.Eq.{bytes_eq-Decides}
 use Rattle.spin_base.proofs.Places.{slice_get_there, slice_get-append_left, slice_get-pushed}
-use Rattle.job_readers.specs.Places.{name_place_in}
-use Rattle.job_readers.specs.Indexed.{AreSlots, by_slot, in_slot, slot_for}
+use Rattle.job_readers.specs.{Places.name_place_in, Indexed.AreSlots, Indexed.by_slot, Indexed.in_slot, Indexed.slot_for}
 use Rattle.job_readers.proofs.PlaceSteps.{place_in-new}
 
 -- the name that a slot's place has is the text: then it is the text's place
@@ -47,13 +44,7 @@ by_slot_stays names s few i held later q =
 -- a name that stands already, once more
 pub known_in : (names : List (List ℕ)) (s : List ℕ) (slots : List ℕ) (later : List ℕ → Option ℕ) → AreSlots names slots later → length names < 4294967295
     → ((q : List ℕ) → name_place_in names q ≡ name_place_in (names ++ s ∷ []) q) → AreSlots (names ++ s ∷ []) slots later
-known_in names s slots later are few stays = record {
-  some = are.some;
-  few = omega (arith, few, length-append names (s ∷ []));
-  held = λ q past. are.held q (omega (arith, past, length-append names (s ∷ [])));
-  alone = λ q past. are.alone q (omega (arith, past, length-append names (s ∷ [])));
-  told = λ q. by_slot_stays names s few (in_slot slots q) (are.held q) (later q) q ∙ are.told q ∙ stays q;
-}
+known_in names s slots later are few stays = grind (arith, length-append names (s ∷ []), by_slot_stays)
 
 module _ (names : List (List ℕ)) (s : List ℕ) (absent : name_place_in names s ≡ None) (few : length names < 4294967295) where
   abbrev more : List (List ℕ)
@@ -61,24 +52,16 @@ module _ (names : List (List ℕ)) (s : List ℕ) (absent : name_place_in names 
 
   -- a text that has a place is another one
   other : (q : List ℕ) (i : ℕ) → name_place_in names q ≡ Some i → bytes_eq s q ≡ false
-  other q i there =
-      elim (cases_Bool (bytes_eq s q)) [
-        | inl same ↦ (let e : s ≡ q = (bytes_eq-Decides s q).0 same in let none : name_place_in names q ≡ None = subst (λ t. name_place_in names t ≡ None) e absent in absurd cc)
-        | inr differs ↦ differs
-      ]
+  other q i there = grind (arith, cases_Bool (bytes_eq s q), bytes_eq-Decides s q)
 
   -- by the new name's slot, which was empty
   placed_here : (q : List ℕ) (later : Option ℕ) → later ≡ None → name_place_in names q ≡ None → by_slot (slice_get more (length names)) (length names) later q ≡ name_place_in more q
-  placed_here q later alone none =
-      ap (λ o. by_slot o (length names) later q) (slice_get-pushed names s (length names) refl)
-      ∙ ap (λ o. if bytes_eq s q then Some (length names) else o) (alone ∙ sym none)
-      ∙ place_in-new names s absent q
+  placed_here q later alone none = grind (arith, slice_get-pushed names s (length names) refl, place_in-new names s absent q)
 
   -- by a slot that stays, of a text that is not the new name
   placed_there : (q : List ℕ) (i : ℕ) (later : Option ℕ) → bytes_eq s q ≡ false → (length names ≤ i → i ≡ 4294967295)
       → by_slot (slice_get names i) i later q ≡ name_place_in names q → by_slot (slice_get more i) i later q ≡ name_place_in more q
-  placed_there q i later differs held told =
-      by_slot_stays names s few i held later q ∙ told ∙ sym (ap (λ b. cond b (Some (length names)) (name_place_in names q)) differs) ∙ place_in-new names s absent q
+  placed_there q i later differs held told = grind (arith, by_slot_stays names s few i held later q, place_in-new names s absent q)
 
   -- by a slot that stays, where the new name stands in the map
   placed_later : (q : List ℕ) (i : ℕ) (later : Option ℕ) → i < length names → by_slot (slice_get names i) i later q ≡ name_place_in names q
@@ -113,8 +96,7 @@ module _ (names : List (List ℕ)) (s : List ℕ) (absent : name_place_in names 
     inside = slot_below slots s are.some
 
     same_slot : (q : List ℕ) → slot_for (length slots) q ≡ slot_for (length slots) s → in_slot filled q ≡ length names
-    same_slot q same =
-        rw (length-set slots (slot_for (length slots) s) (length names), same) (get_or-set_same slots (slot_for (length slots) s) (length names) 0 inside)
+    same_slot q same = grind (arith, length-set slots (slot_for (length slots) s) (length names), get_or-set_same slots (slot_for (length slots) s) (length names) 0 inside)
 
     other_slot : (q : List ℕ) → slot_for (length slots) q ≢ slot_for (length slots) s → in_slot filled q ≡ in_slot slots q
     other_slot q differs =
@@ -122,19 +104,11 @@ module _ (names : List (List ℕ)) (s : List ℕ) (absent : name_place_in names 
 
     -- a text of another slot is another text
     differing : (q : List ℕ) → slot_for (length slots) q ≢ slot_for (length slots) s → bytes_eq s q ≡ false
-    differing q apart =
-        elim (cases_Bool (bytes_eq s q)) [
-          | inl same ↦ absurd (apart (ap (slot_for (length slots)) (sym ((bytes_eq-Decides s q).0 same))))
-          | inr differs ↦ differs
-        ]
+    differing q apart = grind (arith, cases_Bool (bytes_eq s q), bytes_eq-Decides s q)
 
     -- a text of an empty slot is another text than one whose slot has a place
     not_in_empty : (q : List ℕ) → in_slot slots s ≢ 4294967295 → in_slot slots q ≡ 4294967295 → bytes_eq s q ≡ false
-    not_in_empty q taken empty =
-        elim (cases_Bool (bytes_eq s q)) [
-          | inl same ↦ absurd (taken (ap (in_slot slots) ((bytes_eq-Decides s q).0 same) ∙ empty))
-          | inr differs ↦ differs
-        ]
+    not_in_empty q taken empty = grind (arith, cases_Bool (bytes_eq s q), bytes_eq-Decides s q)
 
     pub first_in : in_slot slots s ≡ 4294967295 → AreSlots more filled later
     first_in empty =
@@ -166,22 +140,4 @@ module _ (names : List (List ℕ)) (s : List ℕ) (absent : name_place_in names 
         }
 
     pub later_in : (after : List ℕ → Option ℕ) → in_slot slots s ≢ 4294967295 → ((q : List ℕ) → after q ≡ cond (bytes_eq s q) (Some (length names)) (later q)) → AreSlots more slots after
-    later_in after taken told =
-        let long = length-append names (s ∷ []) in
-        record {
-          some = are.some;
-          few = omega (arith, few, long);
-          held = λ q past. are.held q (omega (arith, past, long));
-          alone = λ q past.
-              let empty = are.held q (omega (arith, past, long)) in
-              told q ∙ ap (λ b. cond b (Some (length names)) (later q)) (not_in_empty q taken empty) ∙ are.alone q (omega (arith, past, long));
-          told = λ q.
-              elim (cases_lt (in_slot slots q) (length names)) [
-                | inl below ↦ subst (λ o. by_slot (slice_get more (in_slot slots q)) (in_slot slots q) o q ≡ name_place_in more q) (sym (told q)) (placed_later q (in_slot slots q) (later q) below (are.told q))
-                | inr past ↦ (
-                    let empty = are.held q (omega (arith, past)) in
-                    let differs = not_in_empty q taken empty in
-                    subst (λ o. by_slot (slice_get more (in_slot slots q)) (in_slot slots q) o q ≡ name_place_in more q) (sym (told q ∙ ap (λ b. cond b (Some (length names)) (later q)) differs))
-                    (placed_there q (in_slot slots q) (later q) differs (are.held q) (are.told q)))
-              ];
-        }
+    later_in after taken told = grind (arith, length-append names (s ∷ []), not_in_empty, cases_lt, slice_get, placed_later, placed_there)

@@ -4,14 +4,10 @@ use Rattle.std.specs.Prelude.{bytes_eq}
 use Rattle.serde_json.specs.Data.{Data}
 use Rattle.spin_base.specs.declared.copies.Event.{Event}
 use Rattle.spin_base.specs.declared.copies.Event.TheVariants as events
-use Rattle.job_text.specs.declared.faults.JobFault.{JobFault}
-use Rattle.job_text.specs.declared.faults.JobFault.TheVariants.{Range}
-use Rattle.job_text.specs.declared.faults.TextErr.{TextErr}
-use Rattle.job_text.specs.Reading.{IsFirstFault}
-use Rattle.job_readers.specs.declared.events.Verb.{Verb}
-use Rattle.job_readers.specs.declared.events.Verb.TheVariants.{Inject, Take, Send, Dump, Collect}
-use Rattle.job_readers.specs.Verbs.{verb_named}
-use Rattle.job_readers.specs.RunPart.{event_word_faults, worded_event, at_vertex_faults, at_vertex, at_chip_faults, chip_of_event, port_named, out_named, port_of_event, out_of_event}
+use Rattle.job_text.specs.{declared.faults.JobFault.JobFault, declared.faults.JobFault.TheVariants.Range, declared.faults.TextErr.TextErr, Reading.IsFirstFault}
+use Rattle.job_readers.specs.declared.events.Verb.{Verb, TheVariants.Inject, TheVariants.Take, TheVariants.Send, TheVariants.Dump, TheVariants.Collect}
+use Rattle.job_readers.specs.{Verbs.verb_named, RunPart.event_word_faults, RunPart.worded_event, RunPart.at_vertex_faults, RunPart.at_vertex, RunPart.at_chip_faults, RunPart.chip_of_event}
+use Rattle.job_readers.specs.RunPart.{port_named, out_named, port_of_event, out_of_event}
 
 abbrev pub verb_faults : List (List ℕ) → List ℕ → Option Verb → List Data → List JobFault
 verb_faults vertices path (Some Inject) ds = at_vertex_faults vertices path ds

@@ -3,7 +3,6 @@ ghost use Rattle.std.specs.Prelude.{◌≡◌, ◌<◌, ◌≤◌, ℕ, List, []
 ghost use Rattle.serde_json.specs.View.{view};
 ghost use Rattle.spin_base.specs.Outputs.{IsOutput};
 ghost use Rattle.job_text.specs.Reading.{GivesOrFaults};
-ghost use Rattle.app_graph.specs.ValidGraph.{IsValidGraph};
 ghost use Rattle.app_graph.specs.RunPart.{IsEventOf};
 ghost use Rattle.job_readers.specs.RunPart.{link_named, core_named, port_named, out_named, one_text, chip_and_text, items_in, at_vertex_faults, at_vertex, at_chip_faults, chip_of_event, word_of_event, event_word_faults, worded_event, events_faults, events_value};
 ghost use Rattle.job_readers.specs.Verbs.{verb_named};
@@ -13,7 +12,7 @@ use crate::graph_parts::names_of_vertices;
 use crate::items::{ItemReader, each_item};
 use crate::members::long_list_of;
 use crate::names::{Names, unknown};
-use app_graph::Graph;
+use crate::valid_graphs::ValidGraph;
 use job_text::{Path, TextErr, may_name, range, shape};
 use serde_json::Value;
 use spin_base::{Chip, Dir, Event, Out, Port, Seq};
@@ -275,13 +274,11 @@ struct Listed<'a, 'b> {
 }
 
 impl<'a, 'b> ItemReader for Listed<'a, 'b> {
-    ghost use Rattle.std.specs.Prelude.{⊤, length};
+    ghost use Rattle.std.specs.Prelude.{length};
     ghost use Rattle.app_graph.specs.RunPart.{IsEventOf};
     ghost use Rattle.job_readers.specs.RunPart.{event_faults, event_value};
 
     type Item = Event;
-
-    ghost IsReady = { λ _. ⊤ };
 
     ghost faults = { λ among. event_faults among.vertices.now };
 
@@ -307,14 +304,13 @@ pub(crate) fn events(
     alloc: Global,
     run: &Value,
     path: &Path<'_>,
-    graph: &Graph,
+    valid: &ValidGraph<'_>,
 ) -> Result<Seq<Event>, TextErr>
-    requires { IsValidGraph graph.now }
     ensures read { GivesOrFaults (λ e. e) result
-        (events_faults graph.now.vertices (path_text path.now)
+        (events_faults valid.now.graph.now.vertices (path_text path.now)
         (view run.now))
-        (events_value graph.now.vertices (view run.now)) }
-    ensures valid { IfOk result (λ es. All (IsEventOf (length graph.now.vertices)) es) }
+        (events_value valid.now.graph.now.vertices (view run.now)) }
+    ensures valid { IfOk result (λ es. All (IsEventOf (length valid.now.graph.now.vertices)) es) }
 {
     let items = long_list_of(alloc, run, path, "events", false)?;
     // The names of vertices are for events alone.
@@ -322,7 +318,7 @@ pub(crate) fn events(
         return Ok(Seq::new(alloc));
     }
     let path = Path::Member(path, "events");
-    let names = names_of_vertices(alloc, graph.vertices.as_slice())?;
+    let names = names_of_vertices(alloc, valid.graph.vertices.as_slice())?;
     let listed = Listed { vertices: &names };
     each_item(alloc, items, &path, &listed)
 }

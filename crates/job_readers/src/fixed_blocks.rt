@@ -1,5 +1,5 @@
 // Fixed blocks in the order of nets, looked up by their last keys.
-ghost use Rattle.std.specs.Prelude.{◌≡◌, [], ◌∷◌, ◌++◌, false, IfOk, IfSome, option_to_list};
+ghost use Rattle.std.specs.Prelude.{◌≡◌, [], ◌++◌, false, IfOk, IfSome, option_to_list};
 ghost use Rattle.std.specs.List.{list_any};
 ghost use Rattle.job_readers.specs.Blocks.{shares_key, last_key_of, IsRange};
 
@@ -57,12 +57,15 @@ impl FixedBlocks {
         }
     }
 
-    // The blocks, and one more at the end.
-    fn with(self, block: Block) -> Result<FixedBlocks, Memory>
-        requires range { IsRange block }
-        requires fresh { list_any (shares_key block) self ≡ false }
-        ensures { IfOk result (λ blocks. blocks ≡ self ++ block ∷ []) }
+    // The blocks, and one more at the end where there is one.
+    pub(crate) fn and(self, block: Option<Block>) -> Result<FixedBlocks, Memory>
+        requires range { IfSome block IsRange }
+        requires fresh { IfSome block (λ b. list_any (shares_key b) self ≡ false) }
+        ensures { IfOk result (λ blocks. blocks ≡ self ++ option_to_list block) }
     {
+        let Some(block) = block else {
+            return Ok(self);
+        };
         let FixedBlocks {
             mut listed,
             mut firsts,
@@ -70,17 +73,5 @@ impl FixedBlocks {
         listed.push(block)?;
         firsts.insert(last_key(block), block.key)?;
         Ok(FixedBlocks { listed, firsts })
-    }
-
-    // The blocks, and one more at the end where there is one.
-    pub(crate) fn and(self, block: Option<Block>) -> Result<FixedBlocks, Memory>
-        requires range { IfSome block IsRange }
-        requires fresh { IfSome block (λ b. list_any (shares_key b) self ≡ false) }
-        ensures { IfOk result (λ blocks. blocks ≡ self ++ option_to_list block) }
-    {
-        match block {
-            Some(block) => self.with(block),
-            None => Ok(self),
-        }
     }
 }

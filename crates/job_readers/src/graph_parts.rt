@@ -17,10 +17,10 @@ use crate::blocks::block_for;
 use crate::devices::Devices;
 use crate::entries::{chip_in, link_in, pair};
 use crate::fixed_blocks::FixedBlocks;
-use crate::items::{ItemReader, each_item};
+use crate::items::each_item;
 use crate::members::{list_of, member_from, number_of};
 use crate::named_vertices::NamedVertices;
-use crate::names::{Names, clash, known_reference, new_name, said_name, said_text, unplaced};
+use crate::names::{Names, clash, new_name, said_name, said_text, unplaced};
 use app_graph::{Graph, Net, Vertex};
 use job_text::{Path, TextErr, field, list, member, object, range, shape};
 use machine_desc::Edge;
@@ -213,34 +213,6 @@ fn source(
     }
 }
 
-// The vertices, by whose names targets are read. Each was read as a name.
-#[derive(Clone, Copy)]
-struct Named<'a, 'b> {
-    vertices: &'a Names<'b>,
-}
-
-impl<'a, 'b> ItemReader for Named<'a, 'b> {
-    ghost use Rattle.std.specs.Prelude.{◌≡◌, ◌<◌, true, length};
-    ghost use Rattle.std.specs.List.{list_all};
-    ghost use Rattle.job_text.specs.Fields.{is_name};
-    ghost use Rattle.job_readers.specs.GraphPart.{target_faults, target_value};
-
-    type Item = u32;
-
-    ghost IsReady = { λ among. list_all is_name among.vertices.now ≡ true };
-
-    ghost faults = { λ among. target_faults among.vertices.now };
-
-    ghost value = { λ among. target_value among.vertices.now };
-
-    ghost Holds = { λ among t. t < length among.vertices.now };
-
-    #[tactic(auto, unfolding(crate::specs::GraphPart::target_faults, crate::specs::GraphPart::target_value))]
-    fn read(&self, alloc: Global, item: &Value, path: &Path<'_>) -> Result<u32, TextErr> {
-        known_reference(alloc, Some(item), path, self.vertices)
-    }
-}
-
 // The list of a net's targets, which has an item.
 #[tactic(auto, using(crate::proofs::Firsts::firsts), unfolding(crate::specs::GraphPart::some_faults))]
 fn some_items<'a>(
@@ -265,18 +237,17 @@ fn targets(
     alloc: Global,
     item: &Value,
     path: &Path<'_>,
-    vertices: &Names,
+    among: &NamedVertices<'_, '_>,
 ) -> Result<Seq<u32>, TextErr>
-    requires { list_all is_name vertices.now ≡ true }
-    ensures read { GivesOrFaults (λ t. t) result (targets_faults vertices.now (path_text path.now)
-        (view item.now))
-        (targets_value vertices.now (view item.now)) }
-    ensures below { IfOk result (λ ts. All (λ t. t < length vertices.now) ts) }
+    ensures read { GivesOrFaults (λ t. t) result
+        (targets_faults among.now.names.now (path_text path.now) (view item.now))
+        (targets_value among.now.names.now (view item.now)) }
+    ensures below { IfOk result (λ ts. All (λ t. t < length among.now.names.now) ts) }
     ensures some { IfOk result (λ ts. 0 < length ts) }
 {
     let path = Path::Member(path, "targets");
     let items = some_items(alloc, member(item, "targets"), &path)?;
-    each_item(alloc, items, &path, &Named { vertices })
+    each_item(alloc, items, &path, among)
 }
 
 // The block that a net must have, which shares no key with those before it.
@@ -340,7 +311,7 @@ fn net(
     let item = object(alloc, Some(item), path)?;
     let said = item_name(alloc, item, path, before.names)?;
     let source = source(alloc, item, path, among)?;
-    let targets = targets(alloc, item, path, among.names)?;
+    let targets = targets(alloc, item, path, among)?;
     let keys = number_of(alloc, item, path, "keys", (1, MOST_KEYS), Some(1))?;
     let fixed = fixed_block(alloc, item, path, version, keys, before.blocks)?;
     Ok(Net {

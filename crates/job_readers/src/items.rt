@@ -16,8 +16,6 @@ use std::alloc::Global;
 pub trait ItemReader {
     type Item: Drop;
 
-    ghost IsReady: { Self → Type 0 };
-
     ghost faults: { Self → List ℕ → Data → List JobFault };
 
     ghost value: { Self → Data → Self.Item };
@@ -26,7 +24,6 @@ pub trait ItemReader {
 
     /// What an item is, which stands at a path.
     fn read(&self, alloc: Global, item: &Value, path: &Path<'_>) -> Result<Self::Item, TextErr>
-        requires { IsReady self.now }
         ensures read { GivesOrFaults (λ x. x) result
             (faults self.now (path_text path.now) (view item.now))
             (value self.now (view item.now)) }
@@ -44,7 +41,6 @@ pub fn each_item<R: ItemReader>(
     path: &Path<'_>,
     reader: &R,
 ) -> Result<Seq<R::Item>, TextErr>
-    requires { R.IsReady reader.now }
     ensures read { GivesOrFaults (λ xs. xs) result
         (items_faults (R.faults reader.now) (path_text path.now) 0
         (map view items.now)) (map (R.value reader.now) (map view items.now)) }

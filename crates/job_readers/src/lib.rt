@@ -20,6 +20,7 @@ mod members;
 mod named_vertices;
 mod names;
 mod run_parts;
+mod valid_graphs;
 mod versions;
 
 pub use events::items_in;

@@ -24,12 +24,10 @@ struct Chips {
 }
 
 impl ItemReader for Chips {
-    ghost use Rattle.std.specs.Prelude.{◌<◌, ⊤};
+    ghost use Rattle.std.specs.Prelude.{◌<◌};
     ghost use Rattle.job_readers.specs.Entries.{chip_faults, chip_value};
 
     type Item = Chip;
-
-    ghost IsReady = { λ _. ⊤ };
 
     ghost faults = { λ grid. chip_faults grid.width grid.height };
 
@@ -50,12 +48,10 @@ struct Cores {
 }
 
 impl ItemReader for Cores {
-    ghost use Rattle.std.specs.Prelude.{◌<◌, ⊤};
+    ghost use Rattle.std.specs.Prelude.{◌<◌};
     ghost use Rattle.job_readers.specs.Entries.{core_faults, core_value};
 
     type Item = Spot;
-
-    ghost IsReady = { λ _. ⊤ };
 
     ghost faults = { λ grid. core_faults grid.width grid.height };
 
@@ -76,12 +72,10 @@ pub struct Links {
 }
 
 impl ItemReader for Links {
-    ghost use Rattle.std.specs.Prelude.{◌<◌, ⊤};
+    ghost use Rattle.std.specs.Prelude.{◌<◌};
     ghost use Rattle.job_readers.specs.Entries.{link_faults, link_value};
 
     type Item = Edge;
-
-    ghost IsReady = { λ _. ⊤ };
 
     ghost faults = { λ grid. link_faults grid.width grid.height };
 
@@ -103,7 +97,6 @@ fn listed<R: ItemReader>(
     name: &str,
     reader: &R,
 ) -> Result<Seq<R::Item>, TextErr>
-    requires { R.IsReady reader.now }
     ensures read { GivesOrFaults (λ ps. ps) result (entries_faults
         (R.faults reader.now) (path_text path.now) name.now
         (view machine.now)) (map (R.value reader.now) (list_member name.now (view machine.now))) }

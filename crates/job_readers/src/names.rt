@@ -1,6 +1,5 @@
 // Names in the order of a list, looked up in a map.
-ghost use Rattle.std.specs.Prelude.{◌≡◌, ◌<◌, ◌≤◌, [], ◌∷◌, ◌++◌, true, None, length, option_map, option_and_then, unwrap_or, map, bytes_eq, IfOk};
-ghost use Rattle.std.specs.List.{list_all};
+ghost use Rattle.std.specs.Prelude.{◌≡◌, ◌<◌, [], ◌∷◌, ◌++◌, None, length, option_map, option_and_then, unwrap_or, map, bytes_eq, IfOk};
 ghost use Rattle.serde_json.specs.Find.{as_str};
 ghost use Rattle.serde_json.specs.View.{view};
 ghost use Rattle.job_text.specs.Reading.{GivesOrFaults, IsFirstFault, ◌▹◌};
@@ -52,13 +51,13 @@ impl<'a> Model for Names<'a> {
 impl<'a> Names<'a> {
     // No name, and slots for so many.
     pub(crate) fn new(alloc: Global, count: usize) -> Result<Names<'a>, Memory>
-        requires { count ≤ 4294967296 }
         ensures { IfOk result (λ names. names ≡ []) }
     {
+        let slots = count.saturating_mul(SLOTS).saturating_add(1);
         Ok(Names {
             said: Vec::new(alloc),
             words: Vec::new(alloc),
-            slots: vec![in alloc; EMPTY; SLOTS * count + 1]?,
+            slots: vec![in alloc; EMPTY; slots]?,
             crowded: BTreeMap::new(alloc),
         })
     }
@@ -254,29 +253,6 @@ pub(crate) fn said_text<'a>(v: Option<&'a Value>) -> Option<&'a str>
     match v {
         Some(found) => found.as_str(),
         None => None,
-    }
-}
-
-// The place of the name that a text is, among names that all are names: what is found needs no test.
-#[tactic(auto, unfolding(crate::specs::Places::reference_faults, crate::specs::Places::reference_value))]
-pub(crate) fn known_reference(
-    alloc: Global,
-    v: Option<&Value>,
-    path: &Path<'_>,
-    names: &Names,
-) -> Result<u32, TextErr>
-    requires { list_all is_name names.now ≡ true }
-    ensures read { GivesOrFaults (λ i. i) result
-        (reference_faults names.now (path_text path.now) (option_map (λ d. view d.now) v.entry))
-        (reference_value names.now (option_map (λ d. view d.now) v.entry)) }
-    ensures below { IfOk result (λ i. i < length names.now) }
-{
-    let Some(said) = said_text(v) else {
-        return Err(shape(alloc, path));
-    };
-    match names.place(said) {
-        Some(i) => Ok(i),
-        None => Err(unplaced(alloc, said, path)),
     }
 }
 

@@ -1,8 +1,8 @@
 // Reads the run part of a job.
-ghost use Rattle.std.specs.Prelude.{◌≡◌, ◌+◌, ◌*◌, ◌<◌, ◌≤◌, ◌-◌, [], length, map, codes, option_map, IfOk, All, Some, None};
+ghost use Rattle.std.specs.Prelude.{◌≡◌, ◌+◌, ◌*◌, ◌<◌, ◌≤◌, ◌-◌, [], length, map, codes, IfOk, All, Some, None};
+ghost use Rattle.std.proofs.Props.{props};
 ghost use Rattle.serde_json.specs.View.{view};
 ghost use Rattle.serde_json.specs.Data.{null};
-ghost use Rattle.job_text.specs.Fields.{object_value};
 ghost use Rattle.job_text.specs.Reading.{GivesOrFaults, ◌▹◌};
 ghost use Rattle.machine_desc.specs.Live.{live_count_of};
 ghost use Rattle.app_graph.specs.ValidGraph.{IsValidGraph};
@@ -10,13 +10,14 @@ ghost use Rattle.app_graph.specs.RunPart.{key_count_of, IsPacketOf, IsRunOf};
 ghost use Rattle.job_readers.specs.Members.{number_member_faults, number_member, optional_number};
 ghost use Rattle.job_readers.specs.Job.{job_own_faults};
 ghost use Rattle.job_readers.specs.GraphPart.{net_names};
-ghost use Rattle.job_readers.specs.RunPart.{packet_net_faults, packet_net, packets_faults, packets_value, events_faults, events_value, places_faults, run_members_faults, run_members, optional_object_faults, run_faults, run_value};
+ghost use Rattle.job_readers.specs.RunPart.{packets_faults, packets_value, events_faults, events_value, places_faults, run_members_faults, run_members, run_faults, run_value};
 ghost use Rattle.job_text.specs.Paths.{path_text};
 
 use crate::events::events;
 use crate::items::{ItemReader, each_item};
 use crate::members::{list_of, number_of};
 use crate::names::{Names, reference};
+use crate::valid_graphs::ValidGraph;
 use app_graph::{Graph, Net, RunPart};
 use job_text::{Path, TextErr, count_to, field, member, number_in, object};
 use machine_desc::Machine;
@@ -30,35 +31,14 @@ const MOST_PACKETS: u64 = 65536;
 /// The most places of all queues together.
 const MOST_PLACES: u64 = 16777216;
 
-// The net of a packet.
-#[tactic(auto, unfolding(crate::specs::RunPart::packet_net_faults, crate::specs::RunPart::packet_net))]
-fn net_of_packet(
-    alloc: Global,
-    item: &Value,
-    path: &Path<'_>,
-    names: &Names,
-    graph: &Graph,
-) -> Result<u32, TextErr>
-    requires { names.now ≡ net_names graph.now.nets }
-    ensures read { GivesOrFaults (λ i. i) result
-        (packet_net_faults graph.now.nets (path_text path.now)
-        (view item.now))
-        (packet_net graph.now.nets (view item.now)) }
-    ensures below { IfOk result (λ i. i < length graph.now.nets) }
-{
-    let path = Path::Member(path, "net");
-    reference(alloc, member(item, "net"), &path, names)
-}
-
 // The last key of a net, counted from 0.
-fn last_key(graph: &Graph, net: u32) -> u64
-    requires valid { IsValidGraph graph.now }
-    requires below { net < length graph.now.nets }
-    ensures last { result ≡ key_count_of graph.now.nets net - 1 }
-    ensures key { result < key_count_of graph.now.nets net }
+fn last_key(valid: &ValidGraph<'_>, net: u32) -> u64
+    requires { net < length valid.now.graph.now.nets }
+    ensures last { result ≡ key_count_of valid.now.graph.now.nets net - 1 }
+    ensures key { result < key_count_of valid.now.graph.now.nets net }
     ensures small { result < 4294967296 }
 {
-    graph.nets.get(net as usize).keys - 1
+    valid.graph.nets.get(net as usize).keys - 1
 }
 
 // The payload of a packet.
@@ -79,33 +59,29 @@ fn payload_of(alloc: Global, item: &Value, path: &Path<'_>) -> Result<Option<u32
 // The nets, by whose names packets are read.
 #[derive(Clone, Copy)]
 struct Senders<'a, 'b> {
+    valid: ValidGraph<'a>,
     names: &'a Names<'b>,
-    graph: &'a Graph,
+    ghost named: { names.now ≡ net_names valid.graph.now.nets } by { Prim.hlevel props },
 }
 
 impl<'a, 'b> ItemReader for Senders<'a, 'b> {
-    ghost use Rattle.std.specs.Prelude.{◌≡◌};
-    ghost use Rattle.app_graph.specs.ValidGraph.{IsValidGraph};
     ghost use Rattle.app_graph.specs.RunPart.{IsPacketOf};
-    ghost use Rattle.job_readers.specs.GraphPart.{net_names};
     ghost use Rattle.job_readers.specs.RunPart.{packet_faults, packet_value};
 
     type Item = Packet;
 
-    ghost IsReady = { λ among. (among.names.now ≡ net_names among.graph.now.nets)
-        × IsValidGraph among.graph.now };
+    ghost faults = { λ among. packet_faults among.valid.graph.now.nets };
 
-    ghost faults = { λ among. packet_faults among.graph.now.nets };
+    ghost value = { λ among. packet_value among.valid.graph.now.nets };
 
-    ghost value = { λ among. packet_value among.graph.now.nets };
+    ghost Holds = { λ among. IsPacketOf among.valid.graph.now.nets };
 
-    ghost Holds = { λ among. IsPacketOf among.graph.now.nets };
-
-    #[tactic(auto, using(crate::proofs::Firsts::firsts), unfolding(crate::specs::RunPart::packet_faults, crate::specs::RunPart::packet_value))]
+    #[tactic(auto, using(crate::proofs::Firsts::firsts), unfolding(crate::specs::RunPart::packet_faults, crate::specs::RunPart::packet_net_faults, crate::specs::RunPart::packet_net, crate::specs::RunPart::packet_value))]
     fn read(&self, alloc: Global, item: &Value, path: &Path<'_>) -> Result<Packet, TextErr> {
         let item = object(alloc, Some(item), path)?;
-        let net = net_of_packet(alloc, item, path, self.names, self.graph)?;
-        let last = last_key(self.graph, net);
+        let sender = Path::Member(path, "net");
+        let net = reference(alloc, member(item, "net"), &sender, self.names)?;
+        let last = last_key(&self.valid, net);
         let index = number_of(alloc, item, path, "index", (0, last), None)? as u32;
         let payload = payload_of(alloc, item, path)?;
         Ok(Packet {
@@ -134,13 +110,12 @@ fn packets(
     alloc: Global,
     run: &Value,
     path: &Path<'_>,
-    graph: &Graph,
+    valid: &ValidGraph<'_>,
 ) -> Result<Seq<Packet>, TextErr>
-    requires { IsValidGraph graph.now }
-    ensures read { GivesOrFaults (λ p. p) result (packets_faults graph.now.nets (path_text path.now)
+    ensures read { GivesOrFaults (λ p. p) result (packets_faults valid.now.graph.now.nets (path_text path.now)
         (view run.now))
-        (packets_value graph.now.nets (view run.now)) }
-    ensures found { IfOk result (λ ps. All (IsPacketOf graph.now.nets) ps) }
+        (packets_value valid.now.graph.now.nets (view run.now)) }
+    ensures found { IfOk result (λ ps. All (IsPacketOf valid.now.graph.now.nets) ps) }
     ensures few { IfOk result (λ ps. length ps ≤ 65536) }
 {
     let items = list_of(alloc, run, path, "packets", false, MOST_PACKETS)?;
@@ -149,10 +124,10 @@ fn packets(
         return Ok(Seq::new(alloc));
     }
     let path = Path::Member(path, "packets");
-    let names = names_of_nets(alloc, graph.nets.as_slice())?;
+    let names = names_of_nets(alloc, valid.graph.nets.as_slice())?;
     let senders = Senders {
+        valid: *valid,
         names: &names,
-        graph,
     };
     each_item(alloc, items, &path, &senders)
 }
@@ -165,11 +140,10 @@ fn places_to(
     path: &Path<'_>,
     queue: u32,
     live: u32,
-    vertices: u32,
+    vertices: u16,
 ) -> Result<(), TextErr>
     requires queue { queue ≡ number_member (codes "queue") (Some 16) (view run.now) }
     requires few { queue ≤ 65536 }
-    requires vertices { vertices ≤ 16384 }
     ensures { GivesOrFaults (λ u. u) result (places_faults live vertices (path_text path.now)
         (view run.now)) tt }
 {
@@ -185,23 +159,22 @@ fn run_members(
     run: &Value,
     path: &Path<'_>,
     machine: &Machine,
-    graph: &Graph,
+    valid: &ValidGraph<'_>,
 ) -> Result<RunPart, TextErr>
-    requires { IsValidGraph graph.now }
     ensures read { GivesOrFaults (λ r. r) result
-        (run_members_faults (live_count_of machine.now) graph.now (path_text path.now)
+        (run_members_faults (live_count_of machine.now) valid.now.graph.now (path_text path.now)
         (view run.now))
-        (run_members graph.now (view run.now)) }
-    ensures found { IfOk result (IsRunOf graph.now) }
+        (run_members valid.now.graph.now (view run.now)) }
+    ensures found { IfOk result (IsRunOf valid.now.graph.now) }
 {
     let queue = number_of(alloc, run, path, "queue", (1, 65536), Some(16))? as u32;
     let patience = number_of(alloc, run, path, "patience", (1, 255), Some(16))? as u32;
     let workers = number_of(alloc, run, path, "workers", (1, 64), Some(1))? as u32;
     let turns = number_of(alloc, run, path, "turns", (1, 64), Some(16))? as u32;
     let target = number_of(alloc, run, path, "target", (0, 1024), Some(1024))? as u32;
-    let packets = packets(alloc, run, path, graph)?;
-    let events = events(alloc, run, path, graph)?;
-    let vertices = graph.vertices.len() as u32;
+    let packets = packets(alloc, run, path, valid)?;
+    let events = events(alloc, run, path, valid)?;
+    let vertices = valid.graph.vertices.len() as u16;
     places_to(alloc, run, path, queue, machine.live_count(), vertices)?;
     Ok(RunPart {
         queue,
@@ -219,40 +192,15 @@ fn absent_run(
     alloc: Global,
     path: &Path<'_>,
     machine: &Machine,
-    graph: &Graph,
+    valid: &ValidGraph<'_>,
 ) -> Result<RunPart, TextErr>
-    requires { IsValidGraph graph.now }
     ensures read { GivesOrFaults (λ r. r) result
-        (run_members_faults (live_count_of machine.now) graph.now (path_text path.now) null)
-        (run_members graph.now null) }
-    ensures found { IfOk result (IsRunOf graph.now) }
+        (run_members_faults (live_count_of machine.now) valid.now.graph.now (path_text path.now) null)
+        (run_members valid.now.graph.now null) }
+    ensures found { IfOk result (IsRunOf valid.now.graph.now) }
 {
     let absent = Value::Null;
-    run_members(alloc, &absent, path, machine, graph)
-}
-
-// The run part at a path.
-#[tactic(auto, using(crate::proofs::Firsts::firsts), unfolding(crate::specs::RunPart::optional_object_faults))]
-fn run_in(
-    alloc: Global,
-    v: Option<&Value>,
-    path: &Path<'_>,
-    machine: &Machine,
-    graph: &Graph,
-) -> Result<RunPart, TextErr>
-    requires { IsValidGraph graph.now }
-    ensures read { GivesOrFaults (λ r. r) result
-        (optional_object_faults (path_text path.now) (option_map (λ d. view d.now) v.entry)
-        ▹ run_members_faults (live_count_of machine.now) graph.now (path_text path.now)
-        (object_value (option_map (λ d. view d.now) v.entry)))
-        (run_members graph.now (object_value (option_map (λ d. view d.now) v.entry))) }
-    ensures found { IfOk result (IsRunOf graph.now) }
-{
-    let Some(found) = v else {
-        return absent_run(alloc, path, machine, graph);
-    };
-    let run = object(alloc, Some(found), path)?;
-    run_members(alloc, run, path, machine, graph)
+    run_members(alloc, &absent, path, machine, valid)
 }
 
 /// The run part of the job at a path, for its machine and its graph.
@@ -260,7 +208,7 @@ fn run_in(
 /// # Errors
 ///
 /// `Fault` with the first fault of the job's own shape and of its run part; `Memory`.
-#[tactic(auto, using(crate::proofs::Firsts::firsts), unfolding(crate::specs::Job::job_own_faults, crate::specs::RunPart::run_faults, crate::specs::RunPart::run_value))]
+#[tactic(auto, using(crate::proofs::Firsts::firsts), unfolding(crate::specs::Job::job_own_faults, crate::specs::RunPart::optional_object_faults, crate::specs::RunPart::run_faults, crate::specs::RunPart::run_value))]
 pub fn run_of(
     alloc: Global,
     job: &Value,
@@ -277,5 +225,10 @@ pub fn run_of(
 {
     let found = field(alloc, job, path, "run")?;
     let path = Path::Member(path, "run");
-    run_in(alloc, found, &path, machine, graph)
+    let valid = ValidGraph { graph };
+    let Some(found) = found else {
+        return absent_run(alloc, &path, machine, &valid);
+    };
+    let run = object(alloc, Some(found), &path)?;
+    run_members(alloc, run, &path, machine, &valid)
 }

@@ -1,17 +1,12 @@
 -- Of the machines of a list's loads the first alone is kept.
 use Rattle.std.proofs.Common.{◌≡◌, ℕ, ◌+◌, ◌<◌, refl, sym, ap, ◌∙◌, List, [], ◌∷◌, ◌++◌, length, map, take, get_or, Bool, true, false, ◌||◌}
-use Rattle.std.specs.List.{list_any}
-use Rattle.std.specs.Prelude.{bytes_eq, codes, if◌then◌else◌, is_some, unwrap_or}
-use Rattle.std.proofs.lemmas.List.{map-append}
-use Rattle.std.proofs.lemmas.List.Folds.{list_any-append}
-use Rattle.std.proofs.Math.Bool.{or-false}
+use Rattle.std.specs.{List.list_any, Prelude.bytes_eq, Prelude.codes, Prelude.if◌then◌else◌, Prelude.is_some, Prelude.unwrap_or}
+use Rattle.std.proofs.{lemmas.List.map-append, lemmas.List.Folds.list_any-append, Math.Bool.or-false}
 use Rattle.serde_json.specs.Data.{Data}
 use Rattle.job_readers.specs.RunPart.{items_in, head_word, after_head}
 use Rattle.job_readers.proofs.ItemSteps.{values-more}
-use Rattle.job_requests.specs.declared.steps.Step.{Step}
-use Rattle.job_requests.specs.declared.steps.Step.TheVariants.{Load, Unload, Run}
-use Rattle.job_requests.specs.Steps.{first_machine_alone, is_load, kept_step, load_of, step_value, unload_of, without_machine, worded_step}
-use Rattle.job_requests.specs.Valid.{HasFirstMachine}
+use Rattle.job_requests.specs.{declared.steps.Step.Step, declared.steps.Step.TheVariants.Load, declared.steps.Step.TheVariants.Unload, declared.steps.Step.TheVariants.Run, Steps.first_machine_alone}
+use Rattle.job_requests.specs.{Steps.is_load, Steps.kept_step, Steps.load_of, Steps.step_value, Steps.unload_of, Steps.without_machine, Steps.worded_step, Valid.HasFirstMachine}
 
 -- ---- one step more
 

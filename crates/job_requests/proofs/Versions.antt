@@ -1,23 +1,15 @@
 -- A job of version 1 or 2 has no device.
-use Rattle.std.proofs.Common.{◌≡◌, ℕ, ◌≤◌, ◌<◌, refl, sym, ap, ◌∙◌, subst, arith, inl, inr, List, [], ◌∷◌, ◌++◌, map, Bool, true, false, Option, Some, None, unwrap_or}
-use Rattle.std.specs.List.{All}
-use Rattle.std.specs.Prelude.{option_map, nat_le, codes, if◌then◌else◌}
+use Rattle.std.proofs.Common.{◌≡◌, ℕ, ◌≤◌, refl, ap, subst, arith, List, [], Bool, true, false, Option, Some, None, unwrap_or}
+use Rattle.std.specs.{List.All, Prelude.option_map, Prelude.nat_le, Prelude.codes, Prelude.if◌then◌else◌}
 use Rattle.std.proofs.lemmas.Bool.{and_parts, leb-true, lt-leb}
 use Rattle.serde_json.specs.Data.{Data}
-use Rattle.spin_base.proofs.Members.{Contains-unmap}
-use Rattle.spin_base.proofs.Places.{All-each}
-use Rattle.machine_desc.specs.declared.trees.Edge.{Edge}
+use Rattle.spin_base.proofs.{Members.Contains-unmap, Places.All-each}
 use Rattle.app_graph.specs.declared.graphs.Vertex.{Vertex}
-use Rattle.job_text.specs.declared.faults.JobFault.{JobFault}
-use Rattle.job_text.specs.Members.{member_of, whole_number}
-use Rattle.job_text.specs.Paths.{member_at}
-use Rattle.job_text.specs.Reading.{◌▹◌}
-use Rattle.job_text.specs.Fields.{is_within, number_faults, number_value, object_value, range_unless, typed_faults}
-use Rattle.job_readers.specs.Entries.{link_value}
-use Rattle.job_readers.specs.Job.{job_own_faults, version_faults, version_value}
-use Rattle.job_readers.specs.GraphPart.{device_value, graph_members, graph_value, vertex_value, vertices_value}
-use Rattle.job_readers.specs.Members.{list_member, member_since, number_member, number_member_faults}
-use Rattle.job_readers.specs.WholeJob.{job_faults, job_value}
+use Rattle.job_text.specs.{Members.member_of, Members.whole_number, Paths.member_at, Fields.is_within, Fields.number_faults, Fields.number_value, Fields.object_value, Fields.range_unless}
+use Rattle.job_text.specs.Fields.{typed_faults}
+use Rattle.job_readers.specs.{Entries.link_value, Job.job_own_faults, Job.version_faults, Job.version_value, GraphPart.device_value, GraphPart.graph_members, GraphPart.graph_value}
+use Rattle.job_readers.specs.{GraphPart.vertex_value, GraphPart.vertices_value, Members.list_member, Members.member_since, Members.number_member, Members.number_member_faults, WholeJob.job_faults}
+use Rattle.job_readers.specs.WholeJob.{job_value}
 use Rattle.job_readers.proofs.NoFaults.{none_first, none_inside}
 
 -- a number without a fault is no greater than the greatest

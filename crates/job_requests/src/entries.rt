@@ -26,8 +26,6 @@ impl ItemReader for Trees {
 
     type Item = Seq<Edge>;
 
-    ghost IsReady = { λ _. ⊤ };
-
     ghost faults = { λ grid. tree_faults grid.width grid.height };
 
     ghost value = { λ _. tree_value };

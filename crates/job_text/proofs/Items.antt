@@ -1,10 +1,7 @@
 -- The items of a list that a JSON value is.
 use Rattle.std.proofs.Common.{◌≡◌, ℕ, List, [], ◌∷◌, Bool, Option, Some, refl, ap}
-use Rattle.serde_json.specs.Data.{Data}
-use Rattle.serde_json.specs.Find.{as_array}
-use Rattle.serde_json.specs.View.{items_of}
-use Rattle.job_text.specs.Members.{list_of}
-use Rattle.job_text.specs.Fields.{list_faults, list_value}
+use Rattle.serde_json.specs.{Data.Data, Find.as_array, View.items_of}
+use Rattle.job_text.specs.{Members.list_of, Fields.list_faults, Fields.list_value}
 
 -- the items of a list of values are these values
 pub list_of-items_of : (ds : List Data) → list_of (items_of ds) ≡ ds

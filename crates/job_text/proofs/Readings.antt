@@ -1,6 +1,6 @@
 -- When bytes are JSON, by whether they are UTF-8.
-use Rattle.std.proofs.Common.{◌≡◌, ℕ, List, true, false, None, if◌then◌else◌, refl}
-use Rattle.std.specs.Str.{IsUtf8, is_utf8}
+use Rattle.std.proofs.Common.{arith, ◌≡◌, ℕ, List, None, refl}
+use Rattle.std.specs.Str.{IsUtf8}
 use Rattle.std.proofs.lemmas.Str.{IsUtf8-from_is_utf8, is_utf8-from_IsUtf8}
 use Rattle.serde_json.specs.Read.{read}
 use Rattle.job_text.specs.Json.{json_of}
@@ -13,6 +13,4 @@ json_of-utf8 bytes text = rw (is_utf8-from_IsUtf8 bytes text) refl
 -- what is no text is no JSON
 pub json_of-not_utf8 : (bytes : List ℕ) → (IsUtf8 bytes → ⊥) → json_of bytes ≡ None
 unfolding json_of
-json_of-not_utf8 bytes broken =
-    elim (is_utf8 bytes) as (λ b. is_utf8 bytes ≡ b → (if b then read bytes else None) ≡ None)
-    [ true ↦ λ e. absurd (broken (IsUtf8-from_is_utf8 bytes e)) | false ↦ λ e. refl ] refl
+json_of-not_utf8 bytes broken = grind (arith, IsUtf8-from_is_utf8)

@@ -1,11 +1,9 @@
 -- A net's block has the keys of a range, also where it is fixed.
-use Rattle.std.proofs.Common.{◌≡◌, ℕ, ◌+◌, ◌-◌, ◌*◌, ◌/◌, ◌%◌, ◌^◌, ◌<◌, ◌≤◌, ◌↔◌, List, Option, None, Some, IfSome, MatchOption, sym, ap, ◌∙◌, subst, arith}
+use Rattle.std.proofs.Common.{◌≡◌, ℕ, ◌+◌, ◌-◌, ◌*◌, ◌/◌, ◌%◌, ◌^◌, ◌<◌, ◌≤◌, ◌↔◌, List, Option, None, Some, IfSome, MatchOption, sym, subst, arith}
 use Rattle.std.specs.Prelude.{bit_and}
-use Rattle.std.proofs.lemmas.Nat.{pow_pos, shr_split}
-use Rattle.std.proofs.lemmas.Nat.Bits.{and_high_mask}
+use Rattle.std.proofs.lemmas.Nat.{pow_pos, shr_split, Bits.and_high_mask}
 use Rattle.spin_base.specs.declared.blocks.Block.{Block}
-use Rattle.app_graph.specs.declared.graphs.Net.{Net}
-use Rattle.app_graph.specs.ValidGraph.{IsFixedFor}
+use Rattle.app_graph.specs.{declared.graphs.Net.Net, ValidGraph.IsFixedFor}
 use Rattle.tern_word.specs.Ternary.{Matches, Intersects}
 use Rattle.tern_word.proofs.BlockLaws.{range_keys, exponent_le, key_small}
 use Rattle.key_alloc.specs.KeyBlocks.{size_of, MissesRange, IsLeastBlock, IsBlockFor}
@@ -36,15 +34,10 @@ module _ (keys : ℕ) (b : Block) (fixed : IsFixedFor keys b) where
   size_is = let sum = fixed.2 in omega (arith, sum)
 
   whole_there : b.key / 2 ^ fixed.0 * 2 ^ fixed.0 ≡ b.key
-  whole_there =
-      let mask : 2 ^ 32 - 2 ^ fixed.0 ≡ b.mask = (let sum = fixed.2 in omega (arith, sum)) in
-      sym (and_high_mask 32 fixed.0 fixed.1 b.key (key_small b)) ∙ (ap (bit_and b.key) mask ∙ b.within)
+  whole_there = grind (arith, and_high_mask 32 fixed.0 fixed.1 b.key (key_small b), key_small b)
 
   pub range_of_fixed : IsRange b
-  range_of_fixed =
-      let aligned : b.key % 2 ^ fixed.0 ≡ 0 = omega (arith, shr_split b.key fixed.0, whole_there) in
-      let room = room_above fixed.0 b.key fixed.1 (key_small b) whole_there in
-      range_from_aligned b fixed.0 size_is (subst (λ s. b.key % s ≡ 0) (sym size_is) aligned) (subst (λ s. b.key + s ≤ 2 ^ 32) (sym size_is) room)
+  range_of_fixed = grind (arith, shr_split b.key fixed.0, whole_there, room_above fixed.0 b.key fixed.1 (key_small b) whole_there, key_small b, size_is, range_from_aligned)
 
   pub fixed_enough : keys ≤ size_of b
   fixed_enough = let many = fixed.3 in omega (arith, many, size_is)

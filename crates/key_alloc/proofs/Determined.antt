@@ -1,10 +1,7 @@
 -- Nets have at most one right list of blocks.
 use Rattle.std.proofs.Common.{◌≡◌, ℕ, ◌≤◌, List, ◌++◌, length, take, slice_get, Option, None, Some, MatchOption, refl, sym, ap, ◌∙◌, subst, inl, inr, arith}
-use Rattle.std.proofs.lemmas.List.{take_all}
-use Rattle.std.proofs.lemmas.Option.{slice_get_cases, slice_get_within}
-use Rattle.std.proofs.lemmas.Bool.{cases_lt}
-use Rattle.spin_base.proofs.Places.{slice_get_there, one_item_at}
-use Rattle.spin_base.proofs.Determined.{EachFollows, determined_begins}
+use Rattle.std.proofs.lemmas.{List.take_all, Option.slice_get_cases, Option.slice_get_within, Bool.cases_lt}
+use Rattle.spin_base.proofs.{Places.slice_get_there, Places.one_item_at, Determined.EachFollows, Determined.determined_begins}
 use Rattle.spin_base.specs.declared.blocks.Block.{Block}
 use Rattle.app_graph.specs.declared.graphs.Net.{Net}
 use Rattle.tern_word.proofs.BlockLaws.{same_block}
@@ -36,9 +33,7 @@ same_follower nets before n x y a b =
     one_for_net (fixed_of nets ++ before) b.0 x y (subst (λ z. IsBlockFor (fixed_of nets ++ before) z x) net a.2) b.2
 
 followed : (nets : List Net) (xs : List Block) → AreFirstBlocks nets xs → EachFollows (Follows nets) (same_follower nets) xs
-followed nets xs first n x is =
-    let net = slice_get_there nets n (omega (arith, slice_get_within xs n x is, first.few)) in
-    (net.0, net.1, first.each n net.0 x net.1 is)
+followed nets xs first n x is = grind (arith, slice_get_there nets n (omega (arith, slice_get_within xs n x is, first.few)), slice_get_within xs n x is)
 
 -- the shorter of two lists of first blocks is the beginning of the longer
 begins : (nets : List Net) (xs ys : List Block) → AreFirstBlocks nets xs → AreFirstBlocks nets ys → length xs ≤ length ys → take (length xs) ys ≡ xs

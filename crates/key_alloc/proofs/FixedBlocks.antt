@@ -1,21 +1,13 @@
 -- The fixed blocks of nets: each is a range of enough keys, and no two share a key.
-use Rattle.std.proofs.Common.{◌≡◌, ℕ, ◌+◌, ◌^◌, ◌<◌, ◌≤◌, inl, inr, List, [], ◌∷◌, ◌++◌, length, take, get_or, refl, ap, ◌∙◌, subst, Option, None, Some, IfSome, slice_get, arith, All, AllPairs, Contains}
-use Rattle.std.proofs.lemmas.List.Elements.{All-weaker, All-contains, Contains-append_left, filter_map-append}
-use Rattle.std.specs.List.{cons_option}
-use Rattle.std.specs.List.Sorted.{IsPermutation}
-use Rattle.std.proofs.lemmas.Bool.{cases_lt}
-use Rattle.std.proofs.lemmas.List.Sorted.{All-permutation}
-use Rattle.spin_base.proofs.Pairs.{AllPairs-nil, AllPairs-head, AllPairs-tail, AllPairs-permutation}
-use Rattle.std.proofs.lemmas.List.Kept.{AllPairs-cons}
-use Rattle.std.proofs.lemmas.Option.{slice_get_within, get_or_from_slice_get}
-use Rattle.spin_base.proofs.Members.{Contains-at, Contains-filter_map, Contains-from_filter_map}
-use Rattle.spin_base.proofs.Places.{All-at, All-each, take_more_at}
+use Rattle.std.proofs.Common.{◌≡◌, ℕ, ◌+◌, ◌<◌, ◌≤◌, List, [], ◌∷◌, ◌++◌, take, get_or, refl, ap, ◌∙◌, subst, Option, None, Some, IfSome, slice_get, arith, All, AllPairs, Contains}
+use Rattle.std.proofs.lemmas.{List.Elements.All-weaker, List.Elements.All-contains, List.Elements.Contains-append_left, List.Elements.filter_map-append, Bool.cases_lt, List.Sorted.All-permutation}
+use Rattle.std.proofs.lemmas.{List.Kept.AllPairs-cons, Option.slice_get_within, Option.get_or_from_slice_get}
+use Rattle.std.specs.List.{cons_option, Sorted.IsPermutation}
+use Rattle.spin_base.proofs.{Pairs.AllPairs-nil, Pairs.AllPairs-head, Pairs.AllPairs-tail, Pairs.AllPairs-permutation, Members.Contains-at, Members.Contains-filter_map}
+use Rattle.spin_base.proofs.{Members.Contains-from_filter_map, Places.All-at, Places.All-each, Places.take_more_at}
 use Rattle.spin_base.specs.declared.blocks.Block.{Block}
-use Rattle.app_graph.specs.declared.graphs.Net.{Net}
-use Rattle.app_graph.specs.declared.graphs.Graph.{Graph}
-use Rattle.app_graph.specs.ValidGraph.{IsValidNet, IsValidGraph, IsFixedFor, ShareNoKey, AreFixedApart}
-use Rattle.key_alloc.specs.KeyBlocks.{size_of, fixed_of}
-use Rattle.key_alloc.specs.FreeKeys.{AreDownwards, HaveRanges}
+use Rattle.app_graph.specs.{declared.graphs.Net.Net, declared.graphs.Graph.Graph, ValidGraph.IsValidGraph, ValidGraph.IsFixedFor, ValidGraph.ShareNoKey, ValidGraph.AreFixedApart}
+use Rattle.key_alloc.specs.{KeyBlocks.size_of, KeyBlocks.fixed_of, FreeKeys.AreDownwards, FreeKeys.HaveRanges}
 use Rattle.key_alloc.proofs.BlockRanges.{IsRange, range_of_fixed}
 
 pub record HaveFixed (nets : List Net) : Type 0 where
@@ -61,14 +53,7 @@ apart_back a b apart k small in_b in_a = apart k small in_a in_b
 
 -- of two blocks that share no key, that of the lesser first key ends before the other
 ends_before : (a b : Block) → IsRange a → IsRange b → ShareNoKey a b → b.key ≤ a.key → b.key + size_of b ≤ a.key
-ends_before a b range_a range_b apart below =
-    elim (cases_lt a.key (b.key + size_of b)) [
-      | inl inside ↦ (
-          let small : a.key < 2 ^ 32 = omega (arith, range_a.within, range_a.some) in
-          absurd (apart a.key small ((range_a.keys a.key small).1 (omega arith, omega (arith, range_a.some))) ((range_b.keys a.key small).1 (below, inside)))
-          )
-      | inr before ↦ before
-    ]
+ends_before a b range_a range_b apart below = grind (arith, cases_lt a.key (b.key + size_of b))
 
 pub record AreSorted (nets : List Net) (blocks : List Block) : Type 0 where
   pub downwards : AreDownwards blocks
@@ -96,7 +81,4 @@ fixed_among nets blocks i net is = by_fixed net.fixed refl
     by_fixed (Some b) is_o = Contains-append_left (fixed_of nets) blocks b (Contains-filter_map (λ (n : Net). n.fixed) nets net b (Contains-at nets i net is) is_o)
 
 pub have_fixed : (graph : Graph) → IsValidGraph graph → HaveFixed graph.nets
-have_fixed graph valid = record {
-  serve = All-weaker (IsValidNet (length graph.vertices)) (λ (n : Net). IfSome n.fixed (IsFixedFor n.keys)) (λ n v. v.fixed) graph.nets valid.nets;
-  apart = valid.fixed;
-}
+have_fixed graph valid = grind (arith, All-weaker)

@@ -1,22 +1,15 @@
 -- The frontier moves: behind a run of free keys, or behind a fixed block.
-use Rattle.std.proofs.Common.{◌≡◌, ℕ, ◌+◌, ◌-◌, ◌<◌, ◌≤◌, true, false, not, ◌&&◌, ◌||◌, ◌⊎◌, ltb, List, [], ◌∷◌, ◌++◌, length, get_or, refl, sym, ap, ◌∙◌, subst, inl, inr, Option, None, Some, slice_get, All, arith}
-use Rattle.std.specs.List.{Contains, list_any}
-use Rattle.std.proofs.lemmas.Bool.{cases_lt}
-use Rattle.std.proofs.lemmas.Bool.Decides.{nat_tests}
-use Rattle.std.proofs.lemmas.List.{length_push}
-use Rattle.std.proofs.lemmas.List.Folds.{list_any_at, list_any_none}
-use Rattle.std.proofs.lemmas.List.Elements.{All-contains, All-weaker, Contains-append_left, Contains-push, Contains-push_cases}
-use Rattle.std.specs.List.Sorted.{IsPermutation}
-use Rattle.std.proofs.lemmas.List.Sorted.{All-permutation, IsPermutation-sym}
+use Rattle.std.proofs.Common.{◌≡◌, ℕ, ◌+◌, ◌-◌, ◌<◌, ◌≤◌, true, false, not, ◌&&◌, ◌||◌, ◌⊎◌, ltb, List, [], ◌∷◌, ◌++◌, length, get_or, refl, sym, ap, ◌∙◌, subst, inl, inr, Option, None, Some}
+use Rattle.std.proofs.Common.{slice_get, All, arith}
+use Rattle.std.specs.List.{Contains, list_any, Sorted.IsPermutation}
+use Rattle.std.proofs.lemmas.{Bool.cases_lt, Bool.Decides.nat_tests, List.length_push, List.Folds.list_any_at, List.Folds.list_any_none, List.Elements.All-contains, List.Elements.All-weaker}
+use Rattle.std.proofs.lemmas.List.{Elements.Contains-append_left, Elements.Contains-push, Elements.Contains-push_cases, Sorted.All-permutation, Sorted.IsPermutation-sym}
 use Rattle.std.proofs.lemmas.Option.{get_or_from_slice_get}
-use Rattle.spin_base.proofs.Members.{Contains-at}
-use Rattle.spin_base.proofs.Pairs.{All-left, AllPairs-left, AllPairs-across}
-use Rattle.spin_base.proofs.Places.{slice_get_there, slice_get-pushed, All-each}
+use Rattle.spin_base.proofs.{Members.Contains-at, Pairs.All-left, Pairs.AllPairs-left, Pairs.AllPairs-across, Places.slice_get_there, Places.slice_get-pushed, Places.All-each}
 use Rattle.spin_base.specs.declared.blocks.Block.{Block}
 use Rattle.range_store.specs.Regions.{AreRuns, is_free, in_range}
-use Rattle.key_alloc.specs.declared.free.FreeKeys.{FreeKeys}
-use Rattle.key_alloc.specs.KeyBlocks.{size_of, MissesRange, IsOpenPlace}
-use Rattle.key_alloc.specs.FreeKeys.{has_key, key_or_end, end_of_run, AreDownwards, HaveRanges, AreAhead, AreStarts, AreKeysFreeBeside}
+use Rattle.key_alloc.specs.{declared.free.FreeKeys.FreeKeys, KeyBlocks.size_of, KeyBlocks.MissesRange, KeyBlocks.IsOpenPlace, FreeKeys.has_key, FreeKeys.key_or_end, FreeKeys.end_of_run}
+use Rattle.key_alloc.specs.FreeKeys.{AreDownwards, HaveRanges, AreAhead, AreStarts, AreKeysFreeBeside}
 
 -- where the run of free keys before the blocks ahead ends
 pub record IsRunEnd (ahead : List Block) (end : ℕ) : Type 0 where
@@ -52,8 +45,7 @@ run_end ahead downwards = by_last (slice_get ahead (length ahead - 1)) refl
     }
 
 pub last_is_run_end : (ahead rest : List Block) (b : Block) → ahead ≡ rest ++ b ∷ [] → end_of_run ahead ≡ b.key
-last_is_run_end ahead rest b is =
-    ap end_of_run is ∙ ap key_or_end (slice_get-pushed rest b (length (rest ++ b ∷ []) - 1) (omega (arith, length_push rest b)))
+last_is_run_end ahead rest b is = grind (arith, slice_get-pushed rest b (length (rest ++ b ∷ []) - 1) (omega (arith, length_push rest b)), length_push rest b)
 
 module _ (taken : List Block) (free : FreeKeys) (state : AreKeysFreeBeside taken free) where
   -- the run of free keys from the frontier on
@@ -65,13 +57,7 @@ module _ (taken : List Block) (free : FreeKeys) (state : AreKeysFreeBeside taken
     ])
 
     is_free_now : (k : ℕ) → (is_free free.below.holes k || in_range free.frontier (end - free.frontier) k) ≡ (ltb k end && not (list_any (has_key k) taken))
-    is_free_now k = ap (λ z. z || in_range free.frontier (end - free.frontier) k) (state.free k) ∙ elim (cases_lt k free.frontier) [
-      | inl below ↦ grind (arith, nat_tests)
-      | inr from ↦ elim (cases_lt k end) [
-        | inl inside ↦ (let none = not_taken k from inside in grind (arith, nat_tests))
-        | inr past ↦ grind (arith, nat_tests)
-      ]
-    ]
+    is_free_now k = grind (arith, cases_lt k free.frontier, nat_tests, cases_lt k end, not_taken)
 
     limit : end ≤ 4294967296
     limit = elim run.is [

@@ -1,35 +1,20 @@
 -- One block more; and what right blocks are for: they are apart, and have enough keys.
-use Rattle.std.proofs.Common.{◌≡◌, ℕ, ◌+◌, ◌^◌, ◌<◌, ◌≤◌, List, [], ◌∷◌, ◌++◌, length, take, get_or, refl, sym, ap, ◌∙◌, subst, suc, Option, None, Some, MatchOption, slice_get, inl, inr, arith, AllPairs, Contains}
+use Rattle.std.proofs.Common.{◌≡◌, ℕ, ◌+◌, ◌^◌, ◌<◌, ◌≤◌, List, [], ◌∷◌, ◌++◌, length, take, get_or, refl, sym, ap, ◌∙◌, subst, suc, Option, None, Some, MatchOption, slice_get, arith, AllPairs}
+use Rattle.std.proofs.Common.{Contains}
 use Rattle.std.specs.List.{AllZip}
-use Rattle.std.proofs.lemmas.List.{length_push, length-take, take-append-le, take_at, get_or-take}
-use Rattle.std.proofs.lemmas.List.Elements.{All-contains, Contains-append_left, Contains-append_right}
+use Rattle.std.proofs.lemmas.List.{length_push, length-take, take-append-le, take_at, get_or-take, Elements.All-contains, Elements.Contains-append_left, Elements.Contains-append_right}
 use Rattle.std.proofs.lemmas.Option.{slice_get-get_or, slice_get_within, get_or_from_slice_get}
-use Rattle.spin_base.proofs.Members.{Contains-at, Contains-filter_map}
-use Rattle.spin_base.proofs.Places.{slice_get-push_cases, slice_get_there}
+use Rattle.spin_base.proofs.{Members.Contains-at, Members.Contains-filter_map, Places.slice_get-push_cases, Places.slice_get_there}
 use Rattle.spin_base.specs.declared.blocks.Block.{Block}
 use Rattle.app_graph.specs.declared.graphs.Net.{Net}
-use Rattle.app_graph.specs.ValidGraph.{ShareNoKey}
 use Rattle.tern_word.specs.Ternary.{Intersects}
 use Rattle.tern_word.proofs.BlockLaws.{Intersects-sym}
 use Rattle.key_alloc.specs.KeyBlocks.{size_of, fixed_of, MissesRange, IsLeastBlock, IsBlockFor, AreFirstBlocks, AreRightBlocks, HasKeys}
-use Rattle.key_alloc.proofs.BlockRanges.{IsRange, range_of_block, apart_missed}
-use Rattle.key_alloc.proofs.FixedBlocks.{HaveFixed, serves_at, apart_at}
+use Rattle.key_alloc.proofs.{BlockRanges.IsRange, BlockRanges.range_of_block, BlockRanges.apart_missed, FixedBlocks.HaveFixed, FixedBlocks.serves_at, FixedBlocks.apart_at}
 
 pub one_more : (nets : List Net) (blocks : List Block) (i : ℕ) (net : Net) (b : Block) → AreFirstBlocks nets blocks → length blocks ≡ i → slice_get nets i ≡ Some net
     → IsBlockFor (fixed_of nets ++ blocks) net b → AreFirstBlocks nets (blocks ++ b ∷ [])
-one_more nets blocks i net b first here is right = record {
-  few = omega (arith, length_push blocks b, slice_get_within nets i net is);
-  each = λ j n c is_net is_block.
-      elim (slice_get-push_cases blocks b c j is_block) [
-        | inl before ↦ subst (λ e. IsBlockFor (fixed_of nets ++ e) n c) (sym (take-append-le j blocks (b ∷ []) (omega (arith, before.0)))) (first.each j n c is_net before.1)
-        | inr last ↦ (
-            let same_net : Some net ≡ Some n = sym is ∙ (ap (slice_get nets) (sym (last.0 ∙ here)) ∙ is_net) in
-            let one_net : net ≡ n = cc in
-            subst (λ e. IsBlockFor (fixed_of nets ++ e) n c) (sym (take_at blocks (b ∷ []) j (sym last.0)))
-            (subst (λ z. IsBlockFor (fixed_of nets ++ blocks) n z) last.1 (subst (λ z. IsBlockFor (fixed_of nets ++ blocks) z b) one_net right))
-            )
-      ];
-}
+one_more nets blocks i net b first here is right = grind (arith, length_push blocks b, slice_get_within nets i net is, slice_get nets, slice_get-push_cases, take-append-le, take_at)
 
 zip_from_places : (nets : List Net) (blocks : List Block) → length nets ≡ length blocks
     → ((i : ℕ) (net : Net) (b : Block) → slice_get nets i ≡ Some net → slice_get blocks i ≡ Some b → HasKeys net b) → AllZip HasKeys nets blocks
@@ -79,9 +64,7 @@ module _ (nets : List Net) (blocks : List Block) (fixed : HaveFixed nets) (right
     by_fixed None (Some g) is_o is_p least its = λ meet.
         let taken = subst (Contains (fixed_of nets ++ take i blocks)) (sym its) (fixed_taken g is_p) in
         apart_missed b a second.range first.range (All-contains (MissesRange a.key (size_of a)) (fixed_of nets ++ take i blocks) b least.may.apart taken) (Intersects-sym a b meet)
-    by_fixed (Some f) (Some g) is_o is_p mine its = λ meet.
-        let apart = subst (λ x. ShareNoKey x b) (sym mine) (subst (ShareNoKey f) (sym its) (apart_at nets fixed i j first.net second.net f g ord first.is second.is is_o is_p)) in
-        apart meet.key meet.small meet.first meet.second
+    by_fixed (Some f) (Some g) is_o is_p mine its = grind (arith, apart_at nets fixed i j first.net second.net f g ord first.is second.is is_o is_p)
 
     pub two_apart : Intersects a b → ⊥
     two_apart = by_fixed first.net.fixed second.net.fixed refl refl first.block second.block

@@ -1,8 +1,6 @@
 -- Laws for who gives out ranges: which numbers a range has, the room for one more, and what is free once more is taken.
-use Rattle.std.proofs.Common.{◌≡◌, ℕ, suc, ◌+◌, ◌-◌, ◌*◌, ◌/◌, ◌^◌, ◌<◌, ◌≤◌, Bool, true, false, not, ◌&&◌, ◌||◌, refl, ap, ◌∙◌, subst, arith}
-use Rattle.std.proofs.Math.Nat.{mul-le-mul_right, suc-mul}
-use Rattle.std.proofs.lemmas.Bool.Decides.{nat_tests}
-use Rattle.std.proofs.lemmas.Nat.{pow-add, pow_pos, div_below}
+use Rattle.std.proofs.Common.{◌≡◌, ℕ, ◌+◌, ◌-◌, ◌*◌, ◌/◌, ◌^◌, ◌<◌, ◌≤◌, Bool, true, false, not, ◌&&◌, ◌||◌, refl, arith}
+use Rattle.std.proofs.{Math.Nat.mul-le-mul_right, Math.Nat.suc-mul, lemmas.Bool.Decides.nat_tests, lemmas.Nat.pow-add, lemmas.Nat.pow_pos, lemmas.Nat.div_below}
 use Rattle.range_store.specs.Regions.{in_range}
 use Rattle.range_store.proofs.HolePlaces.{clash}
 
@@ -16,11 +14,7 @@ in_from p s k a b = grind (arith, nat_tests)
 
 -- a multiple of a power of two below a greater one leaves room for as many
 pub room_above : (z n : ℕ) → z ≤ 32 → n < 2 ^ 32 → n / 2 ^ z * 2 ^ z ≡ n → n + 2 ^ z ≤ 2 ^ 32
-room_above z n le small whole =
-    let split : 2 ^ 32 ≡ 2 ^ (32 - z) * 2 ^ z = ap (λ (k : ℕ). 2 ^ k) (let both : 32 ≡ (32 - z) + z = omega arith in both) ∙ pow-add 2 (32 - z) z in
-    let below = div_below n (2 ^ z) (2 ^ (32 - z)) (pow_pos z) (subst (λ k. n < k) split small) in
-    let up : suc (n / 2 ^ z) * 2 ^ z ≤ 2 ^ (32 - z) * 2 ^ z = mul-le-mul_right (2 ^ z) (omega (arith, below)) in
-    omega (arith, up, suc-mul (n / 2 ^ z) (2 ^ z), whole, split)
+room_above z n le small whole = grind (arith, pow-add 2 (32 - z) z, pow_pos z, suc-mul (n / 2 ^ z) (2 ^ z), div_below, mul-le-mul_right)
 
 -- ---- what is free
 

@@ -1,9 +1,7 @@
 -- The size for a number of keys.
-use Rattle.std.proofs.Common.{◌≡◌, ℕ, ◌+◌, ◌*◌, ◌/◌, ◌^◌, ◌<◌, ◌≤◌, max, refl, subst, inl, inr, arith}
+use Rattle.std.proofs.Common.{◌≡◌, ℕ, ◌+◌, ◌*◌, ◌/◌, ◌^◌, ◌<◌, ◌≤◌, max, refl, inl, inr, arith}
 use Rattle.std.specs.Int.{IsPowerOfTwo}
-use Rattle.std.proofs.lemmas.Bool.{cases_lt}
-use Rattle.std.proofs.lemmas.Grind.{pow_more}
-use Rattle.std.proofs.Math.Pow.{pow_mono}
+use Rattle.std.proofs.{lemmas.Bool.cases_lt, lemmas.Grind.pow_more, Math.Pow.pow_mono}
 use Rattle.key_alloc.specs.KeyBlocks.{IsSizeFor}
 
 -- a power of two below another is at most half of it
@@ -16,17 +14,7 @@ half i j lt =
 
 -- a power of two that is not below the number, and whose half is
 pub size_from_half : (keys s : ℕ) → 1 ≤ keys → IsPowerOfTwo s → keys ≤ s → s / 2 < max 1 keys → IsSizeFor keys s
-size_from_half keys s some power enough half_below = record {
-  power = power;
-  enough = enough;
-  least = λ p power_p above. elim (cases_lt p s) [
-    | inl less ↦ (
-        let twice : 2 ^ power_p.0 * 2 ≤ 2 ^ power.0 = half power_p.0 power.0 (subst (λ z. z < 2 ^ power.0) power_p.1 (subst (λ z. p < z) power.1 less)) in
-        absurd (omega (arith, twice, power_p.1, power.1, above, half_below))
-        )
-    | inr more ↦ more
-  ];
-}
+size_from_half keys s some power enough half_below = grind (arith, cases_lt, half)
 
 pub size_within : (keys s : ℕ) → keys ≤ 4294967296 → IsSizeFor keys s → s ≤ 4294967296
 size_within keys s few is = is.least 4294967296 (32, refl) few

@@ -1,22 +1,18 @@
 -- Which places of the region of keys are free, while blocks are taken from it.
-use Rattle.std.proofs.Common.{◌≡◌, ℕ, ◌+◌, ◌-◌, ◌%◌, ◌<◌, ◌≤◌, true, false, not, ◌&&◌, ◌||◌, ◌⊎◌, ltb, List, [], ◌∷◌, ◌++◌, get_or, sym, ap, ◌∙◌, subst, inl, inr, Option, None, Some, MatchOption, IfSome, Result, Ok, Err, IfOk, arith}
+use Rattle.std.proofs.Common.{◌≡◌, ℕ, ◌+◌, ◌-◌, ◌%◌, ◌<◌, ◌≤◌, true, false, not, ◌&&◌, ◌||◌, ◌⊎◌, ltb, List, [], ◌∷◌, ◌++◌, get_or, sym, ap, ◌∙◌, subst, inl, inr, Option, None, Some, MatchOption}
+use Rattle.std.proofs.Common.{IfSome, Result, Ok, Err, IfOk, arith}
 use Rattle.std.specs.List.{Contains, list_any}
-use Rattle.std.proofs.lemmas.Bool.{and_parts, cases_Bool, cases_lt, lt-ltb, ltb-true, not-true, or_left}
-use Rattle.std.proofs.lemmas.Bool.Decides.{nat_tests}
-use Rattle.std.proofs.lemmas.List.Folds.{list_any-append, list_any_at, list_any_none}
-use Rattle.spin_base.specs.declared.blocks.Block.{Block}
-use Rattle.spin_base.specs.declared.wants.Memory.{Memory}
+use Rattle.std.proofs.lemmas.{Bool.and_parts, Bool.cases_Bool, Bool.cases_lt, Bool.lt-ltb, Bool.ltb-true, Bool.not-true, Bool.or_left, Bool.Decides.nat_tests, List.Folds.list_any-append}
+use Rattle.std.proofs.lemmas.List.{Folds.list_any_at, Folds.list_any_none, Elements.All-append, Elements.All-cons, Elements.All-nil, Elements.All-weaker, Elements.All-contains}
+use Rattle.std.proofs.lemmas.List.Elements.{Contains-append_left}
+use Rattle.spin_base.specs.declared.{blocks.Block.Block, wants.Memory.Memory}
 use Rattle.app_graph.specs.declared.graphs.Net.{Net}
 use Rattle.range_store.specs.Regions.{AreRuns, IsFirstFitFrom, HasNoFitFrom, is_hole_range, is_free, in_range}
-use Rattle.spin_base.proofs.Tests.{or_neither}
+use Rattle.spin_base.proofs.{Tests.or_neither, Pairs.All-left}
 use Rattle.range_store.proofs.HolePlaces.{clash, free_in_range, range_of_free}
 use Rattle.key_alloc.proofs.Ranges.{in_facts, free_of, regroup}
-use Rattle.key_alloc.specs.KeyBlocks.{size_of, MissesRange, IsSizeFor, IsOpenPlace, IsLeastBlock, IsBlockFor}
-use Rattle.spin_base.proofs.Pairs.{All-left}
-use Rattle.std.proofs.lemmas.List.Elements.{All-append, All-cons, All-nil, All-weaker, All-contains, Contains-append_left}
-use Rattle.key_alloc.specs.declared.free.FreeKeys.{FreeKeys}
-use Rattle.key_alloc.specs.declared.free.Start.{Start}
-use Rattle.key_alloc.specs.FreeKeys.{has_key, AreAhead, AreStarts, AreKeysFreeBeside, IsLeastOpenPlace}
+use Rattle.key_alloc.specs.{KeyBlocks.size_of, KeyBlocks.MissesRange, KeyBlocks.IsSizeFor, KeyBlocks.IsOpenPlace, KeyBlocks.IsLeastBlock, KeyBlocks.IsBlockFor, declared.free.FreeKeys.FreeKeys}
+use Rattle.key_alloc.specs.{declared.free.Start.Start, FreeKeys.has_key, FreeKeys.AreAhead, FreeKeys.AreStarts, FreeKeys.AreKeysFreeBeside, FreeKeys.IsLeastOpenPlace}
 
 -- ---- the keys that are free while blocks are taken
 
@@ -29,42 +25,19 @@ module _ (taken : List Block) (free : FreeKeys) (state : AreKeysFreeBeside taken
       omega (arith, last)
 
   pub open_from_hole : (p : ℕ) → p % s ≡ 0 → is_hole_range free.below.holes p s ≡ true → IsOpenPlace taken s p
-  open_from_hole p aligned fits =
-      let at : (k : ℕ) → p ≤ k → k < p + s → (ltb k free.frontier ≡ true) × (not (list_any (has_key k) taken) ≡ true) =
-      λ k low high. and_parts (ltb k free.frontier) (not (list_any (has_key k) taken)) (sym (state.free k) ∙ free_in_range free.below.holes p s k fits low high) in
-      record {
-        aligned = aligned;
-        within = omega (arith, below_frontier p fits, state.limit);
-        apart = λ j d inside k mine its.
-            let f = in_facts p s k its in
-            clash (list_any_at (has_key k) taken j d inside mine) (not-true (list_any (has_key k) taken) (at k f.0 f.1).1);
-      }
+  open_from_hole p aligned fits = grind (arith, below_frontier p fits, and_parts, free_in_range, in_facts, clash, list_any_at, not-true)
 
   pub hole_from_open : (p : ℕ) → IsOpenPlace taken s p → p < free.frontier → is_hole_range free.below.holes p s ≡ true
-  hole_from_open p o low = range_of_free 0 4294967296 free.below.holes p s state.runs some (λ k from_p to_end.
-      state.free k ∙ free_of (ltb k free.frontier) (list_any (has_key k) taken) (lt-ltb k free.frontier (omega (arith, state.whole s p o low)))
-      (list_any_none (has_key k) taken (λ j d inside. elim (cases_Bool (has_key k (get_or taken j d))) [
-        | inl mine ↦ absurd (o.apart j d inside k mine (grind (arith, nat_tests)))
-        | inr none ↦ none
-      ])))
+  hole_from_open p o low = grind (arith, nat_tests, range_of_free, free_of, lt-ltb, list_any_none, cases_Bool, get_or)
 
   -- the first fit below the frontier is the least place of all
   module _ (start : ℕ) (before : (p : ℕ) → IsOpenPlace taken s p → start ≤ p) where
     pub least_from_fit : (p : ℕ) → IsFirstFitFrom free.below.holes start s s p → IsLeastOpenPlace taken s p
-    least_from_fit p fit = record {
-      may = open_from_hole p fit.aligned fit.fits;
-      least = λ q o. elim (cases_lt q free.frontier) [
-        | inl low ↦ fit.least q (before q o) o.aligned (hole_from_open q o low)
-        | inr beyond ↦ omega (arith, below_frontier p fit.fits)
-      ];
-    }
+    least_from_fit p fit = grind (arith, open_from_hole p fit.aligned fit.fits, below_frontier p fit.fits, cases_lt, hole_from_open)
 
     -- where there is none, all that are left are beyond the frontier
     pub beyond_from_fit : HasNoFitFrom free.below.holes start s s → (p : ℕ) → IsOpenPlace taken s p → free.frontier ≤ p
-    beyond_from_fit none p o = elim (cases_lt p free.frontier) [
-      | inl low ↦ clash (hole_from_open p o low) (none p (before p o) o.aligned)
-      | inr beyond ↦ beyond
-    ]
+    beyond_from_fit none p o = grind (arith, cases_lt p free.frontier, clash, hole_from_open)
 
     pub none_from_fit : HasNoFitFrom free.below.holes start s s → free.frontier ≡ 4294967296 → (p : ℕ) → IsOpenPlace taken s p → ⊥
     none_from_fit none all p o = absurd (omega (arith, beyond_from_fit none p o, o.within, some, all))
@@ -133,9 +106,7 @@ taken_again taken b free state has = record {
 
 -- the block of the least place is the least block
 pub block_from_least : (taken : List Block) (keys size place : ℕ) (b : Block) → IsSizeFor keys size → b.key ≡ place → size_of b ≡ size → IsLeastOpenPlace taken size place → IsLeastBlock taken keys b
-block_from_least taken keys size place b for_keys key is least =
-    let at : IsLeastOpenPlace taken (size_of b) b.key = subst (λ s. IsLeastOpenPlace taken s b.key) (sym is) (subst (IsLeastOpenPlace taken size) (sym key) least) in
-    record { size = subst (IsSizeFor keys) (sym is) for_keys; may = at.may; least = at.least }
+block_from_least taken keys size place b for_keys key is least = grind arith
 
 -- the block that is taken where none is fixed
 pub free_in : (net : Net) (free after : FreeKeys) (r : Result (Option Block) Memory) → IfOk r (λ o. IfSome o (λ b. (taken : List Block) → AreKeysFreeBeside taken free → AreKeysFreeBeside (taken ++ b ∷ []) after))

@@ -46,10 +46,10 @@ pub fn keys(alloc: Global, graph: &Graph) -> Result<Seq<Block>, KeyErr>
     ensures apart { IfOk result (AllPairs (λ a b. ¬ Intersects a b)) }
     ensures enough { IfOk result (AllZip HasKeys graph.now.nets) }
 {
-    let mut free = keys_not_fixed(alloc, graph.nets.as_slice())?;
+    let mut free = keys_not_fixed(alloc, graph)?;
     let mut blocks = Seq::new(alloc);
     for (i, net) in graph.nets.as_slice().iter().enumerate() {
-        let Some(block) = block_for(&mut free, net)? else {
+        let Some(block) = block_for(&mut free, KeyedNet { net })? else {
             return Err(KeyErr::KeysOut { net: i as u32 });
         };
         blocks.push(block)?;
@@ -57,42 +57,49 @@ pub fn keys(alloc: Global, graph: &Graph) -> Result<Seq<Block>, KeyErr>
     Ok(blocks)
 }
 
+// A net that needs keys, no more than there are.
+#[derive(Clone, Copy)]
+struct KeyedNet<'a> {
+    net: &'a Net,
+    ghost some: { 1 ≤ net.now.keys },
+    ghost few: { net.now.keys ≤ 4294967296 },
+}
+
 // The block that is fixed for a net, which is taken already, or else the least block for its keys, which it takes.
-fn block_for(free: &mut FreeKeys, net: &Net) -> Result<Option<Block>, Memory>
-    requires some { 1 ≤ net.now.keys }
-    requires few { net.now.keys ≤ 4294967296 }
-    requires state { AreFreeBesideSome free.old }
+fn block_for(free: &mut FreeKeys, keyed: KeyedNet) -> Result<Option<Block>, Memory>
+    requires { AreFreeBesideSome free.old }
     ensures right { IfOk result (λ o. IfSome o (λ b. (taken : List Block)
-        → AreKeysFreeBeside taken free.old → IsBlockFor taken net.now b)) }
+        → AreKeysFreeBeside taken free.old → IsBlockFor taken keyed.entry.net.now b)) }
     ensures free { IfOk result (λ o. IfSome o (λ b. (taken : List Block)
-        → AreKeysFreeBeside taken free.old → IfSome net.now.fixed (Contains taken)
+        → AreKeysFreeBeside taken free.old → IfSome keyed.entry.net.now.fixed (Contains taken)
         → AreKeysFreeBeside
         (taken ++ b ∷ []) free.new)) }
-    ensures not_fixed { IfOk result (λ o. IfNone o (net.now.fixed ≡ None)) }
+    ensures not_fixed { IfOk result (λ o. IfNone o (keyed.entry.net.now.fixed ≡ None)) }
     ensures none { IfOk result (λ o. IfNone o ((taken : List Block)
-        → AreKeysFreeBeside taken free.old
-        → (size place : ℕ) → IsSizeFor net.now.keys size → IsOpenPlace taken size place → ⊥)) }
+        → AreKeysFreeBeside taken free.old → (size place : ℕ)
+        → IsSizeFor keyed.entry.net.now.keys size → IsOpenPlace taken size place → ⊥)) }
 {
-    match net.fixed {
+    match keyed.net.fixed {
         Some(block) => Ok(Some(block)),
-        None => least_block(free, net.keys),
+        None => {
+            let keys = keyed.net.keys;
+            least_block(free, Size { keys })
+        }
     }
 }
 
 // Takes the least block for so many keys.
-fn least_block(free: &mut FreeKeys, keys: u64) -> Result<Option<Block>, Memory>
-    requires some { 1 ≤ keys }
-    requires few { keys ≤ 4294967296 }
-    requires state { AreFreeBesideSome free.old }
+fn least_block(free: &mut FreeKeys, needed: Size) -> Result<Option<Block>, Memory>
+    requires { AreFreeBesideSome free.old }
     ensures least { IfOk result (λ o. IfSome o (λ b. (taken : List Block)
-        → AreKeysFreeBeside taken free.old → IsLeastBlock taken keys b)) }
+        → AreKeysFreeBeside taken free.old → IsLeastBlock taken needed.keys b)) }
     ensures free { IfOk result (λ o. IfSome o (λ b. (taken : List Block)
         → AreKeysFreeBeside taken free.old → AreKeysFreeBeside (taken ++ b ∷ []) free.new)) }
     ensures none { IfOk result (λ o. IfNone o ((taken : List Block)
         → AreKeysFreeBeside taken free.old
-        → (size place : ℕ) → IsSizeFor keys size → IsOpenPlace taken size place → ⊥)) }
+        → (size place : ℕ) → IsSizeFor needed.keys size → IsOpenPlace taken size place → ⊥)) }
 {
-    let size = keys.next_power_of_two();
+    let size = needed.keys.next_power_of_two();
     let wanted = Size { keys: size };
     let Some(place) = free.take(wanted)? else {
         return Ok(None);

@@ -1,25 +1,24 @@
 // The keys that no net has by a fixed block.
-ghost use Rattle.std.specs.Prelude.{◌≡◌, ◌≤◌, ◌++◌, ◌∷◌, [], All, AllPairs, IfOk, IfSome, OnOk};
+ghost use Rattle.std.specs.Prelude.{◌≡◌, ◌≤◌, ◌++◌, ◌∷◌, [], AllPairs, IfOk, OnOk};
 ghost use Rattle.std.specs.List.Sorted.{IsPermutation};
 ghost use Rattle.spin_base.specs.declared.blocks.Block.{Block};
-ghost use Rattle.app_graph.specs.declared.graphs.Net.{Net};
-ghost use Rattle.app_graph.specs.ValidGraph.{IsFixedFor, AreFixedApart};
+ghost use Rattle.app_graph.specs.ValidGraph.{IsValidGraph};
 ghost use Rattle.key_alloc.specs.KeyBlocks.{fixed_of};
 ghost use Rattle.key_alloc.specs.FreeKeys.{AreKeysFreeBeside};
 
-use crate::free::FreeKeys;
-use app_graph::Net;
+use crate::free::{FreeKeys, SortedBlocks};
+use app_graph::{Graph, Net};
 use spin_base::{Block, Memory};
 use std::alloc::Global;
 
 // All keys but those of the nets' fixed blocks.
-pub(crate) fn keys_not_fixed(alloc: Global, nets: &[Net]) -> Result<FreeKeys, Memory>
-    requires fixed { All (λ (n : Net). IfSome n.fixed (IsFixedFor n.keys)) nets.now }
-    requires apart { AllPairs AreFixedApart nets.now }
-    ensures free { IfOk result (AreKeysFreeBeside (fixed_of nets.now)) }
+pub(crate) fn keys_not_fixed(alloc: Global, graph: &Graph) -> Result<FreeKeys, Memory>
+    requires { IsValidGraph graph.now }
+    ensures free { IfOk result (AreKeysFreeBeside (fixed_of graph.now.nets)) }
 {
-    let mut fixed = fixed_blocks(alloc, nets)?;
-    sort_downwards(&mut fixed)?;
+    let mut blocks = fixed_blocks(alloc, graph.nets.as_slice())?;
+    sort_downwards(&mut blocks)?;
+    let fixed = SortedBlocks { blocks };
     FreeKeys::beside(alloc, fixed)
 }
 

@@ -41,13 +41,19 @@ pub struct Size {
     ghost few: { keys ≤ 4294967296 },
 }
 
+/// Blocks from the greatest down, each of which has its range of keys.
+#[derive(Drop)]
+pub struct SortedBlocks {
+    pub blocks: Vec<Block>,
+    ghost downwards: { AreDownwards blocks.items },
+    ghost ranges: { HaveRanges blocks.items },
+}
+
 impl FreeKeys {
-    /// All keys but those of fixed blocks, which come from the greatest down.
-    pub fn beside(alloc: Global, fixed: Vec<Block>) -> Result<FreeKeys, Memory>
-        requires downwards { AreDownwards fixed.items }
-        requires ranges { HaveRanges fixed.items }
-        ensures free { IfOk result (λ free. (taken : List Block) → IsPermutation taken fixed.items
-            → AreKeysFreeBeside taken free) }
+    /// All keys but those of fixed blocks.
+    pub fn beside(alloc: Global, fixed: SortedBlocks) -> Result<FreeKeys, Memory>
+        ensures free { IfOk result (λ free. (taken : List Block)
+            → IsPermutation taken fixed.blocks.items → AreKeysFreeBeside taken free) }
     {
         // A region of which nothing is free yet.
         let mut below = Ranges::new(alloc, ALL_KEYS)?;
@@ -55,14 +61,14 @@ impl FreeKeys {
         Ok(FreeKeys {
             below,
             frontier: 0,
-            ahead: fixed,
+            ahead: fixed.blocks,
             starts: [Start { keys: 0, place: 0 }; SIZES],
         })
     }
 
     /// Takes the least free range of so many keys that begins at a multiple of their number.
     pub fn take(&mut self, size: Size) -> Result<Option<u64>, Memory>
-        requires state { AreFreeBesideSome self.old }
+        requires { AreFreeBesideSome self.old }
         ensures small { IfOk result (λ o. IfSome o (λ place. place < 2 ^ 32)) }
         ensures least { IfOk result (λ o. IfSome o (λ place. (taken : List Block)
             → AreKeysFreeBeside taken self.old → IsLeastOpenPlace taken size.keys place)) }
@@ -115,11 +121,11 @@ impl FreeKeys {
 
     // Moves the frontier behind the next run of free keys that has such a range, or behind all keys.
     fn go_on(&mut self, size: Size) -> Result<(), Memory>
-        requires state { AreFreeBesideSome self.old }
-        requires more { self.old.frontier < 4294967296 }
+        requires { AreFreeBesideSome self.old }
         ensures free { OnOk result ((taken : List Block) → AreKeysFreeBeside taken self.old
             → AreKeysFreeBeside taken self.new) }
-        ensures further { OnOk result (self.old.frontier < self.new.frontier) }
+        ensures further { OnOk result (self.old.frontier < 4294967296
+            → self.old.frontier < self.new.frontier) }
     {
         while self.frontier < ALL_KEYS {
             let begin = self.frontier;
@@ -133,11 +139,11 @@ impl FreeKeys {
 
     // Moves the frontier behind the run of free keys or the fixed block that begins at it. True for free keys.
     fn advance(&mut self) -> Result<bool, Memory>
-        requires state { AreFreeBesideSome self.old }
-        requires more { self.old.frontier < 4294967296 }
+        requires { AreFreeBesideSome self.old }
         ensures free { OnOk result ((taken : List Block) → AreKeysFreeBeside taken self.old
             → AreKeysFreeBeside taken self.new) }
-        ensures further { OnOk result (self.old.frontier < self.new.frontier) }
+        ensures further { OnOk result (self.old.frontier < 4294967296
+            → self.old.frontier < self.new.frontier) }
     {
         let end = self.end_of_run();
         if self.frontier < end {

@@ -1,26 +1,16 @@
 -- The kept edges are a whole tree, and a whole tree stays one as targets are joined.
 use Rattle.std.proofs.Common.{◌≡◌, ◌≢◌, ℕ, zero, suc, ◌+◌, ◌<◌, Bool, true, List, [], ◌∷◌, ◌++◌, length, get_or, take, Some, sym, ap, ◌∙◌, subst, arith, inl, inr, ◌↔◌}
 use Rattle.std.specs.List.{Contains, All, AllPairs, filter, slice_get}
-use Rattle.std.proofs.lemmas.Bool.{cases_order}
-use Rattle.std.proofs.lemmas.List.{get_or_default, take_more, get_or-take, length-take}
-use Rattle.std.proofs.lemmas.List.Elements.{All-contains, All-push, All-weaker, Contains-get_or}
-use Rattle.std.proofs.lemmas.Option.{get_or_from_slice_get, slice_get_within}
+use Rattle.std.proofs.lemmas.{Bool.cases_order, List.get_or_default, List.take_more, List.get_or-take, List.length-take, List.Elements.All-contains, List.Elements.All-push, List.Elements.All-weaker}
+use Rattle.std.proofs.lemmas.{List.Elements.Contains-get_or, Option.get_or_from_slice_get, Option.slice_get_within}
 use Rattle.spin_base.specs.declared.chips.Chip.{Chip}
-use Rattle.machine_desc.specs.declared.trees.Edge.{Edge}
-use Rattle.machine_desc.specs.Description.{Description}
-use Rattle.machine_desc.specs.Live.{IsInside, IsLiveLink, is_live_link}
-use Rattle.machine_desc.specs.RoutingTree.{end_of, IsTreeChip}
-use Rattle.link_detours.specs.Steps.{Steps}
-use Rattle.link_detours.specs.Usable.{is_marked}
-use Rattle.link_detours.specs.Repair.{EdgeStep, LiveEdgeStep, IsKeptEdge, IsDetour, Joins, IsCutOff, IsFirstTargetCutOff}
+use Rattle.machine_desc.specs.{declared.trees.Edge.Edge, Description.Description, Live.IsInside, Live.IsLiveLink, Live.is_live_link, RoutingTree.end_of, RoutingTree.IsTreeChip}
+use Rattle.link_detours.specs.{Steps.Steps, Usable.is_marked, Repair.EdgeStep, Repair.LiveEdgeStep, Repair.IsKeptEdge, Repair.IsDetour, Repair.Joins, Repair.IsCutOff, Repair.IsFirstTargetCutOff}
 use Rattle.link_detours.specs.Whole.{IsWholeTree}
-use Rattle.link_detours.proofs.Reaching.{link_inside}
-use Rattle.link_detours.proofs.Stepping.{Steps-map}
+use Rattle.link_detours.proofs.{Reaching.link_inside, Stepping.Steps-map, Putting.TellsTree, Walks.steps_walk, Wholes.steps_on_tree, Wholes.live_steps, Wholes.whole_joined, Wholes.detour_reached}
+use Rattle.link_detours.proofs.Wholes.{Joins-more}
 use Rattle.machine_desc.proofs.TreeLemmas.{tree_cases, more_chips}
 use Rattle.spin_base.proofs.Members.{Contains-from_filter, Contains-filter}
-use Rattle.link_detours.proofs.Putting.{TellsTree}
-use Rattle.link_detours.proofs.Walks.{steps_walk}
-use Rattle.link_detours.proofs.Wholes.{steps_on_tree, live_steps, whole_joined, detour_reached, Joins-more}
 
 module _ (m : Description) (root : Chip) (edges : List Edge) (marks : List Bool) where
   abbrev pub live_of : List Edge
@@ -57,8 +47,7 @@ module _ (m : Description) (root : Chip) (edges : List Edge) (marks : List Bool)
 
   kept_steps : (n : ℕ) (c : Chip) → Steps (EdgeStep m (live_of m root edges marks)) n root c → Steps (EdgeStep m (kept_of m root edges marks)) n root c
   kept_steps zero c walk = walk
-  kept_steps (suc n) c walk =
-      (walk.0, kept_steps n walk.0 walk.1, (walk.2.0, has_kept (record { chip = walk.0; dir = walk.2.0 }) walk.2.1 (n, walk.1), walk.2.2))
+  kept_steps (suc n) c walk = grind (arith, kept_steps n walk.0 walk.1, has_kept (record { chip = walk.0; dir = walk.2.0 }) walk.2.1 (n, walk.1))
 
   -- a chip of the kept tree is reached by live edges
   chip_reached : (c : Chip) → IsTreeChip m root (kept_of m root edges marks) c → (n : ℕ) × Steps (EdgeStep m (live_of m root edges marks)) n root c

@@ -1,26 +1,16 @@
 -- Words that name columns: those in which a set has more, and those beside them.
 use Rattle.std.proofs.Common.{◌≡◌, ℕ, Bool, ◌≢◌, ◌+◌, ◌-◌, ◌*◌, ◌%◌, ◌^◌, ◌<◌, ◌≤◌, ◌↔◌, List, length, get_or, Some, ◌⊎◌, min, sym, ap, ◌∙◌, subst, arith, inl, inr}
-use Rattle.std.specs.Int.{bit_at, bit_not, w64}
-use Rattle.std.specs.Int.RustNames.{bit_or}
+use Rattle.std.specs.{Int.bit_at, Int.bit_not, Int.w64, Int.RustNames.bit_or, List.All}
 use lib.Bits.{bit_and}
 use mir.Val.{bits}
-use Rattle.std.specs.List.{All}
-use Rattle.std.proofs.lemmas.Bool.{cases_eq}
-use Rattle.std.proofs.lemmas.List.{ext_get_or, get_or-set_same, get_or-set_other, length-set}
-use Rattle.std.proofs.lemmas.Nat.{and_le_l}
-use Rattle.std.proofs.lemmas.List.Elements.{All-set}
-use Rattle.std.proofs.lemmas.Nat.Bits.{bit_at_and, bit_at_ones, bit_at-lt, bit_at-zero, bit_at_clear_same, bit_at_clear_other}
+use Rattle.std.proofs.lemmas.{Bool.cases_eq, List.ext_get_or, List.get_or-set_same, List.get_or-set_other, List.length-set, Nat.and_le_l, List.Elements.All-set, Nat.Bits.bit_at_and}
+use Rattle.std.proofs.lemmas.Nat.Bits.{bit_at_ones, bit_at-lt, bit_at-zero, bit_at_clear_same, bit_at_clear_other}
 use Rattle.spin_base.specs.declared.chips.Chip.{Chip}
-use Rattle.spin_base.specs.declared.chips.Dir.{Dir}
-use Rattle.machine_desc.specs.declared.steps.Step.{Step}
-use Rattle.machine_desc.specs.declared.steps.Step.TheVariants.{Back, Stay, Ahead}
-use Rattle.machine_desc.specs.Description.{Description}
-use Rattle.machine_desc.specs.Live.{x_step, stepped, IsInside}
+use Rattle.machine_desc.specs.{declared.steps.Step.Step, declared.steps.Step.TheVariants.Back, declared.steps.Step.TheVariants.Stay, declared.steps.Step.TheVariants.Ahead, Description.Description}
+use Rattle.machine_desc.specs.Live.{stepped, IsInside}
 use Rattle.machine_desc.proofs.Far.{far_parts, inside_parts}
 use Rattle.link_detours.specs.Waves.{IsIn, IsSpread, IsSpreadBut, IsSpreadAt}
-use Rattle.link_detours.proofs.RoadBits.{chip_of_column}
-use Rattle.link_detours.proofs.Spreading.{or_left, or_right}
-use Rattle.link_detours.proofs.TurnedWords.{turned_ahead, turned_back, turned_stay}
+use Rattle.link_detours.proofs.{RoadBits.chip_of_column, Spreading.or_left, Spreading.or_right, TurnedWords.turned_ahead, TurnedWords.turned_back, TurnedWords.turned_stay}
 
 -- the columns from which a step leads to one that is named
 pub beside : (columns up down width : ℕ) →
@@ -40,13 +30,7 @@ pub spread_but : (m : Description) (old new : List ℕ) (grown near : ℕ) → (
     ((wrap : Bool) (step : Step) (x k : ℕ) → x < m.width → stepped wrap m.width step x ≡ Some k → bit_at grown k ≡ 1 → bit_at near x ≡ 1) →
     IsSpreadBut m new near
 spread_but m old new grown near spread told names c inside off (inl bit) = bit
-spread_but m old new grown near spread told names c inside off (inr by) =
-    let d : Dir = by.0 in
-    let e : Chip = by.1.0 in
-    let parts = far_parts m c e d by.1.2 in
-    let not_new : bit_at grown e.x ≡ 1 → ⊥ = λ bit. off (names m.wrap (x_step d) c.x e.x (inside_parts m c inside).0 parts.0 bit) in
-    let same : get_or old e.x 0 ≡ get_or new e.x 0 = told e.x not_new in
-    spread c inside (inr (d, (e, by.1.1, by.1.2, ap (λ w. bit_at w e.y) same ∙ by.1.3)))
+spread_but m old new grown near spread told names c inside off (inr by) = grind (arith, far_parts m c (by.1.0) (by.0) by.1.2, inside_parts m c inside)
 
 -- A set that is spreading: the columns that are left are as they were, and the others have spread.
 pub record Spreading (m : Description) (set words : List ℕ) (grown left : ℕ) : Type 0 where
@@ -57,18 +41,6 @@ pub record Spreading (m : Description) (set words : List ℕ) (grown left : ℕ)
   pub rest : (x : ℕ) → bit_at left x ≡ 1 → get_or words x 0 ≡ get_or set x 0
   pub told : (x : ℕ) → (bit_at grown x ≡ 1 → ⊥) → get_or set x 0 ≡ get_or words x 0
   pub grew : (grown ≡ 0) ⊎ ((x : ℕ) × (get_or set x 0 ≡ get_or words x 0 → ⊥))
-
-pub spreading_start : (m : Description) (set words : List ℕ) (grown near : ℕ) → grown ≡ 0 → words ≡ set → length set ≡ m.width → All (λ w. w < 2 ^ 64) set →
-    IsSpreadBut m set near → Spreading m set words grown near
-spreading_start m set words grown near none same long fits others = record {
-  long = ap length same ∙ long;
-  fits = subst (All (λ w. w < 2 ^ 64)) (sym same) fits;
-  rises = λ x. (let is : get_or words x 0 ≡ get_or set x 0 = ap (λ s. get_or s x 0) same in omega (arith, is));
-  done = λ c inside off. (λ bit. inl (subst (λ s. IsIn s c) same bit), λ by. subst (λ s. IsIn s c) (sym same) (others c inside off by));
-  rest = λ x bit. ap (λ s. get_or s x 0) same;
-  told = λ x off. ap (λ s. get_or s x 0) (sym same);
-  grew = inl none;
-}
 
 abbrev pub without : ℕ → ℕ → ℕ
 without left x = bit_and left (bit_not w64 (1 * 2 ^ x % 2 ^ bits w64))
@@ -91,10 +63,7 @@ module _ (left x : ℕ) (few : x < 64) (here : bit_at left x ≡ 1) where
 
   -- a column less is left
   pub fewer : without left x < left
-  fewer = elim (cases_eq (without left x) left) [
-    | inl same ↦ absurd (let none : bit_at (without left x) x ≡ 0 = gone in let one : bit_at (without left x) x ≡ 1 = ap (λ n. bit_at n x) same ∙ here in omega (arith, none, one))
-    | inr other ↦ (let low : without left x ≤ left = and_le_l left (bit_not w64 (1 * 2 ^ x % 2 ^ bits w64)) in omega (arith, low, other))
-  ]
+  fewer = grind (arith, cases_eq (without left x) left, gone, and_le_l left (bit_not w64 (1 * 2 ^ x % 2 ^ bits w64)))
 
   module _ (m : Description) (set_of words : List ℕ) (grown : ℕ) (narrow : m.width ≤ 64) (now : Spreading m set_of words grown left) where
     -- a column is spread
@@ -159,19 +128,6 @@ module _ (left x : ℕ) (few : x < 64) (here : bit_at left x ≡ 1) where
       grew = now.grew;
     }
 
--- no column is left
-pub spreading_end : (m : Description) (set words : List ℕ) (grown left : ℕ) → left ≡ 0 → Spreading m set words grown left →
-    (c : Chip) → IsInside m c → IsIn words c ↔ IsSpread m set c
-spreading_end m set words grown left none now c inside = now.done c inside (λ bit.
-    let clear : bit_at left c.x ≡ 0 = ap (λ n. bit_at n c.x) none ∙ bit_at-zero c.x in omega (arith, clear, bit))
-
--- a set that has not changed names no column
-pub spreading_same : (m : Description) (set words : List ℕ) (grown left : ℕ) → Spreading m set words grown left → set ≡ words → grown ≡ 0
-spreading_same m set words grown left now same = elim now.grew [
-  | inl none ↦ none
-  | inr differs ↦ absurd (differs.1 (ap (λ s. get_or s differs.0 0) same))
-]
-
 -- and where no column is named the set has not changed
 pub none_grew : (old new : List ℕ) (grown : ℕ) → length old ≡ length new → grown ≡ 0 →
     ((x : ℕ) → (bit_at grown x ≡ 1 → ⊥) → get_or old x 0 ≡ get_or new x 0) → old ≡ new
@@ -180,6 +136,4 @@ none_grew old new grown long none told = ext_get_or 0 old new long (λ x below. 
 
 -- where all columns are named nothing is asked
 pub all_named : (m : Description) (set : List ℕ) → m.width ≤ 64 → IsSpreadBut m set 18446744073709551615
-all_named m set narrow c inside off by =
-    let low : c.x < m.width = (inside_parts m c inside).0 in
-    absurd (off (bit_at_ones 64 c.x (omega (arith, low, narrow))))
+all_named m set narrow c inside off by = grind (arith, inside_parts m c inside, bit_at_ones 64 c.x (omega (arith, ((inside_parts m c inside).0), narrow)))

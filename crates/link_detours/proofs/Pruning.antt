@@ -3,16 +3,10 @@ use Rattle.std.proofs.Common.{◌≡◌, ℕ, zero, suc, ◌<◌, List, [], ◌�
 use Rattle.std.specs.List.{Contains}
 use Rattle.std.proofs.lemmas.List.Elements.{Contains-get_or}
 use Rattle.spin_base.specs.declared.chips.Chip.{Chip}
-use Rattle.machine_desc.specs.declared.trees.Edge.{Edge}
-use Rattle.machine_desc.specs.Description.{Description}
-use Rattle.machine_desc.specs.RoutingTree.{end_of, IsTreeChip, IsPath, IsTreeTo}
-use Rattle.link_detours.specs.Steps.{Steps}
-use Rattle.machine_desc.specs.Flags.{link_place}
-use Rattle.link_detours.specs.Repair.{EdgeStep, LeadsToTarget, AreInPlaceOrder}
-use Rattle.link_detours.specs.Whole.{IsWholeTree, GoesOnFrom}
-use Rattle.link_detours.proofs.Stepping.{Steps-cons, Steps-first}
+use Rattle.machine_desc.specs.{declared.trees.Edge.Edge, Description.Description, RoutingTree.end_of, RoutingTree.IsTreeChip, RoutingTree.IsPath, RoutingTree.IsTreeTo, Flags.link_place}
+use Rattle.link_detours.specs.{Steps.Steps, Repair.EdgeStep, Repair.LeadsToTarget, Repair.AreInPlaceOrder, Whole.IsWholeTree, Whole.GoesOnFrom}
+use Rattle.link_detours.proofs.{Stepping.Steps-cons, Stepping.Steps-first, Wholes.edge_step}
 use Rattle.machine_desc.proofs.TreeLemmas.{tree_end, tree_cases, path_more}
-use Rattle.link_detours.proofs.Wholes.{edge_step}
 
 module _ (m : Description) (root : Chip) (tree : List Edge) (targets : List Chip) (result : List Edge) (is : IsWholeTree m root tree)
     (on_tree : (t : Chip) → Contains targets t → IsTreeChip m root tree t) (some : 0 < length targets) (ordered : AreInPlaceOrder m result)

@@ -1,39 +1,23 @@
 -- Chips put into a set, one after the other.
 use Rattle.std.proofs.Common.{◌≡◌, ◌≢◌, ℕ, ◌+◌, ◌*◌, ◌%◌, ◌^◌, ◌<◌, ◌≤◌, ◌⊎◌, ◌↔◌, List, [], ◌∷◌, ◌++◌, length, get_or, set, take, replicate, Some, None, sym, ap, ◌∙◌, subst, arith, inl, inr}
-use Rattle.std.specs.Int.{bit_at, w64}
-use Rattle.std.specs.Int.RustNames.{bit_or}
+use Rattle.std.specs.{Int.bit_at, Int.w64, Int.RustNames.bit_or, List.Contains}
 use mir.Val.{bits}
-use Rattle.std.specs.List.{Contains}
-use Rattle.std.proofs.lemmas.Bool.{cases_eq, cases_lt}
-use Rattle.std.proofs.lemmas.List.{get_or-set_same, get_or-set_other, get_or-replicate, length-replicate, take_more, get_or_past}
-use Rattle.std.proofs.lemmas.List.Elements.{Contains-push, Contains-push_cases}
-use Rattle.std.proofs.lemmas.Nat.Bits.{bit_at_set_same, bit_at_set_other, bit_at-zero}
+use Rattle.std.proofs.lemmas.{Bool.cases_eq, Bool.cases_lt, List.get_or-set_same, List.get_or-set_other, List.get_or-replicate, List.length-replicate, List.take_more, List.get_or_past}
+use Rattle.std.proofs.lemmas.{List.Elements.Contains-push, List.Elements.Contains-push_cases, Nat.Bits.bit_at_set_same, Nat.Bits.bit_at_set_other, Nat.Bits.bit_at-zero}
 use Rattle.spin_base.specs.declared.chips.Chip.{Chip}
-use Rattle.machine_desc.specs.declared.trees.Edge.{Edge}
-use Rattle.machine_desc.specs.Description.{Description}
-use Rattle.machine_desc.specs.Live.{IsInside}
-use Rattle.machine_desc.specs.RoutingTree.{end_of, IsTreeChip}
-use Rattle.machine_desc.proofs.Far.{inside_parts}
-use Rattle.machine_desc.proofs.Same.{same_chip}
-use Rattle.machine_desc.proofs.TreeLemmas.{tree_end, tree_cases, more_chips}
-use Rattle.link_detours.specs.LiveRoads.{AreRoadsOf}
-use Rattle.link_detours.specs.declared.roads.Roads.{Roads}
-use Rattle.link_detours.specs.Waves.{IsIn, HasBitOf}
+use Rattle.machine_desc.specs.{declared.trees.Edge.Edge, Description.Description, Live.IsInside, RoutingTree.end_of, RoutingTree.IsTreeChip}
+use Rattle.machine_desc.proofs.{Far.inside_parts, Same.same_chip, TreeLemmas.tree_end, TreeLemmas.tree_cases, TreeLemmas.more_chips}
+use Rattle.link_detours.specs.{LiveRoads.AreRoadsOf, declared.roads.Roads.Roads, Waves.IsIn, Waves.HasBitOf}
 use Rattle.link_detours.proofs.Searching.{cases_chip}
 
 -- a chip inside the grid has a bit in a set of the machine's chips
 pub bit_of : (m : Description) (roads : Roads) (set : List ℕ) (c : Chip) → AreRoadsOf m roads → length set ≡ m.width → IsInside m c → HasBitOf set c
-bit_of m roads set c are long inside =
-    let parts = inside_parts m c inside in
-    (omega (arith, parts.0, long), omega (arith, parts.1, are.few))
+bit_of m roads set c are long inside = grind (arith, inside_parts m c inside)
 
 -- the set after a chip is put into it
 pub put_here : (old : List ℕ) (c : Chip) (place : ℕ) → place ≡ c.x → c.x < length old → c.y < 64 →
     IsIn (set old place (bit_or (get_or old place 0) (1 * 2 ^ c.y % 2 ^ bits w64))) c
-put_here old c place is within few =
-    ap (λ n. bit_at n c.y) (ap (λ k. get_or (set old place (bit_or (get_or old place 0) (1 * 2 ^ c.y % 2 ^ bits w64))) k 0) (sym is)
-    ∙ get_or-set_same old place (bit_or (get_or old place 0) (1 * 2 ^ c.y % 2 ^ bits w64)) 0 (subst (λ k. k < length old) (sym is) within))
-    ∙ bit_at_set_same w64 (get_or old place 0) c.y few
+put_here old c place is within few = grind (arith, bit_at_set_same w64 (get_or old place 0) c.y few, get_or old place 0, get_or-set_same)
 
 pub put_other : (old : List ℕ) (c : Chip) (place : ℕ) → place ≡ c.x → c.x < length old → c.y < 64 → (e : Chip) → e ≢ c →
     bit_at (get_or (set old place (bit_or (get_or old place 0) (1 * 2 ^ c.y % 2 ^ bits w64))) e.x 0) e.y ≡ bit_at (get_or old e.x 0) e.y
@@ -67,16 +51,7 @@ none_in words n e c bit = elim (cases_lt c.x n) [
 -- the root alone
 pub TellsTree-root : (m : Description) (root : Chip) (words chips : List ℕ) → ((c : Chip) → IsIn words c → ⊥) → IsIn chips root →
     ((e : Chip) → e ≢ root → bit_at (get_or chips e.x 0) e.y ≡ bit_at (get_or words e.x 0) e.y) → TellsTree m root [] chips
-TellsTree-root m root words chips empty here others c = (
-  λ bit. elim (cases_chip c root) [
-    | inl same ↦ inl same
-    | inr other ↦ absurd (empty c (sym (others c other) ∙ bit))
-  ],
-  λ on. elim (tree_cases m root [] c on) [
-    | inl same ↦ subst (λ (x : Chip). IsIn chips x) (sym same) here
-    | inr into ↦ absurd (let none : into.1.0 < 0 = into.1.1 in omega (arith, none))
-  ],
-)
+TellsTree-root m root words chips empty here others c = grind (arith, cases_chip c root, tree_cases m root)
 
 -- one edge more, into this chip
 pub TellsTree-push : (m : Description) (root : Chip) (tree : List Edge) (old chips : List ℕ) (f : Edge) (far : Chip) → end_of m f ≡ Some far →

@@ -2,18 +2,10 @@
 use Rattle.std.proofs.Common.{◌≡◌, ℕ, zero, suc, Bool, true, List, [], ◌∷◌, get_or, Some, refl, sym, subst, arith, ◌↔◌}
 use Rattle.std.specs.List.{Contains, All}
 use Rattle.std.proofs.lemmas.List.Elements.{All-contains, Contains-get_or}
-use Rattle.spin_base.specs.declared.chips.Chip.{Chip}
-use Rattle.spin_base.specs.declared.chips.Dir.{Dir}
-use Rattle.spin_base.specs.Links.{opposite_of}
-use Rattle.machine_desc.specs.declared.trees.Edge.{Edge}
-use Rattle.machine_desc.specs.Description.{Description}
-use Rattle.machine_desc.specs.Live.{far_of, IsInside, IsLiveLink}
+use Rattle.spin_base.specs.{declared.chips.Chip.Chip, declared.chips.Dir.Dir, Links.opposite_of}
+use Rattle.machine_desc.specs.{declared.trees.Edge.Edge, Description.Description, Live.far_of, Live.IsInside, Live.IsLiveLink, Flags.is_flagged}
 use Rattle.machine_desc.proofs.Far.{live_ends, live_inside, live_back, far_back, opposite_of-opposite}
-use Rattle.link_detours.specs.Steps.{Steps, IsReachedBy}
-use Rattle.machine_desc.specs.Flags.{is_flagged}
-use Rattle.link_detours.specs.Usable.{FlaggedStep, is_marked}
-use Rattle.link_detours.specs.Repair.{EdgeStep}
-use Rattle.link_detours.specs.Whole.{IsWholeTree}
+use Rattle.link_detours.specs.{Steps.Steps, Steps.IsReachedBy, Usable.FlaggedStep, Usable.is_marked, Repair.EdgeStep, Whole.IsWholeTree}
 use Rattle.link_detours.proofs.Stepping.{Steps-map}
 
 -- a live link begins inside the grid
@@ -30,10 +22,7 @@ flagged_edges m table edges flags a b step =
 pub edges_flagged : (m : Description) (table : List Bool) (edges : List Edge) →
     ((e : Edge) → IsInside m e.chip → (is_flagged m table e.chip e.dir ≡ true) ↔ Contains edges e) → All (λ e. IsInside m e.chip) edges →
     (a b : Chip) → EdgeStep m edges a b → FlaggedStep m table a b
-edges_flagged m table edges flags inside a b step =
-    let e : Edge = record { chip = a; dir = step.0 } in
-    let here : IsInside m a = All-contains (λ f. IsInside m f.chip) edges e inside step.1 in
-    (here, (step.0, (flags e here).1 step.1, step.2))
+edges_flagged m table edges flags inside a b step = grind (arith, All-contains)
 
 -- a live link into a chip is a live link of that chip, by the opposite link
 pub link_turned : (m : Description) (at b : Chip) (d : Dir) → IsLiveLink m b d → far_of m b d ≡ Some at →
@@ -42,9 +31,7 @@ link_turned m at b d lives leads = (live_back m b at d leads lives, far_back m b
 
 pub turned_link : (m : Description) (at b : Chip) (d : Dir) → IsLiveLink m at (opposite_of d) → far_of m at (opposite_of d) ≡ Some b →
     IsLiveLink m b d × (far_of m b d ≡ Some at)
-turned_link m at b d lives leads =
-    let turned = link_turned m b at (opposite_of d) lives leads in
-    (subst (λ (o : Dir). IsLiveLink m b o) (opposite_of-opposite d) turned.0, subst (λ (o : Dir). far_of m b o ≡ Some at) (opposite_of-opposite d) turned.1)
+turned_link m at b d lives leads = grind (arith, link_turned m b at (opposite_of d) lives leads, opposite_of-opposite d)
 
 pub only_root : (root a : Chip) → Contains (root ∷ []) a → a ≡ root
 only_root root a (zero, within, same) = sym same

@@ -1,19 +1,12 @@
 -- Words whose bits tell which links live.
 use Rattle.std.proofs.Common.{◌≡◌, ℕ, ◌+◌, ◌*◌, ◌%◌, ◌^◌, ◌<◌, ◌≤◌, ◌↔◌, Bool, true, false, List, [], ◌∷◌, ◌++◌, length, get_or, sym, ap, ◌∙◌, subst, arith, inl, inr}
-use Rattle.std.specs.Int.{bit_at, w64}
-use Rattle.std.specs.Int.RustNames.{bit_or}
+use Rattle.std.specs.Int.{bit_at, w64, RustNames.bit_or}
 use mir.Val.{bits}
-use Rattle.std.proofs.lemmas.Bool.{cases_eq, cases_Bool, false≢true, false_from_ne_true}
-use Rattle.std.proofs.lemmas.List.{get_or_append_left, get_or_at, length-append}
-use Rattle.std.proofs.lemmas.Nat.{same_from_place}
-use Rattle.std.proofs.lemmas.Nat.Bits.{bit_at_set_same, bit_at_set_other, bit_at-zero}
-use Rattle.spin_base.specs.declared.chips.Chip.{Chip}
-use Rattle.spin_base.specs.declared.chips.Dir.{Dir}
-use Rattle.spin_base.specs.Links.{dir_number}
-use Rattle.machine_desc.specs.Description.{Description}
-use Rattle.machine_desc.proofs.Same.{same_dir, below_six}
-use Rattle.machine_desc.specs.Live.{IsLiveLink, is_live_link, is_inside}
-use Rattle.machine_desc.proofs.Far.{live_ends, live_inside}
+use Rattle.std.proofs.lemmas.{Bool.cases_eq, Bool.cases_Bool, Bool.false≢true, Bool.false_from_ne_true, List.get_or_append_left, List.get_or_at, List.length-append, Nat.same_from_place}
+use Rattle.std.proofs.lemmas.Nat.Bits.{bit_at_set_same, bit_at_set_other}
+use Rattle.spin_base.specs.{declared.chips.Chip.Chip, declared.chips.Dir.Dir, Links.dir_number}
+use Rattle.machine_desc.specs.{Description.Description, Live.IsLiveLink, Live.is_live_link, Live.is_inside}
+use Rattle.machine_desc.proofs.{Same.same_dir, Same.below_six, Far.live_ends, Far.live_inside}
 
 abbrev pub chip_of_column : ℕ → ℕ → Chip
 chip_of_column x y = record { x = x; y = y }
@@ -22,9 +15,6 @@ chip_of_column x y = record { x = x; y = y }
 pub record TellsTo (m : Description) (x : ℕ) (d : Dir) (word i : ℕ) : Type 0 where
   pub told : (y : ℕ) → y < i → (bit_at word y ≡ 1) ↔ IsLiveLink m (chip_of_column x y) d
   pub clear : (y : ℕ) → i ≤ y → bit_at word y ≡ 0
-
-pub TellsTo-none : (m : Description) (x : ℕ) (d : Dir) → TellsTo m x d 0 0
-TellsTo-none m x d = record { told = λ y below. absurd (omega (arith, below)); clear = λ y _. bit_at-zero y }
 
 pub TellsTo-set : (m : Description) (x : ℕ) (d : Dir) (word i : ℕ) → i < 64 → IsLiveLink m (chip_of_column x i) d → TellsTo m x d word i →
     TellsTo m x d (bit_or word (1 * 2 ^ i % 2 ^ bits w64)) (i + 1)
@@ -61,9 +51,6 @@ pub record RoadsTo (m : Description) (words : List ℕ) (i : ℕ) : Type 0 where
   pub told : (x y : ℕ) (d : Dir) → x * 6 + dir_number d < i → y < m.height →
       (bit_at (get_or words (x * 6 + dir_number d) 0) y ≡ 1) ↔ IsLiveLink m (chip_of_column x y) d
 
-pub RoadsTo-none : (m : Description) (words : List ℕ) → words ≡ [] → RoadsTo m words 0
-RoadsTo-none m words e = record { long = ap length e; told = λ x y d below _. absurd (omega (arith, below)) }
-
 -- and one word more
 pub RoadsTo-more : (m : Description) (words : List ℕ) (i x word : ℕ) (d : Dir) → x * 6 + dir_number d ≡ i →
     ((y : ℕ) → y < m.height → (bit_at word y ≡ 1) ↔ IsLiveLink m (chip_of_column x y) d) →
@@ -92,13 +79,7 @@ RoadsTo-more m words i x word d at tells so_far = record {
 
 -- a test that a bit is set tells whether a link lives, where the bit does
 pub same_from_bit : (b live : Bool) (n : ℕ) → (b ≡ true) ↔ (n ≡ 1) → (n ≡ 1) ↔ (live ≡ true) → b ≡ live
-same_from_bit b live n set told = elim (cases_Bool live) [
-  | inl lives ↦ set.1 (told.1 lives) ∙ sym lives
-  | inr dead ↦ elim (cases_Bool b) [
-    | inl has ↦ absurd (false≢true (sym dead ∙ told.0 (set.0 has)))
-    | inr none ↦ none ∙ sym dead
-  ]
-]
+same_from_bit b live n set told = grind (arith, cases_Bool live, cases_Bool b, false≢true)
 
 -- a link of a chip outside the grid doesn't live
 pub dead_outside : (m : Description) (c : Chip) (d : Dir) → is_inside m c ≡ false → is_live_link m c d ≡ false

@@ -1,18 +1,11 @@
 -- How a set of chips spreads over live links, link by link and column by column.
 use Rattle.std.proofs.Common.{◌≡◌, ℕ, ◌+◌, ◌<◌, ◌≤◌, ◌↔◌, ◌⊎◌, List, get_or, Some, min, max, sym, ap, ◌∙◌, subst, arith, inl, inr}
-use Rattle.std.specs.Int.{bit_at}
-use Rattle.std.specs.Int.RustNames.{bit_or}
+use Rattle.std.specs.Int.{bit_at, RustNames.bit_or}
 use lib.Bits.{bit_and}
-use Rattle.std.proofs.lemmas.Bool.{cases_eq}
-use Rattle.std.proofs.lemmas.Nat.{le_or_l}
-use Rattle.std.proofs.lemmas.Nat.Bits.{bit_at_and, bit_at_or, bit_at-lt}
-use Rattle.spin_base.specs.declared.chips.Chip.{Chip}
-use Rattle.spin_base.specs.declared.chips.Dir.{Dir}
-use Rattle.spin_base.specs.Links.{dir_number}
-use Rattle.machine_desc.specs.Description.{Description}
-use Rattle.machine_desc.specs.Live.{far_of, x_step, y_step, stepped, IsLiveLink}
-use Rattle.machine_desc.proofs.Far.{far_parts, live_ends}
-use Rattle.machine_desc.proofs.Same.{same_dir}
+use Rattle.std.proofs.lemmas.{Bool.cases_eq, Nat.le_or_l, Nat.Bits.bit_at_and, Nat.Bits.bit_at_or, Nat.Bits.bit_at-lt}
+use Rattle.spin_base.specs.{declared.chips.Chip.Chip, declared.chips.Dir.Dir, Links.dir_number}
+use Rattle.machine_desc.specs.{Description.Description, Live.far_of, Live.x_step, Live.y_step, Live.stepped, Live.IsLiveLink}
+use Rattle.machine_desc.proofs.{Far.far_parts, Far.live_ends, Same.same_dir}
 use Rattle.link_detours.specs.Waves.{LeadsInto, IsSpread}
 use Rattle.link_detours.proofs.RoadBits.{chip_of_column}
 
@@ -65,14 +58,6 @@ pub record SpreadTo (m : Description) (set : List ℕ) (x word i : ℕ) : Type 0
   pub old : (y : ℕ) → bit_at (get_or set x 0) y ≡ 1 → bit_at word y ≡ 1
   pub new : (y : ℕ) (d : Dir) → y < m.height → dir_number d < i → LeadsInto m set (chip_of_column x y) d → bit_at word y ≡ 1
   pub only : (y : ℕ) → y < m.height → bit_at word y ≡ 1 → IsSpread m set (chip_of_column x y)
-
-pub SpreadTo-none : (m : Description) (set : List ℕ) (x word : ℕ) → word ≡ get_or set x 0 → SpreadTo m set x word 0
-SpreadTo-none m set x word is = record {
-  rises = omega (arith, is);
-  old = λ y bit. ap (λ n. bit_at n y) is ∙ bit;
-  new = λ y d inside none leads. absurd (omega (arith, none));
-  only = λ y inside bit. inl (ap (λ n. bit_at n y) (sym is) ∙ bit);
-}
 
 pub SpreadTo-more : (m : Description) (set : List ℕ) (x word i leading : ℕ) (d : Dir) → dir_number d ≡ i →
     ((y : ℕ) → y < m.height → (bit_at leading y ≡ 1) ↔ LeadsInto m set (chip_of_column x y) d) →

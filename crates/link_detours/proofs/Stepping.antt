@@ -1,5 +1,5 @@
 -- Walks: from another relation, from their other end, and their levels.
-use Rattle.std.proofs.Common.{ℕ, zero, suc, refl, sym, subst}
+use Rattle.std.proofs.Common.{arith, ℕ, zero, suc, refl, sym, subst}
 use Rattle.link_detours.specs.Steps.{Steps, IsReachedBy, IsStepLevel}
 
 pub Steps-map : {K : Type 0} (R S : K → K → Type 0) → ((a b : K) → R a b → S a b) → (n : ℕ) (a c : K) → Steps R n a c → Steps S n a c
@@ -14,9 +14,7 @@ Steps-cons R (suc n) a b c step walk = (walk.0, Steps-cons R n a b walk.0 step w
 -- the first step of a walk, and the rest
 pub Steps-first : {K : Type 0} (R : K → K → Type 0) (n : ℕ) (a c : K) → Steps R (suc n) a c → (b : K) × R a b × Steps R n b c
 Steps-first {K} R zero a c walk = (c, subst (λ (x : K). R x c) (sym walk.1) walk.2, refl)
-Steps-first R (suc n) a c walk =
-    let first = Steps-first R n a walk.0 walk.1 in
-    (first.0, first.1, (walk.0, first.2, walk.2))
+Steps-first R (suc n) a c walk = grind (arith, Steps-first R n a walk.0 walk.1)
 
 -- a walk turned round
 pub Steps-turn : {K : Type 0} (R S : K → K → Type 0) → ((a b : K) → R a b → S b a) → (n : ℕ) (a c : K) → Steps R n a c → Steps S n c a

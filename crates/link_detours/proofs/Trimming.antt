@@ -1,25 +1,13 @@
 -- Trees of which nothing has to be taken off.
-use Rattle.std.proofs.Common.{◌≡◌, ℕ, zero, suc, ◌+◌, ◌<◌, ◌≤◌, Bool, true, List, ◌++◌, length, get_or, map, take, Some, refl, sym, ◌∙◌, subst, arith, inl, inr, ◌↔◌}
+use Rattle.std.proofs.Common.{◌≡◌, ℕ, zero, suc, ◌+◌, ◌<◌, ◌≤◌, Bool, true, List, ◌++◌, length, get_or, map, take, Some, sym, ◌∙◌, subst, arith, inl, inr, ◌↔◌}
 use Rattle.std.specs.List.{Contains, All, Any}
-use Rattle.std.proofs.lemmas.List.{take_more, get_or_default, get_or-map, length-map}
-use Rattle.std.proofs.lemmas.List.Elements.{All-contains, Contains-get_or, Contains-append_cases, All-more}
+use Rattle.std.proofs.lemmas.List.{take_more, get_or_default, get_or-map, length-map, Elements.All-contains, Elements.Contains-get_or, Elements.Contains-append_cases, Elements.All-more}
 use Rattle.std.proofs.lemmas.List.Quantifiers.{all_pairs_push}
-use Rattle.spin_base.specs.declared.chips.Chip.{Chip}
-use Rattle.spin_base.specs.declared.chips.Dir.TheVariants.{East}
-use Rattle.machine_desc.specs.declared.trees.Edge.{Edge}
-use Rattle.machine_desc.specs.Description.{Description}
-use Rattle.machine_desc.specs.Live.{IsInside}
-use Rattle.machine_desc.specs.RoutingTree.{end_of, IsTreeChip, IsTreeTo}
-use Rattle.machine_desc.proofs.Far.{live_ends, far_inside}
-use Rattle.link_detours.specs.Steps.{Steps}
-use Rattle.machine_desc.specs.Flags.{link_place}
-use Rattle.link_detours.specs.Usable.{is_marked}
-use Rattle.link_detours.specs.Repair.{EdgeStep, LeadsToTarget, AreInPlaceOrder}
-use Rattle.link_detours.specs.Whole.{IsWholeTree, GoesOnFrom}
-use Rattle.link_detours.proofs.Stepping.{Steps-first, Steps-map}
-use Rattle.link_detours.proofs.Pruning.{tree_kept}
-use Rattle.link_detours.proofs.Unchanged.{tree_leads}
-use Rattle.machine_desc.proofs.TreeLemmas.{tree_cases}
+use Rattle.spin_base.specs.declared.chips.{Chip.Chip, Dir.TheVariants.East}
+use Rattle.machine_desc.specs.{declared.trees.Edge.Edge, Description.Description, Live.IsInside, RoutingTree.end_of, RoutingTree.IsTreeChip, RoutingTree.IsTreeTo, Flags.link_place}
+use Rattle.machine_desc.proofs.{Far.live_ends, Far.far_inside, TreeLemmas.tree_cases}
+use Rattle.link_detours.specs.{Steps.Steps, Usable.is_marked, Repair.EdgeStep, Repair.LeadsToTarget, Repair.AreInPlaceOrder, Whole.IsWholeTree, Whole.GoesOnFrom}
+use Rattle.link_detours.proofs.{Stepping.Steps-first, Stepping.Steps-map, Pruning.tree_kept, Unchanged.tree_leads}
 
 -- one edge more is in order, where its place is no less than the least that may come
 pub order_more : (m : Description) (edges : List Edge) (i : ℕ) (d : Edge) (least place : ℕ) → i < length edges →
@@ -72,10 +60,7 @@ goes_on m edges targets chips table is inside listed marked k d h c leads =
 -- a chip from which steps lead to a target goes on
 steps_on : (m : Description) (tree : List Edge) (targets : List Chip) (n : ℕ) (c t : Chip) → Contains targets t → Steps (EdgeStep m tree) n c t → GoesOnFrom tree targets c
 steps_on m tree targets zero c t has walk = inr (subst (λ (x : Chip). Contains targets x) (sym walk) has)
-steps_on m tree targets (suc n) c t has walk =
-    let first = Steps-first (EdgeStep m tree) n c t walk in
-    let mine = first.1.1 in
-    inl (mine.0, record { chip = c; dir = first.1.0 }, mine.1, mine.2, refl)
+steps_on m tree targets (suc n) c t has walk = grind (arith, Steps-first (EdgeStep m tree) n c t walk)
 
 -- ---- the same edges in another order
 

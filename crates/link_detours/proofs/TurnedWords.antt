@@ -1,14 +1,11 @@
 -- Words turned by one bit, and the coordinates to which links lead.
-use Rattle.std.proofs.Common.{◌≡◌, ℕ, ◌+◌, ◌-◌, ◌*◌, ◌/◌, ◌%◌, ◌^◌, ◌<◌, ◌≤◌, ◌⊎◌, Bool, true, false, ltb, eqb, Some, None, min, max, refl, sym, ap, ◌∙◌, arith, inl, inr, add-one, lit<}
-use Rattle.std.specs.Int.{bit_at}
-use Rattle.std.specs.Int.RustNames.{bit_or}
+use Rattle.std.proofs.Common.{◌≡◌, ℕ, ◌+◌, ◌-◌, ◌*◌, ◌/◌, ◌%◌, ◌^◌, ◌<◌, ◌≤◌, ◌⊎◌, Bool, true, false, Some, min, max, refl, sym, ap, ◌∙◌, arith, add-one, lit<}
+use Rattle.std.specs.Int.{bit_at, RustNames.bit_or}
 use lib.Bits.{bit_and}
-use Rattle.std.proofs.Math.Nat.{add-zero, mod-eq_of_lt, mod_self, add-mod_right}
-use Rattle.std.proofs.lemmas.Bool.{lt-ltb, le-ltb, eq-eqb, ne_eqb, cases_lt, cases_eq, cond-true, cond-false}
-use Rattle.std.proofs.lemmas.Nat.{div-add-mod', pow_pos}
-use Rattle.std.proofs.lemmas.Nat.Bits.{bit_at_and, bit_at_or, bit_at-suc, bit_at-zero, bit_at-lt, bit_at_lowest, bit_at_ones, bit_at_ones_above, bit_at_above, bit_at_cat_low, bit_at_cat_high}
-use Rattle.machine_desc.specs.declared.steps.Step.TheVariants.{Back, Stay, Ahead}
-use Rattle.machine_desc.specs.Live.{stepped}
+use Rattle.std.proofs.{Math.Nat.add-zero, Math.Nat.mod-eq_of_lt, Math.Nat.mod_self, Math.Nat.add-mod_right, lemmas.Bool.lt-ltb, lemmas.Bool.le-ltb, lemmas.Bool.eq-eqb, lemmas.Bool.ne_eqb}
+use Rattle.std.proofs.lemmas.{Bool.cases_lt, Bool.cases_eq, Bool.cond-true, Bool.cond-false, Nat.div-add-mod', Nat.pow_pos, Nat.Bits.bit_at_and, Nat.Bits.bit_at_or, Nat.Bits.bit_at-suc}
+use Rattle.std.proofs.lemmas.Nat.Bits.{bit_at-zero, bit_at-lt, bit_at_lowest, bit_at_ones, bit_at_ones_above, bit_at_above, bit_at_cat_low, bit_at_cat_high}
+use Rattle.machine_desc.specs.{declared.steps.Step.TheVariants.Back, declared.steps.Step.TheVariants.Stay, declared.steps.Step.TheVariants.Ahead, Live.stepped}
 
 max_zero : (a b p : ℕ) → a ≡ p → b ≡ 0 → max a b ≡ p
 max_zero a b p h k = omega (arith, h, k)
@@ -95,39 +92,14 @@ down_round word rest =
 -- where a step ahead leads
 pub ahead_cases : (wrap : Bool) (places n k : ℕ) → n < places → stepped wrap places Ahead n ≡ Some k →
     ((n + 1 < places) × (k ≡ n + 1)) ⊎ ((n + 1 ≡ places) × (k ≡ 0))
-ahead_cases true places n k within leads = elim (cases_lt (n + 1) places) [
-  | inl more ↦ let is : (n + 1) % places ≡ k = cc in inl (more, sym is ∙ mod-eq_of_lt more)
-  | inr last ↦
-      let at : n + 1 ≡ places = omega (arith, last, within) in
-      let is : (n + 1) % places ≡ k = cc in inr (at, sym is ∙ (ap (λ j. j % places) at ∙ mod_self places))
-]
-ahead_cases false places n k within leads = elim (cases_lt (n + 1) places) [
-  | inl more ↦
-      let same : Some (n + 1) ≡ Some k = sym (cond-true (ltb (n + 1) places) (Some (n + 1)) None (lt-ltb _ _ more)) ∙ leads in
-      let is : n + 1 ≡ k = cc in inl (more, sym is)
-  | inr last ↦ let none : None ≡ Some k = sym (cond-false (ltb (n + 1) places) (Some (n + 1)) None (le-ltb _ _ last)) ∙ leads in cc
-]
+ahead_cases true places n k within leads = grind (arith, cases_lt (n + 1) places, mod_self places, mod-eq_of_lt)
+ahead_cases false places n k within leads = grind (arith, cases_lt (n + 1) places, cond-true, lt-ltb, cond-false, le-ltb)
 
 -- and a step back
 pub back_cases : (wrap : Bool) (places n k : ℕ) → n < places → stepped wrap places Back n ≡ Some k →
     ((0 < n) × (k ≡ n - 1)) ⊎ ((n ≡ 0) × (k ≡ places - 1))
-back_cases true places n k within leads = elim (cases_eq n 0) [
-  | inl first ↦
-      let is : (n + (places - 1)) % places ≡ k = cc in
-      let low : n + (places - 1) < places = omega (arith, first, within) in
-      inr (first, sym is ∙ (mod-eq_of_lt low ∙ omega (arith, first)))
-  | inr other ↦
-      let is : (n + (places - 1)) % places ≡ k = cc in
-      let sum : n + (places - 1) ≡ (n - 1) + places = omega (arith, other, within) in
-      let low : n - 1 < places = omega (arith, within) in
-      inl (omega (arith, other), sym is ∙ (ap (λ j. j % places) sum ∙ (add-mod_right (n - 1) places ∙ mod-eq_of_lt low)))
-]
-back_cases false places n k within leads = elim (cases_eq n 0) [
-  | inl first ↦ let none : None ≡ Some k = sym (cond-true (eqb n 0) None (Some (n - 1)) (eq-eqb _ _ first)) ∙ leads in cc
-  | inr other ↦
-      let same : Some (n - 1) ≡ Some k = sym (cond-false (eqb n 0) None (Some (n - 1)) (ne_eqb _ _ other)) ∙ leads in
-      let is : n - 1 ≡ k = cc in inl (omega (arith, other), sym is)
-]
+back_cases true places n k within leads = grind (arith, cases_eq n 0, add-mod_right (n - 1) places, mod-eq_of_lt)
+back_cases false places n k within leads = grind (arith, cases_eq n 0, cond-true, eq-eqb, cond-false, ne_eqb)
 
 pub stay_is : (wrap : Bool) (places n k : ℕ) → stepped wrap places Stay n ≡ Some k → n ≡ k
 stay_is true places n k leads = cc
@@ -137,18 +109,12 @@ stay_is false places n k leads = cc
 pub turned_ahead : (word result places : ℕ) → ((y : ℕ) → y + 1 < places → bit_at result y ≡ bit_at word (y + 1)) →
     ((y : ℕ) → y + 1 ≡ places → bit_at result y ≡ bit_at word 0) → (wrap : Bool) (y k : ℕ) → y < places →
     stepped wrap places Ahead y ≡ Some k → bit_at result y ≡ bit_at word k
-turned_ahead word result places inside round wrap y k within leads = elim (ahead_cases wrap places y k within leads) [
-  | inl more ↦ inside y more.0 ∙ ap (λ n. bit_at word n) (sym more.1)
-  | inr last ↦ round y last.0 ∙ ap (λ n. bit_at word n) (sym last.1)
-]
+turned_ahead word result places inside round wrap y k within leads = grind (arith, ahead_cases wrap places y k within leads)
 
 pub turned_back : (word result places : ℕ) → ((y : ℕ) → 0 < y → y < places → bit_at result y ≡ bit_at word (y - 1)) →
     bit_at result 0 ≡ bit_at word (places - 1) → (wrap : Bool) (y k : ℕ) → y < places →
     stepped wrap places Back y ≡ Some k → bit_at result y ≡ bit_at word k
-turned_back word result places inside round wrap y k within leads = elim (back_cases wrap places y k within leads) [
-  | inl more ↦ inside y more.0 within ∙ ap (λ n. bit_at word n) (sym more.1)
-  | inr first ↦ ap (λ n. bit_at result n) first.0 ∙ (round ∙ ap (λ n. bit_at word n) (sym first.1))
-]
+turned_back word result places inside round wrap y k within leads = grind (arith, back_cases wrap places y k within leads)
 
 pub turned_stay : (word places : ℕ) (wrap : Bool) (y k : ℕ) → stepped wrap places Stay y ≡ Some k → bit_at word y ≡ bit_at word k
 turned_stay word places wrap y k leads = ap (λ n. bit_at word n) (stay_is wrap places y k leads)

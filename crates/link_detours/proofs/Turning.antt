@@ -1,33 +1,20 @@
 -- Edges from their other ends, and which of them a search from the targets reaches.
-use Rattle.std.proofs.Common.{◌≡◌, ℕ, Bool, true, List, get_or, Option, Some, None, refl, sym, ap, ◌∙◌, subst, ◌↔◌}
-use Rattle.std.specs.List.{Contains, All, filter, filter_map}
-use Rattle.std.specs.Option.{option_map}
+use Rattle.std.proofs.Common.{arith, ◌≡◌, ℕ, Bool, true, List, get_or, Option, Some, None, refl, sym, ap, ◌∙◌, subst, ◌↔◌}
+use Rattle.std.specs.{List.Contains, List.All, List.filter, List.filter_map, Option.option_map}
 use Rattle.std.proofs.lemmas.List.Elements.{All-contains, Contains-get_or}
-use Rattle.spin_base.specs.declared.chips.Chip.{Chip}
-use Rattle.spin_base.specs.declared.chips.Dir.{Dir}
-use Rattle.spin_base.specs.Links.{opposite_of}
-use Rattle.machine_desc.specs.declared.trees.Edge.{Edge}
-use Rattle.machine_desc.specs.Description.{Description}
-use Rattle.machine_desc.specs.Live.{far_of, IsInside}
-use Rattle.machine_desc.specs.RoutingTree.{end_of}
-use Rattle.machine_desc.proofs.Far.{far_inside, far_back, opposite_of-opposite}
-use Rattle.machine_desc.proofs.Same.{same_edge}
+use Rattle.spin_base.specs.{declared.chips.Chip.Chip, declared.chips.Dir.Dir, Links.opposite_of}
+use Rattle.machine_desc.specs.{declared.trees.Edge.Edge, Description.Description, Live.far_of, Live.IsInside, RoutingTree.end_of, Flags.is_flagged}
+use Rattle.machine_desc.proofs.{Far.far_inside, Far.far_back, Far.opposite_of-opposite, Same.same_edge}
 use Rattle.spin_base.proofs.Members.{Contains-from_filter, Contains-filter, Contains-from_filter_map, Contains-filter_map}
-use Rattle.link_detours.specs.Steps.{IsReachedBy}
-use Rattle.machine_desc.specs.Flags.{is_flagged}
-use Rattle.link_detours.specs.Usable.{FlaggedStep, is_marked, other_end_of}
-use Rattle.link_detours.specs.Repair.{EdgeStep, LeadsToTarget}
-use Rattle.link_detours.proofs.Reaching.{flagged_edges, edges_flagged}
-use Rattle.link_detours.proofs.Stepping.{Steps-map, Steps-turn}
+use Rattle.link_detours.specs.{Steps.IsReachedBy, Usable.FlaggedStep, Usable.is_marked, Usable.other_end_of, Repair.EdgeStep, Repair.LeadsToTarget}
+use Rattle.link_detours.proofs.{Reaching.flagged_edges, Reaching.edges_flagged, Stepping.Steps-map, Stepping.Steps-turn}
 
 -- a turned edge leads back
 turned_parts : (m : Description) (e f : Edge) (o : Option Chip) → far_of m e.chip e.dir ≡ o →
     option_map (λ (c : Chip). let g : Edge = record { chip = c; dir = opposite_of e.dir } in g) o ≡ Some f →
     (far_of m e.chip e.dir ≡ Some f.chip) × (f.dir ≡ opposite_of e.dir)
 turned_parts m e f None leads is = cc
-turned_parts m e f (Some c) leads is =
-    let same : record { chip = c; dir = opposite_of e.dir } ≡ f = cc in
-    (leads ∙ ap (λ (g : Edge). Some g.chip) same, ap (λ (g : Edge). g.dir) (sym same))
+turned_parts m e f (Some c) leads is = grind arith
 
 pub turned_leads : (m : Description) (e f : Edge) → other_end_of m e ≡ Some f → (far_of m e.chip e.dir ≡ Some f.chip) × (f.dir ≡ opposite_of e.dir)
 turned_leads m e f is = turned_parts m e f (far_of m e.chip e.dir) refl is

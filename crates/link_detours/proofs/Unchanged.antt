@@ -1,32 +1,16 @@
 -- A tree over live parts alone is repaired by itself.
 use Rattle.std.proofs.Common.{◌≡◌, ℕ, zero, suc, ◌<◌, ◌≤◌, List, [], ◌∷◌, length, Some, refl, sym, ap, ◌∙◌, subst, arith, inl, inr, ◌↔◌}
 use Rattle.std.specs.List.{Contains, All}
-use Rattle.std.proofs.lemmas.List.{append-nil}
-use Rattle.std.proofs.lemmas.List.Elements.{All-contains}
-use Rattle.std.proofs.lemmas.Option.{get_or_from_slice_get, slice_get_within}
-use Rattle.spin_base.specs.declared.chips.Chip.{Chip}
-use Rattle.spin_base.specs.declared.chips.Spot.{Spot}
-use Rattle.spin_base.specs.declared.chips.Dir.{Dir}
-use Rattle.spin_base.specs.Outputs.{out_of}
-use Rattle.spin_base.specs.declared.routes.Out.{Out}
-use Rattle.spin_base.specs.declared.routes.Out.TheVariants.{Link, Core}
-use Rattle.machine_desc.specs.declared.trees.Edge.{Edge}
-use Rattle.machine_desc.specs.Description.{Description}
-use Rattle.machine_desc.specs.Live.{far_of, IsLiveLink, LeadsTo}
-use Rattle.machine_desc.specs.RoutingTree.{end_of, IsTreeChip, IsPath, IsTreeTo}
-use Rattle.machine_desc.specs.Branch.{Exit, GoesOn, IsWay}
-use Rattle.machine_desc.proofs.Branches.{exit_of, edge_on_branch}
-use Rattle.link_detours.specs.Steps.{Steps}
-use Rattle.machine_desc.specs.Flags.{link_place}
-use Rattle.link_detours.specs.declared.repairs.RepairErr.{RepairErr}
-use Rattle.link_detours.specs.declared.repairs.RepairErr.TheVariants.{CutOff, Memory}
-use Rattle.link_detours.specs.Cause.{IsRepairCause}
+use Rattle.std.proofs.lemmas.{List.append-nil, List.Elements.All-contains, Option.get_or_from_slice_get, Option.slice_get_within}
+use Rattle.spin_base.specs.{declared.chips.Chip.Chip, declared.chips.Spot.Spot, declared.chips.Dir.Dir, Outputs.out_of, declared.routes.Out.Out, declared.routes.Out.TheVariants.Link}
+use Rattle.spin_base.specs.declared.routes.Out.TheVariants.{Core}
+use Rattle.machine_desc.specs.{declared.trees.Edge.Edge, Description.Description, Live.far_of, Live.IsLiveLink, Live.LeadsTo, RoutingTree.end_of, RoutingTree.IsTreeChip, RoutingTree.IsPath}
+use Rattle.machine_desc.specs.{RoutingTree.IsTreeTo, Branch.Exit, Branch.GoesOn, Branch.IsWay, Flags.link_place}
+use Rattle.machine_desc.proofs.{Branches.exit_of, Branches.edge_on_branch, TreeLemmas.tree_end, TreeLemmas.tree_cases}
+use Rattle.link_detours.specs.{Steps.Steps, declared.repairs.RepairErr.RepairErr, declared.repairs.RepairErr.TheVariants.CutOff, declared.repairs.RepairErr.TheVariants.Memory, Cause.IsRepairCause}
 use Rattle.link_detours.specs.Repair.{EdgeStep, LiveEdgeStep, Joins, LeadsToTarget, AreInPlaceOrder, IsRepaired}
-use Rattle.link_detours.proofs.Stepping.{Steps-map, Steps-cons}
-use Rattle.spin_base.proofs.Ascending.{same_in_order}
-use Rattle.spin_base.proofs.Members.{Contains-later}
-use Rattle.link_detours.proofs.Walks.{steps_walk}
-use Rattle.machine_desc.proofs.TreeLemmas.{tree_end, tree_cases}
+use Rattle.link_detours.proofs.{Stepping.Steps-map, Stepping.Steps-cons, Walks.steps_walk}
+use Rattle.spin_base.proofs.{Ascending.same_in_order, Members.Contains-later}
 
 -- a path over live edges is as many steps
 path_steps : (m : Description) (edges : List Edge) → All (λ e. IsLiveLink m e.chip e.dir) edges → (from to : Chip) (path : List Edge) →

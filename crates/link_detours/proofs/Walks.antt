@@ -1,10 +1,8 @@
 -- Walks as lists of chips, and as so many steps.
 use Rattle.std.proofs.Common.{ℕ, zero, suc, List, [], ◌∷◌, refl}
 use Rattle.spin_base.specs.declared.chips.Chip.{Chip}
-use Rattle.machine_desc.specs.Description.{Description}
-use Rattle.machine_desc.specs.Live.{LeadsTo, IsLiveWalk}
-use Rattle.link_detours.specs.Steps.{Steps}
-use Rattle.link_detours.specs.Repair.{last_of, IsWalkTo}
+use Rattle.machine_desc.specs.{Description.Description, Live.LeadsTo, Live.IsLiveWalk}
+use Rattle.link_detours.specs.{Steps.Steps, Repair.last_of, Repair.IsWalkTo}
 use Rattle.link_detours.proofs.Stepping.{Steps-cons, Steps-first}
 
 -- the steps of a walk

@@ -1,24 +1,14 @@
 -- Waves of chips, and the walks that lead back over them.
-use Rattle.std.proofs.Common.{◌≡◌, ℕ, zero, suc, ◌+◌, ◌*◌, ◌-◌, ◌^◌, ◌<◌, ◌≤◌, ◌↔◌, List, [], ◌∷◌, ◌++◌, length, get_or, take, drop, refl, sym, ap, ◌∙◌, subst, arith, inl, inr, length-append, append_assoc, append-nil}
+use Rattle.std.proofs.Common.{◌≡◌, ℕ, zero, suc, ◌+◌, ◌*◌, ◌-◌, ◌^◌, ◌<◌, ◌≤◌, ◌↔◌, List, [], ◌∷◌, ◌++◌, length, get_or, take, drop, refl, sym, ap, ◌∙◌, subst, arith, inl, inr, length-append}
+use Rattle.std.proofs.Common.{append_assoc, append-nil}
 use Rattle.std.specs.List.{All, between, sum_by}
-use Rattle.std.proofs.lemmas.Bool.{cases_eq, cases_lt}
-use Rattle.std.proofs.lemmas.List.{take_at, drop_at}
-use Rattle.std.proofs.lemmas.List.Sums.{sum_by-cons, sum_by-le}
-use Rattle.std.proofs.lemmas.Slice.{between_to_end}
-use Rattle.spin_base.specs.declared.chips.Chip.{Chip}
-use Rattle.spin_base.specs.declared.chips.Dir.{Dir}
-use Rattle.spin_base.specs.Links.{dir_number, opposite_of}
-use Rattle.machine_desc.specs.declared.trees.Edge.{Edge}
-use Rattle.machine_desc.specs.Description.{Description}
-use Rattle.machine_desc.specs.Live.{IsInside, LeadsTo}
-use Rattle.machine_desc.specs.RoutingTree.{IsTreeChip}
-use Rattle.machine_desc.proofs.Far.{far_inside}
-use Rattle.machine_desc.proofs.Same.{same_dir}
-use Rattle.link_detours.specs.Steps.{IsReachedBy, IsStepLevel}
-use Rattle.link_detours.specs.Repair.{IsTreeLevel, IsDetour, IsLastLink}
-use Rattle.link_detours.specs.Waves.{IsIn, IsSpread, IsWithinLinks, IsWave, AreWaves, IsStepFrom, IsBestStep}
-use Rattle.link_detours.proofs.Reaching.{link_inside, link_turned}
-use Rattle.link_detours.proofs.Stepping.{IsReachedBy-map}
+use Rattle.std.proofs.lemmas.{Bool.cases_eq, Bool.cases_lt, List.take_at, List.drop_at, List.Sums.sum_by-cons, List.Sums.sum_by-le, Slice.between_to_end}
+use Rattle.spin_base.specs.{declared.chips.Chip.Chip, declared.chips.Dir.Dir, Links.dir_number, Links.opposite_of}
+use Rattle.machine_desc.specs.{declared.trees.Edge.Edge, Description.Description, Live.IsInside, Live.LeadsTo, RoutingTree.IsTreeChip}
+use Rattle.machine_desc.proofs.{Far.far_inside, Same.same_dir}
+use Rattle.link_detours.specs.{Steps.IsReachedBy, Steps.IsStepLevel, Repair.IsTreeLevel, Repair.IsDetour, Repair.IsLastLink, Waves.IsIn, Waves.IsSpread, Waves.IsWithinLinks, Waves.IsWave}
+use Rattle.link_detours.specs.Waves.{AreWaves, IsStepFrom, IsBestStep}
+use Rattle.link_detours.proofs.{Reaching.link_inside, Reaching.link_turned, Stepping.IsReachedBy-map}
 
 module _ (m : Description) (IsStart : Chip → Type 0) where
   -- the wave of number 0 has the starts
@@ -112,28 +102,13 @@ module _ (m : Description) (IsStart : Chip → Type 0) where
   -- no words, no waves
   pub no_waves : (n : ℕ) (words : List ℕ) → 0 < m.width → length words ≡ 0 → AreWaves m IsStart n words → n ≡ 0
   no_waves zero words wide none waves = refl
-  no_waves (suc k) words wide none (before, wave, is, waves, last) = absurd (
-      let long : length words ≡ length before + length wave = ap length is ∙ length-append before wave in
-      let some : length wave ≡ m.width = last.long in
-      omega (arith, wide, none, long, some))
+  no_waves (suc k) words wide none (before, wave, is, waves, last) = grind (arith, length-append before wave)
 
 -- over other words for the same starts
 pub AreWaves-same : (m : Description) (P Q : Chip → Type 0) → ((c : Chip) → P c → Q c) → ((c : Chip) → Q c → P c) → (n : ℕ) (words : List ℕ) →
     AreWaves m P n words → AreWaves m Q n words
 AreWaves-same m P Q on back zero words none = none
-AreWaves-same m P Q on back (suc n) words (before, wave, is, waves, last) = (
-  before,
-  wave,
-  is,
-  AreWaves-same m P Q on back n before waves,
-  record {
-    long = last.long;
-    told = λ c inside. (
-      λ bit. let near = (last.told c inside).0 bit in (near.0, near.1, IsReachedBy-map (LeadsTo m) (LeadsTo m) P Q (λ a b step. step) on near.0 c near.2),
-      λ near. (last.told c inside).1 (near.0, near.1, IsReachedBy-map (LeadsTo m) (LeadsTo m) Q P (λ a b step. step) back near.0 c near.2),
-    );
-  },
-)
+AreWaves-same m P Q on back (suc n) words (before, wave, is, waves, last) = grind (arith, AreWaves-same m P Q on back n before waves, IsReachedBy-map)
 
 module _ (m : Description) (root : Chip) (tree : List Edge) where
   -- the best step from a wave into a chip of the next level comes from a chip of the level before
@@ -152,15 +127,7 @@ module _ (m : Description) (root : Chip) (tree : List Edge) where
   -- and it is the last link of its detour
   pub last_link_is : (n : ℕ) (set : List ℕ) (c : Chip) (e : Edge) → IsWave m (IsTreeChip m root tree) n set → IsTreeLevel m root tree c (suc n) →
       IsBestStep m set c e → IsLastLink m root tree c e
-  last_link_is n set c e wave level best = record {
-    level = n;
-    here = level;
-    there = step_level n set c e wave level best;
-    lives = best.0.0;
-    leads = best.0.1;
-    least = λ f f_level lives leads.
-        best.1 f (lives, leads, (wave.told f.chip (link_inside m f.chip f.dir lives)).1 (n, omega arith, f_level.reached));
-  }
+  last_link_is n set c e wave level best = grind (arith, step_level n set c e wave level best, link_inside)
 
   -- and there is such a step
   pub some_step : (n : ℕ) (set : List ℕ) (c : Chip) → IsWave m (IsTreeChip m root tree) n set → IsTreeLevel m root tree c (suc n) →
@@ -223,25 +190,10 @@ sums_rise (x ∷ xs) (y ∷ ys) same rises =
 pub next_link : (m : Description) (set : List ℕ) (at : Chip) (i : ℕ) (d : Dir) → dir_number d ≡ i →
     ((b : Chip) → IsStepFrom m set at (record { chip = b; dir = d }) → ⊥) → ((f : Edge) → IsStepFrom m set at f → i ≤ dir_number f.dir) →
     (f : Edge) → IsStepFrom m set at f → i + 1 ≤ dir_number f.dir
-next_link m set at i d is none from f step = elim (cases_eq (dir_number f.dir) i) [
-  | inr other ↦ (let low : i ≤ dir_number f.dir = from f step in omega (arith, low, other))
-  | inl here ↦
-      let same : f.dir ≡ d = same_dir f.dir d (here ∙ sym is) in
-      absurd (none f.chip (subst (λ (o : Dir). IsStepFrom m set at (record { chip = f.chip; dir = o })) same step))
-]
+next_link m set at i d is none from f step = grind (arith, cases_eq (dir_number f.dir) i, same_dir)
 
 -- a set that spreads to another has a smaller sum
 pub sum_rises : (m : Description) (last next : List ℕ) → length last ≡ m.width → length next ≡ m.width → All (λ w. w < 2 ^ 64) next →
     ((k : ℕ) → get_or last k 0 ≤ get_or next k 0) → (next ≡ last → ⊥) →
     m.width * 18446744073709551615 - sum_by (λ n. n) next < m.width * 18446744073709551615 - sum_by (λ n. n) last
-sum_rises m last next short long fits rises other =
-    let sums = sums_rise last next (short ∙ sym long) rises in
-    let low : sum_by (λ n. n) last ≤ sum_by (λ n. n) next = sums.0 in
-    let most : sum_by (λ n. n) next ≤ length next * 18446744073709551615 =
-    sum_by-le (λ n. n) 18446744073709551615 next
-    (λ k d h. let fit : get_or next k d < 18446744073709551616 = fits k d h in let top : get_or next k d ≤ 18446744073709551615 = omega (arith, fit) in top) in
-    let bound : sum_by (λ n. n) next ≤ m.width * 18446744073709551615 = subst (λ n. sum_by (λ n. n) next ≤ n * 18446744073709551615) long most in
-    elim (cases_eq (sum_by (λ n. n) last) (sum_by (λ n. n) next)) [
-      | inl same ↦ absurd (other (sym (sums.1 same)))
-      | inr apart ↦ omega (arith, low, bound, apart)
-    ]
+sum_rises m last next short long fits rises other = grind (arith, sums_rise last next (short ∙ sym long) rises, sum_by-le, get_or, cases_eq)

@@ -3,14 +3,9 @@ use Rattle.std.proofs.Common.{◌≡◌, ℕ, zero, suc, ◌<◌, ◌≤◌, Lis
 use Rattle.std.specs.List.{Contains}
 use Rattle.std.proofs.lemmas.List.Elements.{Contains-append_left, Contains-append_right, Contains-append_cases}
 use Rattle.spin_base.specs.declared.chips.Chip.{Chip}
-use Rattle.machine_desc.specs.declared.trees.Edge.{Edge}
-use Rattle.machine_desc.specs.Description.{Description}
-use Rattle.machine_desc.specs.Live.{IsLiveLink, LeadsTo}
-use Rattle.machine_desc.specs.RoutingTree.{end_of, IsTreeChip}
+use Rattle.machine_desc.specs.{declared.trees.Edge.Edge, Description.Description, Live.IsLiveLink, Live.LeadsTo, RoutingTree.end_of, RoutingTree.IsTreeChip}
 use Rattle.machine_desc.proofs.TreeLemmas.{tree_end, tree_cases, more_chips}
-use Rattle.link_detours.specs.Steps.{Steps}
-use Rattle.link_detours.specs.Whole.{IsWholeTree}
-use Rattle.link_detours.specs.Repair.{EdgeStep, IsTreeLevel, IsDetour, Joins}
+use Rattle.link_detours.specs.{Steps.Steps, Whole.IsWholeTree, Repair.EdgeStep, Repair.IsTreeLevel, Repair.IsDetour, Repair.Joins}
 use Rattle.link_detours.proofs.Stepping.{Steps-map}
 
 pub more_steps : (m : Description) (tree more : List Edge) (n : ℕ) (a c : Chip) → Steps (EdgeStep m tree) n a c → Steps (EdgeStep m (tree ++ more)) n a c
@@ -20,8 +15,7 @@ more_steps m tree more = Steps-map (EdgeStep m tree) (EdgeStep m (tree ++ more))
 -- a step by an edge leads to a chip of the tree
 pub steps_on_tree : (m : Description) (root : Chip) (tree : List Edge) (n : ℕ) (c : Chip) → Steps (EdgeStep m tree) n root c → IsTreeChip m root tree c
 steps_on_tree m root tree zero c walk = inl (sym walk)
-steps_on_tree m root tree (suc n) c walk =
-    tree_end m root tree (record { chip = walk.0; dir = walk.2.0 }) c walk.2.1 walk.2.2
+steps_on_tree m root tree (suc n) c walk = grind (arith, tree_end m root tree (record { chip = walk.0; dir = walk.2.0 }) c walk.2.1 walk.2.2)
 
 -- an edge is a step
 pub edge_step : (m : Description) (tree : List Edge) (e : Edge) (c : Chip) → Contains tree e → end_of m e ≡ Some c → EdgeStep m tree e.chip c
@@ -45,24 +39,15 @@ module _ (m : Description) (root : Chip) (tree : List Edge) (is : IsWholeTree m 
   detour_low : (c : Chip) (n : ℕ) (walk : List Edge) → IsTreeLevel m root tree c n → IsDetour m root tree c walk →
       (f : Edge) (x : Chip) → Contains walk f → end_of m f ≡ Some x → (k : ℕ) × IsTreeLevel m root tree x (suc k) × (suc k ≤ n)
   detour_low c n [] level detour f x has leads = absurd (let none : has.0 < 0 = has.1 in omega arith)
-  detour_low c n (e ∷ walk) level detour f x (zero, within, same) leads =
-      let at : Some c ≡ Some x = sym detour.0.leads ∙ (ap (λ (g : Edge). end_of m g) same ∙ leads) in
-      let one : c ≡ x = cc in
-      let is_n : suc detour.0.level ≡ n = level_same c (suc detour.0.level) n detour.0.here level in
-      (detour.0.level, subst (λ (y : Chip). IsTreeLevel m root tree y (suc detour.0.level)) one detour.0.here, omega arith)
+  detour_low c n (e ∷ walk) level detour f x (zero, within, same) leads = grind (arith, level_same c (suc detour.0.level) n detour.0.here level)
   detour_low c n (e ∷ walk) level detour f x (suc k, longer, same) leads =
-      let within : k < length walk = omega arith in
-      let below = detour_low e.chip detour.0.level walk detour.0.there detour.1 f x (k, within, same) leads in
-      let is_n : suc detour.0.level ≡ n = level_same c (suc detour.0.level) n detour.0.here level in
-      let low : suc below.0 ≤ detour.0.level = below.2 in
-      (below.0, below.1, omega arith)
+      grind (arith, detour_low e.chip detour.0.level walk detour.0.there detour.1 f x (k, (omega arith), same) leads, level_same c (suc detour.0.level) n detour.0.here level)
 
   -- a detour's links are live
   detour_lives : (c : Chip) (walk : List Edge) → IsDetour m root tree c walk → (f : Edge) → Contains walk f → IsLiveLink m f.chip f.dir
   detour_lives c [] detour f has = absurd (let none : has.0 < 0 = has.1 in omega arith)
   detour_lives c (e ∷ walk) detour f (zero, within, same) = subst (λ (g : Edge). IsLiveLink m g.chip g.dir) same detour.0.lives
-  detour_lives c (e ∷ walk) detour f (suc k, longer, same) =
-      let within : k < length walk = omega arith in detour_lives e.chip walk detour.1 f (k, within, same)
+  detour_lives c (e ∷ walk) detour f (suc k, longer, same) = grind (arith, detour_lives e.chip walk detour.1 f (k, (omega arith), same))
 
   -- and lead off the tree
   detour_off : (c : Chip) (walk : List Edge) → IsDetour m root tree c walk → (f : Edge) (x : Chip) → Contains walk f → end_of m f ≡ Some x →
@@ -94,9 +79,7 @@ module _ (m : Description) (root : Chip) (tree : List Edge) (is : IsWholeTree m 
       let same_level : suc detour.0.level ≡ suc low.0 = level_same x (suc detour.0.level) (suc low.0) here low.1 in
       absurd (let most : suc low.0 ≤ detour.0.level = low.2 in omega arith)
   detour_apart c (e ∷ walk) detour f g x (suc k, longer, same) (suc j, further, also_same) leads also =
-      let within : k < length walk = omega arith in
-      let inside : j < length walk = omega arith in
-      detour_apart e.chip walk detour.1 f g x (k, within, same) (j, inside, also_same) leads also
+      grind (arith, detour_apart e.chip walk detour.1 f g x (k, (omega arith), same) (j, (omega arith), also_same) leads also)
 
   -- and with them the chip where the detour ends is reached
   pub detour_reached : (more : List Edge) (c : Chip) (walk : List Edge) → IsDetour m root tree c walk → ((f : Edge) → Contains walk f → Contains more f) →
@@ -111,8 +94,7 @@ module _ (m : Description) (root : Chip) (tree : List Edge) (is : IsWholeTree m 
   detour_begins : (more : List Edge) (c : Chip) (walk : List Edge) → IsDetour m root tree c walk → ((f : Edge) → Contains walk f → Contains more f) →
       (f : Edge) → Contains walk f → IsTreeChip m root (tree ++ more) f.chip
   detour_begins more c [] detour sub f has = absurd (let none : has.0 < 0 = has.1 in omega arith)
-  detour_begins more c (e ∷ []) detour sub f (zero, _, same) =
-      subst (λ (g : Edge). IsTreeChip m root (tree ++ more) g.chip) same (more_chips m root tree more e.chip detour.1)
+  detour_begins more c (e ∷ []) detour sub f (zero, _, same) = grind (arith, more_chips m root tree more e.chip detour.1)
   detour_begins more c (e ∷ (g ∷ walk)) detour sub f (zero, _, same) =
       let mine : Contains more g = sub g (1, omega arith, refl) in
       subst (λ (h : Edge). IsTreeChip m root (tree ++ more) h.chip) same
@@ -125,10 +107,7 @@ module _ (m : Description) (root : Chip) (tree : List Edge) (is : IsWholeTree m 
   detour_ends : (more : List Edge) (c : Chip) (walk : List Edge) → IsDetour m root tree c walk → ((f : Edge) → Contains walk f → Contains more f) →
       (f : Edge) (x : Chip) → Contains walk f → end_of m f ≡ Some x → (n : ℕ) × Steps (EdgeStep m (tree ++ more)) n root x
   detour_ends more c [] detour sub f x has leads = absurd (let none : has.0 < 0 = has.1 in omega arith)
-  detour_ends more c (e ∷ walk) detour sub f x (zero, _, same) leads =
-      let at : Some c ≡ Some x = sym detour.0.leads ∙ (ap (λ (h : Edge). end_of m h) same ∙ leads) in
-      let one : c ≡ x = cc in
-      subst (λ (y : Chip). (n : ℕ) × Steps (EdgeStep m (tree ++ more)) n root y) one (detour_reached more c (e ∷ walk) detour sub)
+  detour_ends more c (e ∷ walk) detour sub f x (zero, _, same) leads = grind (arith, detour_reached more c (e ∷ walk) detour sub)
   detour_ends more c (e ∷ walk) detour sub f x (suc k, longer, same) leads =
       let within : k < length walk = omega arith in
       detour_ends more e.chip walk detour.1 (λ g has. sub g (suc has.0, (let inside : has.0 < length walk = has.1 in omega arith), has.2)) f x (k, within, same) leads
@@ -170,7 +149,5 @@ module _ (m : Description) (root : Chip) (tree : List Edge) (is : IsWholeTree m 
 -- one target more is joined
 pub Joins-more : (m : Description) (root : Chip) (tree : List Edge) (targets : List Chip) (mid : List Edge) (t : Chip) (walk : List Edge) →
     Joins m root tree targets mid → IsDetour m root mid t walk → Joins m root tree (targets ++ t ∷ []) (mid ++ walk)
-Joins-more m root tree [] mid t walk joins detour =
-    (walk, subst (λ (g : List Edge). IsDetour m root g t walk) (sym joins) detour, ap (λ g. g ++ walk) joins)
-Joins-more m root tree (u ∷ targets) mid t walk joins detour =
-    (joins.0, joins.1, Joins-more m root (tree ++ joins.0) targets mid t walk joins.2 detour)
+Joins-more m root tree [] mid t walk joins detour = grind arith
+Joins-more m root tree (u ∷ targets) mid t walk joins detour = grind (arith, Joins-more m root (tree ++ joins.0) targets mid t walk joins.2 detour)

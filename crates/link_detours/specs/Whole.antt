@@ -12,12 +12,6 @@ pub record IsWholeTree (m : Description) (root : Chip) (tree : List Edge) : Type
   pub begins : (e : Edge) → Contains tree e → IsTreeChip m root tree e.chip
   pub one_into : (e f : Edge) (c : Chip) → Contains tree e → Contains tree f → end_of m e ≡ Some c → end_of m f ≡ Some c → e ≡ f
 
--- targets on the machine, one at least, all of them in the tree
-pub record HasTargets (m : Description) (root : Chip) (tree : List Edge) (targets : List Chip) : Type 0 where
-  pub some_target : 0 < length targets
-  pub inside : All (IsInside m) targets
-  pub on_tree : All (IsTreeChip m root tree) targets
-
 -- a target stands at the chip, or an edge begins there
 abbrev pub GoesOnFrom : List Edge → List Chip → Chip → Type 0
 GoesOnFrom edges targets c = Any (λ e. e.chip ≡ c) edges ⊎ Contains targets c

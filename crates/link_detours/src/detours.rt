@@ -9,7 +9,7 @@ ghost use Rattle.link_detours.specs.Waves.{IsIn, IsSetOfTree, AreWaves, IsStepFr
 ghost use Rattle.spin_base.specs.declared.chips.Chip.{Chip};
 ghost use Rattle.machine_desc.specs.declared.trees.Edge.{Edge};
 
-use crate::grounds::{Edges, Flagged, Front, Ground, Ring};
+use crate::grounds::{Aim, Edges, Flagged, Front, FrontAt, Ring, Search};
 use crate::searches::reached_chips;
 use crate::sets::{has, near_columns, put, spread};
 use crate::tables::link_table;
@@ -31,21 +31,28 @@ pub(crate) fn tree_reach(alloc: Global, root: Chip, links: Edges) -> Result<Vec<
         machine: links.machine,
         flags: &table,
     };
-    let reach = reached_chips(alloc, flagged, &[root])?;
+    let seeds = [root];
+    let search = Search {
+        table: flagged,
+        seeds: &seeds,
+    };
+    let reach = reached_chips(alloc, search)?;
     Ok(reach)
 }
 
 // The waves from the chips of a tree, one behind the other, up to the last without the target: there are as many as live
 // links lead to it. `None` exactly where no walk of live links leads to it.
-fn waves(alloc: Global, tree: Front, target: Chip) -> Result<Option<Vec<u64>>, Memory>
-    requires { IsInside tree.ground.machine.now target }
+fn waves(alloc: Global, target: FrontAt) -> Result<Option<Vec<u64>>, Memory>
     ensures waves { IfOk result (λ o. IfSome o (λ v. (n : ℕ)
-        × AreWaves tree.entry.ground.machine.now (IsIn tree.entry.set.now) n v.items
-        × IsStepLevel (LeadsTo tree.entry.ground.machine.now) (IsIn tree.entry.set.now) target n)) }
+        × AreWaves target.entry.front.ground.machine.now (IsIn target.entry.front.set.now) n v.items
+        × IsStepLevel (LeadsTo target.entry.front.ground.machine.now)
+        (IsIn target.entry.front.set.now) target.entry.chip n)) }
     ensures cut_off { IfOk result (λ o. IfNone o ((n : ℕ)
-        → IsReachedBy (LeadsTo tree.entry.ground.machine.now) (IsIn tree.entry.set.now) n target
+        → IsReachedBy (LeadsTo target.entry.front.ground.machine.now)
+        (IsIn target.entry.front.set.now) n target.entry.chip
         → ⊥)) }
 {
+    let tree = target.front;
     let ground = tree.ground;
     let columns = Ring {
         size: ground.machine.width(),
@@ -55,7 +62,7 @@ fn waves(alloc: Global, tree: Front, target: Chip) -> Result<Option<Vec<u64>>, M
     let mut waves = Vec::with_capacity(alloc, tree.set.len() * ground.machine.chips())?;
     let mut words = Vec::from_slice(alloc, tree.set)?;
     let last: &mut [u64] = &mut words;
-    'spreading: while !has(last, target) {
+    'spreading: while !has(last, target.chip) {
         let from = waves.len();
         waves.extend_from_slice(last)?;
         let front = Front {
@@ -71,14 +78,14 @@ fn waves(alloc: Global, tree: Front, target: Chip) -> Result<Option<Vec<u64>>, M
     Ok(Some(waves))
 }
 
-// The chip of the set from which the link `d` leads, live, to `at`.
-fn step_before(front: Front, at: Chip, d: Dir) -> Option<Chip>
-    requires { IsInside front.ground.machine.now at }
-    ensures found { IfSome result (λ b. IsStepFrom front.entry.ground.machine.now
-        front.entry.set.now at (record { chip = b; dir = d })) }
-    ensures none { IfNone result ((b : Chip) → IsStepFrom front.entry.ground.machine.now
-        front.entry.set.now at (record { chip = b; dir = d }) → ⊥) }
+// The chip of the set from which the link `d` leads, live, to the chip.
+fn step_before(here: FrontAt, d: Dir) -> Option<Chip>
+    ensures found { IfSome result (λ b. IsStepFrom here.entry.front.ground.machine.now
+        here.entry.front.set.now here.entry.chip (record { chip = b; dir = d })) }
+    ensures none { IfNone result ((b : Chip) → IsStepFrom here.entry.front.ground.machine.now
+        here.entry.front.set.now here.entry.chip (record { chip = b; dir = d }) → ⊥) }
 {
+    let (front, at) = (here.front, here.chip);
     let back = d.opposite();
     let link = Edge {
         chip: at,
@@ -95,16 +102,15 @@ fn step_before(front: Front, at: Chip, d: Dir) -> Option<Chip>
     }
 }
 
-// Of the live links that lead from a chip of the set to `at`, that of the least number.
-fn last_link(front: Front, at: Chip) -> Option<Edge>
-    requires { IsInside front.ground.machine.now at }
-    ensures found { IfSome result (λ e. IsBestStep front.entry.ground.machine.now
-        front.entry.set.now at e) }
-    ensures none { IfNone result ((e : Edge) → IsStepFrom front.entry.ground.machine.now
-        front.entry.set.now at e → ⊥) }
+// Of the live links that lead from a chip of the set to the chip, that of the least number.
+fn last_link(here: FrontAt) -> Option<Edge>
+    ensures found { IfSome result (λ e. IsBestStep here.entry.front.ground.machine.now
+        here.entry.front.set.now here.entry.chip e) }
+    ensures none { IfNone result ((e : Edge) → IsStepFrom here.entry.front.ground.machine.now
+        here.entry.front.set.now here.entry.chip e → ⊥) }
 {
     for dir in Dir::ALL {
-        if let Some(chip) = step_before(front, at, dir) {
+        if let Some(chip) = step_before(here, dir) {
             return Some(Edge { chip, dir });
         }
     }
@@ -112,31 +118,26 @@ fn last_link(front: Front, at: Chip) -> Option<Edge>
 }
 
 // Adds the links of the way back from a target over the waves, the last first, and the chips into which they lead.
-fn walk_back(
-    ground: Ground,
-    waves: &[u64],
-    root: Chip,
-    tree: &mut [u64],
-    whole: &mut Vec<Edge>,
-    target: Chip,
-) -> Result<(), Memory>
-    requires inside { IsInside ground.machine.now target }
-    requires waves { (n : ℕ)
-        × AreWaves ground.machine.now (IsTreeChip ground.machine.now root whole.old.items) n waves.now
-        × IsTreeLevel ground.machine.now root whole.old.items target n }
-    requires set { IsSetOfTree ground.machine.now root whole.old.items tree.old }
+fn walk_back(aim: Aim, waves: &[u64], tree: &mut [u64], whole: &mut Vec<Edge>) -> Result<(), Memory>
+    requires waves { (n : ℕ) × AreWaves aim.ground.machine.now
+        (IsTreeChip aim.ground.machine.now aim.root whole.old.items) n waves.now
+        × IsTreeLevel aim.ground.machine.now aim.root whole.old.items aim.target n }
+    requires set { IsSetOfTree aim.ground.machine.now aim.root whole.old.items tree.old }
     ensures joined { IfOk result (λ _. (walk : List Edge)
         × (whole.new.items ≡ whole.old.items ++ walk)
-        × IsDetour ground.entry.machine.now root whole.old.items target walk) }
-    ensures chips { IfOk result (λ _. (c : Chip)
-        → IsIn tree.new c ↔ IsTreeChip ground.entry.machine.now root whole.new.items c) }
+        × IsDetour aim.entry.ground.machine.now aim.entry.root whole.old.items aim.entry.target
+        walk) }
+    ensures chips { IfOk result (λ _. (c : Chip) → IsIn tree.new c
+        ↔ IsTreeChip aim.entry.ground.machine.now aim.entry.root whole.new.items c) }
 {
+    let ground = aim.ground;
     let mut left = waves;
-    let mut at = target;
+    let mut at = aim.target;
     'back: while !left.is_empty() {
         let (before, wave) = left.split_at(left.len() - tree.len());
         let front = Front { ground, set: wave };
-        let Some(edge) = last_link(front, at) else {
+        let here = FrontAt { front, chip: at };
+        let Some(edge) = last_link(here) else {
             unreachable!();
         };
         put(tree, at);
@@ -151,30 +152,36 @@ fn walk_back(
 // exactly where no walk of live links joins root and target.
 pub(crate) fn join(
     alloc: Global,
-    ground: Ground,
-    root: Chip,
+    aim: Aim,
     tree: &mut [u64],
     whole: &mut Vec<Edge>,
-    target: Chip,
 ) -> Result<bool, Memory>
-    requires inside { IsInside ground.machine.now target }
-    requires set { IsSetOfTree ground.machine.now root whole.old.items tree.old }
+    requires { IsSetOfTree aim.ground.machine.now aim.root whole.old.items tree.old }
     ensures joined { IfOk result (λ b. IsTrue b
         → (walk : List Edge) × (whole.new.items ≡ whole.old.items ++ walk)
-        × IsDetour ground.entry.machine.now root whole.old.items target walk) }
-    ensures chips { IfOk result (λ b. IsTrue b → (c : Chip)
-        → IsIn tree.new c ↔ IsTreeChip ground.entry.machine.now root whole.new.items c) }
-    ensures cut_off { IfOk result (λ b. (b ≡ false) → IsCutOff ground.entry.machine.now root
-        target) }
+        × IsDetour aim.entry.ground.machine.now aim.entry.root whole.old.items aim.entry.target
+        walk) }
+    ensures chips { IfOk result (λ b. IsTrue b → (c : Chip) → IsIn tree.new c
+        ↔ IsTreeChip aim.entry.ground.machine.now aim.entry.root whole.new.items c) }
+    ensures cut_off { IfOk result (λ b. (b ≡ false)
+        → IsCutOff aim.entry.ground.machine.now aim.entry.root aim.entry.target) }
 {
-    if has(tree, target) {
+    if has(tree, aim.target) {
         return Ok(true);
     }
-    let found = waves(alloc, Front { ground, set: tree }, target)?;
+    let front = Front {
+        ground: aim.ground,
+        set: tree,
+    };
+    let target = FrontAt {
+        front,
+        chip: aim.target,
+    };
+    let found = waves(alloc, target)?;
     match found {
         None => Ok(false),
         Some(list) => {
-            walk_back(ground, &list, root, tree, whole, target)?;
+            walk_back(aim, &list, tree, whole)?;
             Ok(true)
         }
     }

@@ -1,10 +1,12 @@
 // What searches go over, with what is known of it.
-ghost use Rattle.std.specs.Prelude.{◌≡◌, ◌*◌, ◌<◌, ◌≤◌, All, length};
-ghost use Rattle.machine_desc.specs.Live.{IsInside, is_live_link};
+ghost use Rattle.std.specs.Prelude.{◌≡◌, ◌*◌, ◌<◌, ◌≤◌, ◌↔◌, All, IsTrue, length};
+ghost use Rattle.machine_desc.specs.Live.{IsInside, IsLiveLink, is_live_link};
 ghost use Rattle.link_detours.specs.LiveRoads.{AreRoadsOf};
+ghost use Rattle.link_detours.specs.Repair.{IsTreeWithDeadLinks};
 
 use crate::roads::{Roads, bit_is_set};
 use machine_desc::{Edge, Machine};
+use spin_base::Chip;
 
 /// A machine and its live links.
 #[derive(Clone, Copy)]
@@ -15,6 +17,18 @@ pub struct Ground<'a> {
 }
 
 impl<'a> Ground<'a> {
+    /// Whether all edges are live links.
+    pub fn carry(self, edges: &[Edge]) -> bool
+        ensures { IsTrue result ↔ All (λ e. IsLiveLink self.entry.machine.now e.chip e.dir) edges.now }
+    {
+        for edge in edges {
+            if !self.has(*edge) {
+                return false;
+            }
+        }
+        true
+    }
+
     // Whether the edge is a live link.
     pub(crate) fn has(self, edge: Edge) -> bool
         ensures { result ≡ is_live_link self.entry.machine.now edge.chip edge.dir }
@@ -34,12 +48,51 @@ impl<'a> Ground<'a> {
     }
 }
 
+/// A tree of which links may be dead, on its ground, and the targets to which it is to lead.
+#[derive(Clone, Copy)]
+pub struct BrokenTree<'a> {
+    pub ground: Ground<'a>,
+    pub root: Chip,
+    pub edges: &'a [Edge],
+    pub targets: &'a [Chip],
+    pub ghost is_tree: { IsTreeWithDeadLinks ground.machine.now root edges.now },
+    pub ghost some_target: { 0 < length targets.now },
+    pub ghost targets_inside: { All (IsInside ground.machine.now) targets.now },
+}
+
+// The edges of a tree on a ground, and its root.
+#[derive(Clone, Copy)]
+pub struct RootedEdges<'a> {
+    pub ground: Ground<'a>,
+    pub root: Chip,
+    pub list: &'a [Edge],
+    pub ghost root_inside: { IsInside ground.machine.now root },
+    pub ghost inside: { All (λ e. IsInside ground.machine.now e.chip) list.now },
+}
+
+// A target on a ground, which is to be joined to the tree of a root.
+#[derive(Clone, Copy)]
+pub struct Aim<'a> {
+    pub ground: Ground<'a>,
+    pub root: Chip,
+    pub target: Chip,
+    pub ghost inside: { IsInside ground.machine.now target },
+}
+
 // A set of chips on a ground: it has a word for each column.
 #[derive(Clone, Copy)]
 pub struct Front<'a> {
     pub ground: Ground<'a>,
     pub set: &'a [u64],
     pub ghost long: { length set.now ≡ ground.machine.now.width },
+}
+
+// A front, and a chip of its ground.
+#[derive(Clone, Copy)]
+pub struct FrontAt<'a> {
+    pub front: Front<'a>,
+    pub chip: Chip,
+    pub ghost inside: { IsInside front.ground.machine.now chip },
 }
 
 // A column of a front.
@@ -59,6 +112,22 @@ pub struct Edges<'a> {
     pub ghost inside: { All (λ e. IsInside machine.now e.chip) list.now },
 }
 
+// Edges, and the targets of their tree.
+#[derive(Clone, Copy)]
+pub struct TargetedEdges<'a> {
+    pub edges: Edges<'a>,
+    pub targets: &'a [Chip],
+    pub ghost inside: { All (IsInside edges.machine.now) targets.now },
+}
+
+// Chips of a machine.
+#[derive(Clone, Copy)]
+pub struct Chips<'a> {
+    pub machine: &'a Machine,
+    pub list: &'a [Chip],
+    pub ghost inside: { All (IsInside machine.now) list.now },
+}
+
 // Edges, and a mark for each chip of their machine.
 #[derive(Clone, Copy)]
 pub struct MarkedEdges<'a> {
@@ -73,6 +142,14 @@ pub struct Flagged<'a> {
     pub machine: &'a Machine,
     pub flags: &'a [bool],
     pub ghost long: { length flags.now ≡ machine.now.width * machine.now.height * 6 },
+}
+
+// A search over flagged links, from these chips on.
+#[derive(Clone, Copy)]
+pub struct Search<'a> {
+    pub table: Flagged<'a>,
+    pub seeds: &'a [Chip],
+    pub ghost inside: { All (IsInside table.machine.now) seeds.now },
 }
 
 // The number of places of a ring of rows or columns.

@@ -15,6 +15,6 @@ mod sets;
 mod tables;
 mod trims;
 
-pub use grounds::Ground;
+pub use grounds::{BrokenTree, Ground};
 pub use repairs::{RepairErr, repair};
 pub use roads::Roads;

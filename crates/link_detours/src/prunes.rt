@@ -1,29 +1,27 @@
 // What of a tree leads to a target.
-ghost use Rattle.std.specs.Prelude.{◌≡◌, ℕ, ◌↔◌, All, IfOk, Contains};
-ghost use Rattle.machine_desc.specs.Live.{IsInside};
+ghost use Rattle.std.specs.Prelude.{◌≡◌, ℕ, ◌↔◌, IfOk, Contains};
 ghost use Rattle.link_detours.specs.Repair.{LeadsToTarget, AreInPlaceOrder};
 ghost use Rattle.spin_base.specs.declared.chips.Chip.{Chip};
 ghost use Rattle.machine_desc.specs.declared.trees.Edge.{Edge};
 
 use crate::edges::{reached_edges, turned_edges};
-use crate::grounds::{Edges, Flagged, MarkedEdges};
+use crate::grounds::{Edges, Flagged, MarkedEdges, Search, TargetedEdges};
 use crate::searches::reached_chips;
 use crate::tables::{in_place_order, link_table};
 use machine_desc::Edge;
-use spin_base::{Chip, Memory};
+use spin_base::Memory;
 use std::alloc::Global;
 
 // The edges at or below whose far end a target stands, in order: a search from the targets up the tree finds them.
-pub(crate) fn pruned(alloc: Global, whole: Edges, targets: &[Chip]) -> Result<Vec<Edge>, Memory>
-    requires { All (IsInside whole.machine.now) targets.now }
+pub(crate) fn pruned(alloc: Global, whole: TargetedEdges) -> Result<Vec<Edge>, Memory>
     ensures left { IfOk result (λ v. (e : Edge)
         → Contains v.items e
-        ↔ (Contains whole.entry.list.now e × LeadsToTarget whole.entry.machine.now
-        whole.entry.list.now targets.now e)) }
-    ensures in_order { IfOk result (λ v. AreInPlaceOrder whole.entry.machine.now v.items) }
+        ↔ (Contains whole.entry.edges.list.now e × LeadsToTarget whole.entry.edges.machine.now
+        whole.entry.edges.list.now whole.entry.targets.now e)) }
+    ensures in_order { IfOk result (λ v. AreInPlaceOrder whole.entry.edges.machine.now v.items) }
 {
-    let machine = whole.machine;
-    let turned = turned_edges(alloc, whole)?;
+    let machine = whole.edges.machine;
+    let turned = turned_edges(alloc, whole.edges)?;
     let links = Edges {
         machine,
         list: &turned,
@@ -33,7 +31,11 @@ pub(crate) fn pruned(alloc: Global, whole: Edges, targets: &[Chip]) -> Result<Ve
         machine,
         flags: &table,
     };
-    let marks = reached_chips(alloc, flagged, targets)?;
+    let search = Search {
+        table: flagged,
+        seeds: whole.targets,
+    };
+    let marks = reached_chips(alloc, search)?;
     let marked = MarkedEdges {
         edges: links,
         marks: &marks,

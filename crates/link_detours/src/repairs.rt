@@ -1,8 +1,7 @@
 // Trees joined again round dead links.
-ghost use Rattle.std.specs.Prelude.{◌≡◌, ◌<◌, ◌↔◌, length, All, IfOk, IfErr, Contains};
-ghost use Rattle.machine_desc.specs.Live.{IsInside, IsLiveChip};
+ghost use Rattle.std.specs.Prelude.{◌≡◌, ◌↔◌, All, IfOk, IfErr, Contains};
 ghost use Rattle.machine_desc.specs.RoutingTree.{IsTreeChip, IsTreeTo};
-ghost use Rattle.link_detours.specs.Repair.{IsTreeWithDeadLinks, IsKeptEdge, Joins, IsRepaired, AreInPlaceOrder};
+ghost use Rattle.link_detours.specs.Repair.{IsKeptEdge, Joins, IsRepaired, AreInPlaceOrder};
 ghost use Rattle.link_detours.specs.Whole.{IsWholeTree};
 ghost use Rattle.link_detours.specs.Cause.{IsRepairCause};
 ghost use Rattle.link_detours.specs.declared.repairs.RepairErr.TheVariants.{Memory as NoMemory};
@@ -11,7 +10,7 @@ ghost use Rattle.machine_desc.specs.declared.trees.Edge.{Edge};
 
 use crate::detours::{join, tree_reach};
 use crate::edges::{live_edges, reached_edges};
-use crate::grounds::{Edges, Ground, MarkedEdges};
+use crate::grounds::{Aim, BrokenTree, Edges, MarkedEdges, RootedEdges};
 use crate::sets::{empty_set, put_tree};
 use crate::trims::trimmed;
 use machine_desc::{Edge, Tree};
@@ -42,58 +41,47 @@ impl From<Memory> for RepairErr {
 /// is then not in the tree, in the order of the list, each the shortest over live links from the tree as it is then
 /// (of all, last link first, that of the least link numbers); and without edges that lead to no target. Edges are in
 /// order of (x, y, link). It is refused exactly where some target is cut off from the root.
-pub fn repair(
-    alloc: Global,
-    ground: Ground,
-    tree: &Tree,
-    targets: &Seq<Chip>,
-) -> Result<Tree, RepairErr>
-    requires tree { IsTreeWithDeadLinks ground.machine.now tree.now.root tree.now.edges }
-    requires some_target { 0 < length targets.now }
-    requires targets_inside { All (IsInside ground.machine.now) targets.now }
-    ensures root { IfOk result (λ t. t.root ≡ tree.now.root) }
-    ensures repaired { IfOk result (λ t.
-        IsRepaired ground.entry.machine.now tree.now.root tree.now.edges targets.now t.edges) }
-    ensures routing { IfOk result (λ t. IsTreeTo ground.entry.machine.now tree.now.root t.edges
-        targets.now) }
-    ensures cut_off { IfErr result (IsRepairCause ground.entry.machine.now tree.now.root
-        targets.now) }
-    ensures same_edges { IsTreeTo ground.entry.machine.now tree.now.root tree.now.edges targets.now →
-        IfOk result (λ t. (e : Edge) → Contains t.edges e ↔ Contains tree.now.edges e) }
-    ensures unchanged { IsTreeTo ground.entry.machine.now tree.now.root tree.now.edges targets.now →
-        AreInPlaceOrder ground.entry.machine.now tree.now.edges → IfOk result (λ t. t ≡ tree.now) }
-    ensures not_cut_off { IsTreeTo ground.entry.machine.now tree.now.root tree.now.edges
-        targets.now →
+pub fn repair(alloc: Global, broken: BrokenTree) -> Result<Tree, RepairErr>
+    ensures root { IfOk result (λ t. t.root ≡ broken.entry.root) }
+    ensures repaired { IfOk result (λ t. IsRepaired broken.entry.ground.machine.now
+        broken.entry.root broken.entry.edges.now broken.entry.targets.now t.edges) }
+    ensures routing { IfOk result (λ t. IsTreeTo broken.entry.ground.machine.now
+        broken.entry.root t.edges broken.entry.targets.now) }
+    ensures cut_off { IfErr result (IsRepairCause broken.entry.ground.machine.now
+        broken.entry.root broken.entry.targets.now) }
+    ensures same_edges { IsTreeTo broken.entry.ground.machine.now broken.entry.root
+        broken.entry.edges.now broken.entry.targets.now →
+        IfOk result (λ t. (e : Edge) → Contains t.edges e ↔ Contains broken.entry.edges.now e) }
+    ensures unchanged { IsTreeTo broken.entry.ground.machine.now broken.entry.root
+        broken.entry.edges.now broken.entry.targets.now →
+        AreInPlaceOrder broken.entry.ground.machine.now broken.entry.edges.now →
+        IfOk result (λ t. t.edges ≡ broken.entry.edges.now) }
+    ensures not_cut_off { IsTreeTo broken.entry.ground.machine.now broken.entry.root
+        broken.entry.edges.now broken.entry.targets.now →
         IfErr result (λ e. e ≡ NoMemory) }
 {
-    let root = tree.root;
-    let kept = kept_edges(alloc, ground, root, tree.edges.as_slice())?;
-    let whole = join_all(alloc, ground, root, kept, targets.as_slice())?;
-    let left = trimmed(alloc, ground.machine, root, whole, targets.as_slice())?;
+    let kept = kept_edges(alloc, broken)?;
+    let whole = join_all(alloc, broken, kept)?;
+    let left = trimmed(alloc, broken, whole)?;
     Ok(Tree {
-        root,
+        root: broken.root,
         edges: Seq::from_vec(left),
     })
 }
 
 // The edges that live links of the tree join to the root.
-fn kept_edges(
-    alloc: Global,
-    ground: Ground,
-    root: Chip,
-    edges: &[Edge],
-) -> Result<Vec<Edge>, Memory>
-    requires { IsTreeWithDeadLinks ground.machine.now root edges.now }
-    ensures kept { IfOk result (λ v. (e : Edge)
-        → Contains v.items e ↔ IsKeptEdge ground.entry.machine.now root edges.now e) }
-    ensures is_whole { IfOk result (λ v. IsWholeTree ground.entry.machine.now root v.items) }
+fn kept_edges(alloc: Global, broken: BrokenTree) -> Result<Vec<Edge>, Memory>
+    ensures kept { IfOk result (λ v. (e : Edge) → Contains v.items e
+        ↔ IsKeptEdge broken.entry.ground.machine.now broken.entry.root broken.entry.edges.now e) }
+    ensures is_whole { IfOk result (λ v.
+        IsWholeTree broken.entry.ground.machine.now broken.entry.root v.items) }
 {
-    let live = live_edges(alloc, ground, edges)?;
+    let live = live_edges(alloc, broken.ground, broken.edges)?;
     let links = Edges {
-        machine: ground.machine,
+        machine: broken.ground.machine,
         list: &live,
     };
-    let reach = tree_reach(alloc, root, links)?;
+    let reach = tree_reach(alloc, broken.root, links)?;
     let marked = MarkedEdges {
         edges: links,
         marks: &reach,
@@ -103,29 +91,35 @@ fn kept_edges(
 }
 
 // The tree with a detour to each target that it doesn't have, in the order of their list.
-fn join_all(
-    alloc: Global,
-    ground: Ground,
-    root: Chip,
-    kept: Vec<Edge>,
-    targets: &[Chip],
-) -> Result<Vec<Edge>, RepairErr>
-    requires root_lives { IsLiveChip ground.machine.now root }
-    requires targets_inside { All (IsInside ground.machine.now) targets.now }
-    requires is_whole { IsWholeTree ground.machine.now root kept.items }
-    ensures joined { IfOk result (λ v. Joins ground.entry.machine.now root kept.items targets.now
-        v.items) }
-    ensures is_whole { IfOk result (λ v. IsWholeTree ground.entry.machine.now root v.items) }
-    ensures has_targets { IfOk result (λ v. All (IsTreeChip ground.entry.machine.now root v.items)
-        targets.now) }
-    ensures cut_off { IfErr result (IsRepairCause ground.entry.machine.now root targets.now) }
+fn join_all(alloc: Global, broken: BrokenTree, kept: Vec<Edge>) -> Result<Vec<Edge>, RepairErr>
+    requires { IsWholeTree broken.ground.machine.now broken.root kept.items }
+    ensures joined { IfOk result (λ v. Joins broken.entry.ground.machine.now broken.entry.root
+        kept.items broken.entry.targets.now v.items) }
+    ensures is_whole { IfOk result (λ v.
+        IsWholeTree broken.entry.ground.machine.now broken.entry.root v.items) }
+    ensures on_tree { IfOk result (λ v. All
+        (IsTreeChip broken.entry.ground.machine.now broken.entry.root v.items)
+        broken.entry.targets.now) }
+    ensures cut_off { IfErr result (IsRepairCause broken.entry.ground.machine.now
+        broken.entry.root broken.entry.targets.now) }
 {
+    let (ground, root) = (broken.ground, broken.root);
     let mut whole = kept;
     let mut words = empty_set(alloc, ground.machine)?;
     let chips: &mut [u64] = &mut words;
-    put_tree(ground, chips, root, &whole);
-    for target in targets {
-        let joined = join(alloc, ground, root, chips, &mut whole, *target)?;
+    let edges = RootedEdges {
+        ground,
+        root,
+        list: &whole,
+    };
+    put_tree(edges, chips);
+    for target in broken.targets {
+        let aim = Aim {
+            ground,
+            root,
+            target: *target,
+        };
+        let joined = join(alloc, aim, chips, &mut whole)?;
         if !joined {
             return Err(RepairErr::CutOff { target: *target });
         }

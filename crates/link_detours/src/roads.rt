@@ -1,12 +1,11 @@
 // The live links of a machine.
-ghost use Rattle.std.specs.Prelude.{◌≡◌, ◌<◌, ◌+◌, ◌*◌, ◌↔◌, ℕ, All, IfOk, IsTrue, length, slice_index, true};
+ghost use Rattle.std.specs.Prelude.{◌≡◌, ◌<◌, ◌+◌, ◌*◌, ◌↔◌, ℕ, IfOk, length, slice_index, true};
 ghost use Rattle.spin_base.specs.Links.{dir_number};
 ghost use Rattle.std.specs.Int.{bit_at};
 ghost use Rattle.machine_desc.specs.Live.{IsLiveLink};
 ghost use Rattle.link_detours.specs.LiveRoads.{AreRoadsOf};
 
-use crate::grounds::Ground;
-use machine_desc::{Edge, Machine};
+use machine_desc::Machine;
 use spin_base::{Chip, Dir, Memory, Shared};
 use std::alloc::Global;
 
@@ -32,23 +31,6 @@ impl Roads {
             words.push(road_word(machine, (place / 6) as u8, Dir::ALL[place % 6]))?;
         }
         Ok(Roads { words })
-    }
-
-    /// Whether all edges are live links. `machine` is the one whose roads these are.
-    pub fn carry(&self, machine: &Machine, edges: &[Edge]) -> bool
-        requires { AreRoadsOf machine.now self.now }
-        ensures { IsTrue result ↔ All (λ e. IsLiveLink machine.now e.chip e.dir) edges.now }
-    {
-        let ground = Ground {
-            machine,
-            roads: self,
-        };
-        for edge in edges {
-            if !ground.has(*edge) {
-                return false;
-            }
-        }
-        true
     }
 
     // The word of a column and a link.

@@ -9,8 +9,8 @@ ghost use Rattle.machine_desc.specs.Live.{IsInside, IsLiveLink, far_of, x_step, 
 ghost use Rattle.machine_desc.specs.RoutingTree.{IsTreeChip};
 ghost use Rattle.link_detours.specs.Waves.{IsIn, HasBitOf, IsEmptySet, LeadsInto, IsSpread, IsSpreadBut, IsSpreadAt};
 
-use crate::grounds::{Column, Front, Ground, Ring};
-use machine_desc::{Edge, Machine};
+use crate::grounds::{Column, Front, Ring, RootedEdges};
+use machine_desc::Machine;
 use spin_base::{Chip, Dir, Memory};
 use std::alloc::Global;
 
@@ -41,15 +41,14 @@ pub(crate) fn empty_set(alloc: Global, machine: &Machine) -> Result<Vec<u64>, Me
 }
 
 // Puts the chips of the tree that these edges make into an empty set.
-pub(crate) fn put_tree(ground: Ground, set: &mut [u64], root: Chip, edges: &[Edge])
-    requires root_inside { IsInside ground.machine.now root }
-    requires inside { All (λ e. IsInside ground.machine.now e.chip) edges.now }
-    requires empty { IsEmptySet ground.machine.now set.old }
-    ensures { (c : Chip) → IsIn set.new c ↔ IsTreeChip ground.entry.machine.now root edges.now c }
+pub(crate) fn put_tree(edges: RootedEdges, set: &mut [u64])
+    requires { IsEmptySet edges.ground.machine.now set.old }
+    ensures { (c : Chip) → IsIn set.new c
+        ↔ IsTreeChip edges.entry.ground.machine.now edges.entry.root edges.entry.list.now c }
 {
-    put(set, root);
-    for edge in edges {
-        if let Some(far) = ground.machine.far(edge.chip, edge.dir) {
+    put(set, edges.root);
+    for edge in edges.list {
+        if let Some(far) = edges.ground.machine.far(edge.chip, edge.dir) {
             put(set, far);
         }
     }

@@ -1,61 +1,52 @@
 // Trees of which nothing has to be taken off: seen from their edges, without a search.
 ghost use Rattle.std.specs.Prelude.{◌≡◌, ◌↔◌, ◌++◌, true, Some, map, All, IfOk, Contains};
 ghost use Rattle.machine_desc.specs.Live.{IsInside};
-ghost use Rattle.machine_desc.specs.RoutingTree.{end_of};
+ghost use Rattle.machine_desc.specs.RoutingTree.{end_of, IsTreeChip};
 ghost use Rattle.link_detours.specs.Usable.{is_marked};
 ghost use Rattle.link_detours.specs.Repair.{LeadsToTarget, AreInPlaceOrder};
-ghost use Rattle.link_detours.specs.Whole.{IsWholeTree, HasTargets, GoesOnFrom};
+ghost use Rattle.link_detours.specs.Whole.{IsWholeTree, GoesOnFrom};
 ghost use Rattle.spin_base.specs.declared.chips.Chip.{Chip};
 ghost use Rattle.machine_desc.specs.declared.trees.Edge.{Edge};
 
-use crate::grounds::{Edges, MarkedEdges};
+use crate::grounds::{BrokenTree, Chips, Edges, MarkedEdges, TargetedEdges};
 use crate::prunes::pruned;
 use crate::searches::seed_table;
 use crate::tables::{in_place_order, link_place};
-use machine_desc::{Edge, Machine};
+use machine_desc::Edge;
 use spin_base::{Chip, Memory};
 use std::alloc::Global;
 
 // The edges at or below whose far end a target stands, in order. Where those are all and in order, no search is made.
 pub(crate) fn trimmed(
     alloc: Global,
-    machine: &Machine,
-    root: Chip,
+    broken: BrokenTree,
     whole: Vec<Edge>,
-    targets: &[Chip],
 ) -> Result<Vec<Edge>, Memory>
-    requires is_whole { IsWholeTree machine.now root whole.items }
-    requires has_targets { HasTargets machine.now root whole.items targets.now }
+    requires is_whole { IsWholeTree broken.ground.machine.now broken.root whole.items }
+    requires on_tree { All (IsTreeChip broken.ground.machine.now broken.root whole.items)
+        broken.targets.now }
     ensures left { IfOk result (λ v. (e : Edge)
         → Contains v.items e
-        ↔ (Contains whole.items e × LeadsToTarget machine.now whole.items targets.now e)) }
-    ensures in_order { IfOk result (λ v. AreInPlaceOrder machine.now v.items) }
+        ↔ (Contains whole.items e × LeadsToTarget broken.entry.ground.machine.now whole.items
+        broken.entry.targets.now e)) }
+    ensures in_order { IfOk result (λ v. AreInPlaceOrder broken.entry.ground.machine.now v.items) }
 {
     let edges = Edges {
-        machine,
+        machine: broken.ground.machine,
         list: &whole,
     };
-    if !ends_go_on(alloc, edges, targets)? {
-        return pruned(alloc, edges, targets);
-    }
-    let left = put_in_order(alloc, machine, whole)?;
-    Ok(left)
-}
-
-// Edges of which each stands once, in order of x, y and link number.
-fn put_in_order(alloc: Global, machine: &Machine, edges: Vec<Edge>) -> Result<Vec<Edge>, Memory>
-    requires { All (λ e. IsInside machine.now e.chip) edges.items }
-    ensures same { IfOk result (λ v. (e : Edge) → Contains v.items e ↔ Contains edges.items e) }
-    ensures in_order { IfOk result (λ v. AreInPlaceOrder machine.now v.items) }
-{
-    let links = Edges {
-        machine,
-        list: &edges,
+    let aimed = TargetedEdges {
+        edges,
+        targets: broken.targets,
     };
-    if is_in_order(links) {
-        return Ok(edges);
+    if !ends_go_on(alloc, aimed)? {
+        return pruned(alloc, aimed);
     }
-    in_place_order(alloc, links)
+    if is_in_order(edges) {
+        return Ok(whole);
+    }
+    let left = in_place_order(alloc, edges)?;
+    Ok(left)
 }
 
 // Whether edges stand in order of x, y and link number.
@@ -74,14 +65,19 @@ fn is_in_order(edges: Edges) -> bool
 }
 
 // Whether each edge ends at a target, or where another begins.
-fn ends_go_on(alloc: Global, edges: Edges, targets: &[Chip]) -> Result<bool, Memory>
-    requires { All (IsInside edges.machine.now) targets.now }
+fn ends_go_on(alloc: Global, aimed: TargetedEdges) -> Result<bool, Memory>
     ensures { IfOk result (λ b. b ≡ true
-        → All (λ e. (c : Chip) → end_of edges.entry.machine.now e ≡ Some c
-        → GoesOnFrom edges.entry.list.now targets.now c) edges.entry.list.now) }
+        → All (λ e. (c : Chip) → end_of aimed.entry.edges.machine.now e ≡ Some c
+        → GoesOnFrom aimed.entry.edges.list.now aimed.entry.targets.now c)
+        aimed.entry.edges.list.now) }
 {
-    let chips = chips_before(alloc, edges.list, targets)?;
-    let table = seed_table(alloc, edges.machine, &chips)?;
+    let edges = aimed.edges;
+    let chips = chips_before(alloc, edges.list, aimed.targets)?;
+    let seeds = Chips {
+        machine: edges.machine,
+        list: &chips,
+    };
+    let table = seed_table(alloc, seeds)?;
     Ok(ends_are_marked(MarkedEdges {
         edges,
         marks: &table,

@@ -1,25 +1,22 @@
 -- Each step of a link keeps its rule.
-use Rattle.std.proofs.Common.{◌≡◌, ◌≢◌, ℕ, zero, suc, ◌+◌, ◌<◌, ◌≤◌, true, false, true≢false, List, [], ◌∷◌, ◌++◌, drop, length, set, sym, refl, ap, ◌∙◌, subst, ⊎_elim, append_assoc, arith, inl, inr, ◌⊎◌, All}
-use Rattle.std.proofs.lemmas.List.{append-nil, length-append, drop_at}
-use Rattle.std.proofs.lemmas.List.Elements.{All-push}
+use Rattle.std.proofs.Common.{◌≡◌, ◌≢◌, ℕ, zero, suc, ◌+◌, ◌<◌, ◌≤◌, true, false, true≢false, List, [], ◌∷◌, ◌++◌, drop, length, set, sym, refl, ap, ◌∙◌, subst, ⊎_elim, append_assoc, arith, inl, inr}
+use Rattle.std.proofs.Common.{◌⊎◌, All}
+use Rattle.std.proofs.lemmas.List.{append-nil, length-append, drop_at, Elements.All-push}
 use mathlib.Core.Option.{some, some-ne-none}
 use lib.ListN.{get_elem?}
 use Rattle.crossbeam_queue.specs.Fifo.{Pushes, Pops, Forks, Merges, Learns}
 use Rattle.crossbeam_queue.proofs.Lists.{at_set}
 use Rattle.spin_base.specs.declared.copies.McCopy.{McCopy}
-use Rattle.link_queue.specs.declared.known.Known.{Known}
-use Rattle.link_queue.specs.TheRule.{put_of, IsFullNote, IsNoneNote, StartsWith, SenderFits, ReceiverFits, FitsRule, Kept}
-use Rattle.link_queue.specs.Ups.{NoNotes, Rests}
-use Rattle.link_queue.specs.Steps.{blank, newborn, placed, offered, popped, full_noted, none_noted, told, sender_of, receiver_of, joined, renewed, SeenFull, SeenEmpty, Balanced}
+use Rattle.link_queue.specs.{declared.known.Known.Known, TheRule.put_of, TheRule.IsFullNote, TheRule.IsNoneNote, TheRule.StartsWith, TheRule.SenderFits, TheRule.ReceiverFits, TheRule.FitsRule}
+use Rattle.link_queue.specs.{TheRule.Kept, Ups.PoppedTo, Ups.Rests, Steps.blank, Steps.newborn, Steps.placed, Steps.offered, Steps.popped, Steps.full_noted, Steps.none_noted, Steps.told}
+use Rattle.link_queue.specs.Steps.{sender_of, receiver_of, joined, renewed, SeenFull, SeenEmpty, Balanced}
 
 abbrev Each : (ℕ → Known → Type 0) → List Known → Type 0
 Each F views = (port : ℕ) (v : Known) → get_elem? views port ≡ some v → F port v
 
 each_set : (F : ℕ → Known → Type 0) (views : List Known) (port : ℕ) (w : Known) → F port w
     → ((j : ℕ) (u : Known) → j ≢ port → get_elem? views j ≡ some u → F j u) → Each F (set views port w)
-each_set F views port w mine others j u e =
-    ⊎_elim (λ (x : (j ≡ port) × (w ≡ u)). subst (λ (y : ℕ × Known). F y.0 y.1) (λ i. (sym x.0 i, x.1 i)) mine)
-    (λ (x : (j ≢ port) × (get_elem? views j ≡ some u)). others j u x.0 x.1) (at_set views port j w u e)
+each_set F views port w mine others j u e = grind (arith, at_set views port j w u e)
 
 each_snoc : (F : ℕ → Known → Type 0) (views : List Known) (w : Known) → Each F views → ((j : ℕ) → j ≡ length views → F j w) → Each F (views ++ w ∷ [])
 each_snoc F views w old new j u e =
@@ -57,29 +54,14 @@ receiver_put seat port put took v x f = record {
 
 -- the sender, when a copy is taken
 sender_took : (seat port : ℕ) (put took : List McCopy) (v : Known) (x : McCopy) → SenderFits seat put took port v → SenderFits seat put (took ++ x ∷ []) port v
-sender_took seat port put took v x f = record {
-  seated = f.seated;
-  knows = f.knows;
-  room = omega (arith, f.room, length_more took x);
-  bound = f.bound;
-  noted = full_grows v.cap put took put (took ++ x ∷ []) v.fulls (omega arith) (omega (arith, length_more took x)) f.noted;
-}
+sender_took seat port put took v x f = grind (arith, length_more took x, full_grows v.cap put took put (took ++ x ∷ []) v.fulls (omega arith) (omega (arith, length_more took x)) f.noted)
 
 module _ (n port : ℕ) (v : Known) (x : McCopy) (may : v.sends ≡ true) (cap : n ≡ v.cap) where
   -- what the sender has after a push whose view w has all that entered
   sender_put : (items : List McCopy) (views : List Known) (k : Kept items views) (w : Known) → length items < n → SenderFits k.sender k.put k.took port v
       → put_of w ≡ put_of v ++ x ∷ [] → w.held ≡ length items + 1 → w.cap ≡ v.cap → w.fulls ≡ v.fulls → SenderFits k.sender (k.put ++ x ∷ []) k.took port w
   sender_put items views k w room f put held same_cap same_fulls =
-      let more = length_more k.put x in
-      let total = ap length k.balance ∙ length-append k.took items in
-      record {
-        seated = f.seated;
-        knows = put ∙ ap (λ l. l ++ x ∷ []) f.knows;
-        room = omega (arith, more, total, held);
-        bound = omega (arith, held, same_cap, cap);
-        noted = subst (λ (p : ℕ × List ℕ). All (IsFullNote p.0 (k.put ++ x ∷ []) k.took) p.1) (λ i. (sym same_cap i, sym same_fulls i))
-            (full_grows v.cap k.put k.took (k.put ++ x ∷ []) k.took v.fulls (omega (arith, more)) (omega arith) f.noted);
-      }
+      grind (arith, length_more k.put x, length-append k.took items, full_grows v.cap k.put k.took (k.put ++ x ∷ []) k.took v.fulls (omega (arith, (length_more k.put x))) (omega arith) f.noted)
 
   after_put : (items : List McCopy) (views : List Known) (k : Kept items views) (w : Known) → SenderFits k.sender k.put k.took port v
       → FitsRule k.sender k.receiver (k.put ++ x ∷ []) k.took port w → Kept (items ++ x ∷ []) (set views port w)
@@ -323,6 +305,28 @@ begins = record {
   ));
 }
 
+-- ---- a link that is emptied
+
+-- a seat that popped fewer copies than were held finds some
+pub some_left : (v w : Known) (held got none : List McCopy) → Balanced v held → PoppedTo v got w → Balanced w none → length got < length held
+    → length none ≡ 0 → ⊥
+some_left v w held got none first popped last fewer nothing =
+    let took = ap length popped.took_is ∙ length-append v.took got in
+    let before = ap length first.0 ∙ length-append v.took held in
+    let after = ap length last.0 ∙ length-append w.took none in
+    omega (arith, took, before, after, ap length popped.put)
+
+-- one that popped as many as were held popped all
+pub all_popped : (s t v w : Known) (held got left : List McCopy) → v ≡ joined s t → Balanced v held → PoppedTo v got w → Balanced w left
+    → length got ≡ length held → put_of s ≡ t.took ++ got
+all_popped s t v w held got [] is first popped last many =
+    subst (λ (u : Known). put_of u ≡ u.took ++ got) is (sym popped.put ∙ last.0 ∙ append-nil w.took ∙ popped.took_is)
+all_popped s t v w held got (x ∷ xs) is first popped last many =
+    let took = ap length popped.took_is ∙ length-append v.took got in
+    let before = ap length first.0 ∙ length-append v.took held in
+    let after = ap length last.0 ∙ length-append w.took (x ∷ xs) in
+    absurd (omega (arith, took, before, after, ap length popped.put, many))
+
 -- ---- a link that rests
 
 -- what is held is what entered, less what was taken
@@ -359,14 +363,4 @@ renews port v sends takes items views k at =
 
 pub rested : (cap count : ℕ) (v w a b : Known) (held : List McCopy) → v.cap ≡ cap → Balanced (joined v w) held → length held ≡ count → count ≤ cap → a ≡ sender_of (renewed (joined v w)) →
     b ≡ receiver_of (renewed (joined v w)) → Rests cap v w a b count
-rested cap count v w a b held cap_is balanced many bound a_is b_is =
-    let is : drop (length w.took) (put_of v) ≡ held = held_is (put_of v) w.took held balanced.0 in
-    record {
-      held = held;
-      all = balanced.0;
-      bound = omega (arith, many, bound);
-      noted = subst (λ n. All (IsFullNote n (put_of v) w.took) v.fulls) cap_is balanced.1;
-      sender_new = subst (NoNotes held) (sym a_is) (record { first = is; sent = refl; took = refl; fulls = refl; nones = refl });
-      receiver_new = subst (NoNotes held) (sym b_is) (record { first = is; sent = refl; took = refl; fulls = refl; nones = refl });
-      counts = sym many;
-    }
+rested cap count v w a b held cap_is balanced many bound a_is b_is = grind (arith, held_is (put_of v) w.took held balanced.0)

@@ -19,17 +19,6 @@ pub record ListPlaced (cap : ℕ) (list : List McCopy) (v : Known) : Type 0 wher
   pub takes : v.takes ≡ true
   pub cap_is : v.cap ≡ cap
 
--- the seat sends and takes
-pub record HasBothEnds (v : Known) : Type 0 where
-  pub sends : v.sends ≡ true
-  pub takes : v.takes ≡ true
-
--- what the joined seat had not taken is all here
-pub record Emptied (cap : ℕ) (v : Known) (list : List McCopy) : Type 0 where
-  pub balance : put_of v ≡ v.took ++ list
-  pub bound : length list ≤ cap
-  pub noted : All (IsFullNote v.cap (put_of v) v.took) v.fulls
-
 -- w is v after these copies were popped
 pub record PoppedTo (v : Known) (got : List McCopy) (w : Known) : Type 0 where
   pub sends : w.sends ≡ true

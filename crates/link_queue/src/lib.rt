@@ -16,5 +16,5 @@ mod ups;
 pub use known::Known;
 pub use links::{Link, LinkEnds, Offered, Rx, Tx};
 pub use moves::{finds_nothing, offer, take};
-pub use rests::{AtRest, rest};
-pub use ups::{link_down, link_up};
+pub use rests::{AtRest, LentLink, rest};
+pub use ups::{FirstList, WholeLink, link_down, link_up};

@@ -5,7 +5,7 @@ ghost use Rattle.link_queue.specs.Ups.{NoNotes, Rests};
 
 use crate::links::{BothEnds, Empties, Link, LinkEnds, Offered, Renews, Rx, Tx};
 use crate::moves::{offer, take};
-use crate::ups::link_up;
+use crate::ups::{FirstList, link_up};
 use spin_base::{Memory, Seq};
 use std::alloc::Global;
 use std::sync::Wait;
@@ -17,6 +17,16 @@ impl Link {
     {
         self.queue.capacity()
     }
+}
+
+/// A link that is lent, with both its ends.
+#[derive(Drop)]
+pub struct LentLink<'a> {
+    pub link: &'a Link,
+    pub tx: Tx,
+    pub rx: Rx,
+    ghost sends: { IsTx link.now tx },
+    ghost takes: { IsRx link.now rx },
 }
 
 /// A link at rest: it is lent, with both its ends. What it holds is their first list, they have no notes, and so many copies
@@ -36,13 +46,12 @@ pub struct AtRest<'a> {
 
 /// The link with its ends, which have what it holds as their first list, and no notes. The first list followed by what was
 /// taken of the sender's offers is what the receiver took followed by what is held. No copy moves.
-pub fn rest<'a, R: Wait>(rt: &R, link: &'a Link, tx: Tx, rx: Rx) -> AtRest<'a>
-    requires sending { IsTx link.now tx }
-    requires taking { IsRx link.now rx }
-    ensures link { result.link.now ≡ link.now }
-    ensures rests { Rests (cap_of link.now) (sending tx) (taking rx)
+pub fn rest<'a, R: Wait>(rt: &R, lent: LentLink<'a>) -> AtRest<'a>
+    ensures link { result.link.now ≡ lent.entry.link.now }
+    ensures rests { Rests (cap_of lent.entry.link.now) (sending lent.entry.tx) (taking lent.entry.rx)
         (sending result.tx) (taking result.rx) result.held }
 {
+    let LentLink { link, tx, rx } = lent;
     let Tx { mut pass } = tx;
     let Rx { pass: taker } = rx;
     link.queue.absorb::<BothEnds>(&mut pass, taker);
@@ -75,34 +84,28 @@ impl AtRest<'_> {
         ensures room { IfOk result (λ e. (e.room.items ≡ []) × (cap ≤ e.room.spare)) }
         ensures back { IfErr result (λ b. (b.0 ≡ self.entry.tx) × (b.1 ≡ self.entry.rx)) }
     {
-        let Ok(ends) = link_up(rt, alloc, Seq::new(alloc), cap) else {
+        let first = FirstList {
+            list: Seq::new(alloc),
+            cap,
+        };
+        let Ok(ends) = link_up(rt, alloc, first) else {
             return Err((self.tx, self.rx, Memory));
         };
-        let LinkEnds { link, tx, rx, room } = ends;
-        let tx = self.pour(rt, &link, tx);
-        let AtRest { tx, rx, .. } = rest(rt, &link, tx, rx);
-        Ok(LinkEnds { link, tx, rx, room })
-    }
-
-    // Offers all that the link holds to another, which has places for it.
-    fn pour<R: Wait>(self, rt: &R, wide: &Link, sender: Tx) -> Tx
-        requires sender { IsTx wide.now sender }
-        requires new { NoNotes [] (sending sender) }
-        requires fits { self.held ≤ cap_of wide.now }
-        ensures sender { IsTx wide.now result }
-        ensures none { (sending result).first ≡ [] }
-        ensures all { (sending result).sent ≡ (sending self.entry.tx).first }
-    {
+        let LinkEnds {
+            link: wide,
+            tx: mut sender,
+            rx: taker,
+            room,
+        } = ends;
         let AtRest {
             link,
             tx,
             mut rx,
             held,
         } = self;
-        let mut sender = sender;
         for _ in 0..held {
             match take(rt, link, &mut rx) {
-                Some(copy) => match offer(rt, wide, &mut sender, copy) {
+                Some(copy) => match offer(rt, &wide, &mut sender, copy) {
                     Offered::Taken => {}
                     // There are places for all copies.
                     Offered::Full(_) => unreachable!(),
@@ -111,7 +114,20 @@ impl AtRest<'_> {
                 None => unreachable!(),
             }
         }
-        let _ = rest(rt, link, tx, rx);
-        sender
+        let _ = rest(rt, LentLink { link, tx, rx });
+        let AtRest { tx, rx, .. } = rest(
+            rt,
+            LentLink {
+                link: &wide,
+                tx: sender,
+                rx: taker,
+            },
+        );
+        Ok(LinkEnds {
+            link: wide,
+            tx,
+            rx,
+            room,
+        })
     }
 }

@@ -1,13 +1,11 @@
 -- A step along an axis of the grid, and the step back.
-use Rattle.std.proofs.Common.{◌≡◌, ℕ, ◌+◌, ◌-◌, ◌%◌, ◌<◌, ◌≤◌, Bool, true, false, cond, ltb, eqb, Some, None, refl, sym, ap, ◌∙◌, arith, inl, inr}
+use Rattle.std.proofs.Common.{◌≡◌, ℕ, ◌+◌, ◌-◌, ◌%◌, ◌<◌, Bool, true, false, cond, ltb, eqb, Some, None, refl, sym, ap, ◌∙◌, arith, inl, inr}
 use Rattle.std.proofs.lemmas.Bool.{lt-ltb, le-ltb, eq-eqb, ne_eqb, cases_lt, cases_eq, cond-true, cond-false}
 use Rattle.std.proofs.Math.Nat.{mod-eq_of_lt, mod_self, add-mod_right}
-use Rattle.spin_base.specs.declared.chips.Dir.{Dir}
-use Rattle.spin_base.specs.declared.chips.Dir.TheVariants.{East, NorthEast, North, West, SouthWest, South}
+use Rattle.spin_base.specs.declared.chips.Dir.{Dir, TheVariants.East, TheVariants.NorthEast, TheVariants.North, TheVariants.West, TheVariants.SouthWest, TheVariants.South}
 use Rattle.spin_base.specs.Links.{opposite_of}
-use Rattle.machine_desc.specs.declared.steps.Step.{Step}
-use Rattle.machine_desc.specs.declared.steps.Step.TheVariants.{Back, Stay, Ahead}
-use Rattle.machine_desc.specs.Live.{stepped, x_step, y_step}
+use Rattle.machine_desc.specs.{declared.steps.Step.Step, declared.steps.Step.TheVariants.Back, declared.steps.Step.TheVariants.Stay, declared.steps.Step.TheVariants.Ahead, Live.stepped, Live.x_step}
+use Rattle.machine_desc.specs.Live.{y_step}
 
 pub turned : Step → Step
 turned Back = Ahead
@@ -65,46 +63,18 @@ pub stepped_back : (wrap : Bool) (w : ℕ) (s : Step) (n k : ℕ) → n < w → 
 unfolding turned
 stepped_back true w Stay n k h e = sym e
 stepped_back false w Stay n k h e = sym e
-stepped_back true w Ahead n k h e =
-    let same : (n + 1) % w ≡ k = cc in
-    ap Some (ap (λ j. (j + (w - 1)) % w) (sym same) ∙ back_after_ahead n w h)
-stepped_back true w Back n k h e =
-    let same : (n + (w - 1)) % w ≡ k = cc in
-    ap Some (ap (λ j. (j + 1) % w) (sym same) ∙ ahead_after_back n w h)
-stepped_back false w Ahead n k h e = elim (cases_lt (n + 1) w) [
-  | inl inside ↦
-      let same : Some (n + 1) ≡ Some k = sym (cond-true (ltb (n + 1) w) (Some (n + 1)) None (lt-ltb _ _ inside)) ∙ e in
-      let is : n + 1 ≡ k = cc in
-      cond-false (eqb k 0) None (Some (k - 1)) (ne_eqb _ _ (omega arith)) ∙ ap Some (omega arith)
-  | inr last ↦
-      let none : None ≡ Some k = sym (cond-false (ltb (n + 1) w) (Some (n + 1)) None (le-ltb _ _ last)) ∙ e in cc
-]
-stepped_back false w Back n k h e = elim (cases_eq n 0) [
-  | inl first ↦ let none : None ≡ Some k = sym (cond-true (eqb n 0) None (Some (n - 1)) (eq-eqb _ _ first)) ∙ e in cc
-  | inr other ↦
-      let same : Some (n - 1) ≡ Some k = sym (cond-false (eqb n 0) None (Some (n - 1)) (ne_eqb _ _ other)) ∙ e in
-      let is : n - 1 ≡ k = cc in
-      cond-true (ltb (k + 1) w) (Some (k + 1)) None (lt-ltb _ _ (omega arith)) ∙ ap Some (omega arith)
-]
+stepped_back true w Ahead n k h e = grind (arith, back_after_ahead n w h)
+stepped_back true w Back n k h e = grind (arith, ahead_after_back n w h)
+stepped_back false w Ahead n k h e = grind (arith, cases_lt (n + 1) w, cond-true, cond-false, le-ltb, ne_eqb, lt-ltb)
+stepped_back false w Back n k h e = grind (arith, cases_eq n 0, cond-true, cond-false, lt-ltb, ne_eqb, eq-eqb)
 
 pub stepped_inside : (wrap : Bool) (w : ℕ) (s : Step) (n k : ℕ) → n < w → stepped wrap w s n ≡ Some k → k < w
 stepped_inside true w Stay n k h e = let same : n ≡ k = cc in omega arith
 stepped_inside false w Stay n k h e = let same : n ≡ k = cc in omega arith
 stepped_inside true w Ahead n k h e = let same : (n + 1) % w ≡ k = cc in omega arith
 stepped_inside true w Back n k h e = let same : (n + (w - 1)) % w ≡ k = cc in omega arith
-stepped_inside false w Ahead n k h e = elim (cases_lt (n + 1) w) [
-  | inl inside ↦
-      let same : Some (n + 1) ≡ Some k = sym (cond-true (ltb (n + 1) w) (Some (n + 1)) None (lt-ltb _ _ inside)) ∙ e in
-      let is : n + 1 ≡ k = cc in omega arith
-  | inr last ↦
-      let none : None ≡ Some k = sym (cond-false (ltb (n + 1) w) (Some (n + 1)) None (le-ltb _ _ last)) ∙ e in cc
-]
-stepped_inside false w Back n k h e = elim (cases_eq n 0) [
-  | inl first ↦ let none : None ≡ Some k = sym (cond-true (eqb n 0) None (Some (n - 1)) (eq-eqb _ _ first)) ∙ e in cc
-  | inr other ↦
-      let same : Some (n - 1) ≡ Some k = sym (cond-false (eqb n 0) None (Some (n - 1)) (ne_eqb _ _ other)) ∙ e in
-      let is : n - 1 ≡ k = cc in omega arith
-]
+stepped_inside false w Ahead n k h e = grind (arith, cases_lt (n + 1) w, cond-true, lt-ltb, cond-false, le-ltb)
+stepped_inside false w Back n k h e = grind (arith, cases_eq n 0, cond-true, eq-eqb, cond-false, ne_eqb)
 
 -- what the code of a step computes, by cases
 pub stepped_ahead_inside : (wrap : Bool) (n w : ℕ) → n + 1 < w → stepped wrap w Ahead n ≡ Some (n + 1)

@@ -1,30 +1,17 @@
 -- Branches of one routing tree: where they pass, that together they pass everywhere, and that none is long.
 use Rattle.std.proofs.Common.{◌≡◌, ◌≢◌, ℕ, zero, suc, ◌+◌, ◌*◌, ◌<◌, ◌≤◌, eqb, List, [], ◌∷◌, ◌++◌, length, get_or, map, Some, None, refl, sym, ap, ◌∙◌, subst, arith, inl, inr, ◌⊎◌}
 use Rattle.std.specs.List.{slice_get, Contains}
-use Rattle.std.proofs.lemmas.Bool.{eqb-true, ne_eqb}
-use Rattle.std.proofs.lemmas.List.{get_or_default, get_or-map, length-map, length-append, map-append}
-use Rattle.std.proofs.lemmas.List.Elements.{All-contains, Contains-push, Contains-append_left}
-use Rattle.std.proofs.lemmas.Map.Keys.{IsDistinct-from_apart}
-use Rattle.std.proofs.lemmas.Map.Steps.{length-le_from_distinct_below}
-use Rattle.std.proofs.lemmas.Map.Views.{Contains-from_any}
+use Rattle.std.proofs.lemmas.{Bool.eqb-true, Bool.ne_eqb, List.get_or_default, List.get_or-map, List.length-map, List.length-append, List.map-append, List.Elements.All-contains}
+use Rattle.std.proofs.lemmas.{List.Elements.Contains-push, List.Elements.Contains-append_left, Map.Keys.IsDistinct-from_apart, Map.Steps.length-le_from_distinct_below, Map.Views.Contains-from_any}
 use Rattle.std.proofs.lemmas.Option.{slice_get-get_or}
-use Rattle.spin_base.specs.declared.chips.Chip.{Chip}
-use Rattle.spin_base.specs.declared.chips.Spot.{Spot}
-use Rattle.spin_base.specs.declared.chips.Dir.{Dir}
-use Rattle.spin_base.specs.declared.chips.Port.{Port}
-use Rattle.spin_base.specs.declared.chips.Port.TheVariants.{Link as ByLink, Local}
-use Rattle.spin_base.specs.declared.routes.Out.{Out}
-use Rattle.spin_base.specs.declared.routes.Out.TheVariants.{Link}
-use Rattle.spin_base.specs.Links.{opposite_of}
-use Rattle.spin_base.specs.Outputs.{out_of}
-use Rattle.machine_desc.specs.declared.trees.Edge.{Edge}
-use Rattle.machine_desc.specs.Description.{Description}
-use Rattle.machine_desc.specs.Live.{far_of, IsInside, IsLiveChip, index_of}
-use Rattle.machine_desc.specs.RoutingTree.{end_of, IsTreeChip, IsPath, IsTreeTo, IsRoutingTree}
-use Rattle.machine_desc.specs.Branch.{Exit, GoesOn, IsWay, IsBranch, port_after, arrival_from, arrival_at}
-use Rattle.machine_desc.proofs.Far.{live_inside, far_inside, same_index, index_below}
-use Rattle.machine_desc.proofs.Same.{same_edge}
-use Rattle.machine_desc.proofs.TreeLemmas.{path_more, path_in_tree, one_edge_into, edge_lives, root_lives_with_edge}
+use Rattle.spin_base.specs.declared.{chips.Chip.Chip, chips.Spot.Spot, chips.Dir.Dir, chips.Port.Port, chips.Port.TheVariants.Local, routes.Out.TheVariants.Link}
+use Rattle.spin_base.specs.{Links.opposite_of, Outputs.out_of}
+use Rattle.spin_base.specs.declared.chips.Port.TheVariants.{Link as ByLink}
+use Rattle.machine_desc.specs.{declared.trees.Edge.Edge, Description.Description, Live.far_of, Live.IsInside, Live.IsLiveChip, Live.index_of, RoutingTree.end_of, RoutingTree.IsTreeChip}
+use Rattle.machine_desc.specs.{RoutingTree.IsPath, RoutingTree.IsTreeTo, RoutingTree.IsRoutingTree, Branch.Exit, Branch.GoesOn, Branch.IsWay, Branch.IsBranch, Branch.port_after, Branch.arrival_from}
+use Rattle.machine_desc.specs.Branch.{arrival_at}
+use Rattle.machine_desc.proofs.{Far.live_inside, Far.far_inside, Far.same_index, Far.index_below, Same.same_edge, TreeLemmas.path_more, TreeLemmas.path_in_tree, TreeLemmas.one_edge_into}
+use Rattle.machine_desc.proofs.TreeLemmas.{edge_lives, root_lives_with_edge}
 
 -- numbers below n of which no two are the same are at most n
 pub length_le_from_apart : (xs : List ℕ) (n : ℕ) → ((i j d : ℕ) → i < j → j < length xs → get_or xs i d ≢ get_or xs j d) →
@@ -40,9 +27,7 @@ exit_of e = record { chip = e.chip; out = Link e.dir }
 
 -- exits of one chip by one output are one
 pub same_exit : (x y : Exit) → x.chip ≡ y.chip → x.out ≡ y.out → x ≡ y
-same_exit x y p q =
-    let first : x ≡ record { chip = y.chip; out = x.out } = ap (λ (c : Chip). let z : Exit = record { chip = c; out = x.out } in z) p in
-    first ∙ ap (λ (o : Out). let z : Exit = record { chip = y.chip; out = o } in z) q
+same_exit x y p q = grind arith
 
 -- the first exit of a way is that of the chip where it begins
 pub way_first : (m : Description) (edges : List Edge) (s : Spot) (from : Chip) (xs : List Exit) (x : Exit) →
@@ -106,14 +91,7 @@ exit_leads m edges s from (y ∷ ys) zero x way h = subst (ExitLeads m edges s (
     next (z ∷ zs) c rest = (z, rest.0, refl)
 
     leaves : GoesOn m edges s from y.out ys (λ e. IsWay m edges s e ys) → ExitLeads m edges s (y ∷ ys) zero y
-    leaves (inl (d, is, has, (e, far, rest))) =
-        let z = next ys e rest in
-        inl (
-          d,
-          is,
-          subst (λ (c : Chip). Contains edges (record { chip = c; dir = d })) (sym way.0) has,
-          (z.0, subst (λ (c : Chip). far_of m c d ≡ Some z.0.chip) (sym way.0) (far ∙ ap Some (sym z.1)), z.2),
-        )
+    leaves (inl (d, is, has, (e, far, rest))) = grind (arith, next ys e rest)
     leaves (inr (at, is, last)) = inr (at ∙ sym way.0, is, ap (λ zs. suc (length zs)) last)
 exit_leads m edges s from (y ∷ ys) (suc i) x way h = leaves (λ c rest. exit_leads m edges s c ys i x rest h) way.1
   where
@@ -130,11 +108,7 @@ exit_leads m edges s from (y ∷ ys) (suc i) x way h = leaves (λ c rest. exit_l
 pub way_along : (m : Description) (edges : List Edge) (s : Spot) (from to : Chip) (path : List Edge) (ys : List Exit) →
     IsPath m edges from path to → IsWay m edges s to ys → IsWay m edges s from (map exit_of path ++ ys)
 way_along m edges s from to [] ys along way = subst (λ (c : Chip). IsWay m edges s c ys) (sym along) way
-way_along m edges s from to (e ∷ path) ys along way =
-    let rest = way_along m edges s along.2.0 to path ys along.2.2 way in
-    let same : e ≡ record { chip = from; dir = e.dir } = same_edge e (record { chip = from; dir = e.dir }) along.1 refl in
-    let leads : far_of m from e.dir ≡ Some along.2.0 = ap (λ (c : Chip). far_of m c e.dir) (sym along.1) ∙ along.2.1 in
-    (along.1, inl (e.dir, refl, subst (λ (f : Edge). Contains edges f) same along.0, (along.2.0, leads, rest)))
+way_along m edges s from to (e ∷ path) ys along way = grind (arith, way_along m edges s along.2.0 to path ys along.2.2 way, same_edge e (record { chip = from; dir = e.dir }) along.1 refl)
 
 -- the last exit of a way to a target
 abbrev pub last_exit : Spot → Exit
@@ -149,14 +123,8 @@ module _ (m : Description) (root : Chip) (edges : List Edge) (targets : List Chi
       (i j : ℕ) (x y : Exit) → slice_get xs i ≡ Some x → slice_get ys j ≡ Some y → x.chip ≡ y.chip →
       (i ≡ j) × (arrival_at xs i ≡ arrival_at ys j)
   same_place s t xs ys p q zero zero x y here there same = (refl, refl)
-  same_place s t xs ys p q zero (suc j) x y here there same =
-      let by : ComesBy m edges ys Local j y.chip = comes_by m edges t root Local ys j y q there in
-      absurd (All-contains (λ e. end_of m e ≢ Some root) edges by.edge tree.none_into_root by.in_tree
-      (by.leads ∙ ap Some (sym same ∙ way_first m edges s root xs x p here)))
-  same_place s t xs ys p q (suc i) zero x y here there same =
-      let by : ComesBy m edges xs Local i x.chip = comes_by m edges s root Local xs i x p here in
-      absurd (All-contains (λ e. end_of m e ≢ Some root) edges by.edge tree.none_into_root by.in_tree
-      (by.leads ∙ ap Some (same ∙ way_first m edges t root ys y q there)))
+  same_place s t xs ys p q zero (suc j) x y here there same = grind (arith, comes_by m edges t root Local ys j y q there, way_first m edges s root xs x p here, All-contains)
+  same_place s t xs ys p q (suc i) zero x y here there same = grind (arith, comes_by m edges s root Local xs i x p here, way_first m edges t root ys y q there, All-contains)
   same_place s t xs ys p q (suc i) (suc j) x y here there same =
       let by : ComesBy m edges xs Local i x.chip = comes_by m edges s root Local xs i x p here in
       let too : ComesBy m edges ys Local j y.chip = comes_by m edges t root Local ys j y q there in
@@ -166,8 +134,7 @@ module _ (m : Description) (root : Chip) (edges : List Edge) (targets : List Chi
 
   -- the chips of a branch are inside the grid
   pub branch_inside : IsLiveChip m root → (s : Spot) (xs : List Exit) → IsBranch m root edges s xs → (i : ℕ) (x : Exit) → slice_get xs i ≡ Some x → IsInside m x.chip
-  branch_inside root_lives s xs p zero x here =
-      subst (λ (c : Chip). IsInside m c) (sym (way_first m edges s root xs x p here)) (live_inside m root root_lives)
+  branch_inside root_lives s xs p zero x here = grind (arith, way_first m edges s root xs x p here, live_inside m root root_lives)
   branch_inside root_lives s xs p (suc i) x here =
       let by : ComesBy m edges xs Local i x.chip = comes_by m edges s root Local xs i x p here in
       let before = branch_inside root_lives s xs p i (exit_of by.edge) by.before in
@@ -224,8 +191,7 @@ module _ (m : Description) (root : Chip) (edges : List Edge) (targets : List Chi
   -- Below each chip of the tree there is a target chip.
   goes_down : IsLiveChip m root → (room : ℕ) (c : Chip) (path : List Edge) → IsPath m edges root path c → m.width * m.height ≤ length path + room →
       (to : Chip) × Contains targets to × ((down : List Edge) × IsPath m edges c down to)
-  goes_down root_lives zero c path along few =
-      absurd (let short : length path < m.width * m.height = path_short root_lives c path along in omega arith)
+  goes_down root_lives zero c path along few = grind (arith, path_short root_lives c path along)
   goes_down root_lives (suc room) c path along few =
       let on_tree : IsTreeChip m root edges c = path_in_tree m root edges root c path (inl refl) along in
       elim (tree.ends_are_targets c on_tree) [
@@ -281,11 +247,7 @@ chip_of_target targets c has =
     (s, (has.0, within, get_or_default targets has.0 s nothing within), sym (get_or-map (λ s. s.chip) targets has.0 nothing c within) ∙ has.2)
 
 target_chip : (targets : List Spot) (s : Spot) → Contains targets s → Contains (map (λ t. t.chip) targets) s.chip
-target_chip targets s has = (
-  has.0,
-  subst (λ n. has.0 < n) (sym (length-map targets (λ t. t.chip))) has.1,
-  get_or-map (λ t. t.chip) targets has.0 s s.chip has.1 ∙ ap (λ (t : Spot). t.chip) has.2,
-)
+target_chip targets s has = grind (arith, length-map, get_or-map)
 
 -- Each target of a routing tree has a branch, whose last exit is by the output that leads to it.
 pub end_on_branch : (m : Description) (root : Chip) (edges : List Edge) (targets : List Spot) → IsRoutingTree m root edges targets →

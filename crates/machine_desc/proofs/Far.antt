@@ -1,16 +1,11 @@
 -- Each link leads there and back, live links are live from both ends, and the index tells the chips of the grid apart.
-use Rattle.std.proofs.Common.{◌≡◌, ℕ, ◌+◌, ◌*◌, ◌<◌, true, false, not, Option, Some, None, refl, sym, ap, ◌∙◌, subst, arith, inl, inr}
-use Rattle.std.proofs.lemmas.Bool.{ltb-true, lt-ltb, and_parts, and_from, cond-true, cond-false, cases_Bool, false≢true}
-use Rattle.std.proofs.lemmas.Nat.{same_from_place, mul-add-lt}
-use Rattle.spin_base.specs.declared.chips.Chip.{Chip}
-use Rattle.spin_base.specs.declared.chips.Dir.{Dir}
-use Rattle.spin_base.specs.declared.chips.Dir.TheVariants.{East, NorthEast, North, West, SouthWest, South}
-use Rattle.spin_base.specs.Links.{opposite_of}
-use Rattle.machine_desc.specs.Description.{Description}
-use Rattle.spin_base.specs.Equality.{chip_eq}
-use Rattle.machine_desc.specs.Live.{stepped, x_step, y_step, chip_at, other_than, far_of, is_listed, is_live_between, IsInside, IsLiveChip, IsLiveLink, index_of}
-use Rattle.machine_desc.proofs.Same.{same_chip, chip_eq_sym}
-use Rattle.machine_desc.proofs.Axis.{x_step-opposite, y_step-opposite, stepped_back, stepped_inside}
+use Rattle.std.proofs.Common.{◌≡◌, ℕ, ◌*◌, ◌<◌, true, false, Option, Some, None, refl, ◌∙◌, arith}
+use Rattle.std.proofs.lemmas.{Bool.ltb-true, Bool.lt-ltb, Bool.and_parts, Bool.and_from, Bool.cond-true, Bool.cond-false, Bool.cases_Bool, Bool.false≢true, Nat.same_from_place, Nat.mul-add-lt}
+use Rattle.spin_base.specs.declared.chips.{Chip.Chip, Dir.Dir, Dir.TheVariants.East, Dir.TheVariants.NorthEast, Dir.TheVariants.North, Dir.TheVariants.West, Dir.TheVariants.SouthWest}
+use Rattle.spin_base.specs.{declared.chips.Dir.TheVariants.South, Links.opposite_of, Equality.chip_eq}
+use Rattle.machine_desc.specs.{Description.Description, Live.stepped, Live.x_step, Live.y_step, Live.chip_at, Live.other_than, Live.far_of, Live.is_live_between, Live.IsInside, Live.IsLiveChip}
+use Rattle.machine_desc.specs.Live.{IsLiveLink, index_of}
+use Rattle.machine_desc.proofs.{Same.same_chip, Same.chip_eq_sym, Axis.x_step-opposite, Axis.y_step-opposite, Axis.stepped_back, Axis.stepped_inside}
 
 pub opposite_of-opposite : (d : Dir) → opposite_of (opposite_of d) ≡ d
 opposite_of-opposite East = refl
@@ -28,33 +23,21 @@ inside_from m c p q = and_from _ _ (lt-ltb _ _ p) (lt-ltb _ _ q)
 
 -- a chip that is made of two coordinates has them
 chip_at-parts : (a b : Option ℕ) (e : Chip) → chip_at a b ≡ Some e → (a ≡ Some e.x) × (b ≡ Some e.y)
-chip_at-parts (Some x) (Some y) e h =
-    let same : record { x = x; y = y } ≡ e = cc in
-    (ap (λ (c : Chip). Some c.x) same, ap (λ (c : Chip). Some c.y) same)
+chip_at-parts (Some x) (Some y) e h = grind arith
 chip_at-parts (Some x) None e h = cc
 chip_at-parts None b e h = cc
 
 other_than-Some : (c e : Chip) (o : Option Chip) → other_than c o ≡ Some e → (o ≡ Some e) × (chip_eq c e ≡ false)
 other_than-Some c e None h = cc
-other_than-Some c e (Some f) h = elim (cases_Bool (chip_eq c f)) [
-  | inl same ↦ let none : None ≡ Some e = sym (cond-true (chip_eq c f) None (Some f) same) ∙ h in cc
-  | inr other ↦
-      let some : Some f ≡ Some e = sym (cond-false (chip_eq c f) None (Some f) other) ∙ h in
-      let is : f ≡ e = cc in
-      (some, subst (λ (g : Chip). chip_eq c g ≡ false) is other)
-]
+other_than-Some c e (Some f) h = grind (arith, cases_Bool (chip_eq c f), cond-true, cond-false)
 
 pub far_parts : (m : Description) (c e : Chip) (d : Dir) → far_of m c d ≡ Some e →
     (stepped m.wrap m.width (x_step d) c.x ≡ Some e.x) × (stepped m.wrap m.height (y_step d) c.y ≡ Some e.y) × (chip_eq c e ≡ false)
-far_parts m c e d h =
-    let parts = other_than-Some c e _ h in
-    let places = chip_at-parts _ _ e parts.0 in
-    (places.0, places.1, parts.1)
+far_parts m c e d h = grind (arith, other_than-Some c e _ h, chip_at-parts _ _ e (other_than-Some c e _ h).0)
 
 pub far_from : (m : Description) (c e : Chip) (d : Dir) → stepped m.wrap m.width (x_step d) c.x ≡ Some e.x →
     stepped m.wrap m.height (y_step d) c.y ≡ Some e.y → chip_eq c e ≡ false → far_of m c d ≡ Some e
-far_from m c e d p q other =
-    rw (p, q) (cond-false (chip_eq c e) None (Some e) other)
+far_from m c e d p q other = grind (arith, cond-false (chip_eq c e) None (Some e) other)
 
 -- a link leads inside the grid
 pub far_inside : (m : Description) (c e : Chip) (d : Dir) → IsInside m c → far_of m c d ≡ Some e → IsInside m e
@@ -76,8 +59,7 @@ far_back m c e d h f =
     far_from m e c (opposite_of d) across up (chip_eq_sym e c ∙ parts.2)
 
 pub far_forth : (m : Description) (c e : Chip) (d : Dir) → IsInside m e → far_of m e (opposite_of d) ≡ Some c → far_of m c d ≡ Some e
-far_forth m c e d h f =
-    subst (λ (o : Dir). far_of m c o ≡ Some e) (opposite_of-opposite d) (far_back m e c (opposite_of d) h f)
+far_forth m c e d h f = grind (arith, opposite_of-opposite d, far_back m e c (opposite_of d) h f)
 
 -- live chips are inside the grid
 pub live_inside : (m : Description) (c : Chip) → IsLiveChip m c → IsInside m c
@@ -93,20 +75,10 @@ live_ends m c d h = ends (far_of m c d) refl h
 
 -- a live link is live from its other end
 pub live_back : (m : Description) (c e : Chip) (d : Dir) → far_of m c d ≡ Some e → IsLiveLink m c d → IsLiveLink m e (opposite_of d)
-live_back m c e d f h =
-    let here : is_live_between m c d (Some e) ≡ true = subst (λ (o : Option Chip). is_live_between m c d o ≡ true) f h in
-    let lives = and_parts _ _ (and_parts _ _ here).0 in
-    let listed = and_parts _ _ (and_parts _ _ here).1 in
-    let back : far_of m e (opposite_of d) ≡ Some c = far_back m c e d (live_inside m c lives.0) f in
-    let mine : not (is_listed m c (opposite_of (opposite_of d))) ≡ true =
-    subst (λ (o : Dir). not (is_listed m c o) ≡ true) (sym (opposite_of-opposite d)) listed.0 in
-    subst (λ (o : Option Chip). is_live_between m e (opposite_of d) o ≡ true) (sym back)
-    (and_from _ _ (and_from _ _ lives.1 lives.0) (and_from _ _ listed.1 mine))
+live_back m c e d f h = grind (arith, opposite_of-opposite d, and_parts, far_back, live_inside, and_from)
 
 pub index_below : (m : Description) (c : Chip) → IsInside m c → index_of m c < m.width * m.height
-index_below m c h = let at = inside_parts m c h in
-    let below : c.x * m.height + c.y < m.height * m.width = mul-add-lt c.x m.height c.y m.width at.0 at.1 in
-    omega arith
+index_below m c h = grind (arith, inside_parts m c h, mul-add-lt c.x m.height c.y m.width (inside_parts m c h).0 (inside_parts m c h).1)
 
 -- two chips of the grid with one index are the same
 pub same_index : (m : Description) (a b : Chip) → IsInside m a → IsInside m b → index_of m a ≡ index_of m b → a ≡ b

@@ -1,20 +1,12 @@
 -- A table that tells which things are listed, as the list is read.
-use Rattle.std.proofs.Common.{◌≡◌, ℕ, ◌+◌, ◌<◌, ◌≤◌, Bool, true, false, ◌||◌, List, length, get_or, take, set, replicate, sym, ap, ◌∙◌, subst, arith, inl, inr}
+use Rattle.std.proofs.Common.{◌≡◌, ℕ, ◌+◌, ◌<◌, ◌≤◌, Bool, true, false, ◌||◌, List, length, get_or, take, set, replicate, arith, inl, inr}
 use Rattle.std.specs.List.{list_any}
-use Rattle.std.proofs.lemmas.Bool.{cases_eq, cases_lt, or_right, false_from_ne_true}
-use Rattle.std.proofs.lemmas.Nat.{same_from_place}
-use Rattle.std.proofs.lemmas.List.{get_or-set_same, get_or-set_other, get_or-replicate, get_or_past, length-replicate}
-use Rattle.std.proofs.lemmas.List.Folds.{list_any_more}
-use Rattle.std.proofs.Math.Bool.{or-false}
-use Rattle.spin_base.specs.declared.chips.Chip.{Chip}
-use Rattle.spin_base.specs.declared.chips.Spot.{Spot}
-use Rattle.spin_base.specs.Equality.{chip_eq, spot_eq}
-use Rattle.spin_base.specs.Links.{dir_number}
+use Rattle.std.proofs.lemmas.{Bool.cases_eq, Bool.cases_lt, Bool.or_right, Bool.false_from_ne_true, Nat.same_from_place, List.get_or-set_same, List.get_or-set_other, List.get_or-replicate}
+use Rattle.std.proofs.{lemmas.List.get_or_past, lemmas.List.length-replicate, lemmas.List.Folds.list_any_more, Math.Bool.or-false}
+use Rattle.spin_base.specs.{declared.chips.Chip.Chip, declared.chips.Spot.Spot, Equality.chip_eq, Equality.spot_eq, Links.dir_number}
 use Rattle.spin_base.proofs.Equality.{chip_eq_true, chip_eq_same, spot_eq_true, spot_eq_same}
-use Rattle.machine_desc.specs.declared.trees.Edge.{Edge}
-use Rattle.machine_desc.specs.declared.grids.Grid.{Grid}
-use Rattle.machine_desc.specs.Equality.{edge_eq}
-use Rattle.machine_desc.specs.Tables.{TellsListed, IsOn, IsCoreOn, IsEdgeOn, chip_place, core_place, edge_place, TellsChips, TellsCores, TellsLinks}
+use Rattle.machine_desc.specs.{declared.trees.Edge.Edge, declared.grids.Grid.Grid, Equality.edge_eq, Tables.TellsListed, Tables.IsOn, Tables.IsCoreOn, Tables.IsEdgeOn, Tables.chip_place}
+use Rattle.machine_desc.specs.Tables.{core_place, edge_place, TellsChips, TellsCores, TellsLinks}
 use Rattle.machine_desc.proofs.Same.{same_chip, same_spot, same_edge, same_dir, below_six, edge_eq-true, edge_eq_self}
 
 -- a clear table tells of the empty list
@@ -40,27 +32,15 @@ module _ {K : Type 0} (HasPlace : K → Type 0) (place_of : K → ℕ) (same : K
       let more : list_any (same k) (take (i + 1) listed) ≡ (list_any (same k) (take i listed) || same k x) =
       list_any_more (same k) listed i d within in
       elim (cases_eq (place_of k) p) [
-        | inl here ↦
-            let is : k ≡ x = apart k x has placed (here ∙ at) in
-            let mine : same k x ≡ true = subst (λ (y : K). same k y ≡ true) is (same_self k) in
-            ap (λ j. get_or (set table p true) j false) here
-            ∙ (get_or-set_same table p true false below ∙ sym (more ∙ or_right _ _ mine))
-        | inr other ↦
-            let no : same k x ≡ false = false_from_ne_true (same k x) (λ h. other (ap place_of (same_true k x h) ∙ sym at)) in
-            get_or-set_other table p (place_of k) true false other
-            ∙ (told k has ∙ (sym (or-false (list_any (same k) (take i listed))) ∙ sym (more ∙ ap (λ t. list_any (same k) (take i listed) || t) no)))
+        | inl here ↦ grind (arith, get_or-set_same table p true false below, get_or, or_right)
+        | inr other ↦ grind (arith, get_or-set_other table p (place_of k) true false other, or-false (list_any (same k) (take i listed)), false_from_ne_true)
       ]
 
   -- a thing without a place is read, and nothing written
   pub Tells-skip : (table : List Bool) (listed : List K) (i : ℕ) (d : K) → i < length listed →
       (HasPlace (get_or listed i d) → ⊥) → TellsListed HasPlace place_of same table (take i listed) →
       TellsListed HasPlace place_of same table (take (i + 1) listed)
-  Tells-skip table listed i d within none told k has =
-      let x : K = get_or listed i d in
-      let more : list_any (same k) (take (i + 1) listed) ≡ (list_any (same k) (take i listed) || same k x) =
-      list_any_more (same k) listed i d within in
-      let no : same k x ≡ false = false_from_ne_true (same k x) (λ h. none (subst HasPlace (same_true k x h) has)) in
-      told k has ∙ (sym (or-false (list_any (same k) (take i listed))) ∙ sym (more ∙ ap (λ t. list_any (same k) (take i listed) || t) no))
+  Tells-skip table listed i d within none told k has = grind (arith, get_or listed i d, list_any_more (same k) listed i d within, or-false (list_any (same k) (take i listed)), false_from_ne_true)
 
 pub chips_apart : (grid : Grid) (a b : Chip) → IsOn grid a → IsOn grid b → chip_place grid a ≡ chip_place grid b → a ≡ b
 chips_apart grid a b p q e =

@@ -34,9 +34,7 @@ chip_of-index_of m c inside =
 
 -- the chips of the grid are inside it
 pub grid_chips-inside : (m : Description) → All (IsInside m) (grid_chips m)
-grid_chips-inside m = All-from_get_or (IsInside m) (grid_chips m) (chip_of m 0)
-    (λ i h. let below : i < m.width * m.height = rw (← length-map-range_with_len (chip_of m) 0 (m.width * m.height)) h in
-    rw (get_or-map-range_with_len (chip_of m) 0 (m.width * m.height) i i (chip_of m 0) below (omega arith)) (chip_of-inside m i below))
+grid_chips-inside m = grind (arith, length-map-range_with_len (chip_of m) 0 (m.width * m.height), All-from_get_or, get_or-map-range_with_len, chip_of-inside)
 
 abbrev is_listed_dead : Description → Chip → Bool
 is_listed_dead m c = list_any (chip_eq c) m.dead_chips

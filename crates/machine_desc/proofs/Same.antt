@@ -1,4 +1,5 @@
 -- The tests of equality say what they are called for.
+use Rattle.std.proofs.Common.{arith}
 use Rattle.std.proofs.Common.{◌≡◌, true, false, refl, sym, ap, subst, ◌∙◌}
 use Rattle.std.proofs.lemmas.Bool.{and_parts, and_from}
 use Rattle.spin_base.specs.declared.chips.Chip.{Chip}
@@ -11,15 +12,10 @@ pub use Rattle.spin_base.proofs.Equality.{same_chip, same_spot}
 pub use Rattle.spin_base.proofs.Outputs.{dir_number_injective as same_dir, dir_number_below as below_six}
 
 pub same_edge : (a b : Edge) → a.chip ≡ b.chip → a.dir ≡ b.dir → a ≡ b
-same_edge a b p q =
-    let first : a ≡ record { chip = b.chip; dir = a.dir } =
-    ap (λ (c : Chip). let e : Edge = record { chip = c; dir = a.dir } in e) p in
-    first ∙ ap (λ (d : Dir). let e : Edge = record { chip = b.chip; dir = d } in e) q
+same_edge a b p q = grind arith
 
 pub edge_eq-true : (a b : Edge) → edge_eq a b ≡ true → a ≡ b
-edge_eq-true a b h =
-    let parts = and_parts _ _ h in
-    same_edge a b (chip_eq_true _ _ parts.0) (dir_eq_true _ _ parts.1)
+edge_eq-true a b h = grind (arith, and_parts, same_edge, chip_eq_true, dir_eq_true)
 
 pub edge_eq_self : (a : Edge) → edge_eq a a ≡ true
 edge_eq_self a = and_from _ _ (chip_eq_same a.chip) (dir_eq_same a.dir)
@@ -28,7 +24,4 @@ pub chip_eq-from_same : (a b : Chip) → a ≡ b → chip_eq a b ≡ true
 chip_eq-from_same a b e = subst (λ (c : Chip). chip_eq a c ≡ true) e (chip_eq_same a)
 
 pub chip_eq_sym : (a b : Chip) → chip_eq a b ≡ chip_eq b a
-chip_eq_sym a b = elim (chip_eq a b) as (λ t. chip_eq a b ≡ t → t ≡ chip_eq b a) [
-  | true ↦ λ h. sym (chip_eq-from_same b a (sym (chip_eq_true a b h)))
-  | false ↦ λ h. elim (chip_eq b a) as (λ t. chip_eq b a ≡ t → false ≡ t) [ true ↦ λ g. sym h ∙ chip_eq-from_same a b (sym (chip_eq_true b a g)) | false ↦ λ _. refl ] refl
-] refl
+chip_eq_sym a b = grind (arith, chip_eq-from_same, chip_eq_true)

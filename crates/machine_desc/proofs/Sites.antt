@@ -1,31 +1,19 @@
 -- The spots where vertices can stand.
-use Rattle.std.proofs.Common.{◌≡◌, ◌+◌, ◌-◌, ◌<◌, ◌≤◌, true, false, ap, ◌∙◌, subst, arith, inl, inr, ◌⊎◌}
+use Rattle.std.proofs.Common.{◌≡◌, ◌-◌, ◌<◌, ◌≤◌, true, false, arith, ◌⊎◌}
 use Rattle.std.proofs.lemmas.Bool.{and_parts, or_cases, or_left, ltb-true, leb-true, not-true}
-use Rattle.spin_base.specs.declared.chips.Spot.{Spot}
-use Rattle.spin_base.specs.declared.chips.Dir.{Dir}
-use Rattle.spin_base.specs.declared.routes.Out.TheVariants.{Link}
-use Rattle.spin_base.specs.Links.{dir_number, dir_at}
-use Rattle.spin_base.specs.Outputs.{out_of}
+use Rattle.spin_base.specs.{declared.chips.Spot.Spot, declared.chips.Dir.Dir, declared.routes.Out.TheVariants.Link, Links.dir_at, Outputs.out_of}
 use Rattle.spin_base.proofs.Spots.{spot_of_link, dir_at-dir_number, same_number}
-use Rattle.machine_desc.specs.Description.{Description}
-use Rattle.machine_desc.specs.Live.{is_live_link, is_device_place, IsLiveChip, IsUsable, IsSite}
+use Rattle.machine_desc.specs.{Description.Description, Live.is_live_link, Live.is_device_place, Live.IsLiveChip, Live.IsUsable, Live.IsSite}
 use Rattle.machine_desc.proofs.Same.{same_spot}
 
 -- a usable core is one of 1 to 17 of a live chip
 pub usable_parts : (m : Description) (s : Spot) → IsUsable m s → IsLiveChip m s.chip × (1 ≤ s.core) × (s.core ≤ 17)
-usable_parts m s h =
-    let parts = and_parts _ _ h in
-    let core = and_parts _ _ (and_parts _ _ parts.1).0 in
-    (parts.0, leb-true _ _ core.0, leb-true _ _ core.1)
+usable_parts m s h = grind (arith, and_parts, leb-true)
 
 -- the place of a device is one of 18 to 23 of a live chip, and the link is not live
 pub device_parts : (m : Description) (s : Spot) → is_device_place m s ≡ true →
     IsLiveChip m s.chip × (18 ≤ s.core) × (s.core < 24) × (is_live_link m s.chip (dir_at (s.core - 18)) ≡ false)
-device_parts m s h =
-    let parts = and_parts _ _ h in
-    let rest = and_parts _ _ parts.1 in
-    let core = and_parts _ _ rest.0 in
-    (parts.0, leb-true _ _ core.0, ltb-true _ _ core.1, not-true _ rest.1)
+device_parts m s h = grind (arith, and_parts, leb-true, ltb-true, not-true)
 
 pub site_cases : (m : Description) (s : Spot) → IsSite m s → IsUsable m s ⊎ (is_device_place m s ≡ true)
 site_cases m s h = or_cases _ _ h
@@ -36,21 +24,11 @@ usable_site m s h = or_left _ _ h
 
 -- a site stands on a live chip, with a number below 24
 pub site_parts : (m : Description) (s : Spot) → IsSite m s → IsLiveChip m s.chip × (s.core < 24)
-site_parts m s h = elim (site_cases m s h) [
-  | inl usable ↦ let parts = usable_parts m s usable in (parts.0, omega (arith, parts.2))
-  | inr device ↦ let parts = device_parts m s device in (parts.0, parts.2)
-]
+site_parts m s h = grind (arith, site_cases m s h, usable_parts, device_parts)
 
 -- the link that leads to a site, where it is not a core, is not live
 pub end_is_no_live_link : (m : Description) (s : Spot) (d : Dir) → IsSite m s → out_of s.core ≡ Link d → is_live_link m s.chip d ≡ false
-end_is_no_live_link m s d h e =
-    let is : s.core ≡ 18 + dir_number d = spot_of_link s.core d (site_parts m s h).1 e in
-    elim (site_cases m s h) [
-      | inl usable ↦ absurd (omega (arith, is, (usable_parts m s usable).2))
-      | inr device ↦
-          let number : s.core - 18 ≡ dir_number d = omega (arith, is) in
-          subst (λ (l : Dir). is_live_link m s.chip l ≡ false) (ap dir_at number ∙ dir_at-dir_number d) (device_parts m s device).3
-    ]
+end_is_no_live_link m s d h e = grind (arith, spot_of_link s.core d (site_parts m s h).1 e, site_parts m s h, site_cases m s h, dir_at-dir_number d, usable_parts, device_parts)
 
 -- sites of one chip to which one output leads are one site
 pub same_site : (m : Description) (s t : Spot) → IsSite m s → IsSite m t → s.chip ≡ t.chip → out_of s.core ≡ out_of t.core → s ≡ t

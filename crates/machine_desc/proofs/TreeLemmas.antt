@@ -1,14 +1,10 @@
 -- The chips of a tree and the paths in it, and a tree's edges.
-use Rattle.std.proofs.Common.{◌≡◌, List, [], ◌∷◌, ◌++◌, get_or, Some, refl, sym, ap, ◌∙◌, subst, inl, inr, ◌⊎◌}
+use Rattle.std.proofs.Common.{arith, ◌≡◌, List, [], ◌∷◌, ◌++◌, get_or, Some, refl, sym, ◌∙◌, subst, inl, inr, ◌⊎◌}
 use Rattle.std.specs.List.{Contains}
-use Rattle.std.proofs.lemmas.Bool.{cases_order}
-use Rattle.std.proofs.lemmas.List.{get_or_default}
-use Rattle.std.proofs.lemmas.List.Elements.{All-contains, Contains-append_left}
+use Rattle.std.proofs.lemmas.{Bool.cases_order, List.get_or_default, List.Elements.All-contains, List.Elements.Contains-append_left}
 use Rattle.spin_base.specs.declared.chips.Chip.{Chip}
-use Rattle.machine_desc.specs.declared.trees.Edge.{Edge}
-use Rattle.machine_desc.specs.Description.{Description}
-use Rattle.machine_desc.specs.Live.{IsLiveChip, IsLiveLink}
-use Rattle.machine_desc.specs.RoutingTree.{end_of, IsTreeChip, IsPath, IsTreeTo}
+use Rattle.machine_desc.specs.{declared.trees.Edge.Edge, Description.Description, Live.IsLiveChip, Live.IsLiveLink, RoutingTree.end_of, RoutingTree.IsTreeChip, RoutingTree.IsPath}
+use Rattle.machine_desc.specs.RoutingTree.{IsTreeTo}
 use Rattle.machine_desc.proofs.Far.{live_ends}
 
 -- a chip into which an edge of the tree leads is a chip of the tree
@@ -30,15 +26,13 @@ more_chips m root tree more c on = elim (tree_cases m root tree c on) [
 -- a path over edges is one over more edges
 pub more_path : (m : Description) (edges more : List Edge) (from : Chip) (path : List Edge) (to : Chip) → IsPath m edges from path to → IsPath m (edges ++ more) from path to
 more_path m edges more from [] to along = along
-more_path m edges more from (e ∷ path) to along =
-    (Contains-append_left edges more e along.0, along.1, (along.2.0, along.2.1, more_path m edges more along.2.0 path to along.2.2))
+more_path m edges more from (e ∷ path) to along = grind (arith, Contains-append_left edges more e along.0, more_path m edges more along.2.0 path to along.2.2)
 
 -- one edge more at the end of a path
 pub path_more : (m : Description) (edges : List Edge) (from to c : Chip) (path : List Edge) (e : Edge) →
     IsPath m edges from path to → Contains edges e → e.chip ≡ to → end_of m e ≡ Some c → IsPath m edges from (path ++ e ∷ []) c
 path_more m edges from to c [] e along has at leads = (has, at ∙ sym along, (c, leads, refl))
-path_more m edges from to c (f ∷ path) e along has at leads =
-    (along.0, along.1, (along.2.0, along.2.1, path_more m edges along.2.0 to c path e along.2.2 has at leads))
+path_more m edges from to c (f ∷ path) e along has at leads = grind (arith, path_more m edges along.2.0 to c path e along.2.2 has at leads)
 
 -- a path from a chip of a tree leads to a chip of the tree
 pub path_in_tree : (m : Description) (root : Chip) (edges : List Edge) (from to : Chip) (path : List Edge) →
@@ -50,15 +44,8 @@ path_in_tree m root edges from to (e ∷ path) here along =
 module _ (m : Description) (root : Chip) (edges : List Edge) (targets : List Chip) (tree : IsTreeTo m root edges targets) where
   -- only one edge leads into a chip
   pub one_edge_into : (e f : Edge) (c : Chip) → Contains edges e → Contains edges f → end_of m e ≡ Some c → end_of m f ≡ Some c → e ≡ f
-  one_edge_into e f c has too leads also = elim (cases_order has.0 too.0) [
-    | inl same ↦ sym has.2 ∙ (ap (λ k. get_or edges k e) same ∙ (get_or_default edges too.0 e f too.1 ∙ too.2))
-    | inr (inl before) ↦
-        let second : get_or edges too.0 e ≡ f = get_or_default edges too.0 e f too.1 ∙ too.2 in
-        absurd (tree.one_into_each has.0 too.0 e before too.1 (ap (end_of m) has.2 ∙ (leads ∙ (sym also ∙ sym (ap (end_of m) second)))))
-    | inr (inr after) ↦
-        let second : get_or edges has.0 f ≡ e = get_or_default edges has.0 f e has.1 ∙ has.2 in
-        absurd (tree.one_into_each too.0 has.0 f after has.1 (ap (end_of m) too.2 ∙ (also ∙ (sym leads ∙ sym (ap (end_of m) second)))))
-  ]
+  one_edge_into e f c has too leads also =
+      grind (arith, cases_order has.0 too.0, get_or_default edges too.0 e f too.1, get_or edges too.0 e, get_or edges has.0 f, get_or_default edges has.0 f e has.1)
 
   -- the two chips of an edge are live
   pub edge_lives : (e : Edge) → Contains edges e → (c : Chip) × (end_of m e ≡ Some c) × IsLiveChip m e.chip × IsLiveChip m c

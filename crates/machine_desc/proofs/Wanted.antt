@@ -1,19 +1,12 @@
 -- What it means that a tree wants an output at a chip: an edge leaves by it, or it leads to a target there.
-use Rattle.std.proofs.Common.{◌≡◌, true, List, refl, sym, ap, ◌∙◌, subst, inl, inr, ◌⊎◌}
+use Rattle.std.proofs.Common.{arith, ◌≡◌, true, List, refl, sym, ap, ◌∙◌, subst, inl, inr, ◌⊎◌}
 use Rattle.std.specs.List.{Contains}
-use Rattle.std.proofs.lemmas.Bool.{and_parts, and_from, or_cases, or_left, or_right, false≢true}
-use Rattle.std.proofs.lemmas.List.Folds.{Any-from_list_any, list_any_at}
-use Rattle.spin_base.specs.declared.chips.Chip.{Chip}
-use Rattle.spin_base.specs.declared.chips.Dir.{Dir}
-use Rattle.spin_base.specs.declared.chips.Spot.{Spot}
-use Rattle.spin_base.specs.declared.routes.Out.{Out}
-use Rattle.spin_base.specs.declared.routes.Out.TheVariants.{Link, Core}
+use Rattle.std.proofs.lemmas.{Bool.and_parts, Bool.and_from, Bool.or_cases, Bool.or_left, Bool.or_right, Bool.false≢true, List.Folds.Any-from_list_any, List.Folds.list_any_at}
+use Rattle.spin_base.specs.declared.{chips.Chip.Chip, chips.Dir.Dir, chips.Spot.Spot, routes.Out.Out, routes.Out.TheVariants.Link, routes.Out.TheVariants.Core}
 use Rattle.spin_base.specs.Outputs.{out_of}
 use Rattle.spin_base.proofs.Equality.{chip_eq_true, chip_eq_same, out_eq_true, out_eq_same}
-use Rattle.machine_desc.specs.declared.trees.Edge.{Edge}
-use Rattle.machine_desc.specs.Equality.{edge_eq}
+use Rattle.machine_desc.specs.{declared.trees.Edge.Edge, Equality.edge_eq, Outputs.is_edge_out, Outputs.leads_to_spot, Outputs.is_wanted}
 use Rattle.machine_desc.proofs.Same.{edge_eq-true, edge_eq_self}
-use Rattle.machine_desc.specs.Outputs.{is_edge_out, leads_to_spot, is_wanted}
 
 -- the edge by which an output leaves a chip
 pub edge_out : (edges : List Edge) (c : Chip) (o : Out) → is_edge_out edges c o ≡ true → (d : Dir) × (o ≡ Link d) × Contains edges (record { chip = c; dir = d })
@@ -25,9 +18,7 @@ edge_out edges c (Core p) h = absurd (false≢true h)
 
 -- a spot to which an output leads
 pub spot_of_out : (c : Chip) (o : Out) (s : Spot) → leads_to_spot c o s ≡ true → (s.chip ≡ c) × (o ≡ out_of s.core)
-spot_of_out c o s h =
-    let parts = and_parts _ _ h in
-    (chip_eq_true s.chip c parts.0, sym (out_eq_true (out_of s.core) o parts.1))
+spot_of_out c o s h = grind (arith, and_parts, chip_eq_true, out_eq_true)
 
 pub leads_to_own : (s : Spot) → leads_to_spot s.chip (out_of s.core) s ≡ true
 leads_to_own s = and_from _ _ (chip_eq_same s.chip) (out_eq_same (out_of s.core))
@@ -38,16 +29,12 @@ pub wanted_cases : (edges : List Edge) (targets : List Spot) (c : Chip) (o : Out
 wanted_cases edges targets c o h = elim (or_cases _ _ h) [
   | inl edge ↦ inl (edge_out edges c o edge)
   | inr end ↦
-      let found = Any-from_list_any (leads_to_spot c o) targets end in
-      let leads = spot_of_out c o found.1 found.4 in
-      inr (found.1, (found.0, found.2, found.3), leads.0, leads.1)
+      grind (arith, Any-from_list_any (leads_to_spot c o) targets end, spot_of_out c o (Any-from_list_any (leads_to_spot c o) targets end).1 (Any-from_list_any (leads_to_spot c o) targets end).4)
 ]
 
 pub edge_wanted : (edges : List Edge) (targets : List Spot) (e : Edge) → Contains edges e → is_wanted edges targets e.chip (Link e.dir) ≡ true
-edge_wanted edges targets e has =
-    or_left _ _ (list_any_at (edge_eq e) edges has.0 e has.1 (ap (edge_eq e) has.2 ∙ edge_eq_self e))
+edge_wanted edges targets e has = grind (arith, list_any_at (edge_eq e) edges has.0 e has.1 (ap (edge_eq e) has.2 ∙ edge_eq_self e), edge_eq_self e, or_left)
 
 pub end_wanted : (edges : List Edge) (targets : List Spot) (s : Spot) → Contains targets s → is_wanted edges targets s.chip (out_of s.core) ≡ true
 end_wanted edges targets s has =
-    or_right _ _ (list_any_at (leads_to_spot s.chip (out_of s.core)) targets has.0 s has.1
-    (ap (leads_to_spot s.chip (out_of s.core)) has.2 ∙ leads_to_own s))
+    grind (arith, list_any_at (leads_to_spot s.chip (out_of s.core)) targets has.0 s has.1 (ap (leads_to_spot s.chip (out_of s.core)) has.2 ∙ leads_to_own s), leads_to_own s, or_right)

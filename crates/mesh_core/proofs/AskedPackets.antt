@@ -1,12 +1,10 @@
 -- The packets that a job asks for, each with its net.
-use Rattle.std.proofs.Common.{◌≡◌, ℕ, List, Option, Some, None, refl, ap, sym, ◌∙◌, subst, ◌+◌}
+use Rattle.std.proofs.Common.{arith, ◌≡◌, ℕ, List, Option, Some, None, refl, ap, sym, ◌∙◌, subst, ◌+◌}
 use Rattle.std.proofs.lemmas.Option.{get_or_from_slice_get, slice_get_within, same_Some, none-some}
 use Rattle.std.specs.List.{slice_get, Contains}
 use Rattle.spin_base.specs.declared.copies.Packet.{Packet}
-use Rattle.machine_desc.specs.declared.nets.NetPlan.{NetPlan}
-use Rattle.machine_desc.specs.RightTables.{IsKeyOf}
-use Rattle.mesh_core.specs.Ledger.{Asked}
-use Rattle.mesh_core.specs.Opened.{label_in, asked_in, asked_at, asked_by, AreOfNets}
+use Rattle.machine_desc.specs.{declared.nets.NetPlan.NetPlan, RightTables.IsKeyOf}
+use Rattle.mesh_core.specs.{Ledger.Asked, Opened.label_in, Opened.asked_in, Opened.asked_at, Opened.asked_by, Opened.AreOfNets}
 
 -- what a packet of a net asks for
 abbrev pub asks : NetPlan → Packet → Asked
@@ -43,9 +41,7 @@ net_in_list nets p net is = (p.net, slice_get_within nets p.net net is, get_or_f
 -- a packet's key is its net's
 pub key_of_net : (nets : List NetPlan) (packets : List Packet) → AreOfNets nets packets → (i : ℕ) (p : Packet) (net : NetPlan) →
     slice_get packets i ≡ Some p → slice_get nets p.net ≡ Some net → IsKeyOf net.block (net.block.key + p.index)
-key_of_net nets packets of_nets i p net at is =
-    let of = of_nets i p at in
-    subst (λ (n : NetPlan). IsKeyOf n.block (n.block.key + p.index)) (same_Some of.0 net (sym of.1 ∙ is)) of.2
+key_of_net nets packets of_nets i p net at is = grind (arith, same_Some (of_nets i p at).0 net (sym (of_nets i p at).1 ∙ is))
 
 -- what is asked for is of one of the nets, and has a key of it
 pub asked_of_net : (nets : List NetPlan) (packets : List Packet) → AreOfNets nets packets → (i : ℕ) (a : Asked) → asked_by nets packets i ≡ Some a →

@@ -1,20 +1,15 @@
 -- What every mesh has stays when one list changes, and when a mesh is made.
-use Rattle.std.proofs.Common.{◌≡◌, ◌≢◌, ℕ, ◌*◌, ◌^◌, ◌<◌, ◌≤◌, refl, sym, ap, ◌∙◌, arith, true, false, List, [], ◌∷◌, length, set, replicate, Option, Some, None, inl, inr, lit<}
-use Rattle.std.proofs.lemmas.List.{length-set, length-replicate, get_or-replicate}
-use Rattle.std.proofs.lemmas.List.Elements.{All-nil, All-set, All-tail, All-replicate}
+use Rattle.std.proofs.Common.{◌≡◌, ◌≢◌, ℕ, ◌*◌, ◌^◌, ◌<◌, ◌≤◌, refl, ap, ◌∙◌, arith, true, false, List, [], ◌∷◌, length, set, replicate, Option, Some, None, lit<}
+use Rattle.std.proofs.lemmas.List.{length-set, length-replicate, get_or-replicate, Elements.All-nil, Elements.All-set, Elements.All-tail, Elements.All-replicate}
 use Rattle.std.proofs.lemmas.{Option.slice_get-get_or, Bool.cases_eq}
-use Rattle.std.specs.Prelude.{AllPairs, IfSome}
-use Rattle.std.specs.List.{All, slice_get}
-use Rattle.spin_base.specs.declared.chips.{Chip.Chip, Dir.Dir, Port.Port, Port.TheVariants.Link as ByLink, Port.TheVariants.Local}
-use Rattle.spin_base.specs.declared.copies.{McCopy.McCopy, Delivery.Delivery, DumpRec.DumpRec}
+use Rattle.std.specs.{Prelude.AllPairs, Prelude.IfSome, List.All, List.slice_get}
+use Rattle.spin_base.specs.declared.{chips.Chip.Chip, chips.Dir.Dir, chips.Port.Port, chips.Port.TheVariants.Local, copies.McCopy.McCopy, copies.Delivery.Delivery, copies.DumpRec.DumpRec}
 use Rattle.spin_base.specs.Links.{port_number}
-use Rattle.spin_base.proofs.Outputs.{dir_number_below}
-use Rattle.spin_base.proofs.Places.{All-at, slice_get-set_same, slice_get-set_other}
-use Rattle.machine_desc.specs.Description.{Description, HasSize}
-use Rattle.machine_desc.specs.Live.{index_of, is_live_chip, is_live_link, IsInside, IsSite}
+use Rattle.spin_base.specs.declared.chips.Port.TheVariants.{Link as ByLink}
+use Rattle.spin_base.proofs.{Outputs.dir_number_below, Places.All-at, Places.slice_get-set_same, Places.slice_get-set_other}
+use Rattle.machine_desc.specs.{Description.Description, Description.HasSize, Live.index_of, Live.is_live_chip, Live.is_live_link, Live.IsInside, Live.IsSite}
 use Rattle.machine_desc.proofs.Far.{index_below, live_inside, same_index}
-use Rattle.mesh_core.specs.State.{Setup, State, Hand, FitsQueue, FitsHand, IsMesh, queue_at}
-use Rattle.mesh_core.specs.{Opened.empty_mesh, Queues.drop_front}
+use Rattle.mesh_core.specs.{State.Setup, State.State, State.Hand, State.FitsQueue, State.FitsHand, State.IsMesh, State.queue_at, Opened.empty_mesh, Queues.drop_front}
 
 -- what a port's number is below
 pub port_below : (port : Port) → port_number port < 7
@@ -36,24 +31,7 @@ IsMesh-lists : (s : State) → IsMesh s →
     (cores : List (List McCopy)) → length cores ≡ length s.setup.spots → All (FitsQueue s.setup.capacity) cores →
     (delivered : List Delivery) (dumped : List DumpRec) →
     IsMesh (record s { unsent = unsent; hands = hands; cores = cores; delivered = delivered; dumped = dumped })
-IsMesh-lists s h unsent unsent_long at_start hands hands_long some none_dead cores cores_long within delivered dumped = record {
-  size = h.size;
-  different = h.different;
-  sites = h.sites;
-  room = h.room;
-  unsent_lists = unsent_long;
-  input_lists = h.input_lists;
-  hand_list = hands_long;
-  core_lists = cores_long;
-  table_list = h.table_list;
-  inputs_within = h.inputs_within;
-  cores_within = within;
-  unsent_at_start = at_start;
-  hands_fit = some;
-  none_at_dead_ports = h.none_at_dead_ports;
-  none_on_dead_chips = h.none_on_dead_chips;
-  no_hand_on_dead_chips = none_dead;
-}
+IsMesh-lists s h unsent unsent_long at_start hands hands_long some none_dead cores cores_long within delivered dumped = grind arith
 
 -- a list of unsent copies that have passed no router
 pub IsMesh-unsent : (s : State) (i : ℕ) (q : List McCopy) → IsMesh s → All (λ k. k.hop ≡ 0) q → IsMesh (record s { unsent = set s.unsent i q })
@@ -95,34 +73,14 @@ IsMesh-dumped s d h =
 
 -- an input queue is empty where no copy may wait
 still_empty : (inputs : List (List McCopy)) (i j : ℕ) (q : List McCopy) → (j ≡ i → q ≡ []) → slice_get inputs j ≡ Some [] → slice_get (set inputs i q) j ≡ Some []
-still_empty inputs i j q empty before = elim (cases_eq j i) [
-  | inl same ↦ ap (λ n. slice_get (set inputs i q) n) same ∙ (slice_get-set_same inputs i [] q (ap (λ n. slice_get inputs n) (sym same) ∙ before) ∙ ap Some (empty same))
-  | inr other ↦ slice_get-set_other inputs i j q other ∙ before
-]
+still_empty inputs i j q empty before = grind (arith, cases_eq j i, slice_get-set_same inputs i, slice_get-set_other)
 
 -- an input queue that its copies fit into, and which is empty where no copy may wait
 pub IsMesh-inputs : (s : State) (i : ℕ) (q : List McCopy) → IsMesh s → FitsQueue s.setup.capacity q →
     ((c : Chip) (d : Dir) → is_live_link s.setup.machine c d ≡ false → IsInside s.setup.machine c → queue_at s.setup.machine c (ByLink d) ≡ i → q ≡ []) →
     ((c : Chip) → is_live_chip s.setup.machine c ≡ false → IsInside s.setup.machine c → queue_at s.setup.machine c Local ≡ i → q ≡ []) →
     IsMesh (record s { inputs = set s.inputs i q })
-IsMesh-inputs s i q h fits ports chips = record {
-  size = h.size;
-  different = h.different;
-  sites = h.sites;
-  room = h.room;
-  unsent_lists = h.unsent_lists;
-  input_lists = length-set s.inputs i q ∙ h.input_lists;
-  hand_list = h.hand_list;
-  core_lists = h.core_lists;
-  table_list = h.table_list;
-  inputs_within = All-set (FitsQueue s.setup.capacity) s.inputs i q fits h.inputs_within;
-  cores_within = h.cores_within;
-  unsent_at_start = h.unsent_at_start;
-  hands_fit = h.hands_fit;
-  none_at_dead_ports = λ c d dead inside. still_empty s.inputs i (queue_at s.setup.machine c (ByLink d)) q (ports c d dead inside) (h.none_at_dead_ports c d dead inside);
-  none_on_dead_chips = λ c dead inside. still_empty s.inputs i (queue_at s.setup.machine c Local) q (chips c dead inside) (h.none_on_dead_chips c dead inside);
-  no_hand_on_dead_chips = h.no_hand_on_dead_chips;
-}
+IsMesh-inputs s i q h fits ports chips = grind (arith, length-set s.inputs i q, All-set (FitsQueue s.setup.capacity) s.inputs i q fits h.inputs_within, still_empty)
 
 empty_at : (n i : ℕ) → i < n → slice_get (replicate {A = List McCopy} n []) i ≡ Some []
 empty_at n i below =
@@ -161,13 +119,7 @@ pub empty_from : (u : Setup) (unsent inputs cores : List (List McCopy)) (hands :
     unsent ≡ replicate (length u.spots) [] → inputs ≡ replicate (7 * (u.machine.width * u.machine.height)) [] →
     hands ≡ replicate (u.machine.width * u.machine.height) None → cores ≡ replicate (length u.spots) [] →
     empty_mesh u ≡ record { setup = u; unsent = unsent; inputs = inputs; hands = hands; cores = cores; delivered = []; dumped = [] }
-empty_from u unsent inputs cores hands is_unsent is_inputs is_hands is_cores =
-    let from : List (List McCopy) → List (List McCopy) → List (Option Hand) → List (List McCopy) → State =
-    λ v i h c. record { setup = u; unsent = v; inputs = i; hands = h; cores = c; delivered = []; dumped = [] } in
-    sym (ap (λ v. from v inputs hands cores) is_unsent
-    ∙ (ap (λ i. from (replicate (length u.spots) []) i hands cores) is_inputs
-    ∙ (ap (λ h. from (replicate (length u.spots) []) (replicate (7 * (u.machine.width * u.machine.height)) []) h cores) is_hands
-    ∙ ap (λ c. from (replicate (length u.spots) []) (replicate (7 * (u.machine.width * u.machine.height)) []) (replicate (u.machine.width * u.machine.height) None) c) is_cores)))
+empty_from u unsent inputs cores hands is_unsent is_inputs is_hands is_cores = rw (is_unsent, is_inputs, is_hands, is_cores) refl
 
 -- the first unsent copy of a vertex is gone
 pub IsMesh-dropped : (s : State) (v : ℕ) → IsMesh s → IsMesh (record s { unsent = drop_front s.unsent v (slice_get s.unsent v) })

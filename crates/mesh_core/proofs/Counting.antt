@@ -1,6 +1,6 @@
 -- Counts of a list by tests of which each item passes one.
-use Rattle.std.proofs.Common.{◌≡◌, ◌≢◌, ℕ, ◌+◌, ◌*◌, ◌<◌, ◌≤◌, suc, zero, List, [], ◌∷◌, Bool, true, false, ◌==◌, ◌&&◌, not, if◌then◌else◌, Some, refl, ap, sym, ◌∙◌}
-use Rattle.std.proofs.Common.{subst, arith, inl, inr, length, count_by}
+use Rattle.std.proofs.Common.{◌≡◌, ◌≢◌, ℕ, ◌+◌, ◌*◌, ◌<◌, ◌≤◌, suc, zero, List, [], ◌∷◌, Bool, true, false, ◌==◌, ◌&&◌, not, if◌then◌else◌, Some, refl, ap, sym, ◌∙◌, subst, arith, inl, inr, length}
+use Rattle.std.proofs.Common.{count_by}
 use Rattle.std.proofs.lemmas.Bool.{cases_order, eq-eqb}
 use Rattle.std.specs.List.{slice_get}
 use Rattle.spin_base.proofs.{Counts.count_by-append, Counts.count_by-cons, Counts.count_by-agree, Members.Among, Members.contains_among, Places.All-each}
@@ -88,16 +88,8 @@ count_numbered {X} f (suc n) m p xs below each =
 pub count_gathered_part : {X Y : Type 0} (f : ℕ → X → List Y) (p : Y → Bool) (i : ℕ) (xs : List X) (j : ℕ) (x : X) → slice_get xs j ≡ Some x →
     count_by p (f (i + j) x) ≤ count_by p (gathered f i xs)
 count_gathered_part f p i [] j x at = cc
-count_gathered_part {X} {Y} f p i (z ∷ xs) zero x at =
-    let same : z ≡ x = cc in
-    let n_is : i + 0 ≡ i = omega arith in
-    let here : count_by p (f (i + 0) x) ≡ count_by p (f i z) = ap (λ n. count_by p (f n x)) n_is ∙ ap (λ y. count_by p (f i y)) (sym same) in
-    omega (arith, here, count_by-append p (f i z) (gathered f (i + 1) xs))
-count_gathered_part f p i (z ∷ xs) (suc j) x at =
-    let n_is : i + suc j ≡ i + 1 + j = omega arith in
-    let rest = count_gathered_part f p (i + 1) xs j x at in
-    let here : count_by p (f (i + suc j) x) ≡ count_by p (f (i + 1 + j) x) = ap (λ n. count_by p (f n x)) n_is in
-    omega (arith, here, count_by-append p (f i z) (gathered f (i + 1) xs))
+count_gathered_part {X} {Y} f p i (z ∷ xs) zero x at = grind (arith, count_by-append p (f i z) (gathered f (i + 1) xs), count_by)
+count_gathered_part f p i (z ∷ xs) (suc j) x at = grind (arith, count_gathered_part f p (i + 1) xs j x at, count_by-append p (f i z) (gathered f (i + 1) xs), count_by)
 
 -- two different items that pass a test count two
 pub counts_one : (b : Bool) → b ≡ true → (let n : ℕ = if b then 1 else 0 in n ≡ 1)
@@ -106,23 +98,15 @@ counts_one false e = cc
 
 pub count_some : {X : Type 0} (p : X → Bool) (x : X) (xs : List X) → p x ≡ true → Among x xs → 1 ≤ count_by p xs
 count_some p x [] passes a = absurd a
-count_some p x (y ∷ xs) passes (inl here) =
-    let first = counts_one (p y) (ap p (sym here) ∙ passes) in omega (arith, count_by-cons p y xs)
+count_some p x (y ∷ xs) passes (inl here) = grind (arith, counts_one (p y) (ap p (sym here) ∙ passes), count_by-cons p y xs)
 count_some p x (y ∷ xs) passes (inr later) = let rest = count_some p x xs passes later in omega (arith, count_by-cons p y xs)
 
 pub count_two : {X : Type 0} (p : X → Bool) (x y : X) (xs : List X) → x ≢ y → p x ≡ true → p y ≡ true → Among x xs → Among y xs → 2 ≤ count_by p xs
 count_two p x y [] apart px py a b = absurd a
 count_two p x y (z ∷ xs) apart px py (inl here) (inl there) = absurd (apart (here ∙ sym there))
-count_two p x y (z ∷ xs) apart px py (inl here) (inr later) =
-    let first = counts_one (p z) (ap p (sym here) ∙ px) in
-    let rest = count_some p y xs py later in
-    omega (arith, count_by-cons p z xs)
-count_two p x y (z ∷ xs) apart px py (inr later) (inl here) =
-    let first = counts_one (p z) (ap p (sym here) ∙ py) in
-    let rest = count_some p x xs px later in
-    omega (arith, count_by-cons p z xs)
-count_two p x y (z ∷ xs) apart px py (inr later) (inr last) =
-    let rest = count_two p x y xs apart px py later last in omega (arith, count_by-cons p z xs)
+count_two p x y (z ∷ xs) apart px py (inl here) (inr later) = grind (arith, counts_one (p z) (ap p (sym here) ∙ px), count_some p y xs py later, count_by-cons p z xs)
+count_two p x y (z ∷ xs) apart px py (inr later) (inl here) = grind (arith, counts_one (p z) (ap p (sym here) ∙ py), count_some p x xs px later, count_by-cons p z xs)
+count_two p x y (z ∷ xs) apart px py (inr later) (inr last) = grind (arith, count_two p x y xs apart px py later last, count_by-cons p z xs)
 
 -- a test that passes where another does counts no less
 one_below : (p q : Bool) → (p ≡ true → q ≡ true) → (let n : ℕ = if p then 1 else 0 in let m : ℕ = if q then 1 else 0 in n ≤ m)

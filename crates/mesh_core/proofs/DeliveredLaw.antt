@@ -2,20 +2,15 @@
 use Rattle.std.proofs.Common.{◌≡◌, ℕ, ◌+◌, ◌/◌, ◌%◌, suc, List, [], ◌∷◌, map, Bool, true, ◌==◌, ◌&&◌, Option, Some, None, refl, ap, sym, ◌∙◌, subst, arith, append-nil, inl, inr, length, count_by}
 use Rattle.std.proofs.lemmas.{List.Elements.All-contains, Bool.and_parts, Bool.eqb-true, Bool.eq-eqb, Bool.and_from, Option.slice_get_within}
 use Rattle.std.specs.{Cmp.both_ways, List.slice_get, List.Contains}
-use Rattle.spin_base.proofs.{Counts.count_by-map, Members.Among, Members.among_contains, Members.contains_among, Members.map_among, Gathering.gathered_of_none}
-use Rattle.spin_base.proofs.Places.{slice_get_there}
+use Rattle.spin_base.proofs.{Counts.count_by-map, Members.Among, Members.among_contains, Members.contains_among, Members.map_among, Gathering.gathered_of_none, Places.slice_get_there}
 use Rattle.spin_base.specs.declared.{chips.Spot.Spot, copies.McCopy.McCopy, copies.Delivery.Delivery, copies.Packet.Packet}
-use Rattle.machine_desc.specs.{Live.chip_of, RoutingTree.IsRoutingTree, Branch.Exit, Branch.IsBranch}
-use Rattle.machine_desc.specs.declared.nets.NetPlan.{NetPlan}
-use Rattle.machine_desc.specs.{RightTables.IsKeyOf, NetsOn.IsWayOn}
+use Rattle.machine_desc.specs.{Live.chip_of, RoutingTree.IsRoutingTree, Branch.Exit, Branch.IsBranch, declared.nets.NetPlan.NetPlan, RightTables.IsKeyOf, NetsOn.IsWayOn}
 use Rattle.machine_desc.proofs.Branches.{same_place, exit_leads, ExitLeads}
-use Rattle.mesh_core.specs.State.{State}
-use Rattle.mesh_core.specs.Trail.{Mark, unsent, in_queue, at_core, delivered, is_packet_on_trail}
-use Rattle.mesh_core.specs.Ledger.{marks_of, marks_at, hand_marks, port_of, delivered_marks, Label, Asked, label_of}
-use Rattle.mesh_core.specs.Opened.{label_in, asked_by, MeetsJobLedger}
-use Rattle.mesh_core.specs.Expected.{IsAskedFor, AreAsExpected, IsAtRest}
-use Rattle.mesh_core.proofs.AskedPackets.{asks, asked_parts, asked_from, net_in_list, key_of_net}
-use Rattle.mesh_core.proofs.{Moves.mark, Counting.count_agree, LedgerLaw.one_net, Ways.vertex_at_stands}
+use Rattle.mesh_core.specs.{State.State, Trail.Mark, Trail.unsent, Trail.in_queue, Trail.at_core, Trail.delivered, Trail.is_packet_on_trail, Ledger.marks_of, Ledger.marks_at, Ledger.hand_marks}
+use Rattle.mesh_core.specs.{Ledger.port_of, Ledger.delivered_marks, Ledger.Label, Ledger.Asked, Ledger.label_of, Opened.label_in, Opened.asked_by, Opened.MeetsJobLedger, Expected.IsAskedFor}
+use Rattle.mesh_core.specs.Expected.{AreAsExpected, IsAtRest}
+use Rattle.mesh_core.proofs.{AskedPackets.asks, AskedPackets.asked_parts, AskedPackets.asked_from, AskedPackets.net_in_list, AskedPackets.key_of_net, Moves.mark, Counting.count_agree}
+use Rattle.mesh_core.proofs.{LedgerLaw.one_net, Ways.vertex_at_stands}
 
 -- the mark of a delivery
 abbrev mark_of : Delivery → Mark

@@ -1,22 +1,20 @@
 -- Each event that is enabled is one move of a copy that is under way.
-use Rattle.std.proofs.Common.{◌≡◌, ℕ, List, [], ◌∷◌, ◌++◌, map, Bool, true, false, ◌&&◌, not, if◌then◌else◌, Option, Some, None, refl, ap, sym, ◌∙◌, subst, inl, inr, ◌||◌, append-nil}
+use Rattle.std.proofs.Common.{arith, ◌≡◌, ℕ, List, [], ◌∷◌, ◌++◌, map, Bool, true, false, ◌&&◌, not, if◌then◌else◌, Option, Some, None, refl, ap, sym, ◌∙◌, subst, inl, inr, ◌||◌, append-nil}
 use Rattle.std.proofs.lemmas.{Option.slice_get_within, Option.get_or_from_slice_get, Bool.and_parts}
-use Rattle.std.specs.List.{slice_get, slice_set, slice_index_or, list_any}
-use Rattle.spin_base.proofs.Exchange.{TakenOut, PutIn, taken_out_after}
-use Rattle.spin_base.proofs.Equality.{out_eq_true}
-use Rattle.spin_base.specs.declared.chips.{Chip.Chip, Dir.Dir, Spot.Spot, Port.Port, Port.TheVariants.Link as ByLink, Port.TheVariants.Local}
-use Rattle.spin_base.specs.declared.{routes.Out.Out, routes.Out.TheVariants.Link, routes.Out.TheVariants.Core, copies.McCopy.McCopy, copies.Event.Event}
-use Rattle.spin_base.specs.declared.copies.Event.TheVariants.{Inject, Take, Send, Dump, Collect}
-use Rattle.spin_base.specs.{Links.opposite_of, Equality.out_eq, Hops.onward}
-use Rattle.machine_desc.specs.Live.{far_of, index_of, is_live_chip, is_live_link, IsInside, IsSite}
+use Rattle.std.specs.List.{slice_get, slice_set, list_any}
+use Rattle.spin_base.proofs.{Exchange.TakenOut, Exchange.PutIn, Exchange.taken_out_after, Equality.out_eq_true}
+use Rattle.spin_base.specs.declared.{chips.Chip.Chip, chips.Dir.Dir, chips.Spot.Spot, chips.Port.Port, chips.Port.TheVariants.Local, routes.Out.Out, routes.Out.TheVariants.Link}
+use Rattle.spin_base.specs.declared.{routes.Out.TheVariants.Core, copies.McCopy.McCopy, copies.Event.Event, copies.Event.TheVariants.Inject, copies.Event.TheVariants.Take}
+use Rattle.spin_base.specs.{declared.copies.Event.TheVariants.Send, declared.copies.Event.TheVariants.Dump, declared.copies.Event.TheVariants.Collect, Links.opposite_of, Equality.out_eq, Hops.onward}
+use Rattle.spin_base.specs.declared.chips.Port.TheVariants.{Link as ByLink}
+use Rattle.machine_desc.specs.Live.{far_of, index_of, is_live_chip, is_live_link, IsInside}
 use Rattle.machine_desc.proofs.{Far.live_ends, Far.live_inside, Far.far_inside, Sites.site_parts}
 use Rattle.mesh_core.specs.State.{State, Hand, IsMesh, Queue, input, core, behind, behind_link, core_queue_of, queue_at, vertex_behind}
-use Rattle.mesh_core.specs.Step.{step_of, inject_of, take_of, send_of, dump_of, collect_of, has_room, has_room_behind, push_behind, push_at, in_hand as held_for}
-use Rattle.mesh_core.specs.Step.{outs_without, serves, after_serving, outputs}
-use Rattle.mesh_core.specs.Trail.{unsent, in_queue, in_hand, at_core, delivered, dumped, Mark, IsUnderWayAt}
-use Rattle.mesh_core.specs.Ledger.{marks_of, hand_marks}
-use Rattle.mesh_core.proofs.Fixed.{push_behind_leaves}
-use Rattle.mesh_core.proofs.Moves.{mark, Crosses, Exchange, unsent_out, input_out, input_in, hand_out, hand_in, core_out, core_in, delivered_in, dumped_in, hand_marks-held}
+use Rattle.mesh_core.specs.Step.{step_of, inject_of, take_of, send_of, dump_of, collect_of, has_room, has_room_behind, push_behind, push_at, outs_without, serves, after_serving, outputs}
+use Rattle.mesh_core.specs.{Trail.unsent, Trail.in_queue, Trail.in_hand, Trail.at_core, Trail.delivered, Trail.dumped, Trail.Mark, Trail.IsUnderWayAt, Ledger.marks_of, Ledger.hand_marks}
+use Rattle.mesh_core.specs.Step.{in_hand as held_for}
+use Rattle.mesh_core.proofs.{Fixed.push_behind_leaves, Moves.mark, Moves.Crosses, Moves.Exchange, Moves.unsent_out, Moves.input_out, Moves.input_in, Moves.hand_out, Moves.hand_in, Moves.core_out}
+use Rattle.mesh_core.proofs.Moves.{core_in, delivered_in, dumped_in, hand_marks-held}
 
 -- what an event that is enabled does
 abbrev pub MovesOn : State → State → Type 0
@@ -54,10 +52,7 @@ arrives_at_core s v k room =
 
 -- the chip of a vertex is inside the grid
 vertex_inside : (s : State) → IsMesh s → (v : ℕ) (spot : Spot) → slice_get s.setup.spots v ≡ Some spot → IsInside s.setup.machine spot.chip
-vertex_inside s mesh v spot is =
-    let there : slice_index_or s.setup.spots v spot ≡ spot = get_or_from_slice_get s.setup.spots v spot spot is in
-    let site : IsSite s.setup.machine spot = subst (λ (x : Spot). IsSite s.setup.machine x) there (mesh.sites v spot (slice_get_within s.setup.spots v spot is)) in
-    live_inside s.setup.machine spot.chip (site_parts s.setup.machine spot site).0
+vertex_inside s mesh v spot is = grind (arith, get_or_from_slice_get s.setup.spots v spot spot is, slice_get_within s.setup.spots v spot is, live_inside, site_parts)
 
 inject_by_room : (s : State) (v : ℕ) (spot : Spot) (k : McCopy) (rest : List McCopy) → IsInside s.setup.machine spot.chip →
     slice_get s.setup.spots v ≡ Some spot → slice_get s.unsent v ≡ Some (k ∷ rest) →
@@ -141,12 +136,7 @@ take_exchange s c port None queue is_free is_queue t e = cc
 without_out_by : (f : Out → Mark) (o p : Out) (os : List Out) (here : Bool) → out_eq o p ≡ here → (here || list_any (out_eq o) os) ≡ true →
     (list_any (out_eq o) os ≡ true → TakenOut (f o) (map f os) (map f (outs_without o os))) →
     TakenOut (f o) (f p ∷ map f os) (map f (if here then os else p ∷ outs_without o os))
-without_out_by f o p os true same has later = record {
-  front = [];
-  back = map f os;
-  before_is = ap (λ q. f q ∷ map f os) (sym (out_eq_true o p same));
-  after_is = refl;
-}
+without_out_by f o p os true same has later = grind (arith, out_eq_true o p same)
 without_out_by f o p os false other has later = taken_out_after (f o) (f p ∷ []) (map f os) (map f (outs_without o os)) (later has)
 
 -- the mark of an output that is served leaves the hand
@@ -171,16 +161,13 @@ Arrives s k c o to = (come : List Mark) × PutIn come (marks_of s) (marks_of (pu
 arrives_at_vertex : (s : State) (c : Chip) (o : Out) (k : McCopy) → ((d : Dir) → o ≡ Link d → is_live_link s.setup.machine c d ≡ false) →
     (vertex : Option ℕ) → vertex_behind s.setup.spots c o ≡ vertex → has_room_behind s (core_queue_of vertex) ≡ true → Arrives s k c o (core_queue_of vertex)
 arrives_at_vertex s c o k dead None none room = cc
-arrives_at_vertex s c o k dead (Some v) is_vertex room =
-    (mark (onward k) (at_core v) ∷ [], arrives_at_core s v (onward k) room, inr (v, dead, is_vertex, refl))
+arrives_at_vertex s c o k dead (Some v) is_vertex room = grind (arith, mark (onward k) (at_core v), arrives_at_core s v (onward k) room)
 
 -- a copy arrives where a link leads
 arrives_by_link : (s : State) (c : Chip) (d : Dir) (k : McCopy) →
     (live : Bool) → is_live_link s.setup.machine c d ≡ live → (far : Option Chip) → far_of s.setup.machine c d ≡ far →
     has_room_behind s (behind_link s.setup c d live far) ≡ true → Arrives s k c (Link d) (behind_link s.setup c d live far)
-arrives_by_link s c d k false dead far is_far room =
-    arrives_at_vertex s c (Link d) k (λ f same. let is : f ≡ d = cc in subst (λ (q : Dir). is_live_link s.setup.machine c q ≡ false) (sym is) dead)
-    (vertex_behind s.setup.spots c (Link d)) refl room
+arrives_by_link s c d k false dead far is_far room = grind (arith, arrives_at_vertex)
 arrives_by_link s c d k true live None is_far room = cc
 arrives_by_link s c d k true live (Some e) is_far room =
     let port : Port = ByLink (opposite_of d) in
@@ -231,8 +218,7 @@ send_by s c o h is_hand true true serving room t e =
 
 send_exchange : (s : State) (c : Chip) (o : Out) (hand : Option (Option Hand)) → slice_get s.hands (index_of s.setup.machine c) ≡ hand →
     (t : State) → send_of s c o hand ≡ Some t → MovesOn s t
-send_exchange s c o (Some (Some h)) is_hand t e =
-    send_by s c o h is_hand (serves s c o (Some (Some h))) (has_room_behind s (behind s.setup c o)) refl refl t e
+send_exchange s c o (Some (Some h)) is_hand t e = grind (arith, send_by s c o h is_hand (serves s c o (Some (Some h))) (has_room_behind s (behind s.setup c o)) refl refl t e)
 send_exchange s c o (Some None) is_hand t e = cc
 send_exchange s c o None is_hand t e = cc
 
@@ -262,8 +248,7 @@ dump_by s c o h is_hand true true serving t e =
 
 dump_exchange : (s : State) (c : Chip) (o : Out) (hand : Option (Option Hand)) → slice_get s.hands (index_of s.setup.machine c) ≡ hand →
     (t : State) → dump_of s c o hand ≡ Some t → MovesOn s t
-dump_exchange s c o (Some (Some h)) is_hand t e =
-    dump_by s c o h is_hand (serves s c o (Some (Some h))) (not (has_room_behind s (behind s.setup c o))) refl t e
+dump_exchange s c o (Some (Some h)) is_hand t e = grind (arith, dump_by s c o h is_hand (serves s c o (Some (Some h))) (not (has_room_behind s (behind s.setup c o))) refl t e)
 dump_exchange s c o (Some None) is_hand t e = cc
 dump_exchange s c o None is_hand t e = cc
 
@@ -293,8 +278,7 @@ collect_exchange s v None is_queue t e = cc
 -- Each event that is enabled is one move.
 pub event_exchange : (s : State) → IsMesh s → (e : Event) (t : State) → step_of s e ≡ Some t → MovesOn s t
 event_exchange s mesh (Inject v) t e = inject_exchange s mesh v (slice_get s.setup.spots v) (slice_get s.unsent v) refl refl t e
-event_exchange s mesh (Take c port) t e =
-    take_exchange s c port (slice_get s.hands (index_of s.setup.machine c)) (slice_get s.inputs (queue_at s.setup.machine c port)) refl refl t e
+event_exchange s mesh (Take c port) t e = grind (arith, take_exchange s c port (slice_get s.hands (index_of s.setup.machine c)) (slice_get s.inputs (queue_at s.setup.machine c port)) refl refl t e)
 event_exchange s mesh (Send c o) t e = send_exchange s c o (slice_get s.hands (index_of s.setup.machine c)) refl t e
 event_exchange s mesh (Dump c o) t e = dump_exchange s c o (slice_get s.hands (index_of s.setup.machine c)) refl t e
 event_exchange s mesh (Collect v) t e = collect_exchange s v (slice_get s.cores v) refl t e

@@ -3,19 +3,14 @@
 use Rattle.std.proofs.Common.{◌≡◌, ℕ, List, [], ◌∷◌, Bool, true, false, Option, Some, None, refl, sym, ◌∙◌, subst, unwrap_or, if◌then◌else◌}
 use Rattle.std.specs.List.{Contains}
 use Rattle.spin_base.proofs.{Exchange.among_taken_out, Members.among_contains}
-use Rattle.spin_base.specs.declared.copies.{DumpRec.DumpRec, Event.Event, Packet.Packet}
-use Rattle.spin_base.specs.Hops.{onward}
-use Rattle.machine_desc.specs.declared.nets.NetPlan.{NetPlan}
-use Rattle.machine_desc.specs.RightTables.{AreRight}
-use Rattle.mesh_core.specs.State.{Setup, State, IsMesh, Queue, input, core, nowhere, behind}
-use Rattle.mesh_core.specs.Step.{step_of, after_event, after_events, has_room_behind, push_behind}
-use Rattle.mesh_core.specs.{PutBack.put_back_of, PutBack.after_put_back, Trail.Mark, Trail.dumped}
-use Rattle.mesh_core.specs.Ledger.{marks_of, Label, Asked, label_of, MeetsLedger, MeetsLedgerFor}
-use Rattle.mesh_core.specs.Opened.{asked_by, MeetsJobLedger}
-use Rattle.mesh_core.proofs.{Changes.IsMesh-dumped, Events.event_exchange, Events.arrives, Fixed.push_behind_leaves}
-use Rattle.mesh_core.proofs.Keeping.{IsMesh-step_of, IsMesh-push_behind, onward_below, may_wait-behind}
-use Rattle.mesh_core.proofs.LedgerLaw.{Bag, bag_of_event, bag_keeps_ledger, bag_adds_no_packet, bag_keeps_packets, right_before, right_small}
-use Rattle.mesh_core.proofs.Moves.{mark, Exchange, dumped_out}
+use Rattle.spin_base.specs.{declared.copies.DumpRec.DumpRec, declared.copies.Event.Event, declared.copies.Packet.Packet, Hops.onward}
+use Rattle.machine_desc.specs.{declared.nets.NetPlan.NetPlan, RightTables.AreRight}
+use Rattle.mesh_core.specs.{State.Setup, State.State, State.IsMesh, State.Queue, State.input, State.core, State.nowhere, State.behind, Step.step_of, Step.after_event, Step.after_events}
+use Rattle.mesh_core.specs.{Step.has_room_behind, Step.push_behind, PutBack.put_back_of, PutBack.after_put_back, Trail.Mark, Trail.dumped, Ledger.marks_of, Ledger.Label, Ledger.Asked, Ledger.label_of}
+use Rattle.mesh_core.specs.{Ledger.MeetsLedger, Ledger.MeetsLedgerFor, Opened.asked_by, Opened.MeetsJobLedger}
+use Rattle.mesh_core.proofs.{Changes.IsMesh-dumped, Events.event_exchange, Events.arrives, Fixed.push_behind_leaves, Keeping.IsMesh-step_of, Keeping.IsMesh-push_behind, Keeping.onward_below}
+use Rattle.mesh_core.proofs.{Keeping.may_wait-behind, LedgerLaw.Bag, LedgerLaw.bag_of_event, LedgerLaw.bag_keeps_ledger, LedgerLaw.bag_adds_no_packet, LedgerLaw.bag_keeps_packets}
+use Rattle.mesh_core.proofs.{LedgerLaw.right_before, LedgerLaw.right_small, Moves.mark, Moves.Exchange, Moves.dumped_out}
 
 -- one move is a bag, in a mesh that meets the ledger
 move_bag : (s t : State) (nets : List NetPlan) (labels : ℕ → Label) → IsMesh s → AreRight s.setup.machine s.setup.tables nets → MeetsLedger s nets labels →

@@ -2,19 +2,14 @@
 use Rattle.std.proofs.Common.{◌≡◌, ◌≢◌, ℕ, ◌+◌, ◌≤◌, List, [], ◌∷◌, Bool, true, false, if◌then◌else◌, Option, Some, None, refl, ap, sym, ◌∙◌, arith, inl, inr, length, count_by}
 use Rattle.std.proofs.lemmas.List.{length-append, Elements.All-contains, Sums.length-filter, Sums.sum_by-cons}
 use Rattle.std.specs.List.{slice_get, AllPairs, Contains, All, list_any, filter}
-use Rattle.spin_base.specs.Gathered.{gathered}
-use Rattle.spin_base.specs.declared.{chips.Spot.Spot, copies.Delivery.Delivery, copies.Packet.Packet}
-use Rattle.spin_base.specs.Equality.{spot_eq}
-use Rattle.spin_base.proofs.Counts.{count_by-cons}
-use Rattle.spin_base.proofs.Members.{Among, among_contains, contains_among, any_among, among_any, Contains-filter}
-use Rattle.spin_base.proofs.Equality.{spot_eq_same, spot_eq_true}
-use Rattle.machine_desc.specs.declared.nets.NetPlan.{NetPlan}
-use Rattle.machine_desc.specs.NetsOn.{AreNetsOn}
-use Rattle.mesh_core.specs.State.{State, IsMesh}
-use Rattle.mesh_core.specs.Expected.{AreAsExpected, without_hop, delivery_at, deliveries_of, expected_deliveries, targets_of_net, expected_count}
-use Rattle.mesh_core.proofs.{AskedPackets.net_in_list, Counting.count_all, Counting.count_covered}
-use Rattle.mesh_core.proofs.ExpectedList.{ComesBefore, is_of, is_of_from, is_of_parts, bare, in_order, is_listed, listed_once, listed_made}
-use Rattle.mesh_core.proofs.Ordered.{ordered_from, at_most_one}
+use Rattle.spin_base.specs.{Gathered.gathered, declared.chips.Spot.Spot, declared.copies.Delivery.Delivery, declared.copies.Packet.Packet, Equality.spot_eq}
+use Rattle.spin_base.proofs.{Counts.count_by-cons, Members.Among, Members.among_contains, Members.contains_among, Members.any_among, Members.among_any, Members.Contains-filter, Equality.spot_eq_same}
+use Rattle.spin_base.proofs.Equality.{spot_eq_true}
+use Rattle.machine_desc.specs.{declared.nets.NetPlan.NetPlan, NetsOn.AreNetsOn}
+use Rattle.mesh_core.specs.{State.State, State.IsMesh, Expected.AreAsExpected, Expected.without_hop, Expected.delivery_at, Expected.deliveries_of, Expected.expected_deliveries}
+use Rattle.mesh_core.specs.Expected.{targets_of_net, expected_count}
+use Rattle.mesh_core.proofs.{AskedPackets.net_in_list, Counting.count_all, Counting.count_covered, ExpectedList.ComesBefore, ExpectedList.is_of, ExpectedList.is_of_from, ExpectedList.is_of_parts}
+use Rattle.mesh_core.proofs.{ExpectedList.bare, ExpectedList.in_order, ExpectedList.is_listed, ExpectedList.listed_once, ExpectedList.listed_made, Ordered.ordered_from, Ordered.at_most_one}
 
 -- ---- targets and spots
 

@@ -1,21 +1,16 @@
 -- The deliveries of a mesh that has delivered what its job asks for, in their order, are the list that the job asks for.
-use Rattle.std.proofs.Common.{◌≡◌, ℕ, ◌+◌, ◌<◌, ◌≤◌, List, [], ◌∷◌, map, Bool, true, false, ◌==◌, ◌&&◌, if◌then◌else◌, Option, Some, None, refl, ap, sym, ◌∙◌, subst}
-use Rattle.std.proofs.Common.{arith, inl, inr, ◌⊎◌, count_by, cond}
-use Rattle.std.proofs.lemmas.Bool.{and_parts, and_from, eqb-true, eq-eqb, cases_order}
-use Rattle.std.proofs.lemmas.List.{Elements.All-contains, Sorted.Contains-permutation, Sorted.IsPermutation-sym, Sorted.sum_by-IsPermutation}
+use Rattle.std.proofs.Common.{◌≡◌, ℕ, ◌+◌, ◌<◌, ◌≤◌, List, [], ◌∷◌, map, Bool, true, false, ◌==◌, ◌&&◌, if◌then◌else◌, Option, Some, None, refl, ap, sym, ◌∙◌, subst, arith, inl, inr, ◌⊎◌, count_by}
+use Rattle.std.proofs.Common.{cond}
+use Rattle.std.proofs.lemmas.{Bool.and_parts, Bool.and_from, Bool.eqb-true, Bool.eq-eqb, Bool.cases_order, List.Elements.All-contains, List.Sorted.Contains-permutation, List.Sorted.IsPermutation-sym}
+use Rattle.std.proofs.lemmas.List.Sorted.{sum_by-IsPermutation}
 use Rattle.std.specs.List.{slice_get, AllPairs, Contains, list_any, Sorted.IsPermutation}
-use Rattle.spin_base.proofs.{Counts.count_by-cons, Gathering.among_gathered, Gathering.gathered_among}
-use Rattle.spin_base.proofs.Members.{Among, among_contains, contains_among, among_map, map_among, any_among, among_any}
-use Rattle.spin_base.proofs.Pairs.{AllPairs-head, AllPairs-tail, AllPairs-apart}
-use Rattle.spin_base.proofs.Equality.{spot_eq_same, spot_eq_true}
-use Rattle.spin_base.specs.declared.{chips.Spot.Spot, copies.McCopy.McCopy, copies.Delivery.Delivery, copies.Packet.Packet}
-use Rattle.spin_base.specs.Equality.{spot_eq}
-use Rattle.machine_desc.specs.declared.nets.NetPlan.{NetPlan}
-use Rattle.machine_desc.specs.NetsOn.{AreNetsOn}
-use Rattle.mesh_core.specs.{State.State, State.IsMesh, Opened.first_copy}
-use Rattle.mesh_core.specs.Expected.{IsAskedFor, AreAsExpected, without_hop, delivery_at, deliveries_of, expected_deliveries, IsDeliveryNotAfter}
-use Rattle.mesh_core.proofs.{AskedPackets.net_in_list, Counting.count_some, Counting.counted, Ordered.Ordered, Ordered.ordered_gathered, Ordered.same_ordered}
-use Rattle.mesh_core.proofs.Ways.{vertex_at_stands, some_way}
+use Rattle.spin_base.proofs.{Counts.count_by-cons, Gathering.among_gathered, Gathering.gathered_among, Members.Among, Members.among_contains, Members.contains_among, Members.among_map}
+use Rattle.spin_base.proofs.{Members.map_among, Members.any_among, Members.among_any, Pairs.AllPairs-head, Pairs.AllPairs-tail, Pairs.AllPairs-apart, Equality.spot_eq_same, Equality.spot_eq_true}
+use Rattle.spin_base.specs.{declared.chips.Spot.Spot, declared.copies.McCopy.McCopy, declared.copies.Delivery.Delivery, declared.copies.Packet.Packet, Equality.spot_eq}
+use Rattle.machine_desc.specs.{declared.nets.NetPlan.NetPlan, NetsOn.AreNetsOn}
+use Rattle.mesh_core.specs.{State.State, State.IsMesh, Opened.first_copy, Expected.IsAskedFor, Expected.AreAsExpected, Expected.without_hop, Expected.delivery_at, Expected.deliveries_of}
+use Rattle.mesh_core.specs.Expected.{expected_deliveries, IsDeliveryNotAfter}
+use Rattle.mesh_core.proofs.{AskedPackets.net_in_list, Counting.count_some, Counting.counted, Ordered.Ordered, Ordered.ordered_gathered, Ordered.same_ordered, Ways.vertex_at_stands, Ways.some_way}
 
 -- by the packet's number, then by the position of the vertex, and not the same in both
 abbrev pub ComesBefore : Delivery → Delivery → Type 0

@@ -1,23 +1,16 @@
 -- A mesh that meets the ledger of a job has few marks: at most one for each packet and each target of its net.
-use Rattle.std.proofs.Common.{◌≡◌, ◌≢◌, ℕ, ◌+◌, ◌*◌, ◌^◌, ◌<◌, ◌≤◌, suc, nat_lt, cond, List, [], ◌∷◌, ◌++◌, map, get_or, Bool, true, false, ◌==◌, Some, None, refl, ap}
-use Rattle.std.proofs.Common.{sym, ◌∙◌, subst, arith, inl, inr, length, count_by}
-use Rattle.std.proofs.lemmas.List.{Quantifiers.position-Some, length-append, length-map, get_or-map, get_or_default, Elements.All-contains}
-use Rattle.std.proofs.{lemmas.Option.slice_get_within, Math.Nat.mul-le-mul_left, lemmas.Bool.eqb-true, lemmas.Bool.and_from}
-use Rattle.std.specs.Prelude.{AllPairs, position}
-use Rattle.std.specs.List.{slice_index_or, position_or_len, All, Contains}
+use Rattle.std.proofs.Common.{◌≡◌, ◌≢◌, ℕ, ◌+◌, ◌*◌, ◌^◌, ◌<◌, ◌≤◌, suc, nat_lt, cond, List, [], ◌∷◌, ◌++◌, map, get_or, Bool, true, false, ◌==◌, Some, None, refl, ap, sym, ◌∙◌, subst, arith, inl}
+use Rattle.std.proofs.Common.{inr, length, count_by}
+use Rattle.std.proofs.lemmas.{List.Quantifiers.position-Some, List.length-append, List.length-map, List.get_or-map, List.get_or_default, List.Elements.All-contains, Option.slice_get_within}
+use Rattle.std.proofs.{Math.Nat.mul-le-mul_left, lemmas.Bool.eqb-true, lemmas.Bool.and_from}
+use Rattle.std.specs.{Prelude.AllPairs, Prelude.position, List.slice_index_or, List.position_or_len, List.All, List.Contains}
 use Rattle.spin_base.proofs.{Members.Among, Members.among_contains, Members.contains_among, Places.slice_get_there, Equality.spot_eq_true}
-use Rattle.spin_base.specs.declared.{chips.Spot.Spot, copies.Delivery.Delivery, copies.DumpRec.DumpRec, copies.Packet.Packet}
-use Rattle.spin_base.specs.Equality.{spot_eq}
-use Rattle.machine_desc.specs.Branch.{Exit}
-use Rattle.machine_desc.specs.declared.nets.NetPlan.{NetPlan}
-use Rattle.machine_desc.specs.{NetsOn.AreNetsOn, NetsOn.IsWayOn, RightTables.IsKeyOf}
+use Rattle.spin_base.specs.{declared.chips.Spot.Spot, declared.copies.Delivery.Delivery, declared.copies.DumpRec.DumpRec, declared.copies.Packet.Packet, Equality.spot_eq}
+use Rattle.machine_desc.specs.{Branch.Exit, declared.nets.NetPlan.NetPlan, NetsOn.AreNetsOn, NetsOn.IsWayOn, RightTables.IsKeyOf}
 use Rattle.machine_desc.proofs.Branches.{length_le_from_apart}
-use Rattle.mesh_core.specs.State.{State}
-use Rattle.mesh_core.specs.Trail.{Mark, delivered, dumped, is_on_trail, is_packet_on_trail}
-use Rattle.mesh_core.specs.Ledger.{marks_of, unsent_marks, input_marks, all_hand_marks, core_marks, delivered_marks, dumped_marks, Asked, label_of}
-use Rattle.mesh_core.specs.Opened.{asked_by, MeetsJobLedger}
-use Rattle.mesh_core.proofs.AskedPackets.{asks, asked_parts, asked_from, net_in_list}
-use Rattle.mesh_core.proofs.Counting.{count_all, count_covered, count_numbered}
+use Rattle.mesh_core.specs.{State.State, Trail.Mark, Trail.delivered, Trail.dumped, Trail.is_on_trail, Trail.is_packet_on_trail, Ledger.marks_of, Ledger.unsent_marks, Ledger.input_marks}
+use Rattle.mesh_core.specs.{Ledger.all_hand_marks, Ledger.core_marks, Ledger.delivered_marks, Ledger.dumped_marks, Ledger.Asked, Ledger.label_of, Opened.asked_by, Opened.MeetsJobLedger}
+use Rattle.mesh_core.proofs.{AskedPackets.asks, AskedPackets.asked_parts, AskedPackets.asked_from, AskedPackets.net_in_list, Counting.count_all, Counting.count_covered, Counting.count_numbered}
 use Rattle.mesh_core.proofs.{LedgerLaw.one_net, Moves.mark, OneWay.AWay, OneWay.one_way, Ways.vertex_there, Ways.some_way}
 
 -- the place of a spot in the list
@@ -182,12 +175,7 @@ module _ (s : State) (nets : List NetPlan) (packets : List Packet) (job : MeetsJ
 
   -- the targets of a net are different spots of vertices, so at most as many
   few_targets : All (λ net. length net.targets ≤ length s.setup.spots) nets
-  few_targets = λ n d within.
-      let net : NetPlan = slice_index_or nets n d in
-      few_different s.setup.spots net.targets (stand.different n d within) (stand.targets n d within)
+  few_targets = grind (arith, few_different)
 
   pub few_at_limits : length packets ≤ 2 ^ 16 → length s.setup.spots ≤ 2 ^ 14 → length s.delivered + length s.dumped ≤ 2 ^ 30
-  few_at_limits few_packets few_vertices =
-      let few = few_ends (length s.setup.spots) few_targets in
-      let first : length packets * length s.setup.spots ≤ length packets * 2 ^ 14 = mul-le-mul_left (length packets) few_vertices in
-      omega arith
+  few_at_limits few_packets few_vertices = grind (arith, few_ends (length s.setup.spots) few_targets, mul-le-mul_left (length packets) few_vertices)

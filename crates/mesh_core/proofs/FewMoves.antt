@@ -1,13 +1,10 @@
 -- Few marks come where one leaves: a copy leaves a router by 24 outputs at most.
 use Rattle.std.proofs.Common.{◌≡◌, ◌≤◌, ◌==◌, refl, ap, ◌∙◌, arith, inl, inr, List, [], ◌∷◌, length, Bool, true, false, if◌then◌else◌}
 use Rattle.std.proofs.lemmas.List.{length-map, Sums.length-filter, Sums.count_by-le-length}
-use Rattle.spin_base.specs.declared.{chips.Chip.Chip, chips.Port.Port, routes.Out.Out, routes.Route.Route, copies.McCopy.McCopy}
-use Rattle.spin_base.specs.Lookup.{lookup}
-use Rattle.spin_base.specs.Outputs.{has, outs_of, all_outs, link_outs, core_outs}
-use Rattle.spin_base.specs.Hops.{last_hop}
+use Rattle.spin_base.specs.{declared.chips.Chip.Chip, declared.chips.Port.Port, declared.routes.Out.Out, declared.routes.Route.Route, declared.copies.McCopy.McCopy, Lookup.lookup, Outputs.has}
+use Rattle.spin_base.specs.{Outputs.outs_of, Outputs.all_outs, Outputs.link_outs, Outputs.core_outs, Hops.last_hop}
 use Rattle.machine_desc.specs.RightTables.{table_at}
-use Rattle.mesh_core.specs.{State.State, Step.outputs}
-use Rattle.mesh_core.specs.Trail.{Station, unsent, in_queue, in_hand, at_core, delivered, dumped, Mark}
+use Rattle.mesh_core.specs.{State.State, Step.outputs, Trail.Station, Trail.unsent, Trail.in_queue, Trail.in_hand, Trail.at_core, Trail.delivered, Trail.dumped, Trail.Mark}
 use Rattle.mesh_core.proofs.Moves.{mark, IsMove, IsMoveOf, Crosses}
 
 all_few : length all_outs ≡ 24
@@ -15,8 +12,7 @@ unfolding link_outs core_outs
 all_few = refl
 
 few_outs : (r : Route) → length (outs_of r) ≤ 24
-few_outs r =
-    omega (arith, length-filter (has r) all_outs, count_by-le-length (has r) all_outs, all_few)
+few_outs r = grind (arith, length-filter (has r) all_outs, count_by-le-length (has r) all_outs, all_few)
 
 few_outputs : (s : State) (c : Chip) (port : Port) (k : McCopy) → length (outputs s.setup c port k) ≤ 24
 few_outputs s c port k = by_last (k.hop == last_hop) (outs_of (lookup (table_at s.setup.machine s.setup.tables c) k.key port))

@@ -1,14 +1,12 @@
 -- A step leaves what a mesh never changes, and so does a list of events.
-use Rattle.std.proofs.Common.{◌≡◌, ℕ, refl, ◌∙◌, Bool, true, false, ◌&&◌, if◌then◌else◌, List, [], ◌∷◌, ◌++◌, Option, Some, None}
+use Rattle.std.proofs.Common.{arith, ◌≡◌, ℕ, refl, ◌∙◌, Bool, true, false, ◌&&◌, if◌then◌else◌, List, [], ◌∷◌, ◌++◌, Option, Some, None}
 use Rattle.std.specs.{Prelude.unwrap_or, Prelude.slice_set, List.slice_get}
-use Rattle.spin_base.specs.declared.{chips.Chip.Chip, chips.Spot.Spot, chips.Port.Port, chips.Port.TheVariants.Local, routes.Out.Out}
-use Rattle.spin_base.specs.declared.copies.{McCopy.McCopy, Delivery.Delivery, DumpRec.DumpRec, Event.Event}
-use Rattle.spin_base.specs.declared.copies.Event.TheVariants.{Inject, Take, Send, Dump, Collect}
+use Rattle.spin_base.specs.declared.{chips.Chip.Chip, chips.Spot.Spot, chips.Port.Port, chips.Port.TheVariants.Local, routes.Out.Out, copies.McCopy.McCopy, copies.Delivery.Delivery}
+use Rattle.spin_base.specs.declared.copies.{DumpRec.DumpRec, Event.Event, Event.TheVariants.Inject, Event.TheVariants.Take, Event.TheVariants.Send, Event.TheVariants.Dump, Event.TheVariants.Collect}
 use Rattle.spin_base.specs.Hops.{onward}
 use Rattle.machine_desc.specs.Live.{index_of}
-use Rattle.mesh_core.specs.HasRun.{DropsNone}
-use Rattle.mesh_core.specs.State.{State, Hand, Queue, input, core, nowhere, behind, queue_at}
-use Rattle.mesh_core.specs.Step.{has_room_behind, serves, after_serving, push_behind, inject_of, take_of, send_of, dump_of, collect_of, after_event, after_events}
+use Rattle.mesh_core.specs.{HasRun.DropsNone, State.State, State.Hand, State.Queue, State.input, State.core, State.nowhere, State.behind, State.queue_at, Step.has_room_behind, Step.serves}
+use Rattle.mesh_core.specs.Step.{after_serving, push_behind, inject_of, take_of, send_of, dump_of, collect_of, after_event, after_events}
 
 -- a copy that comes into a queue leaves the setup, the unsent copies and the dump records
 pub push_behind_leaves : (s : State) (b : Queue) (k : McCopy) →
@@ -61,23 +59,17 @@ module _ (P : State → Type 0) (s : State) (still : P s) where
 
 -- no event changes the setup
 pub after_event_setup : (s : State) (e : Event) → (after_event s e).setup ≡ s.setup
-after_event_setup s (Inject v) =
-    by_inject (λ t. t.setup ≡ s.setup) s refl (λ l b k. (push_behind_leaves (record s { unsent = l }) b k).0) v (slice_get s.setup.spots v) (slice_get s.unsent v)
-after_event_setup s (Take c port) =
-    by_take (λ t. t.setup ≡ s.setup) s refl (λ l h. refl) c port (slice_get s.hands (index_of s.setup.machine c)) (slice_get s.inputs (queue_at s.setup.machine c port))
-after_event_setup s (Send c o) =
-    by_send (λ t. t.setup ≡ s.setup) s refl (λ h b k. (push_behind_leaves (record s { hands = h }) b k).0) c o (slice_get s.hands (index_of s.setup.machine c))
+after_event_setup s (Inject v) = grind (arith, by_inject, push_behind_leaves)
+after_event_setup s (Take c port) = grind (arith, by_take)
+after_event_setup s (Send c o) = grind (arith, by_send, push_behind_leaves)
 after_event_setup s (Dump c o) = by_dump (λ t. t.setup ≡ s.setup) s refl (λ h l. refl) c o (slice_get s.hands (index_of s.setup.machine c))
 after_event_setup s (Collect v) = by_collect (λ t. t.setup ≡ s.setup) s refl (λ l d. refl) v (slice_get s.cores v)
 
 -- only a Dump makes a dump record
 pub dumped_stays : (s : State) (e : Event) → DropsNone e → (after_event s e).dumped ≡ s.dumped
-dumped_stays s (Inject v) drops =
-    by_inject (λ t. t.dumped ≡ s.dumped) s refl (λ l b k. (push_behind_leaves (record s { unsent = l }) b k).2) v (slice_get s.setup.spots v) (slice_get s.unsent v)
-dumped_stays s (Take c port) drops =
-    by_take (λ t. t.dumped ≡ s.dumped) s refl (λ l h. refl) c port (slice_get s.hands (index_of s.setup.machine c)) (slice_get s.inputs (queue_at s.setup.machine c port))
-dumped_stays s (Send c o) drops =
-    by_send (λ t. t.dumped ≡ s.dumped) s refl (λ h b k. (push_behind_leaves (record s { hands = h }) b k).2) c o (slice_get s.hands (index_of s.setup.machine c))
+dumped_stays s (Inject v) drops = grind (arith, by_inject, push_behind_leaves)
+dumped_stays s (Take c port) drops = grind (arith, by_take)
+dumped_stays s (Send c o) drops = grind (arith, by_send, push_behind_leaves)
 dumped_stays s (Dump c o) none = absurd none
 dumped_stays s (Collect v) drops = by_collect (λ t. t.dumped ≡ s.dumped) s refl (λ l d. refl) v (slice_get s.cores v)
 

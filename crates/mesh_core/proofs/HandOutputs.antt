@@ -2,8 +2,7 @@
 use Rattle.std.proofs.Common.{◌≡◌, ℕ, suc, ◌+◌, ◌<◌, refl, sym, ap, ◌∙◌, arith, Bool, true, false, List, [], ◌∷◌, length, cond, if◌then◌else◌, Some, None}
 use Rattle.std.proofs.lemmas.Iterator.Adapters.{position_from-zero}
 use Rattle.std.specs.{Prelude.position, Prelude.remove, List.position_from}
-use Rattle.spin_base.specs.Equality.{out_eq}
-use Rattle.spin_base.specs.declared.routes.Out.{Out}
+use Rattle.spin_base.specs.{Equality.out_eq, declared.routes.Out.Out}
 use Rattle.mesh_core.specs.Step.{outs_without}
 
 -- the place of an output, as it is found, and what is left without it
@@ -12,9 +11,7 @@ IsFound o os n i = (j : ℕ) × (i ≡ n + j) × (j < length os) × (outs_withou
 
 found_step : (o x : Out) (os : List Out) (n i : ℕ) → (position_from (out_eq o) (n + 1) os ≡ Some i → IsFound o os (n + 1) i) →
     (b : Bool) → out_eq o x ≡ b → cond b (Some n) (position_from (out_eq o) (n + 1) os) ≡ Some i → IsFound o (x ∷ os) n i
-found_step o x os n i later true here e =
-    let is : n ≡ i = cc in
-    (0, omega arith, omega arith, ap (λ b. if b then os else x ∷ outs_without o os) here)
+found_step o x os n i later true here e = grind arith
 found_step o x os n i later false here e =
     let there = later e in
     (suc there.0, omega (arith, there.1), omega (arith, there.2), ap (λ b. if b then os else x ∷ outs_without o os) here ∙ ap (λ l. x ∷ l) there.3)
@@ -24,9 +21,7 @@ found_from o [] n i e = cc
 found_from o (x ∷ os) n i e = found_step o x os n i (found_from o os (n + 1) i) (out_eq o x) refl e
 
 at_zero : (o : Out) (os : List Out) (i : ℕ) → IsFound o os 0 i → (i < length os) × (outs_without o os ≡ remove os i)
-at_zero o os i found =
-    let same : found.0 ≡ i = omega (arith, found.1) in
-    (omega (arith, found.1, found.2), found.3 ∙ ap (λ j. remove os j) same)
+at_zero o os i found = grind arith
 
 pub found-below : (o : Out) (os : List Out) (i : ℕ) → position (out_eq o) os ≡ Some i → i < length os
 found-below o os i e = (at_zero o os i (found_from o os 0 i (sym (position_from-zero (out_eq o) os) ∙ e))).0

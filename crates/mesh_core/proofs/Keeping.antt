@@ -1,17 +1,15 @@
 -- Whatever happens, a mesh keeps what every mesh has.
-use Rattle.std.proofs.Common.{◌≡◌, ◌≢◌, ℕ, ◌+◌, ◌==◌, ◌^◌, ◌<◌, ◌≤◌, refl, sym, ap, ◌∙◌, subst, arith, Bool, true, false, not, ◌&&◌, if◌then◌else◌, List, [], ◌∷◌, ◌++◌}
-use Rattle.std.proofs.Common.{length, set, Option, Some, None}
-use Rattle.std.proofs.lemmas.List.{length_push, Elements.All-head, Elements.All-tail, Elements.All-push}
-use Rattle.std.proofs.lemmas.Bool.{and_parts, ltb-true, eqb-false}
+use Rattle.std.proofs.Common.{◌≡◌, ◌≢◌, ℕ, ◌+◌, ◌==◌, ◌^◌, ◌<◌, ◌≤◌, refl, sym, ap, ◌∙◌, subst, arith, Bool, true, false, not, ◌&&◌, if◌then◌else◌, List, [], ◌∷◌, ◌++◌, length, set, Option, Some}
+use Rattle.std.proofs.Common.{None}
+use Rattle.std.proofs.lemmas.{List.length_push, List.Elements.All-head, List.Elements.All-tail, List.Elements.All-push, Bool.and_parts, Bool.ltb-true, Bool.eqb-false}
 use Rattle.std.specs.{Prelude.IfSome, List.All, List.slice_get, List.list_any}
 use Rattle.spin_base.proofs.{Places.All-at, Equality.port_number_injective}
-use Rattle.spin_base.specs.declared.chips.{Chip.Chip, Spot.Spot, Dir.Dir, Port.Port, Port.TheVariants.Link as ByLink, Port.TheVariants.Local}
-use Rattle.spin_base.specs.declared.{routes.Out.Out, routes.Out.TheVariants.Link, routes.Out.TheVariants.Core, copies.McCopy.McCopy, copies.Event.Event}
-use Rattle.spin_base.specs.declared.copies.Event.TheVariants.{Inject, Take, Send, Dump, Collect}
-use Rattle.spin_base.specs.{Equality.out_eq, Lookup.lookup, Outputs.outs_of, Links.opposite_of, Links.port_number, Hops.last_hop, Hops.onward}
-use Rattle.machine_desc.specs.Description.{Description}
-use Rattle.machine_desc.specs.Live.{index_of, far_of, is_live_chip, is_live_link, IsInside, IsSite}
-use Rattle.machine_desc.specs.RightTables.{table_at}
+use Rattle.spin_base.specs.declared.{chips.Chip.Chip, chips.Spot.Spot, chips.Dir.Dir, chips.Port.Port, chips.Port.TheVariants.Local, routes.Out.Out, routes.Out.TheVariants.Link}
+use Rattle.spin_base.specs.declared.{routes.Out.TheVariants.Core, copies.McCopy.McCopy, copies.Event.Event, copies.Event.TheVariants.Inject, copies.Event.TheVariants.Take}
+use Rattle.spin_base.specs.{declared.copies.Event.TheVariants.Send, declared.copies.Event.TheVariants.Dump, declared.copies.Event.TheVariants.Collect, Equality.out_eq, Lookup.lookup, Outputs.outs_of}
+use Rattle.spin_base.specs.{Links.opposite_of, Links.port_number, Hops.last_hop, Hops.onward}
+use Rattle.spin_base.specs.declared.chips.Port.TheVariants.{Link as ByLink}
+use Rattle.machine_desc.specs.{Description.Description, Live.index_of, Live.far_of, Live.is_live_chip, Live.is_live_link, Live.IsInside, Live.IsSite, RightTables.table_at}
 use Rattle.machine_desc.proofs.{Sites.site_parts, Far.same_index, Far.live_inside, Far.live_ends, Far.live_back}
 use Rattle.mesh_core.specs.State.{Setup, State, Hand, FitsQueue, FitsHand, IsMesh, queue_at, vertex_behind, Queue, input, core, nowhere, core_queue_of, behind_link, behind}
 use Rattle.mesh_core.specs.Step.{outputs, in_hand, outs_without, has_room, has_room_behind, push_at, push_behind, inject_of, take_of, serves, after_serving, send_of, dump_of, collect_of, step_of}
@@ -242,8 +240,7 @@ keeps_collected s t v None h at_queue moves = cc
 -- The mesh after an event is one.
 pub IsMesh-step_of : (s t : State) (e : Event) → IsMesh s → step_of s e ≡ Some t → IsMesh t
 IsMesh-step_of s t (Inject v) h moves = keeps_injected s t v (slice_get s.setup.spots v) (slice_get s.unsent v) h refl refl moves
-IsMesh-step_of s t (Take c port) h moves =
-    keeps_taken s t c port (slice_get s.hands (index_of s.setup.machine c)) (slice_get s.inputs (queue_at s.setup.machine c port)) h refl moves
+IsMesh-step_of s t (Take c port) h moves = grind (arith, keeps_taken s t c port (slice_get s.hands (index_of s.setup.machine c)) (slice_get s.inputs (queue_at s.setup.machine c port)) h refl moves)
 IsMesh-step_of s t (Send c o) h moves = keeps_sent s t c o (slice_get s.hands (index_of s.setup.machine c)) h refl moves
 IsMesh-step_of s t (Dump c o) h moves = keeps_dumped s t c o (slice_get s.hands (index_of s.setup.machine c)) h refl moves
 IsMesh-step_of s t (Collect v) h moves = keeps_collected s t v (slice_get s.cores v) h refl moves

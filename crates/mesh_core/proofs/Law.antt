@@ -1,31 +1,24 @@
 -- A move keeps what the ledger says of one net: what comes in the place of a mark stands on the same trails.
-use Rattle.std.proofs.Common.{◌≡◌, ℕ, ◌+◌, ◌<◌, ◌≤◌, suc, List, [], ◌∷◌, map, ◌∙◌, Bool, true, false, ◌==◌, ◌&&◌, if◌then◌else◌, Option, Some, None, refl, ap, sym}
-use Rattle.std.proofs.Common.{subst, arith, inl, inr, length, min, count_by, nat_lt}
-use Rattle.std.proofs.Math.Nat.{add-zero}
-use Rattle.std.proofs.lemmas.Bool.{ltb-true, ltb-false, and_parts, eqb-true, eq-eqb, and_from}
+use Rattle.std.proofs.Common.{◌≡◌, ℕ, ◌+◌, ◌<◌, ◌≤◌, suc, List, [], ◌∷◌, map, ◌∙◌, Bool, true, false, ◌==◌, ◌&&◌, if◌then◌else◌, Option, Some, None, refl, ap, sym, subst, arith, inl, inr, length, min}
+use Rattle.std.proofs.Common.{count_by, nat_lt}
+use Rattle.std.proofs.{Math.Nat.add-zero, lemmas.Bool.ltb-true, lemmas.Bool.ltb-false, lemmas.Bool.and_parts, lemmas.Bool.eqb-true, lemmas.Bool.eq-eqb, lemmas.Bool.and_from}
 use Rattle.std.proofs.lemmas.{List.Elements.All-contains, Option.slice_get_within, Option.get_or_from_slice_get}
 use Rattle.std.specs.{Cmp.both_ways, List.slice_get, List.Contains, Int.bit_at}
-use Rattle.spin_base.proofs.Counts.{count_by-map, count_by-cons, count_by-none}
-use Rattle.spin_base.proofs.{Members.Among, Members.among_filter, Members.among_only, Pairs.AllPairs-apart, Places.slice_get_there}
-use Rattle.spin_base.proofs.Equality.{chip_eq_same, chip_eq_true, port_eq_same, port_eq_true, out_eq_same, out_eq_true}
-use Rattle.spin_base.proofs.{Once.outs_once, Outputs.no_high_bit}
-use Rattle.spin_base.specs.declared.chips.{Chip.Chip, Dir.Dir, Spot.Spot, Port.Port, Port.TheVariants.Link as ByLink, Port.TheVariants.Local}
-use Rattle.spin_base.specs.declared.{routes.Out.Out, routes.Out.TheVariants.Link, routes.Out.TheVariants.Core, routes.Route.Route, copies.McCopy.McCopy}
-use Rattle.spin_base.specs.{Links.opposite_of, Equality.chip_eq, Equality.port_eq, Equality.out_eq, Lookup.lookup}
-use Rattle.spin_base.specs.Outputs.{has, outs_of, all_outs, out_of, IsOutput}
-use Rattle.spin_base.specs.Hops.{last_hop, onward}
-use Rattle.machine_desc.specs.declared.trees.Edge.{Edge}
-use Rattle.machine_desc.specs.Live.{far_of, is_live_link, IsLiveLink, IsSite}
-use Rattle.machine_desc.specs.Branch.{Exit, IsBranch, arrival_at}
-use Rattle.machine_desc.specs.declared.nets.NetPlan.{NetPlan}
+use Rattle.spin_base.proofs.{Counts.count_by-map, Counts.count_by-cons, Counts.count_by-none, Members.Among, Members.among_filter, Members.among_only, Pairs.AllPairs-apart, Places.slice_get_there}
+use Rattle.spin_base.proofs.{Equality.chip_eq_same, Equality.chip_eq_true, Equality.port_eq_same, Equality.port_eq_true, Equality.out_eq_same, Equality.out_eq_true, Once.outs_once}
+use Rattle.spin_base.proofs.Outputs.{no_high_bit}
+use Rattle.spin_base.specs.declared.{chips.Chip.Chip, chips.Dir.Dir, chips.Spot.Spot, chips.Port.Port, chips.Port.TheVariants.Local, routes.Out.Out, routes.Out.TheVariants.Link}
+use Rattle.spin_base.specs.{declared.routes.Out.TheVariants.Core, declared.routes.Route.Route, declared.copies.McCopy.McCopy, Links.opposite_of, Equality.chip_eq, Equality.port_eq, Equality.out_eq}
+use Rattle.spin_base.specs.{Lookup.lookup, Outputs.has, Outputs.outs_of, Outputs.all_outs, Outputs.out_of, Outputs.IsOutput, Hops.last_hop, Hops.onward}
+use Rattle.spin_base.specs.declared.chips.Port.TheVariants.{Link as ByLink}
+use Rattle.machine_desc.specs.{declared.trees.Edge.Edge, Live.far_of, Live.is_live_link, Live.IsLiveLink, Live.IsSite, Branch.Exit, Branch.IsBranch, Branch.arrival_at, declared.nets.NetPlan.NetPlan}
 use Rattle.machine_desc.specs.{Outputs.is_wanted, Outputs.ComesIn, RightTables.IsKeyOf, RightTables.table_at, NetsOn.IsWayOn}
-use Rattle.machine_desc.proofs.Branches.{same_exit, ComesBy, comes_by, exit_leads, ExitLeads, exit_of}
-use Rattle.machine_desc.proofs.{TreeLemmas.one_edge_into, Sites.end_is_no_live_link, Sites.same_site}
-use Rattle.mesh_core.specs.{State.State, State.vertex_behind, Step.outputs}
-use Rattle.mesh_core.specs.Trail.{Station, unsent, in_queue, in_hand, at_core, delivered, dumped, Mark, comes_in_there, leaves_there, on_trail, is_on_trail}
-use Rattle.mesh_core.proofs.Moves.{mark, Crosses, IsMove, IsMoveOf}
-use Rattle.mesh_core.proofs.Ways.{Stands, vertex_at_stands, vertex_there, vertex_behind_stands, target_site, short_branch, onward_hop, one_place, branch_comes_in}
-use Rattle.mesh_core.proofs.Ways.{exit_wanted, exit_is_output, wanted_on_branch}
+use Rattle.machine_desc.proofs.{Branches.same_exit, Branches.ComesBy, Branches.comes_by, Branches.exit_leads, Branches.ExitLeads, Branches.exit_of, TreeLemmas.one_edge_into, Sites.end_is_no_live_link}
+use Rattle.machine_desc.proofs.Sites.{same_site}
+use Rattle.mesh_core.specs.{State.State, State.vertex_behind, Step.outputs, Trail.Station, Trail.unsent, Trail.in_queue, Trail.in_hand, Trail.at_core, Trail.delivered, Trail.dumped, Trail.Mark}
+use Rattle.mesh_core.specs.Trail.{comes_in_there, leaves_there, on_trail, is_on_trail}
+use Rattle.mesh_core.proofs.{Moves.mark, Moves.Crosses, Moves.IsMove, Moves.IsMoveOf, Ways.Stands, Ways.vertex_at_stands, Ways.vertex_there, Ways.vertex_behind_stands, Ways.target_site}
+use Rattle.mesh_core.proofs.Ways.{short_branch, onward_hop, one_place, branch_comes_in, exit_wanted, exit_is_output, wanted_on_branch}
 
 -- ---- what the tests on a trail say
 
@@ -68,11 +61,7 @@ comes_parts branch hop c port on = by_exit (slice_get branch hop) refl on
 
 pub comes_from : (branch : List Exit) (hop : ℕ) (c : Chip) (port : Port) → ComesThere branch hop c port →
     comes_in_there branch hop c port (slice_get branch hop) ≡ true
-comes_from branch hop c port there =
-    rw (there.at)
-    (and_from (chip_eq there.exit.chip c) (port_eq (arrival_at branch hop) port)
-    (ap (λ (d : Chip). chip_eq d c) there.chip ∙ chip_eq_same c)
-    (ap (λ (p : Port). port_eq p port) there.port_is ∙ port_eq_same port))
+comes_from branch hop c port there = grind (arith, chip_eq_same c, port_eq_same port, and_from)
 
 -- the edge of an exit has the exit's link
 out_of_first : Option Exit → Option Out
@@ -109,10 +98,7 @@ module _ (s : State) (net : NetPlan) (stands : Stands s net) where
 
   -- a hop number on a branch is small
   small_hop : (t : Spot) (xs : List Exit) (from to : ℕ) → Way t xs from to → (hop : ℕ) (x : Exit) → slice_get xs hop ≡ Some x → hop < 4096
-  small_hop t xs from to w hop x at =
-      let within : hop < length xs = slice_get_within xs hop x at in
-      let short : length xs ≤ 4096 = short_branch s net stands t xs w.is_branch in
-      omega arith
+  small_hop t xs from to w hop x at = grind (arith, slice_get_within xs hop x at, short_branch s net stands t xs w.is_branch)
 
   -- a copy on a trail has a hop number below the greatest, so it gets the outputs of lookup
   outputs_are : (t : Spot) (xs : List Exit) (from to : ℕ) → Way t xs from to → (c : Chip) (port : Port) (k : McCopy) →
@@ -418,10 +404,7 @@ module _ (s : State) (net : NetPlan) (stands : Stands s net) where
       -- the one mark that comes is this one
       one : (k : McCopy) (at : Station) (z : Mark) → come ≡ z ∷ [] → z.copy.packet ≡ k.packet → z.copy.key ≡ k.key → z.copy.payload ≡ k.payload →
           is_on_trail from to xs z ≡ true → ComesRight (mark k at) y
-      one k at z e packet key payload on' =
-          let same : y ≡ z = among_only z y come e is_come in
-          subst (λ (m : Mark). ComesRight (mark k at) m) (sym same)
-          (record { packet = packet; key = key; payload = payload; trail = here z on' })
+      one k at z e packet key payload on' = grind (arith, among_only z y come e is_come, mark k at)
 
       crossing : (k : McCopy) (c : Chip) (o : Out) (at : Station) → Crosses s k c o come → on_trail from to xs k.hop (in_hand c o) ≡ true → ComesRight (mark k at) y
       crossing k c o at (inl (d, e, is_link, live, far, comes)) on' =
@@ -436,17 +419,14 @@ module _ (s : State) (net : NetPlan) (stands : Stands s net) where
           (os : List Out) → Among y (map (λ o. mark k (in_hand c o)) os) → ((o : Out) → Among o os → Among o (outputs s.setup c port k)) →
           ComesRight (mark k (in_queue c port)) y
       taking k c port key on' [] a within = absurd a
-      taking k c port key on' (o ∷ os) (inl same) within =
-          subst (λ (m : Mark). ComesRight (mark k (in_queue c port)) m) (sym same)
-          (record { packet = refl; key = refl; payload = refl; trail = gives_trail t xs from to w c port k key on' o (within o (inl refl)) })
+      taking k c port key on' (o ∷ os) (inl same) within = grind (arith, mark k (in_queue c port), gives_trail t xs from to w c port k key on' o (within o (inl refl)))
       taking k c port key on' (o ∷ os) (inr later) within = taking k c port key on' os later (λ p a. within p (inr a))
 
       by_station : (k : McCopy) (at : Station) → IsMoveOf s k at come → IsKeyOf net.block k.key → on_trail from to xs k.hop at ≡ true → ComesRight (mark k at) y
       by_station k (unsent v) m key on' =
           one k (unsent v) (mark k (in_queue m.0.chip Local)) m.2 refl refl refl
           (inject_on t t xs xs from from to to w w v m.0 k.hop m.1 on' ∙ on')
-      by_station k (in_queue c port) m key on' =
-          taking k c port key on' (outputs s.setup c port k) (subst (λ (l : List Mark). Among y l) m is_come) (λ o a. a)
+      by_station k (in_queue c port) m key on' = grind (arith, taking, Among)
       by_station k (in_hand c o) (inl m) key on' = one k (in_hand c o) (mark k (dumped c o)) m refl refl refl on'
       by_station k (in_hand c o) (inr m) key on' = crossing k c o (in_hand c o) m on'
       by_station k (at_core v) m key on' = one k (at_core v) (mark k (delivered v)) m refl refl refl on'

@@ -2,23 +2,15 @@
 use Rattle.std.proofs.Common.{◌≡◌, ℕ, ◌+◌, ◌<◌, ◌≤◌, List, [], ◌∷◌, Bool, true, false, ◌==◌, ◌&&◌, if◌then◌else◌, refl, ap, sym, ◌∙◌, subst, arith, inl, inr, ◌⊎◌, length, count_by, suc, zero}
 use Rattle.std.proofs.lemmas.{List.Elements.All-contains, Bool.cases_order, Bool.and_parts, Bool.eqb-true, List.get_or_default, Option.slice_get_within}
 use Rattle.std.specs.List.{slice_index_or, All, Contains}
-use Rattle.spin_base.proofs.Counts.{count_by-cons, count_by-none}
-use Rattle.spin_base.proofs.Exchange.{count_taken_out, count_put_in}
-use Rattle.spin_base.proofs.Members.{Among, among_contains, contains_among}
-use Rattle.spin_base.specs.declared.chips.Spot.{Spot}
-use Rattle.spin_base.specs.Hops.{last_hop}
-use Rattle.machine_desc.specs.{RoutingTree.IsRoutingTree, Branch.Exit}
-use Rattle.machine_desc.specs.declared.nets.NetPlan.{NetPlan}
-use Rattle.machine_desc.specs.RightTables.{IsKeyOf, RoutesByTree, AreRight}
-use Rattle.machine_desc.specs.NetsOn.{HaveDisjointBlocks, AreNetsOn, IsWayOn}
-use Rattle.mesh_core.specs.State.{Setup, State, IsMesh}
-use Rattle.mesh_core.specs.Trail.{Station, unsent, in_queue, in_hand, at_core, delivered, dumped, Mark, on_trail, is_on_trail, is_packet_on_trail}
-use Rattle.mesh_core.specs.Ledger.{marks_of, Label, MeetsLedger}
-use Rattle.mesh_core.proofs.Counting.{counts_one, count_some, counted, count_agree}
-use Rattle.mesh_core.proofs.Moves.{Exchange, IsMove}
-use Rattle.mesh_core.proofs.MarkTests.{mark_eq, mark_eq_same, mark_eq_true, rank, move_raises}
-use Rattle.mesh_core.proofs.Ways.{Stands, short_branch}
-use Rattle.mesh_core.proofs.Law.{OnSomeTrail, move_comes, move_counts, comes_parts, leaves_parts}
+use Rattle.spin_base.proofs.{Counts.count_by-cons, Counts.count_by-none, Exchange.count_taken_out, Exchange.count_put_in, Members.Among, Members.among_contains, Members.contains_among}
+use Rattle.spin_base.specs.{declared.chips.Spot.Spot, Hops.last_hop}
+use Rattle.machine_desc.specs.{RoutingTree.IsRoutingTree, Branch.Exit, declared.nets.NetPlan.NetPlan, RightTables.IsKeyOf, RightTables.RoutesByTree, RightTables.AreRight, NetsOn.HaveDisjointBlocks}
+use Rattle.machine_desc.specs.NetsOn.{AreNetsOn, IsWayOn}
+use Rattle.mesh_core.specs.{State.Setup, State.State, State.IsMesh, Trail.Station, Trail.unsent, Trail.in_queue, Trail.in_hand, Trail.at_core, Trail.delivered, Trail.dumped, Trail.Mark}
+use Rattle.mesh_core.specs.{Trail.on_trail, Trail.is_on_trail, Trail.is_packet_on_trail, Ledger.marks_of, Ledger.Label, Ledger.MeetsLedger}
+use Rattle.mesh_core.proofs.{Counting.counts_one, Counting.count_some, Counting.counted, Counting.count_agree, Moves.Exchange, Moves.IsMove, MarkTests.mark_eq, MarkTests.mark_eq_same}
+use Rattle.mesh_core.proofs.{MarkTests.mark_eq_true, MarkTests.rank, MarkTests.move_raises, Ways.Stands, Ways.short_branch, Law.OnSomeTrail, Law.move_comes, Law.move_counts, Law.comes_parts}
+use Rattle.mesh_core.proofs.Law.{leaves_parts}
 
 -- ---- the net of a key
 

@@ -1,14 +1,12 @@
 -- A test of equality on marks, and a number that each move raises.
 use Rattle.std.proofs.Common.{◌≡◌, ℕ, ◌+◌, ◌*◌, ◌<◌, ◌≤◌, List, [], ◌∷◌, map, Bool, true, false, ◌==◌, ◌&&◌, if◌then◌else◌, Option, Some, None, refl, ap, sym, arith, inl, inr, min, subst}
 use Rattle.std.proofs.lemmas.Bool.{and_parts, eqb-true, eq-eqb, and_from}
-use Rattle.spin_base.proofs.Members.{Among, among_only}
-use Rattle.spin_base.proofs.Equality.{chip_eq_same, chip_eq_true, port_eq_same, port_eq_true, out_eq_same, out_eq_true}
-use Rattle.spin_base.specs.declared.chips.{Chip.Chip, Port.Port, Port.TheVariants.Link as ByLink, Port.TheVariants.Local}
-use Rattle.spin_base.specs.declared.{routes.Out.Out, copies.McCopy.McCopy}
-use Rattle.spin_base.specs.{Links.opposite_of, Lookup.lookup, Outputs.outs_of, Equality.chip_eq, Equality.port_eq, Equality.out_eq, Hops.onward, Hops.last_hop}
+use Rattle.spin_base.proofs.{Members.Among, Members.among_only, Equality.chip_eq_same, Equality.chip_eq_true, Equality.port_eq_same, Equality.port_eq_true, Equality.out_eq_same, Equality.out_eq_true}
+use Rattle.spin_base.specs.{declared.chips.Chip.Chip, declared.chips.Port.Port, declared.chips.Port.TheVariants.Local, declared.routes.Out.Out, declared.copies.McCopy.McCopy, Links.opposite_of}
+use Rattle.spin_base.specs.{Lookup.lookup, Outputs.outs_of, Equality.chip_eq, Equality.port_eq, Equality.out_eq, Hops.onward, Hops.last_hop}
+use Rattle.spin_base.specs.declared.chips.Port.TheVariants.{Link as ByLink}
 use Rattle.machine_desc.specs.RightTables.{table_at}
-use Rattle.mesh_core.specs.State.{State}
-use Rattle.mesh_core.specs.Trail.{Station, unsent, in_queue, in_hand, at_core, delivered, dumped, Mark}
+use Rattle.mesh_core.specs.{State.State, Trail.Station, Trail.unsent, Trail.in_queue, Trail.in_hand, Trail.at_core, Trail.delivered, Trail.dumped, Trail.Mark}
 use Rattle.mesh_core.proofs.Moves.{mark, IsMove, IsMoveOf, Crosses}
 
 payload_eq : Option ℕ → Option ℕ → Bool
@@ -144,12 +142,7 @@ onward_raises k at to to_three to_two from_one three within true is =
     let there : min (k.hop + 1) last_hop ≡ last_hop = omega arith in
     let test : (min (k.hop + 1) last_hop == last_hop) ≡ true = eq-eqb (min (k.hop + 1) last_hop) last_hop there in
     rw (test, three) (omega arith)
-onward_raises k at to to_three to_two from_one three within false is =
-    let below : k.hop < last_hop = below_last k.hop within is in
-    let next : min (k.hop + 1) last_hop ≡ k.hop + 1 = omega arith in
-    let low : stage false at ≤ 3 = to_three false in
-    let some = from_one (min (k.hop + 1) last_hop == last_hop) in
-    omega arith
+onward_raises k at to to_three to_two from_one three within false is = grind (arith, below_last k.hop within is)
 
 -- each mark that comes is further on than the one that leaves
 pub move_raises : (s : State) (x : Mark) (come : List Mark) → x.copy.hop ≤ last_hop → IsMove s x come → (y : Mark) → Among y come → rank x < rank y

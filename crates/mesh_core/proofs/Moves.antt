@@ -66,11 +66,7 @@ port_of-port_number Local = refl
 
 -- the station of a queue's number
 pub station_of_queue : (m : Description) (c : Chip) (port : Port) → IsInside m c → in_queue (chip_of m ((0 + queue_at m c port) / 7)) (port_of ((0 + queue_at m c port) % 7)) ≡ in_queue c port
-station_of_queue m c port inside =
-    let small = port_below port in
-    let index : (0 + (7 * index_of m c + port_number port)) / 7 ≡ index_of m c = omega arith in
-    let number : (0 + (7 * index_of m c + port_number port)) % 7 ≡ port_number port = omega arith in
-    rw (index, number, chip_of-index_of m c inside, port_of-port_number port) refl
+station_of_queue m c port inside = grind (arith, port_below port, port_of-port_number port)
 
 -- ---- parts of the marks
 
@@ -78,12 +74,7 @@ front_out : (at : Station) (k : McCopy) (q : List McCopy) → TakenOut (mark k a
 front_out at k q = record { front = []; back = marks_at at q; before_is = refl; after_is = refl }
 
 back_in : (at : Station) (k : McCopy) (q : List McCopy) → PutIn (mark k at ∷ []) (marks_at at q) (marks_at at (q ++ k ∷ []))
-back_in at k q = record {
-  front = marks_at at q;
-  back = [];
-  before_is = sym (append-nil (marks_at at q));
-  after_is = map-append (λ (c : McCopy). mark c at) q (k ∷ []);
-}
+back_in at k q = grind (arith, append-nil (marks_at at q), map-append)
 
 pub hand_marks-held : (c : Chip) (k : McCopy) (port : Port) (os : List Out) → hand_marks c (held_for k port os) ≡ map (λ o. mark k (in_hand c o)) os
 hand_marks-held c k port [] = refl

@@ -1,26 +1,18 @@
 -- Where a queue has room for a copy of each packet that is under way, no copy is dumped.
-use Rattle.std.proofs.Common.{◌≡◌, ◌≢◌, ℕ, ◌+◌, ◌<◌, ◌≤◌, List, ◌∷◌, Bool, true, false, not, ◌==◌, ◌&&◌, if◌then◌else◌, Option, Some, None, is_some, refl, ap, sym, ◌∙◌}
-use Rattle.std.proofs.Common.{subst, arith, inl, inr, length, count_by}
-use Rattle.std.proofs.lemmas.Bool.{lt-ltb, and_parts, eq-eqb, eqb-true}
-use Rattle.std.proofs.lemmas.List.{Elements.All-contains, FromFn.length-range_with_len, Folds.Any-from_list_any}
-use Rattle.std.specs.Prelude.{Result, Ok, Err, IfOk}
-use Rattle.std.specs.List.{slice_get, list_any, range_with_len, Contains}
+use Rattle.std.proofs.Common.{◌≡◌, ◌≢◌, ℕ, ◌+◌, ◌<◌, ◌≤◌, List, ◌∷◌, Bool, true, false, not, ◌==◌, ◌&&◌, if◌then◌else◌, Option, Some, None, is_some, refl, ap, sym, ◌∙◌, subst, arith, inl, inr, length}
+use Rattle.std.proofs.Common.{count_by}
+use Rattle.std.proofs.lemmas.{Bool.lt-ltb, Bool.and_parts, Bool.eq-eqb, Bool.eqb-true, List.Elements.All-contains, List.FromFn.length-range_with_len, List.Folds.Any-from_list_any}
+use Rattle.std.specs.{Prelude.Result, Prelude.Ok, Prelude.Err, Prelude.IfOk, List.slice_get, List.list_any, List.range_with_len, List.Contains}
 use Rattle.spin_base.proofs.{Counts.count_by-cons, Counts.count_by-none, Members.Among, Members.among_contains, Members.contains_among, Equality.out_eq_true}
-use Rattle.spin_base.specs.declared.{chips.Chip.Chip, routes.Out.Out}
-use Rattle.spin_base.specs.declared.copies.{McCopy.McCopy, Packet.Packet, Event.Event, Event.TheVariants.Dump}
+use Rattle.spin_base.specs.declared.{chips.Chip.Chip, routes.Out.Out, copies.McCopy.McCopy, copies.Packet.Packet, copies.Event.Event, copies.Event.TheVariants.Dump}
 use Rattle.spin_base.specs.Equality.{out_eq}
-use Rattle.machine_desc.specs.Live.{index_of, is_live_chip, IsInside}
-use Rattle.machine_desc.specs.declared.nets.NetPlan.{NetPlan}
+use Rattle.machine_desc.specs.{Live.index_of, Live.is_live_chip, Live.IsInside, declared.nets.NetPlan.NetPlan}
 use Rattle.machine_desc.proofs.Far.{live_inside}
-use Rattle.mesh_core.specs.declared.places.Did.{Did, TheVariants.Moved, TheVariants.Idle}
-use Rattle.mesh_core.specs.State.{State, Hand, IsMesh, Queue, input, core, nowhere, behind}
-use Rattle.mesh_core.specs.Step.{dump_of, serves, has_room, has_room_behind, answer}
-use Rattle.mesh_core.specs.Trail.{in_hand, Mark}
-use Rattle.mesh_core.specs.Ledger.{marks_of, label_of, Label, MeetsLedger, OnlyUnderWay}
-use Rattle.mesh_core.specs.{Opened.asked_by, Opened.MeetsJobLedger, Waiting.queue_of}
-use Rattle.mesh_core.proofs.{Counting.count_all, Counting.count_covered, Counting.count_le, Moves.mark, OnlyUnderWay.of_job}
-use Rattle.mesh_core.proofs.Queued.{FreeBehind, free_behind, once_in_queue, waiting_mark}
-use Rattle.mesh_core.proofs.Standing.{held_mark}
+use Rattle.mesh_core.specs.{declared.places.Did.Did, declared.places.Did.TheVariants.Moved, declared.places.Did.TheVariants.Idle, State.State, State.Hand, State.IsMesh, State.Queue, State.input}
+use Rattle.mesh_core.specs.{State.core, State.nowhere, State.behind, Step.dump_of, Step.serves, Step.has_room, Step.has_room_behind, Step.answer, Trail.in_hand, Trail.Mark, Ledger.marks_of}
+use Rattle.mesh_core.specs.{Ledger.label_of, Ledger.Label, Ledger.MeetsLedger, Ledger.OnlyUnderWay, Opened.asked_by, Opened.MeetsJobLedger, Waiting.queue_of}
+use Rattle.mesh_core.proofs.{Counting.count_all, Counting.count_covered, Counting.count_le, Moves.mark, OnlyUnderWay.of_job, Queued.FreeBehind, Queued.free_behind, Queued.once_in_queue}
+use Rattle.mesh_core.proofs.{Queued.waiting_mark, Standing.held_mark}
 
 -- a queue that is shorter than the capacity has room
 room_of : (s : State) (b : Queue) (q : List McCopy) → queue_of s b ≡ Some q → length q < s.setup.capacity → has_room_behind s b ≡ true

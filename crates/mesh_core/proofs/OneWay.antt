@@ -4,10 +4,8 @@ use Rattle.std.proofs.lemmas.{List.Elements.All-contains, Option.slice_get_withi
 use Rattle.std.specs.List.{slice_get, Contains}
 use Rattle.spin_base.proofs.Places.{slice_get_there}
 use Rattle.spin_base.specs.declared.chips.{Port.TheVariants.Local, Spot.Spot}
-use Rattle.machine_desc.specs.declared.trees.Edge.{Edge}
-use Rattle.machine_desc.specs.{Description.Description, RoutingTree.IsRoutingTree, Branch.Exit, Branch.IsBranch}
-use Rattle.machine_desc.specs.declared.nets.NetPlan.{NetPlan}
-use Rattle.machine_desc.specs.NetsOn.{AreNetsOn, IsWayOn}
+use Rattle.machine_desc.specs.{declared.trees.Edge.Edge, Description.Description, RoutingTree.IsRoutingTree, Branch.Exit, Branch.IsBranch, declared.nets.NetPlan.NetPlan, NetsOn.AreNetsOn}
+use Rattle.machine_desc.specs.NetsOn.{IsWayOn}
 use Rattle.machine_desc.proofs.Branches.{same_exit, ComesBy, comes_by, exit_leads, ExitLeads, same_place, exit_of, last_exit}
 use Rattle.machine_desc.proofs.TreeLemmas.{one_edge_into}
 
@@ -46,12 +44,7 @@ module _ (m : Description) (net : NetPlan) (tree : IsRoutingTree m net.tree.root
 
     -- the exits at a place, counted from the end
     same_from_end : (n i : ℕ) → i + 1 + n ≡ length xs → slice_get xs i ≡ slice_get ys i
-    same_from_end zero i far =
-        let x = last_place t xs is in
-        let y = last_place t ys also in
-        let here : x.0 ≡ i = let long = x.2 in omega (arith, far, long) in
-        let there : y.0 ≡ i = let long = y.2 in omega (arith, far, long, one_length) in
-        ap (slice_get xs) (sym here) ∙ (x.1 ∙ (sym y.1 ∙ ap (slice_get ys) there))
+    same_from_end zero i far = grind (arith, last_place t xs is, last_place t ys also, one_length)
     same_from_end (suc n) i far =
         let next = slice_get_there xs (suc i) (omega (arith, far)) in
         let too : slice_get ys (suc i) ≡ Some next.0 = sym (same_from_end n (suc i) (omega (arith, far))) ∙ next.1 in

@@ -1,26 +1,21 @@
 -- The opened mesh of a job meets the ledger of the job.
-use Rattle.std.proofs.Common.{◌≡◌, ◌≢◌, ℕ, ◌+◌, ◌*◌, ◌/◌, ◌%◌, ◌<◌, List, [], ◌∷◌, Bool, true, false, ◌==◌, ◌&&◌, IsTrue, if◌then◌else◌, Option, Some, None, refl, ap}
-use Rattle.std.proofs.Common.{sym, ◌∙◌, subst, arith, append-nil, inl, inr, length, count_by}
-use Rattle.std.proofs.lemmas.List.{Elements.All-contains, Elements.All-map, FromFn.length-map-range_with_len, length-map}
-use Rattle.std.proofs.lemmas.Bool.{eqb-true, eq-eqb, ne_eqb, and_from}
+use Rattle.std.proofs.Common.{◌≡◌, ◌≢◌, ℕ, ◌+◌, ◌<◌, List, [], ◌∷◌, Bool, true, false, ◌==◌, ◌&&◌, IsTrue, if◌then◌else◌, Option, Some, None, refl, ap, sym, ◌∙◌, subst, arith, append-nil, inl, inr}
+use Rattle.std.proofs.Common.{length, count_by}
+use Rattle.std.proofs.lemmas.{List.Elements.All-contains, List.Elements.All-map, List.FromFn.length-map-range_with_len, List.length-map, Bool.eqb-true, Bool.eq-eqb, Bool.ne_eqb, Bool.and_from}
 use Rattle.std.proofs.{Math.Bool.and-false, lemmas.Option.slice_get_within}
-use Rattle.std.specs.List.{slice_get, slice_index_or, range_with_len, All, Contains}
-use Rattle.std.specs.Option.{option_map_or}
-use Rattle.spin_base.proofs.Counts.{count_by-map}
-use Rattle.spin_base.proofs.Gathering.{gathered_nothing, among_made, made_among, count_made_one, among_chosen, chosen_among, count_chosen_one, count_chosen_none}
-use Rattle.spin_base.proofs.Members.{Among, among_contains, contains_among, among_map, map_among}
+use Rattle.std.specs.{List.slice_get, List.slice_index_or, List.range_with_len, List.All, List.Contains, Option.option_map_or}
+use Rattle.spin_base.proofs.{Counts.count_by-map, Gathering.gathered_nothing, Gathering.among_made, Gathering.made_among, Gathering.count_made_one, Gathering.among_chosen, Gathering.chosen_among}
+use Rattle.spin_base.proofs.{Gathering.count_chosen_one, Gathering.count_chosen_none, Members.Among, Members.among_contains, Members.contains_among, Members.among_map, Members.map_among}
 use Rattle.spin_base.proofs.Places.{All-each}
 use Rattle.spin_base.specs.declared.{chips.Spot.Spot, copies.McCopy.McCopy, copies.Packet.Packet}
-use Rattle.machine_desc.specs.{Description.Description, RoutingTree.IsRoutingTree, Branch.Exit, Branch.IsBranch}
-use Rattle.machine_desc.specs.declared.nets.NetPlan.{NetPlan}
-use Rattle.machine_desc.specs.{RightTables.IsKeyOf, NetsOn.vertex_at, NetsOn.AreNetsOn, NetsOn.IsWayOn, Live.chip_of}
+use Rattle.machine_desc.specs.{Description.Description, RoutingTree.IsRoutingTree, Branch.Exit, Branch.IsBranch, declared.nets.NetPlan.NetPlan, RightTables.IsKeyOf, NetsOn.vertex_at, NetsOn.AreNetsOn}
+use Rattle.machine_desc.specs.NetsOn.{IsWayOn}
 use Rattle.machine_desc.proofs.Branches.{end_on_branch, link_on_branch}
-use Rattle.mesh_core.specs.State.{Setup, State, IsMesh}
-use Rattle.mesh_core.specs.Trail.{Mark, unsent, in_queue, at_core, on_trail, is_on_trail, is_packet_on_trail}
-use Rattle.mesh_core.specs.Ledger.{marks_of, marks_at, hand_marks, port_of, unsent_marks, Label, label_of}
-use Rattle.mesh_core.specs.Opened.{label_in, asked_by, first_copy, copy_from, unsent_of, empty_mesh, opened_mesh, AreOfNets, MeetsJobLedger}
-use Rattle.mesh_core.proofs.AskedPackets.{asked_parts, asked_from, asked_of_net, net_in_list, key_of_net}
-use Rattle.mesh_core.proofs.{Moves.mark, LedgerLaw.one_net, Ways.vertex_at_stands, Ways.vertex_there}
+use Rattle.mesh_core.specs.{State.Setup, State.State, State.IsMesh, Trail.Mark, Trail.unsent, Trail.on_trail, Trail.is_on_trail, Trail.is_packet_on_trail, Ledger.marks_of, Ledger.marks_at}
+use Rattle.mesh_core.specs.{Ledger.unsent_marks, Ledger.Label, Ledger.label_of, Opened.label_in, Opened.asked_by, Opened.first_copy, Opened.copy_from, Opened.unsent_of, Opened.empty_mesh}
+use Rattle.mesh_core.specs.Opened.{opened_mesh, AreOfNets, MeetsJobLedger}
+use Rattle.mesh_core.proofs.{AskedPackets.asked_parts, AskedPackets.asked_from, AskedPackets.asked_of_net, AskedPackets.net_in_list, AskedPackets.key_of_net, Moves.mark, LedgerLaw.one_net}
+use Rattle.mesh_core.proofs.Ways.{vertex_at_stands, vertex_there}
 
 -- a copy that a vertex sends, and of what packet it is
 record IsSent (spots : List Spot) (nets : List NetPlan) (p : Packet) (i v : ℕ) (k : McCopy) : Type 0 where
@@ -45,9 +40,7 @@ sent_parts spots nets p i v k None is e = cc
 
 sent_from : (spots : List Spot) (nets : List NetPlan) (p : Packet) (i v : ℕ) (net : NetPlan) → slice_get nets p.net ≡ Some net → vertex_at spots net.source ≡ Some v →
     copy_from spots v i p (slice_get nets p.net) ≡ Some (first_copy i net p)
-sent_from spots nets p i v net is vertex =
-    ap (copy_from spots v i p) is
-    ∙ ap (λ b. if b then Some (first_copy i net p) else None) (ap (λ w. option_map_or (λ n. n == v) w false) vertex ∙ eq-eqb v v refl)
+sent_from spots nets p i v net is vertex = grind (arith, eq-eqb v v refl)
 
 module _ (setup : Setup) (nets : List NetPlan) (packets : List Packet) where
   abbrev m : Description
@@ -67,11 +60,7 @@ module _ (setup : Setup) (nets : List NetPlan) (packets : List Packet) where
 
   -- the only marks are those of unsent copies
   opened_marks : marks_of opened ≡ unsent_marks opened
-  opened_marks =
-      let inputs = gathered_nothing (λ i (q : List McCopy). marks_at (in_queue (chip_of m (i / 7)) (port_of (i % 7))) q) [] (λ j. refl) 0 (7 * (m.width * m.height)) in
-      let hands = gathered_nothing (λ i h. hand_marks (chip_of m i) h) None (λ j. refl) 0 (m.width * m.height) in
-      let cores = gathered_nothing (λ v (q : List McCopy). marks_at (at_core v) q) [] (λ j. refl) 0 number in
-      rw (inputs, hands, cores) (append-nil (unsent_marks opened))
+  opened_marks = grind (arith, append-nil (unsent_marks opened), gathered_nothing)
 
   -- what is known of a mark of the opened mesh
   record IsUnsent (k : Mark) : Type 0 where
@@ -176,8 +165,7 @@ module _ (setup : Setup) (nets : List NetPlan) (packets : List Packet) where
     unsent_number k u = ap (λ (c : McCopy). c.packet) u.sent.copy
 
     unsent_is_key : (k : Mark) (u : IsUnsent k) → IsKeyOf u.sent.net.block k.copy.key
-    unsent_is_key k u =
-        subst (λ n. IsKeyOf u.sent.net.block n) (sym (unsent_key k u)) (key_of_net nets packets of_nets u.number_is u.packet u.sent.net u.at u.sent.is_net)
+    unsent_is_key k u = grind (arith, unsent_key k u, key_of_net nets packets of_nets u.number_is u.packet u.sent.net u.at u.sent.is_net)
 
     labelled : (k : Mark) → Contains (marks_of opened) k →
         (k.copy.key ≡ (label_of (asked_by nets packets k.copy.packet)).key) × (k.copy.payload ≡ (label_of (asked_by nets packets k.copy.packet)).payload)

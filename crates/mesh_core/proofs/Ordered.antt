@@ -3,8 +3,7 @@ use Rattle.std.proofs.Common.{◌≡◌, ℕ, ◌+◌, ◌<◌, ◌≤◌, List,
 use Rattle.std.proofs.lemmas.{Bool.cases_order, List.Elements.All-contains}
 use Rattle.std.specs.List.{AllPairs}
 use Rattle.spin_base.specs.Gathered.{gathered}
-use Rattle.spin_base.proofs.{Gathering.among_gathered_from, Counts.count_by-cons, Members.Among, Members.among_contains, Members.among_either}
-use Rattle.spin_base.proofs.Pairs.{AllPairs-head, AllPairs-tail}
+use Rattle.spin_base.proofs.{Gathering.among_gathered_from, Counts.count_by-cons, Members.Among, Members.among_contains, Members.among_either, Pairs.AllPairs-head, Pairs.AllPairs-tail}
 use Rattle.mesh_core.proofs.Counting.{counted}
 
 module _ {X : Type 0} (R : X → X → Type 0) where
@@ -33,10 +32,7 @@ module _ {X : Type 0} (R : X → X → Type 0) where
 
   pub ordered_from : (xs : List X) → AllPairs R xs → Ordered xs
   ordered_from [] pairs = tt
-  ordered_from (x ∷ xs) pairs = (
-    λ y a. All-contains (R x) xs y (AllPairs-head R x xs pairs) (among_contains y xs a),
-    ordered_from xs (AllPairs-tail R x xs pairs),
-  )
+  ordered_from (x ∷ xs) pairs = grind (arith, ordered_from xs (AllPairs-tail R x xs pairs), AllPairs-tail R x xs pairs, AllPairs-head R x xs pairs, All-contains, among_contains)
 
   -- a test that no two items pass of which one is before the other counts at most one
   pub at_most_one : (p : X → Bool) (xs : List X) → Ordered xs → ((x y : X) → R x y → p x ≡ true → p y ≡ true → ⊥) → count_by p xs ≤ 1
@@ -58,10 +54,7 @@ module _ {X : Type 0} (R : X → X → Type 0) where
   module _ (one_way : (x y : X) → R x y → R y x → ⊥) where
     later_still : (x y : X) (xs ys : List X) → x ≡ y → ((z : X) → Among z xs → R x z) → ((z : X) → Among z (x ∷ xs) → Among z (y ∷ ys)) →
         (z : X) → Among z xs → Among z ys
-    later_still x y xs ys same up into z a = elim (into z (inr a)) [
-      | inl here ↦ let itself : R x x = subst (R x) (here ∙ sym same) (up z a) in absurd (one_way x x itself itself)
-      | inr later ↦ later
-    ]
+    later_still x y xs ys same up into z a = grind arith
 
     -- Two lists in order with the same items are the same list.
     pub same_ordered : (xs ys : List X) → Ordered xs → Ordered ys → ((x : X) → Among x xs → Among x ys) → ((x : X) → Among x ys → Among x xs) → xs ≡ ys

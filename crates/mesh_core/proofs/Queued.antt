@@ -1,29 +1,23 @@
 -- Where a packet waits, in a mesh that meets the ledger: behind each output that a hand still has to serve there is a queue
 -- without a copy of the hand's packet, and no queue has two copies of one packet.
 use Rattle.std.proofs.Common.{◌≡◌, ◌≢◌, ℕ, ◌+◌, ◌/◌, ◌%◌, ◌<◌, ◌≤◌, suc, List, ◌++◌, Bool, true, false, ◌==◌, Some, refl, ap, sym, ◌∙◌, subst, arith, inl, inr, length, count_by}
-use Rattle.std.proofs.lemmas.Bool.{cases_order, and_parts, eqb-true, eq-eqb, and_from}
-use Rattle.std.proofs.lemmas.{List.Elements.All-contains, Option.slice_get_within, Option.get_or_from_slice_get}
+use Rattle.std.proofs.lemmas.{Bool.cases_order, Bool.and_parts, Bool.eqb-true, Bool.eq-eqb, Bool.and_from, List.Elements.All-contains, Option.slice_get_within, Option.get_or_from_slice_get}
 use Rattle.std.specs.List.{slice_get, All, Contains}
-use Rattle.spin_base.proofs.{Counts.count_by-map, Counts.count_by-append, Gathering.gathered_among}
-use Rattle.spin_base.proofs.Members.{Among, among_left, among_right, among_contains, contains_among, map_among}
-use Rattle.spin_base.proofs.{Pairs.AllPairs-apart, Places.All-each, Places.slice_get_there}
-use Rattle.spin_base.specs.declared.chips.{Chip.Chip, Dir.Dir, Spot.Spot, Port.Port, Port.TheVariants.Link as ByLink}
-use Rattle.spin_base.specs.declared.{routes.Out.Out, routes.Out.TheVariants.Link, routes.Out.TheVariants.Core, copies.McCopy.McCopy}
+use Rattle.spin_base.proofs.{Counts.count_by-map, Counts.count_by-append, Gathering.gathered_among, Members.Among, Members.among_left, Members.among_right, Members.among_contains}
+use Rattle.spin_base.proofs.{Members.contains_among, Members.map_among, Pairs.AllPairs-apart, Places.All-each, Places.slice_get_there}
+use Rattle.spin_base.specs.declared.{chips.Chip.Chip, chips.Dir.Dir, chips.Spot.Spot, chips.Port.Port, routes.Out.Out, routes.Out.TheVariants.Link, routes.Out.TheVariants.Core, copies.McCopy.McCopy}
 use Rattle.spin_base.specs.{Links.opposite_of, Outputs.out_of}
-use Rattle.machine_desc.specs.Live.{far_of, chip_of, is_live_link, IsInside, IsLiveLink, IsSite}
-use Rattle.machine_desc.specs.Branch.{Exit}
-use Rattle.machine_desc.specs.declared.nets.NetPlan.{NetPlan}
-use Rattle.machine_desc.specs.{NetsOn.IsWayOn, RightTables.IsKeyOf, RoutingTree.IsRoutingTree}
-use Rattle.machine_desc.proofs.Branches.{exit_leads, ExitLeads}
-use Rattle.machine_desc.proofs.{Far.live_inside, Far.live_ends, Far.far_inside, Sites.end_is_no_live_link, Sites.same_site}
+use Rattle.spin_base.specs.declared.chips.Port.TheVariants.{Link as ByLink}
+use Rattle.machine_desc.specs.{Live.far_of, Live.chip_of, Live.is_live_link, Live.IsInside, Live.IsLiveLink, Live.IsSite, Branch.Exit, declared.nets.NetPlan.NetPlan, NetsOn.IsWayOn}
+use Rattle.machine_desc.specs.{RightTables.IsKeyOf, RoutingTree.IsRoutingTree}
+use Rattle.machine_desc.proofs.{Branches.exit_leads, Branches.ExitLeads, Far.live_inside, Far.live_ends, Far.far_inside, Sites.end_is_no_live_link, Sites.same_site}
 use Rattle.mesh_core.specs.State.{Setup, State, IsMesh, Queue, input, core, nowhere, queue_at, core_queue_of, behind, behind_link, vertex_behind}
-use Rattle.mesh_core.specs.Trail.{Station, in_queue, in_hand, at_core, Mark, is_on_trail, is_packet_on_trail}
-use Rattle.mesh_core.specs.Ledger.{marks_of, marks_at, port_of, unsent_marks, input_marks, all_hand_marks, core_marks, delivered_marks, dumped_marks, Label, MeetsLedger}
+use Rattle.mesh_core.specs.{Trail.Station, Trail.in_queue, Trail.in_hand, Trail.at_core, Trail.Mark, Trail.is_on_trail, Trail.is_packet_on_trail, Ledger.marks_of, Ledger.marks_at, Ledger.port_of}
+use Rattle.mesh_core.specs.Ledger.{unsent_marks, input_marks, all_hand_marks, core_marks, delivered_marks, dumped_marks, Label, MeetsLedger}
 use Rattle.mesh_core.specs.{Waiting.queue_of, Whereabouts.IsTracked}
-use Rattle.mesh_core.proofs.Changes.{queue_at-below}
-use Rattle.mesh_core.proofs.Counting.{count_two, count_le, counted, count_gathered_part}
-use Rattle.mesh_core.proofs.{Law.leaves_parts, Law.comes_parts, Moves.behind_inputs, Moves.behind_unsent, Moves.mark, Standing.queued_mark, Standing.core_mark, WalkingUp.comes_on, WalkingUp.ends_on}
-use Rattle.mesh_core.proofs.Ways.{vertex_at_stands, vertex_behind_there, vertex_behind_stands, leads_to}
+use Rattle.mesh_core.proofs.{Changes.queue_at-below, Counting.count_two, Counting.count_le, Counting.counted, Counting.count_gathered_part, Law.leaves_parts, Law.comes_parts, Moves.behind_inputs}
+use Rattle.mesh_core.proofs.{Moves.behind_unsent, Moves.mark, Standing.queued_mark, Standing.core_mark, WalkingUp.comes_on, WalkingUp.ends_on, Ways.vertex_at_stands, Ways.vertex_behind_there}
+use Rattle.mesh_core.proofs.Ways.{vertex_behind_stands, leads_to}
 
 -- the queue behind an output, which has no copy of this packet
 abbrev pub FreeBehind : State → Chip → Out → ℕ → Type 0
@@ -155,9 +149,7 @@ module _ (s : State) (nets : List NetPlan) (labels : ℕ → Label) (ledger : Me
 
   -- what is counted in one part is counted in all marks
   in_input_marks : (p : Mark → Bool) → count_by p (input_marks s) ≤ count_by p (marks_of s)
-  in_input_marks p =
-      let later : List Mark = behind_inputs s in
-      omega (arith, count_by-append p (unsent_marks s) (input_marks s ++ later), count_by-append p (input_marks s) later)
+  in_input_marks p = grind (arith, behind_inputs s, count_by-append p (unsent_marks s) (input_marks s ++ (behind_inputs s)), count_by-append p (input_marks s) (behind_inputs s))
 
   in_core_marks : (p : Mark → Bool) → count_by p (core_marks s) ≤ count_by p (marks_of s)
   in_core_marks p =

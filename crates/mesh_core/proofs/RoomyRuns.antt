@@ -3,19 +3,12 @@
 use Rattle.std.proofs.Common.{◌≡◌, ◌≤◌, ℕ, refl, ap, sym, ◌∙◌, subst, arith, List, [], ◌∷◌, length, Option}
 use Rattle.std.proofs.lemmas.List.FromFn.{length-range_with_len}
 use Rattle.std.specs.{Prelude.unwrap_or, List.slice_get, List.range_with_len}
-use Rattle.spin_base.specs.declared.copies.Event.{Event}
-use Rattle.spin_base.specs.declared.copies.Event.TheVariants.{Inject, Take, Send, Dump, Collect}
-use Rattle.spin_base.specs.declared.copies.Packet.{Packet}
-use Rattle.machine_desc.specs.Live.{index_of}
-use Rattle.machine_desc.specs.declared.nets.NetPlan.{NetPlan}
-use Rattle.machine_desc.specs.{NetsOn.AreNetsOn, RightTables.AreRight}
-use Rattle.mesh_core.specs.State.{Setup, State, IsMesh}
-use Rattle.mesh_core.specs.Step.{after_event, after_events}
-use Rattle.mesh_core.specs.Ledger.{label_of, Label, MeetsLedger, OnlyUnderWay}
-use Rattle.mesh_core.specs.Opened.{asked_by, opened_mesh, AreOfNets, MeetsJobLedger}
-use Rattle.mesh_core.specs.Expected.{IsAtRest, AreAsExpected}
-use Rattle.mesh_core.proofs.{DeliveredLaw.delivered_as_expected, EventsLaw.event_keeps, EventsLaw.events_keep_job, Fixed.after_event_setup, Fixed.dumped_stays}
-use Rattle.mesh_core.proofs.{NoDump.dump_none, OnlyUnderWay.of_job, OnlyUnderWay.only_after, OpenedLaw.opened_meets_ledger}
+use Rattle.spin_base.specs.declared.copies.{Event.Event, Event.TheVariants.Inject, Event.TheVariants.Take, Event.TheVariants.Send, Event.TheVariants.Dump, Event.TheVariants.Collect, Packet.Packet}
+use Rattle.machine_desc.specs.{Live.index_of, declared.nets.NetPlan.NetPlan, NetsOn.AreNetsOn, RightTables.AreRight}
+use Rattle.mesh_core.specs.{State.Setup, State.State, State.IsMesh, Step.after_event, Step.after_events, Ledger.label_of, Ledger.Label, Ledger.MeetsLedger, Ledger.OnlyUnderWay, Opened.asked_by}
+use Rattle.mesh_core.specs.{Opened.opened_mesh, Opened.AreOfNets, Opened.MeetsJobLedger, Expected.IsAtRest, Expected.AreAsExpected}
+use Rattle.mesh_core.proofs.{DeliveredLaw.delivered_as_expected, EventsLaw.event_keeps, EventsLaw.events_keep_job, Fixed.after_event_setup, Fixed.dumped_stays, NoDump.dump_none, OnlyUnderWay.of_job}
+use Rattle.mesh_core.proofs.{OnlyUnderWay.only_after, OpenedLaw.opened_meets_ledger}
 
 module _ (nets : List NetPlan) (labels : ℕ → Label) (numbers : List ℕ) where
   records_stay : (s : State) → IsMesh s → MeetsLedger s nets labels → OnlyUnderWay numbers s → length numbers ≤ s.setup.capacity → (e : Event) → (after_event s e).dumped ≡ s.dumped

@@ -1,26 +1,19 @@
 -- What the searches of a port, an output and a core find.
 use Rattle.std.proofs.Common.{◌≡◌, ℕ, ◌<◌, List, Bool, true, false, ◌==◌, ◌&&◌, Option, Some, None, refl, ap, sym, ◌∙◌, subst, arith, inl, inr, ◌⊎◌, length, get_or}
-use Rattle.std.proofs.lemmas.{List.Elements.All-contains, Bool.and_parts, Bool.eqb-true, Bool.eq-eqb, Bool.and_from}
-use Rattle.std.proofs.lemmas.Option.{slice_get-get_or, slice_get_within}
+use Rattle.std.proofs.lemmas.{List.Elements.All-contains, Bool.and_parts, Bool.eqb-true, Bool.eq-eqb, Bool.and_from, Option.slice_get-get_or, Option.slice_get_within}
 use Rattle.std.specs.List.{All, slice_get, slice_index_or, list_any, Contains, position}
-use Rattle.spin_base.specs.declared.{chips.Chip.Chip, chips.Spot.Spot, chips.Port.Port, routes.Out.Out}
-use Rattle.spin_base.specs.declared.copies.{McCopy.McCopy, Delivery.Delivery, DumpRec.DumpRec}
+use Rattle.spin_base.specs.declared.{chips.Chip.Chip, chips.Spot.Spot, chips.Port.Port, routes.Out.Out, copies.McCopy.McCopy, copies.Delivery.Delivery, copies.DumpRec.DumpRec}
 use Rattle.spin_base.specs.Equality.{chip_eq, out_eq}
-use Rattle.spin_base.proofs.Equality.{chip_eq_same, chip_eq_true, out_eq_same, out_eq_true}
-use Rattle.spin_base.proofs.Members.{Among, among_contains, contains_among, any_among, among_any, position_there, position_nowhere}
-use Rattle.machine_desc.specs.declared.trees.Edge.{Edge}
-use Rattle.machine_desc.specs.{Description.Description, Live.index_of, Live.IsInside, RoutingTree.IsRoutingTree}
-use Rattle.machine_desc.specs.declared.nets.NetPlan.{NetPlan}
-use Rattle.machine_desc.specs.NetsOn.{vertex_at}
+use Rattle.spin_base.proofs.{Equality.chip_eq_same, Equality.chip_eq_true, Equality.out_eq_same, Equality.out_eq_true, Members.Among, Members.among_contains, Members.contains_among, Members.any_among}
+use Rattle.spin_base.proofs.Members.{among_any, position_there, position_nowhere}
+use Rattle.machine_desc.specs.{declared.trees.Edge.Edge, Description.Description, Live.index_of, Live.IsInside, RoutingTree.IsRoutingTree, declared.nets.NetPlan.NetPlan, NetsOn.vertex_at}
 use Rattle.machine_desc.proofs.{Far.live_inside, Far.live_ends, Live.index_of-chip_of}
-use Rattle.mesh_core.specs.declared.places.Place.TheVariants.{InQueue, Hand as HandAt, CoreQueue}
-use Rattle.mesh_core.specs.declared.places.Where.TheVariants.{At, Delivered, Dumped}
-use Rattle.mesh_core.specs.State.{State, Hand, IsMesh, queue_at}
-use Rattle.mesh_core.specs.Trail.{Station, in_queue, in_hand, at_core, delivered, dumped, Mark}
-use Rattle.mesh_core.specs.{Ledger.marks_of, Whereabouts.IsTracked}
-use Rattle.mesh_core.specs.Searches.{IsMarkThere, IsFound, IsOfCore, IsOfOutput, IsOfPort, is_held}
-use Rattle.mesh_core.proofs.{Moves.mark, Ways.vertex_at_stands}
-use Rattle.mesh_core.proofs.Standing.{StandsAt, mark_stands, queued_mark, held_mark, core_mark, delivered_mark, dumped_mark, place_of_queue}
+use Rattle.mesh_core.specs.declared.places.{Place.TheVariants.InQueue, Place.TheVariants.CoreQueue, Where.TheVariants.At, Where.TheVariants.Delivered, Where.TheVariants.Dumped}
+use Rattle.mesh_core.specs.{State.State, State.Hand, State.IsMesh, State.queue_at, Trail.Station, Trail.in_queue, Trail.in_hand, Trail.at_core, Trail.delivered, Trail.dumped, Trail.Mark}
+use Rattle.mesh_core.specs.{Ledger.marks_of, Whereabouts.IsTracked, Searches.IsMarkThere, Searches.IsFound, Searches.IsOfCore, Searches.IsOfOutput, Searches.IsOfPort, Searches.is_held}
+use Rattle.mesh_core.specs.declared.places.Place.TheVariants.{Hand as HandAt}
+use Rattle.mesh_core.proofs.{Moves.mark, Ways.vertex_at_stands, Standing.StandsAt, Standing.mark_stands, Standing.queued_mark, Standing.held_mark, Standing.core_mark, Standing.delivered_mark}
+use Rattle.mesh_core.proofs.Standing.{dumped_mark, place_of_queue}
 
 module _ (s : State) (packet : ℕ) where
   -- a mark of the mesh at a station stands there
@@ -175,10 +168,6 @@ module _ (s : State) (packet : ℕ) where
           let same : w ≡ v = cc in
           position_nowhere (is_delivery v) s.delivered d nowhere stands
           (and_from (w == v) (k.copy.packet == packet) (eq-eqb w v same) (eq-eqb k.copy.packet packet is_packet))
-
-  -- on a core without a vertex there is nothing
-  pub no_vertex_lacks : (spot : Spot) → vertex_at s.setup.spots spot ≡ None → IsFound s packet (IsOfCore s spot) None
-  no_vertex_lacks spot none k has is_packet there = let both : Some there.0 ≡ None = sym there.1 ∙ none in cc
 
 -- ---- what the code of a search knows
 

@@ -1,37 +1,28 @@
 -- Serving an output: the hands after it, and the queue behind it.
-use Rattle.std.proofs.Common.{◌≡◌, ℕ, ◌<◌, ◌≤◌, ◌+◌, ◌-◌, refl, sym, ap, ◌∙◌, subst, arith, Bool, true, false, cond, List, [], ◌∷◌, length, get_or, set, Option, Some}
-use Rattle.std.proofs.Common.{None, ◌==◌, if◌then◌else◌, is_some}
-use Rattle.std.proofs.lemmas.List.{set-set, Elements.All-head, Elements.All-tail, Quantifiers.position-Some}
-use Rattle.std.proofs.lemmas.{Iterator.Adapters.position_from-zero, Bool.and_parts, Bool.and_from, Bool.false_from_ne_true}
-use Rattle.std.proofs.lemmas.Option.{slice_get-get_or, get_or_from_slice_get}
+use Rattle.std.proofs.Common.{◌≡◌, ℕ, ◌<◌, ◌≤◌, ◌+◌, ◌-◌, refl, sym, ap, ◌∙◌, subst, arith, Bool, true, false, cond, List, [], ◌∷◌, length, get_or, set, Option, Some, None, ◌==◌, if◌then◌else◌}
+use Rattle.std.proofs.Common.{is_some}
+use Rattle.std.proofs.lemmas.{List.set-set, List.Elements.All-head, List.Elements.All-tail, List.Quantifiers.position-Some, Iterator.Adapters.position_from-zero, Bool.and_parts, Bool.and_from}
+use Rattle.std.proofs.lemmas.{Bool.false_from_ne_true, Option.slice_get-get_or, Option.get_or_from_slice_get}
 use Rattle.std.specs.{Cmp.both_ways, List.All, List.slice_get, List.position_from}
-use Rattle.spin_base.specs.declared.{chips.Chip.Chip, chips.Port.Port, chips.Spot.Spot, blocks.Entry.Entry, copies.McCopy.McCopy}
-use Rattle.spin_base.specs.{Lookup.lookup, Links.dir_number, Links.dir_at, Outputs.outs_of, Outputs.out_of}
-use Rattle.spin_base.specs.declared.{chips.Dir.Dir, routes.Out.Out, routes.Out.TheVariants.Link, routes.Out.TheVariants.Core}
-use Rattle.spin_base.specs.Equality.{chip_eq, spot_eq, out_eq}
-use Rattle.spin_base.specs.Hops.{last_hop}
-use Rattle.spin_base.proofs.Equality.{chip_eq_true, chip_eq_same, spot_eq_true, spot_eq_same, out_eq_true, out_eq_same}
-use Rattle.spin_base.proofs.Spots.{dir_at-dir_number, out_of-core, out_of-device, spot_of_core, spot_of_link}
-use Rattle.spin_base.proofs.Places.{set-slice_get}
+use Rattle.spin_base.specs.{declared.chips.Chip.Chip, declared.chips.Port.Port, declared.chips.Spot.Spot, declared.blocks.Entry.Entry, declared.copies.McCopy.McCopy, Lookup.lookup, Links.dir_number}
+use Rattle.spin_base.specs.{Links.dir_at, Outputs.outs_of, Outputs.out_of, declared.chips.Dir.Dir, declared.routes.Out.Out, declared.routes.Out.TheVariants.Link, declared.routes.Out.TheVariants.Core}
+use Rattle.spin_base.specs.{Equality.spot_eq, Hops.last_hop}
+use Rattle.spin_base.proofs.{Equality.chip_eq_true, Equality.chip_eq_same, Equality.spot_eq_true, Equality.spot_eq_same, Equality.out_eq_true, Equality.out_eq_same, Spots.dir_at-dir_number}
+use Rattle.spin_base.proofs.{Spots.out_of-core, Spots.out_of-device, Spots.spot_of_core, Spots.spot_of_link, Places.set-slice_get}
 use Rattle.machine_desc.specs.{Description.Description, Live.index_of, Live.IsSite, NetsOn.vertex_at, Outputs.leads_to_spot}
 use Rattle.machine_desc.proofs.{Same.same_spot, Sites.site_parts}
-use Rattle.mesh_core.specs.State.{State, Hand, vertex_behind}
-use Rattle.mesh_core.specs.{Step.in_hand, Step.outputs, Step.outs_without, Serving.hands_after}
-use Rattle.mesh_core.proofs.VertexTableLaws.{vertex_at-from}
+use Rattle.mesh_core.specs.{State.State, State.Hand, State.vertex_behind, Step.in_hand, Step.outputs, Step.outs_without, Serving.hands_after}
+use Rattle.mesh_core.proofs.VertexTableLaws.{vertex_at-from, no_place}
 
 -- a hand served an output
 pub hands_after-some : (hands : List (Option Hand)) (i : ℕ) (o : Out) (d x r : Option Hand) (h : Hand) → i < length hands → get_or hands i d ≡ Some h →
     r ≡ in_hand h.copy h.port (outs_without o h.outs) → set (set hands i x) i r ≡ hands_after hands i o (slice_get hands i)
-hands_after-some hands i o d x r h below here after_serving =
-    let at : slice_get hands i ≡ Some (Some h) = slice_get-get_or hands i d below ∙ ap Some here in
-    set-set hands i x r ∙ (ap (set hands i) after_serving ∙ ap (hands_after hands i o) (sym at))
+hands_after-some hands i o d x r h below here after_serving = grind (arith, slice_get-get_or hands i d below, set-set hands i x r)
 
 -- there was no hand
 pub hands_after-none : (hands : List (Option Hand)) (i : ℕ) (o : Out) (d x : Option Hand) → i < length hands → get_or hands i d ≡ None → x ≡ None →
     set hands i x ≡ hands_after hands i o (slice_get hands i)
-hands_after-none hands i o d x below here none =
-    let at : slice_get hands i ≡ Some None = slice_get-get_or hands i d below ∙ ap Some here in
-    ap (set hands i) none ∙ (set-slice_get hands i None at ∙ ap (hands_after hands i o) (sym at))
+hands_after-none hands i o d x below here none = grind (arith, slice_get-get_or hands i d below, set-slice_get hands i None (slice_get-get_or hands i d below ∙ ap Some here))
 
 -- tests that answer alike find the same
 position-same : (t u : Spot → Bool) (xs : List Spot) (n : ℕ) → All (λ x. t x ≡ u x) xs → position_from t n xs ≡ position_from u n xs
@@ -45,10 +36,7 @@ vertex_behind-from spots c o = position_from-zero (leads_to_spot c o) spots
 
 -- an output that leads to a spot's chip and number leads to that spot
 leads_there : (o : Out) (t s : Spot) → o ≡ out_of t.core → spot_eq t s ≡ true → leads_to_spot t.chip o s ≡ true
-leads_there o t s is same =
-    let there : t ≡ s = spot_eq_true t s same in
-    and_from _ _ (subst (λ (x : Spot). chip_eq x.chip t.chip ≡ true) there (chip_eq_same t.chip))
-    (subst (λ (x : Spot). out_eq (out_of x.core) o ≡ true) there (ap (λ (w : Out). out_eq w o) (sym is) ∙ out_eq_same o))
+leads_there o t s is same = grind (arith, spot_eq_true t s same, chip_eq_same t.chip, out_eq_same o, and_from)
 
 leads_back : (o : Out) (t s : Spot) → (out_of s.core ≡ o → s.core ≡ t.core) → leads_to_spot t.chip o s ≡ true → spot_eq t s ≡ true
 leads_back o t s number leads =
@@ -76,10 +64,6 @@ vertex_behind-link m spots t d is sites =
     vertex_behind-is spots (Link d) t out
     (λ k e below f. spot_of_link (get_or spots k e).core d (site_parts m (get_or spots k e) (sites k e below)).1 f ∙ sym is)
 
-no_place : (t : Spot → Bool) (xs : List Spot) (n : ℕ) → All (λ x. t x ≡ false) xs → position_from t n xs ≡ None
-no_place t [] n none = refl
-no_place t (x ∷ xs) n none = rw (All-head (λ z. t z ≡ false) x xs none) (no_place t xs (n + 1) (All-tail (λ z. t z ≡ false) x xs none))
-
 -- no vertex is behind a core beyond 17
 pub vertex_behind-beyond : (spots : List Spot) (c : Chip) (p : ℕ) → 18 ≤ p → vertex_behind spots c (Core p) ≡ None
 vertex_behind-beyond spots c p beyond =
@@ -96,10 +80,7 @@ vertex_at-below spots s v e = (position-Some (spot_eq s) spots v s e).0
 -- the outputs that a router gives, by the table that was looked up
 outputs_read : (s : State) (c : Chip) (port : Port) (k : McCopy) (n : ℕ) (table : List Entry) → n ≡ index_of s.setup.machine c → slice_get s.setup.tables n ≡ Some table →
     (if k.hop == last_hop then [] else outs_of (lookup table k.key port)) ≡ outputs s.setup c port k
-outputs_read s c port k n table at here =
-    let is : table ≡ get_or s.setup.tables (index_of s.setup.machine c) [] =
-    sym (get_or_from_slice_get s.setup.tables n table [] here) ∙ ap (λ i. get_or s.setup.tables i []) at in
-    ap (λ (t : List Entry). if k.hop == last_hop then [] else outs_of (lookup t k.key port)) is
+outputs_read s c port k n table at here = grind (arith, get_or_from_slice_get s.setup.tables n table, get_or)
 
 -- the same, by the table at a place of a list
 pub outputs_at : (s : State) (c : Chip) (port : Port) (k : McCopy) (n : ℕ) (tables : List (List Entry)) (table d : List Entry) → n ≡ index_of s.setup.machine c →

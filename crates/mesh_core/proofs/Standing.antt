@@ -1,14 +1,13 @@
 -- Which marks a mesh has, by their stations: those of the lists' items there.
-use Rattle.std.proofs.Common.{◌≡◌, ℕ, ◌+◌, ◌/◌, ◌%◌, ◌<◌, suc, zero, List, ◌++◌, Option, Some, None, refl, ap, sym, ◌∙◌, subst, arith, inl, inr, ◌⊎◌}
+use Rattle.std.proofs.Common.{◌≡◌, ℕ, ◌+◌, ◌/◌, ◌%◌, ◌<◌, suc, zero, List, ◌++◌, Option, Some, None, refl, sym, subst, arith, inl, inr, ◌⊎◌}
 use Rattle.std.specs.List.{slice_get}
-use Rattle.spin_base.proofs.Members.{Among, among_left, among_right, among_either, among_map, map_among}
-use Rattle.spin_base.proofs.Gathering.{among_gathered, gathered_among_from, gathered_among}
+use Rattle.spin_base.proofs.{Members.Among, Members.among_left, Members.among_right, Members.among_either, Members.among_map, Members.map_among, Gathering.among_gathered}
+use Rattle.spin_base.proofs.Gathering.{gathered_among_from, gathered_among}
 use Rattle.spin_base.specs.declared.{chips.Chip.Chip, chips.Port.Port, routes.Out.Out, copies.McCopy.McCopy, copies.Delivery.Delivery, copies.DumpRec.DumpRec}
 use Rattle.spin_base.specs.Links.{port_number}
 use Rattle.machine_desc.specs.{Description.Description, Live.chip_of, Live.index_of, Live.IsInside}
 use Rattle.machine_desc.proofs.Live.{index_of-chip_of}
-use Rattle.mesh_core.specs.State.{State, Hand, queue_at}
-use Rattle.mesh_core.specs.Trail.{Station, unsent, in_queue, in_hand, at_core, delivered, dumped, Mark}
+use Rattle.mesh_core.specs.{State.State, State.Hand, State.queue_at, Trail.Station, Trail.unsent, Trail.in_queue, Trail.in_hand, Trail.at_core, Trail.delivered, Trail.dumped, Trail.Mark}
 use Rattle.mesh_core.specs.Ledger.{marks_of, marks_at, hand_marks, port_of, unsent_marks, input_marks, all_hand_marks, core_marks, delivered_marks, dumped_marks}
 use Rattle.mesh_core.proofs.Moves.{behind_hands, behind_inputs, behind_unsent, mark, chip_of-index_of, station_of_queue}
 
@@ -28,10 +27,7 @@ port_number-port_of (suc (suc (suc (suc (suc (suc (suc n))))))) low = absurd (om
 -- the place of the queues of a chip and port is one
 pub place_of_queue : (m : Description) (c : Chip) (port : Port) (i : ℕ) → IsInside m c → chip_of m (i / 7) ≡ c → port_of (i % 7) ≡ port →
     i ≡ queue_at m c port
-place_of_queue m c port i inside is_chip is_port =
-    let index : index_of m c ≡ i / 7 = ap (index_of m) (sym is_chip) ∙ index_of-chip_of m (i / 7) in
-    let number : port_number port ≡ i % 7 = ap port_number (sym is_port) ∙ port_number-port_of (i % 7) (omega arith) in
-    omega (arith, index, number)
+place_of_queue m c port i inside is_chip is_port = grind (arith, index_of-chip_of m (i / 7), port_number-port_of (i % 7) (omega arith))
 
 -- ---- marks by their stations
 
@@ -140,15 +136,7 @@ core_mark s v k q at a =
     (gathered_among (λ n (l : List McCopy). marks_at (at_core n) l) y s.cores v q at (map_among (λ (c : McCopy). mark c (at_core v)) k q a)))))
 
 pub delivered_mark : (s : State) (d : Delivery) → Among d s.delivered → Among (mark d.copy (delivered d.vertex)) (marks_of s)
-delivered_mark s d a =
-    let y : Mark = mark d.copy (delivered d.vertex) in
-    among_right y (unsent_marks s) (behind_unsent s) (among_right y (input_marks s) (behind_inputs s) (among_right y (all_hand_marks s) (behind_hands s)
-    (among_right y (core_marks s) (delivered_marks s ++ dumped_marks s)
-    (among_left y (delivered_marks s) (dumped_marks s) (map_among (λ (e : Delivery). mark e.copy (delivered e.vertex)) d s.delivered a)))))
+delivered_mark s d a = grind (arith, mark d.copy (delivered d.vertex), behind_unsent s, behind_inputs s, behind_hands s, among_right, among_left, map_among)
 
 pub dumped_mark : (s : State) (r : DumpRec) → Among r s.dumped → Among (mark r.copy (dumped r.chip r.out)) (marks_of s)
-dumped_mark s r a =
-    let y : Mark = mark r.copy (dumped r.chip r.out) in
-    among_right y (unsent_marks s) (behind_unsent s) (among_right y (input_marks s) (behind_inputs s) (among_right y (all_hand_marks s) (behind_hands s)
-    (among_right y (core_marks s) (delivered_marks s ++ dumped_marks s)
-    (among_right y (delivered_marks s) (dumped_marks s) (map_among (λ (e : DumpRec). mark e.copy (dumped e.chip e.out)) r s.dumped a)))))
+dumped_mark s r a = grind (arith, mark r.copy (dumped r.chip r.out), behind_unsent s, behind_inputs s, behind_hands s, among_right, map_among)

@@ -2,8 +2,7 @@
 use Rattle.std.proofs.Common.{◌≡◌, ℕ, List, sym, subst}
 use Rattle.std.specs.Prelude.{Result, Ok, Err, OnOk, OnErr}
 use Rattle.spin_base.specs.declared.copies.Event.{Event}
-use Rattle.machine_desc.specs.declared.nets.NetPlan.{NetPlan}
-use Rattle.machine_desc.specs.RightTables.{AreRight}
+use Rattle.machine_desc.specs.{declared.nets.NetPlan.NetPlan, RightTables.AreRight}
 use Rattle.mesh_core.specs.{State.State, State.IsMesh, Step.after_event, Ledger.Label, Ledger.MeetsLedger}
 use Rattle.mesh_core.proofs.EventsLaw.{event_keeps}
 

@@ -1,18 +1,14 @@
 -- Where an event is enabled, and the mesh after it, by what the code looks at.
-use Rattle.std.proofs.Common.{◌≡◌, ℕ, refl, sym, ap, ◌∙◌, true, false, not, ◌&&◌, if◌then◌else◌, List, [], ◌∷◌, ◌++◌, set, Option, Some, None, is_some}
+use Rattle.std.proofs.Common.{arith, ◌≡◌, ℕ, refl, sym, ap, ◌∙◌, true, false, not, ◌&&◌, if◌then◌else◌, List, [], ◌∷◌, ◌++◌, set, Option, Some, None, is_some}
 use Rattle.std.proofs.lemmas.Bool.{and_from}
 use Rattle.std.specs.{Prelude.unwrap_or, List.slice_get}
-use Rattle.spin_base.specs.declared.{chips.Chip.Chip, chips.Spot.Spot, chips.Port.Port, chips.Port.TheVariants.Local, routes.Out.Out}
-use Rattle.spin_base.specs.declared.copies.{McCopy.McCopy, Delivery.Delivery, DumpRec.DumpRec, Event.Event}
-use Rattle.spin_base.specs.declared.copies.Event.TheVariants.{Inject, Take, Send, Dump, Collect}
+use Rattle.spin_base.specs.declared.{chips.Chip.Chip, chips.Spot.Spot, chips.Port.Port, chips.Port.TheVariants.Local, routes.Out.Out, copies.McCopy.McCopy, copies.Delivery.Delivery}
+use Rattle.spin_base.specs.declared.copies.{DumpRec.DumpRec, Event.Event, Event.TheVariants.Inject, Event.TheVariants.Take, Event.TheVariants.Send, Event.TheVariants.Dump, Event.TheVariants.Collect}
 use Rattle.spin_base.specs.Hops.{onward}
 use Rattle.machine_desc.specs.Live.{index_of, is_live_chip}
-use Rattle.mesh_core.specs.declared.places.Did.TheVariants.{Moved, Idle}
-use Rattle.mesh_core.specs.Queues.{front_of, drop_front}
-use Rattle.mesh_core.specs.Serving.{copy_served, inputs_after, cores_after, hands_after}
-use Rattle.mesh_core.specs.State.{State, Hand, Queue, input, core, nowhere, behind, queue_at}
-use Rattle.mesh_core.specs.Step.{outputs, in_hand, has_room, has_room_behind, push_at, push_behind, inject_of, take_of, serves, after_serving, send_of, dump_of}
-use Rattle.mesh_core.specs.Step.{collect_of, step_of, answer, after_event}
+use Rattle.mesh_core.specs.{declared.places.Did.TheVariants.Moved, declared.places.Did.TheVariants.Idle, Queues.front_of, Queues.drop_front, Serving.copy_served, Serving.inputs_after}
+use Rattle.mesh_core.specs.{Serving.cores_after, Serving.hands_after, State.State, State.Hand, State.Queue, State.input, State.core, State.nowhere, State.behind, State.queue_at, Step.outputs}
+use Rattle.mesh_core.specs.Step.{in_hand, has_room, has_room_behind, push_at, push_behind, inject_of, take_of, serves, after_serving, send_of, dump_of, collect_of, step_of, answer, after_event}
 use Rattle.mesh_core.proofs.Keeping.{if_some}
 
 -- what a step answers and leaves where the event is enabled
@@ -29,11 +25,7 @@ inject_by : (s : State) (v : ℕ) (spot : Spot) (k : McCopy) (q : Option (List M
       unsent = drop_front s.unsent v q;
       inputs = push_at s.inputs (queue_at s.setup.machine spot.chip Local) k (slice_get s.inputs (queue_at s.setup.machine spot.chip Local));
     })
-inject_by s v spot k (Some (x ∷ rest)) here front room =
-    let is : x ≡ k = cc in
-    let at : ℕ = queue_at s.setup.machine spot.chip Local in
-    let after : McCopy → State = λ y. record s { unsent = set s.unsent v rest; inputs = push_at s.inputs at y (slice_get s.inputs at) } in
-    ap (λ b. if b then Some (after x) else None) room ∙ ap (λ y. Some (after y)) is
+inject_by s v spot k (Some (x ∷ rest)) here front room = grind arith
 inject_by s v spot k (Some []) here front room = cc
 inject_by s v spot k None here front room = cc
 
@@ -44,10 +36,7 @@ pub step_of-inject : (s : State) (v : ℕ) (spot : Spot) (k : McCopy) (unsent in
     inputs ≡ push_at s.inputs (queue_at s.setup.machine spot.chip Local) k (slice_get s.inputs (queue_at s.setup.machine spot.chip Local)) →
     step_of s (Inject v) ≡ Some (record s { unsent = unsent; inputs = inputs })
 step_of-inject s v spot k unsent inputs at_spot front room is_unsent is_inputs =
-    ap (λ o. inject_of s v o (slice_get s.unsent v)) at_spot
-    ∙ (inject_by s v spot k (slice_get s.unsent v) refl (sym front) room
-    ∙ (ap (λ u. Some (record s { unsent = u; inputs = push_at s.inputs (queue_at s.setup.machine spot.chip Local) k (slice_get s.inputs (queue_at s.setup.machine spot.chip Local)) })) (sym is_unsent)
-    ∙ ap (λ i. Some (record s { unsent = unsent; inputs = i })) (sym is_inputs)))
+    rw (is_unsent, is_inputs, at_spot) (inject_by s v spot k (slice_get s.unsent v) refl (sym front) room)
 
 -- a live chip took a copy
 take_by : (s : State) (c : Chip) (port : Port) (k : McCopy) (q : Option (List McCopy)) → front_of q ≡ Some k → is_live_chip s.setup.machine c ≡ true →
@@ -55,13 +44,7 @@ take_by : (s : State) (c : Chip) (port : Port) (k : McCopy) (q : Option (List Mc
       inputs = drop_front s.inputs (queue_at s.setup.machine c port) q;
       hands = set s.hands (index_of s.setup.machine c) (in_hand k port (outputs s.setup c port k));
     })
-take_by s c port k (Some (x ∷ rest)) front live =
-    let is : x ≡ k = cc in
-    let after : McCopy → State = λ y. record s {
-      inputs = set s.inputs (queue_at s.setup.machine c port) rest;
-      hands = set s.hands (index_of s.setup.machine c) (in_hand y port (outputs s.setup c port y));
-    } in
-    ap (λ b. if b then Some (after x) else None) live ∙ ap (λ y. Some (after y)) is
+take_by s c port k (Some (x ∷ rest)) front live = grind arith
 take_by s c port k (Some []) front live = cc
 take_by s c port k None front live = cc
 
@@ -72,11 +55,7 @@ pub step_of-take : (s : State) (c : Chip) (port : Port) (k : McCopy) (inputs : L
     hands ≡ set s.hands (index_of s.setup.machine c) (in_hand k port (outputs s.setup c port k)) →
     step_of s (Take c port) ≡ Some (record s { inputs = inputs; hands = hands })
 step_of-take s c port k inputs hands live free front is_inputs is_hands =
-    let q : Option (List McCopy) = slice_get s.inputs (queue_at s.setup.machine c port) in
-    ap (λ h. take_of s c port h q) free
-    ∙ (take_by s c port k q (sym front) live
-    ∙ (ap (λ i. Some (record s { inputs = i; hands = set s.hands (index_of s.setup.machine c) (in_hand k port (outputs s.setup c port k)) })) (sym is_inputs)
-    ∙ ap (λ h. Some (record s { inputs = inputs; hands = h })) (sym is_hands)))
+    rw (is_inputs, is_hands, free) (take_by s c port k (slice_get s.inputs (queue_at s.setup.machine c port)) (sym front) live)
 
 -- the mesh where a copy came into the queue behind an output
 arrived_is : (s : State) (b : Queue) (k : McCopy) → push_behind s b k ≡ record s { inputs = inputs_after s.inputs b k; cores = cores_after s.cores b k }
@@ -110,13 +89,7 @@ pub step_of-send : (s : State) (c : Chip) (o : Out) (k : McCopy) (inputs cores :
     hands ≡ hands_after s.hands (index_of s.setup.machine c) o (slice_get s.hands (index_of s.setup.machine c)) →
     step_of s (Send c o) ≡ Some (record s { inputs = inputs; cores = cores; hands = hands })
 step_of-send s c o k inputs cores hands copy room is_inputs is_cores is_hands =
-    let from : List (List McCopy) → List (List McCopy) → List (Option Hand) → Option State = λ i q h. Some (record s { inputs = i; cores = q; hands = h }) in
-    let to : Queue = behind s.setup c o in
-    let last : List (Option Hand) = hands_after s.hands (index_of s.setup.machine c) o (slice_get s.hands (index_of s.setup.machine c)) in
-    send_by s c o k (slice_get s.hands (index_of s.setup.machine c)) (sym copy) room
-    ∙ (ap (λ i. from i (cores_after s.cores to (onward k)) last) (sym is_inputs)
-    ∙ (ap (λ q. from inputs q last) (sym is_cores)
-    ∙ ap (λ h. from inputs cores h) (sym is_hands)))
+    rw (is_inputs, is_cores, is_hands) (send_by s c o k (slice_get s.hands (index_of s.setup.machine c)) (sym copy) room)
 
 dump_by : (s : State) (c : Chip) (o : Out) (k : McCopy) (hand : Option (Option Hand)) → copy_served s c o hand ≡ Some k →
     has_room_behind s (behind s.setup c o) ≡ false →
@@ -124,12 +97,7 @@ dump_by : (s : State) (c : Chip) (o : Out) (k : McCopy) (hand : Option (Option H
       hands = hands_after s.hands (index_of s.setup.machine c) o hand;
       dumped = s.dumped ++ record { chip = c; out = o; copy = k } ∷ [];
     })
-dump_by s c o k (Some (Some h)) copy full =
-    let to : Queue = behind s.setup c o in
-    let parts : (serves s c o (Some (Some h)) ≡ true) × (h.copy ≡ k) = if_some (serves s c o (Some (Some h))) h.copy k copy in
-    let asked : (serves s c o (Some (Some h)) && not (has_room_behind s to)) ≡ true = and_from _ _ parts.0 (ap not full) in
-    let after : McCopy → State = λ x. record (after_serving s c o h) { dumped = s.dumped ++ record { chip = c; out = o; copy = x } ∷ [] } in
-    ap (λ b. if b then Some (after h.copy) else None) asked ∙ ap (λ x. Some (after x)) parts.1
+dump_by s c o k (Some (Some h)) copy full = grind (arith, if_some (serves s c o (Some (Some h))) h.copy k copy, and_from _ _ (if_some (serves s c o (Some (Some h))) h.copy k copy).0 (ap not full))
 dump_by s c o k (Some None) copy full = cc
 dump_by s c o k None copy full = cc
 
@@ -141,15 +109,11 @@ pub step_of-dump : (s : State) (c : Chip) (o : Out) (k : McCopy) (hands : List (
     dumped ≡ s.dumped ++ record { chip = c; out = o; copy = k } ∷ [] →
     step_of s (Dump c o) ≡ Some (record s { hands = hands; dumped = dumped })
 step_of-dump s c o k hands dumped copy full is_hands is_dumped =
-    dump_by s c o k (slice_get s.hands (index_of s.setup.machine c)) (sym copy) full
-    ∙ (ap (λ h. Some (record s { hands = h; dumped = s.dumped ++ record { chip = c; out = o; copy = k } ∷ [] })) (sym is_hands)
-    ∙ ap (λ d. Some (record s { hands = hands; dumped = d })) (sym is_dumped))
+    rw (is_hands, is_dumped) (dump_by s c o k (slice_get s.hands (index_of s.setup.machine c)) (sym copy) full)
 
 collect_by : (s : State) (v : ℕ) (k : McCopy) (q : Option (List McCopy)) → front_of q ≡ Some k →
     collect_of s v q ≡ Some (record s { cores = drop_front s.cores v q; delivered = s.delivered ++ record { vertex = v; copy = k } ∷ [] })
-collect_by s v k (Some (x ∷ rest)) front =
-    let is : x ≡ k = cc in
-    ap (λ (y : McCopy). Some (record s { cores = set s.cores v rest; delivered = s.delivered ++ record { vertex = v; copy = y } ∷ [] })) is
+collect_by s v k (Some (x ∷ rest)) front = grind arith
 collect_by s v k (Some []) front = cc
 collect_by s v k None front = cc
 
@@ -158,6 +122,4 @@ pub step_of-collect : (s : State) (v : ℕ) (k : McCopy) (cores : List (List McC
     cores ≡ drop_front s.cores v (slice_get s.cores v) → delivered ≡ s.delivered ++ record { vertex = v; copy = k } ∷ [] →
     step_of s (Collect v) ≡ Some (record s { cores = cores; delivered = delivered })
 step_of-collect s v k cores delivered front is_cores is_delivered =
-    collect_by s v k (slice_get s.cores v) (sym front)
-    ∙ (ap (λ q. Some (record s { cores = q; delivered = s.delivered ++ record { vertex = v; copy = k } ∷ [] })) (sym is_cores)
-    ∙ ap (λ d. Some (record s { cores = cores; delivered = d })) (sym is_delivered))
+    rw (is_cores, is_delivered) (collect_by s v k (slice_get s.cores v) (sym front))

@@ -1,17 +1,14 @@
 -- The table of vertices, as it is made.
-use Rattle.std.proofs.Common.{◌≡◌, ◌≢◌, ℕ, ◌+◌, ◌*◌, ◌<◌, refl, sym, ap, ◌∙◌, subst, arith, Bool, true, false, List, [], ◌∷◌, ◌++◌, length, take, get_or, set}
-use Rattle.std.proofs.Common.{replicate, cond, Option, Some, None, inl, inr}
-use Rattle.std.proofs.lemmas.Iterator.Adapters.{position_from-zero}
-use Rattle.std.proofs.lemmas.List.{take_more, length-set, length-replicate, get_or-replicate, length-take-le, get_or-take, get_or_default}
-use Rattle.std.proofs.lemmas.{Option.slice_get-get_or, Bool.cases_eq, List.Elements.All-head, List.Elements.All-tail}
+use Rattle.std.proofs.Common.{◌≡◌, ◌≢◌, ℕ, ◌+◌, ◌*◌, ◌<◌, refl, sym, ap, ◌∙◌, subst, arith, Bool, true, false, List, [], ◌∷◌, ◌++◌, length, take, get_or, set, replicate, cond, Option, Some, None, inl}
+use Rattle.std.proofs.Common.{inr}
+use Rattle.std.proofs.lemmas.{Iterator.Adapters.position_from-zero, List.take_more, List.length-set, List.length-replicate, List.get_or-replicate, List.length-take-le, List.get_or-take}
+use Rattle.std.proofs.lemmas.{List.get_or_default, Option.slice_get-get_or, Option.get_or_from_slice_get, Bool.cases_eq, List.Elements.All-head, List.Elements.All-tail}
 use Rattle.std.specs.{Prelude.AllPairs, List.position_from, List.slice_get, List.All}
-use Rattle.spin_base.specs.declared.chips.Spot.{Spot}
-use Rattle.spin_base.specs.Equality.{spot_eq}
-use Rattle.spin_base.proofs.Equality.{spot_eq_true, spot_eq_same}
-use Rattle.spin_base.proofs.Places.{slice_get-set_same, slice_get-set_other}
-use Rattle.machine_desc.specs.{Description.Description, Live.index_of, Live.IsInside, Live.IsSite, NetsOn.vertex_at}
+use Rattle.spin_base.specs.{declared.chips.Spot.Spot, Equality.spot_eq}
+use Rattle.spin_base.proofs.{Equality.spot_eq_true, Equality.spot_eq_same, Places.slice_get-set_same, Places.slice_get-set_other}
+use Rattle.machine_desc.specs.{Description.Description, Live.IsInside, Live.IsSite, NetsOn.vertex_at}
 use Rattle.machine_desc.proofs.{Far.same_index, Far.index_below, Far.live_inside, Same.same_spot, Sites.site_parts}
-use Rattle.mesh_core.specs.VertexTable.{spot_place, TellsVertices}
+use Rattle.mesh_core.specs.VertexTable.{spot_place, IsSpotPlace, TellsVertices}
 
 -- a site is one of the 24 spots of a chip of the grid
 pub site_inside : (m : Description) (s : Spot) → IsSite m s → IsInside m s.chip × (s.core < 24)
@@ -19,9 +16,7 @@ site_inside m s h = let parts = site_parts m s h in (live_inside m s.chip parts.
 
 -- spots of one place are one spot
 pub same_spot_place : (m : Description) (a b : Spot) → IsInside m a.chip → IsInside m b.chip → a.core < 24 → b.core < 24 → spot_place m a ≡ spot_place m b → a ≡ b
-same_spot_place m a b in_a in_b small_a small_b e =
-    let same : index_of m a.chip ≡ index_of m b.chip = omega arith in
-    same_spot a b (same_index m a.chip b.chip in_a in_b same) (omega arith)
+same_spot_place m a b in_a in_b small_a small_b e = grind (arith, same_spot a b (same_index m a.chip b.chip in_a in_b (omega arith)) (omega arith), same_index m a.chip b.chip in_a in_b (omega arith))
 
 pub spot_place-below : (m : Description) (s : Spot) → IsInside m s.chip → s.core < 24 → spot_place m s < 24 * (m.width * m.height)
 spot_place-below m s inside small = omega (arith, index_below m s.chip inside)
@@ -40,6 +35,10 @@ position-push_new t (x ∷ xs) y n same none =
 pub vertex_at-from : (spots : List Spot) (s : Spot) → vertex_at spots s ≡ position_from (spot_eq s) 0 spots
 vertex_at-from spots s = position_from-zero (spot_eq s) spots
 
+pub no_place : (t : Spot → Bool) (xs : List Spot) (n : ℕ) → All (λ x. t x ≡ false) xs → position_from t n xs ≡ None
+no_place t [] n none = refl
+no_place t (x ∷ xs) n none = rw (All-head (λ z. t z ≡ false) x xs none) (no_place t xs (n + 1) (All-tail (λ z. t z ≡ false) x xs none))
+
 other_spot : (a b : Spot) → a ≢ b → (t : Bool) → spot_eq a b ≡ t → t ≡ false
 other_spot a b other true e = absurd (other (spot_eq_true a b e))
 other_spot a b other false e = refl
@@ -50,6 +49,14 @@ differs a b other = other_spot a b other (spot_eq a b) refl
 same_eq : (a b : Spot) → a ≡ b → spot_eq a b ≡ true
 same_eq a b e = subst (λ (s : Spot). spot_eq a s ≡ true) e (spot_eq_same a)
 
+-- a spot that no chip of the machine has is no vertex's
+pub vertex_at-nowhere : (m : Description) (spots : List Spot) (s : Spot) → All (IsSite m) spots → IsSpotPlace m s None → vertex_at spots s ≡ None
+vertex_at-nowhere m spots s sites nowhere =
+    vertex_at-from spots s
+    ∙ no_place (spot_eq s) spots 0 (λ k d below. differs s (get_or spots k d) (λ e.
+    let at = site_inside m s (subst (IsSite m) (sym e) (sites k d below)) in
+    nowhere at.0 at.1))
+
 -- the vertex on a spot, where one vertex more is known
 vertex_at-push_other : (spots : List Spot) (y s : Spot) → s ≢ y → vertex_at (spots ++ y ∷ []) s ≡ vertex_at spots s
 vertex_at-push_other spots y s other =
@@ -59,6 +66,12 @@ vertex_at-push_new : (spots : List Spot) (y s : Spot) → s ≡ y → All (λ x.
 vertex_at-push_new spots y s same different =
     let none : All (λ x. spot_eq s x ≡ false) spots = λ k d below. differs s _ (λ e. different k d below (sym same ∙ e)) in
     vertex_at-from (spots ++ y ∷ []) s ∙ (position-push_new (spot_eq s) spots y 0 (same_eq s y same) none ∙ ap Some (omega arith))
+
+-- what the table has at a spot's place is the vertex there
+pub vertex_told : (m : Description) (spots : List Spot) (table : List (Option ℕ)) (s : Spot) (place : ℕ) (x d : Option ℕ) → TellsVertices m spots table →
+    IsSpotPlace m s (Some place) → x ≡ get_or table place d → x ≡ vertex_at spots s
+vertex_told m spots table s place x d tells at is =
+    is ∙ get_or_from_slice_get table place (vertex_at spots s) d (ap (slice_get table) at.2 ∙ tells.told s at.0 at.1)
 
 -- the table of no vertices
 pub TellsVertices-none : (m : Description) (spots : List Spot) → TellsVertices m (take 0 spots) (replicate (24 * (m.width * m.height)) None)
@@ -73,9 +86,9 @@ TellsVertices-none m spots = record {
 
 -- the table where one vertex more is written
 pub TellsVertices-more : (m : Description) (spots : List Spot) (i : ℕ) (y : Spot) (table : List (Option ℕ)) → i < length spots → y ≡ get_or spots i y →
-    AllPairs (λ a b. a ≢ b) spots → IsSite m y → TellsVertices m (take i spots) table →
+    AllPairs (λ a b. a ≢ b) spots → IsInside m y.chip → y.core < 24 → TellsVertices m (take i spots) table →
     TellsVertices m (take (i + 1) spots) (set table (spot_place m y) (Some i))
-TellsVertices-more m spots i y table below is_y different site tells =
+TellsVertices-more m spots i y table below is_y different y_inside y_small tells =
     record {
       long = length-set table (spot_place m y) (Some i) ∙ tells.long;
       told = λ s inside small. elim (cases_eq (spot_place m s) (spot_place m y)) [
@@ -90,9 +103,6 @@ TellsVertices-more m spots i y table below is_y different site tells =
     more : take (i + 1) spots ≡ take i spots ++ y ∷ []
     more = take_more spots i y below ∙ ap (λ x. take i spots ++ x ∷ []) (sym is_y)
 
-    at : IsInside m y.chip × (y.core < 24)
-    at = site_inside m y site
-
     taken : length (take i spots) ≡ i
     taken = length-take-le i spots (omega arith)
 
@@ -104,7 +114,18 @@ TellsVertices-more m spots i y table below is_y different site tells =
 
     at_y : (s : Spot) → IsInside m s.chip → s.core < 24 → spot_place m s ≡ spot_place m y → slice_get (set table (spot_place m y) (Some i)) (spot_place m s) ≡ Some (vertex_at (take (i + 1) spots) s)
     at_y s inside small here =
-        let same : s ≡ y = same_spot_place m s y inside at.0 small at.1 here in
+        let same : s ≡ y = same_spot_place m s y inside y_inside small y_small here in
         ap (λ p. slice_get (set table (spot_place m y) (Some i)) p) here
-        ∙ (slice_get-set_same table (spot_place m y) (vertex_at (take i spots) y) (Some i) (tells.told y at.0 at.1)
+        ∙ (slice_get-set_same table (spot_place m y) (vertex_at (take i spots) y) (Some i) (tells.told y y_inside y_small)
         ∙ ap Some (sym (ap (λ l. vertex_at l s) more ∙ (vertex_at-push_new (take i spots) y s same earlier ∙ ap Some taken))))
+
+-- the table stays where no chip has the spot of one vertex more
+pub TellsVertices-beyond : (m : Description) (spots : List Spot) (i : ℕ) (y : Spot) (table : List (Option ℕ)) → i < length spots → y ≡ get_or spots i y →
+    IsSpotPlace m y None → TellsVertices m (take i spots) table → TellsVertices m (take (i + 1) spots) table
+TellsVertices-beyond m spots i y table below is_y nowhere tells = record {
+  long = tells.long;
+  told = λ s inside small.
+      let more : take (i + 1) spots ≡ take i spots ++ y ∷ [] = take_more spots i y below ∙ ap (λ x. take i spots ++ x ∷ []) (sym is_y) in
+      let other : s ≢ y = λ e. nowhere (subst (λ (t : Spot). IsInside m t.chip) e inside) (subst (λ (t : Spot). t.core < 24) e small) in
+      tells.told s inside small ∙ ap Some (sym (ap (λ l. vertex_at l s) more ∙ vertex_at-push_other (take i spots) y s other));
+}

@@ -1,29 +1,21 @@
 -- Walking up a branch from its target finds the target's copy of a packet.
 use Rattle.std.proofs.Common.{◌≡◌, ◌≢◌, ℕ, ◌+◌, ◌*◌, ◌<◌, ◌≤◌, zero, suc, List, map, true, ◌==◌, ◌&&◌, Option, Some, None, refl, ap, sym, ◌∙◌, subst, arith, inl, inr, ◌⊎◌, length, count_by}
-use Rattle.std.proofs.lemmas.Bool.{cases_order, and_parts, eqb-true, eq-eqb, and_from}
-use Rattle.std.proofs.lemmas.{List.Elements.All-contains, Option.slice_get_within}
+use Rattle.std.proofs.lemmas.{Bool.cases_order, Bool.and_parts, Bool.eqb-true, Bool.eq-eqb, Bool.and_from, List.Elements.All-contains, Option.slice_get_within}
 use Rattle.std.specs.List.{slice_get, All, Contains}
 use Rattle.spin_base.proofs.Members.{among_contains}
-use Rattle.spin_base.specs.declared.chips.{Chip.Chip, Spot.Spot, Port.Port, Port.TheVariants.Link as ByLink, Port.TheVariants.Local}
-use Rattle.spin_base.specs.declared.{routes.Out.Out, routes.Out.TheVariants.Link, copies.McCopy.McCopy}
+use Rattle.spin_base.specs.declared.{chips.Chip.Chip, chips.Spot.Spot, chips.Port.Port, chips.Port.TheVariants.Local, routes.Out.Out, routes.Out.TheVariants.Link, copies.McCopy.McCopy}
 use Rattle.spin_base.specs.{Links.opposite_of, Outputs.out_of}
-use Rattle.machine_desc.specs.declared.trees.Edge.{Edge}
-use Rattle.machine_desc.specs.Live.{IsInside, IsLiveChip, IsSite}
-use Rattle.machine_desc.specs.RoutingTree.{end_of, IsRoutingTree}
-use Rattle.machine_desc.specs.Branch.{Exit, IsBranch, arrival_at}
-use Rattle.machine_desc.specs.declared.nets.NetPlan.{NetPlan}
-use Rattle.machine_desc.specs.{RightTables.IsKeyOf, NetsOn.AreNetsOn, NetsOn.IsWayOn}
+use Rattle.spin_base.specs.declared.chips.Port.TheVariants.{Link as ByLink}
+use Rattle.machine_desc.specs.{declared.trees.Edge.Edge, Live.IsInside, Live.IsLiveChip, Live.IsSite, RoutingTree.end_of, RoutingTree.IsRoutingTree, Branch.Exit, Branch.IsBranch, Branch.arrival_at}
+use Rattle.machine_desc.specs.{declared.nets.NetPlan.NetPlan, RightTables.IsKeyOf, NetsOn.AreNetsOn, NetsOn.IsWayOn}
 use Rattle.machine_desc.proofs.Branches.{ComesBy, comes_by, way_first, same_place, branch_short, branch_inside, exit_of, last_exit}
 use Rattle.machine_desc.proofs.{Sites.site_parts, TreeLemmas.one_edge_into}
-use Rattle.mesh_core.specs.declared.places.Where.{Where, TheVariants.Unsent}
-use Rattle.mesh_core.specs.State.{State, IsMesh}
-use Rattle.mesh_core.specs.Trail.{Station, unsent, in_queue, in_hand, at_core, delivered, dumped, Mark, on_trail, is_on_trail, is_packet_on_trail}
-use Rattle.mesh_core.specs.Ledger.{marks_of}
-use Rattle.mesh_core.specs.Whereabouts.{TellsStation, IsFoundThere, IsWhere, IsTracked}
-use Rattle.mesh_core.specs.Searches.{IsMarkThere, IsFound, IsOfCore, IsOfOutput, IsOfPort, port_behind, IsEdgeInto}
-use Rattle.mesh_core.proofs.{Counting.counted, LedgerLaw.one_net}
-use Rattle.mesh_core.proofs.Law.{leaves_parts, leaves_from, ComesThere, comes_parts, comes_from}
-use Rattle.mesh_core.proofs.{OneWay.last_place, Ways.vertex_at_stands, Ways.some_way}
+use Rattle.mesh_core.specs.{declared.places.Where.Where, declared.places.Where.TheVariants.Unsent, State.State, State.IsMesh, Trail.Station, Trail.unsent, Trail.in_queue, Trail.in_hand, Trail.at_core}
+use Rattle.mesh_core.specs.{Trail.delivered, Trail.dumped, Trail.Mark, Trail.on_trail, Trail.is_on_trail, Trail.is_packet_on_trail, Ledger.marks_of, Whereabouts.TellsStation, Whereabouts.IsFoundThere}
+use Rattle.mesh_core.specs.{Whereabouts.IsWhere, Whereabouts.IsTracked, Searches.IsMarkThere, Searches.IsFound, Searches.IsOfCore, Searches.IsOfOutput, Searches.IsOfPort, Searches.port_behind}
+use Rattle.mesh_core.specs.Searches.{IsEdgeInto}
+use Rattle.mesh_core.proofs.{Counting.counted, LedgerLaw.one_net, Law.leaves_parts, Law.leaves_from, Law.ComesThere, Law.comes_parts, Law.comes_from, OneWay.last_place, Ways.vertex_at_stands}
+use Rattle.mesh_core.proofs.Ways.{some_way}
 
 -- ---- how far the walk has come
 
@@ -206,19 +198,12 @@ module _ (s : State) (net : NetPlan) (packet : ℕ) (tracked : IsTracked s net p
     -- ---- answers
 
     only_one : count_by (is_packet_on_trail packet from to xs) (marks_of s) ≡ 1
-    only_one =
-        ap (λ n. count_by (is_packet_on_trail n from to xs) (marks_of s)) (sym tracked.is_packet)
-        ∙ tracked.ledger.once_on_each tracked.mark tracked.is_mark net tracked.in_nets tracked.is_key target xs from to way
+    only_one = grind (arith, count_by)
 
     told_by : (k : Mark) → Contains (marks_of s) k → k.copy.packet ≡ packet → is_on_trail from to xs k ≡ true → (w : Where) →
         TellsStation s k.copy k.station w → IsFoundThere s packet xs from to w
-    told_by k has is_packet on w told = record {
-      only_one = only_one;
-      mark = k;
-      is_mark = has;
-      on_trail = and_from (k.copy.packet == packet) (is_on_trail from to xs k) (eq-eqb k.copy.packet packet is_packet) on;
-      told = told;
-    }
+    told_by k has is_packet on w told =
+        grind (arith, only_one, and_from (k.copy.packet == packet) (is_on_trail from to xs k) (eq-eqb k.copy.packet packet is_packet) on, eq-eqb k.copy.packet packet is_packet)
 
     -- the packet's mark on the trail, where none is but unsent
     told_unsent : ((k : Mark) → Contains (marks_of s) k → k.copy.packet ≡ packet → is_on_trail from to xs k ≡ true → IsBefore 0 k.copy.hop k.station) →
@@ -320,9 +305,7 @@ module _ (s : State) (net : NetPlan) (packet : ℕ) (tracked : IsTracked s net p
   behind_place xs from to way zero x at (Some e) into =
       let root : x.chip ≡ net.tree.root = way_first s.setup.machine net.tree.edges target net.tree.root xs x way.is_branch at in
       absurd (All-contains (λ f. end_of s.setup.machine f ≢ Some net.tree.root) net.tree.edges e tree.none_into_root into.0 (into.1 ∙ ap Some root))
-  behind_place xs from to way (suc i) x at None none =
-      let by : ComesBy s.setup.machine net.tree.edges xs Local i x.chip = comes_by s.setup.machine net.tree.edges target net.tree.root Local xs i x way.is_branch at in
-      absurd (All-contains (λ f. end_of s.setup.machine f ≢ Some x.chip) net.tree.edges by.edge none by.in_tree by.leads)
+  behind_place xs from to way (suc i) x at None none = grind (arith, comes_by s.setup.machine net.tree.edges target net.tree.root Local xs i x way.is_branch at, All-contains)
   behind_place xs from to way (suc i) x at (Some e) into =
       let by : ComesBy s.setup.machine net.tree.edges xs Local i x.chip = comes_by s.setup.machine net.tree.edges target net.tree.root Local xs i x way.is_branch at in
       let one : by.edge ≡ e =

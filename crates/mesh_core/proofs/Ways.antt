@@ -1,25 +1,15 @@
 -- Facts on the ways of a net: their ends are vertices, their places are few, and each wanted output lies on one.
-use Rattle.std.proofs.Common.{◌≡◌, ◌⊎◌, ℕ, ◌+◌, ◌*◌, ◌<◌, ◌≤◌, suc, zero, List, map, Bool, true, false, Option, Some, None, refl, ap, sym, ◌∙◌, subst, arith, inl, inr, length, min}
-use Rattle.std.proofs.lemmas.{Bool.and_from, List.Elements.All-contains}
-use Rattle.std.proofs.{Math.Nat.mul-le-mul_left, lemmas.Option.slice_get-get_or, lemmas.List.Quantifiers.position-Some}
-use Rattle.std.specs.Prelude.{position}
-use Rattle.std.specs.List.{slice_get, slice_index_or, All, Contains}
-use Rattle.spin_base.proofs.{Members.contains_among, Members.position_nowhere, Places.All-at, Tests.answers_none, Spots.out_of-has_bit}
-use Rattle.spin_base.proofs.Equality.{chip_eq_same, out_eq_same, spot_eq_same, spot_eq_true}
-use Rattle.spin_base.specs.declared.chips.{Spot.Spot, Chip.Chip, Dir.Dir, Port.TheVariants.Local}
-use Rattle.spin_base.specs.declared.routes.Out.{Out, TheVariants.Link, TheVariants.Core}
+use Rattle.std.proofs.Common.{◌≡◌, ◌⊎◌, ℕ, ◌+◌, ◌*◌, ◌<◌, ◌≤◌, suc, zero, List, map, Bool, true, Option, Some, None, refl, ap, sym, ◌∙◌, subst, arith, inl, inr, length, min}
+use Rattle.std.proofs.{lemmas.Bool.and_from, lemmas.List.Elements.All-contains, Math.Nat.mul-le-mul_left, lemmas.Option.slice_get-get_or, lemmas.List.Quantifiers.position-Some}
+use Rattle.std.specs.{Prelude.position, List.slice_get, List.slice_index_or, List.All, List.Contains}
+use Rattle.spin_base.proofs.{Members.contains_among, Members.position_nowhere, Spots.out_of-has_bit, Equality.chip_eq_same, Equality.out_eq_same, Equality.spot_eq_same, Equality.spot_eq_true}
+use Rattle.spin_base.specs.declared.{chips.Spot.Spot, chips.Chip.Chip, chips.Dir.Dir, chips.Port.TheVariants.Local, routes.Out.Out, routes.Out.TheVariants.Link}
 use Rattle.spin_base.specs.{Equality.chip_eq, Equality.out_eq, Equality.spot_eq, Outputs.IsOutput, Outputs.out_of, Hops.last_hop}
-use Rattle.machine_desc.specs.declared.trees.Edge.{Edge}
-use Rattle.machine_desc.specs.Description.{Description}
-use Rattle.machine_desc.specs.Live.{far_of, is_live_chip, is_live_link, IsLiveChip, IsSite}
-use Rattle.machine_desc.specs.{RoutingTree.IsRoutingTree, Branch.Exit, Branch.IsBranch, Branch.arrival_at}
-use Rattle.machine_desc.specs.declared.nets.NetPlan.{NetPlan}
-use Rattle.machine_desc.specs.Outputs.{leads_to_spot, is_wanted, ComesIn}
-use Rattle.machine_desc.specs.{NetsOn.vertex_at, NetsOn.AreNetsOn, NetsOn.IsWayOn, RightTables.RoutesByTree}
-use Rattle.machine_desc.proofs.{Far.live_ends, Sites.site_parts}
-use Rattle.machine_desc.proofs.Branches.{same_exit, ComesBy, comes_by, exit_leads, way_first, same_place, branch_short, end_on_branch, link_on_branch, exit_of, last_exit, ExitLeads}
-use Rattle.machine_desc.proofs.Wanted.{spot_of_out, wanted_cases, edge_wanted, end_wanted}
-use Rattle.mesh_core.specs.State.{Setup, State, IsMesh, vertex_behind, nowhere, core_queue_of, behind_link, behind}
+use Rattle.machine_desc.specs.{declared.trees.Edge.Edge, Description.Description, Live.IsLiveChip, Live.IsSite, RoutingTree.IsRoutingTree, Branch.Exit, Branch.IsBranch, Branch.arrival_at}
+use Rattle.machine_desc.specs.{declared.nets.NetPlan.NetPlan, Outputs.leads_to_spot, Outputs.is_wanted, Outputs.ComesIn, NetsOn.vertex_at, NetsOn.AreNetsOn, NetsOn.IsWayOn, RightTables.RoutesByTree}
+use Rattle.machine_desc.proofs.{Sites.site_parts, Branches.same_exit, Branches.comes_by, Branches.exit_leads, Branches.way_first, Branches.same_place, Branches.branch_short, Branches.end_on_branch}
+use Rattle.machine_desc.proofs.{Branches.link_on_branch, Branches.exit_of, Branches.last_exit, Branches.ExitLeads, Wanted.spot_of_out, Wanted.wanted_cases, Wanted.edge_wanted, Wanted.end_wanted}
+use Rattle.mesh_core.specs.State.{State, IsMesh, vertex_behind}
 
 -- ---- vertices on cores
 
@@ -96,9 +86,7 @@ one_place s net stands = same_place s.setup.machine net.tree.root net.tree.edges
 pub branch_comes_in : (s : State) (net : NetPlan) → (t : Spot) (xs : List Exit) → IsBranch s.setup.machine net.tree.root net.tree.edges t xs →
     (i : ℕ) (x : Exit) → slice_get xs i ≡ Some x → ComesIn s.setup.machine net.tree.root net.tree.edges x.chip (arrival_at xs i)
 branch_comes_in s net t xs is zero x at = inl (way_first s.setup.machine net.tree.edges t net.tree.root xs x is at, refl)
-branch_comes_in s net t xs is (suc i) x at =
-    let by : ComesBy s.setup.machine net.tree.edges xs Local i x.chip = comes_by s.setup.machine net.tree.edges t net.tree.root Local xs i x is at in
-    inr (by.edge, by.in_tree, by.leads, by.arrives)
+branch_comes_in s net t xs is (suc i) x at = grind (arith, comes_by s.setup.machine net.tree.edges t net.tree.root Local xs i x is at)
 
 -- a spot is one to which an output of its chip leads
 pub leads_to : (c : Chip) (o : Out) (t : Spot) → t.chip ≡ c → o ≡ out_of t.core → leads_to_spot c o t ≡ true
@@ -116,26 +104,6 @@ vertex_behind_stands spots c o v is =
     let t : Spot = slice_index_or spots v nothing in
     let parts = spot_of_out c o t found.1 in
     (t, slice_get-get_or spots v nothing found.0, parts.0, sym parts.1)
-
--- an output of a chip that isn't live leads nowhere
-pub dead_behind : (u : Setup) → All (IsSite u.machine) u.spots → (c : Chip) (o : Out) → is_live_chip u.machine c ≡ false → nowhere ≡ behind u c o
-dead_behind u sites c o dead = by_output o
-  where
-    by_vertex : (p : Out) (v : Option ℕ) → vertex_behind u.spots c p ≡ v → nowhere ≡ core_queue_of v
-    by_vertex p None is = refl
-    by_vertex p (Some v) is =
-        let stands = vertex_behind_stands u.spots c p v is in
-        let site : IsSite u.machine stands.0 = All-at (IsSite u.machine) u.spots v stands.0 sites stands.1 in
-        let live : is_live_chip u.machine c ≡ true = subst (λ (e : Chip). is_live_chip u.machine e ≡ true) stands.2 (site_parts u.machine stands.0 site).0 in
-        absurd (answers_none (is_live_chip u.machine c) live dead)
-
-    by_link : (d : Dir) (b : Bool) → is_live_link u.machine c d ≡ b → nowhere ≡ behind_link u c d b (far_of u.machine c d)
-    by_link d true live = absurd (answers_none (is_live_chip u.machine c) (live_ends u.machine c d live).2 dead)
-    by_link d false no_link = by_vertex (Link d) (vertex_behind u.spots c (Link d)) refl
-
-    by_output : (p : Out) → nowhere ≡ behind u c p
-    by_output (Link d) = by_link d (is_live_link u.machine c d) refl
-    by_output (Core n) = by_vertex (Core n) (vertex_behind u.spots c (Core n)) refl
 
 -- the exits of a branch are wanted
 pub exit_wanted : (s : State) (net : NetPlan) → (t : Spot) → Contains net.targets t → (xs : List Exit) →

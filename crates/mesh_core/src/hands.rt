@@ -1,5 +1,5 @@
 // What a router holds in hand: a copy, and the outputs by which it still has to leave.
-ghost use Rattle.std.specs.Prelude.{◌≡◌, ◌==◌, [], if◌then◌else◌, position, replicate, None, IfOk, ◌<◌, length, slice_get};
+ghost use Rattle.std.specs.Prelude.{◌≡◌, ◌==◌, [], if◌then◌else◌, position, replicate, None, IfOk, slice_get};
 ghost use Rattle.std.specs.List.{list_any};
 ghost use Rattle.spin_base.specs.Equality.{out_eq};
 ghost use Rattle.spin_base.specs.Lookup.{lookup};
@@ -109,9 +109,11 @@ pub(crate) fn empty_hands(alloc: Global, count: usize) -> Result<Vec<Option<Hand
 
 // The chip's router has served an output.
 pub(crate) fn serve(hands: &mut [Option<Hand>], chip: usize, out: Out)
-    requires { chip < length hands.old }
     ensures { hands.new ≡ hands_after hands.old chip out (slice_get hands.old chip) }
 {
+    if chip >= hands.len() {
+        return;
+    }
     if let Some(hand) = hands[chip].take() {
         hands[chip] = hand.without(out);
     }

@@ -4,7 +4,7 @@ ghost use Rattle.std.specs.Option.{option_copied};
 
 use crate::hands::Hand;
 use crate::parts::{EmptyLists, MeshParts};
-use crate::queues::{drop_front, push_at};
+use crate::queues::drop_front;
 use crate::setups::{MeshSetup, every_setup_has_sites, queue_place};
 use machine_desc::Machine;
 use spin_base::{Chip, Delivery, DumpRec, Fifo, McCopy, Memory, Port, Seq, Spot};
@@ -53,9 +53,7 @@ impl Mesh {
         ensures { IfOk result (λ mesh. mesh ≡ empty_mesh setup) }
     {
         every_setup_has_sites(&setup);
-        let chips = setup.machine().chips();
-        let vertices = setup.spots().len();
-        let lists = EmptyLists::new(alloc, vertices, chips)?;
+        let lists = EmptyLists::new(alloc, &setup)?;
         Ok(Mesh {
             setup,
             unsent: lists.unsent,
@@ -131,11 +129,10 @@ impl Mesh {
         self.setup.spots()
     }
 
-    /// Puts a copy that has passed no router at the end of those that vertex `vertex` has not sent yet. After a refusal
-    /// the mesh is as before.
+    /// Puts a copy that has passed no router at the end of those that vertex `vertex` has not sent yet, if there is such a
+    /// vertex. After a refusal the mesh is as before.
     pub fn add(&mut self, vertex: u32, copy: McCopy) -> Result<(), Memory>
-        requires exists { vertex < length self.old.setup.spots }
-        requires at_start { copy.hop ≡ 0 }
+        requires { copy.hop ≡ 0 }
         ensures ok { OnOk result (self.new
             ≡ record self.old {
               unsent = push_at self.old.unsent vertex copy
@@ -143,12 +140,16 @@ impl Mesh {
             }) }
         ensures err { OnErr result (self.new ≡ self.old) }
     {
-        push_at(&mut self.unsent, vertex as usize, copy)
+        let place = vertex as usize;
+        if place < self.unsent.len() {
+            self.unsent[place].push(copy)
+        } else {
+            Ok(())
+        }
     }
 
     /// Takes away the first copy that vertex `vertex` has not sent yet, if there is one. It takes constant time and no memory.
     pub fn drop_unsent(&mut self, vertex: u32)
-        requires { vertex < length self.old.setup.spots }
         ensures { self.new
             ≡ record self.old {
               unsent = drop_front self.old.unsent vertex (slice_get self.old.unsent vertex);

@@ -1,5 +1,6 @@
 // A mesh in its parts.
-ghost use Rattle.std.specs.Prelude.{◌≡◌, ◌*◌, ◌≤◌, [], None, replicate, IfOk};
+ghost use Rattle.std.specs.Prelude.{◌≡◌, ◌*◌, [], None, length, replicate, IfOk};
+ghost use Rattle.machine_desc.specs.Description.{HasSize};
 
 use crate::hands::{Hand, empty_hands};
 use crate::queues::empty_queues;
@@ -42,13 +43,19 @@ pub(crate) struct EmptyLists {
 
 impl EmptyLists {
     // They are made apart from the mesh, so that only they are to be let go where memory runs out.
-    pub(crate) fn new(alloc: Global, vertices: usize, chips: usize) -> Result<EmptyLists, Memory>
-        requires { chips ≤ 4096 }
-        ensures unsent { IfOk result (λ lists. lists.unsent.items ≡ replicate vertices []) }
-        ensures inputs { IfOk result (λ lists. lists.inputs.items ≡ replicate (7 * chips) []) }
-        ensures hands { IfOk result (λ lists. lists.hands.items ≡ replicate chips None) }
-        ensures cores { IfOk result (λ lists. lists.cores.items ≡ replicate vertices []) }
+    pub(crate) fn new(alloc: Global, setup: &MeshSetup) -> Result<EmptyLists, Memory>
+        ensures size { HasSize setup.now.machine }
+        ensures unsent { IfOk result (λ lists. lists.unsent.items
+            ≡ replicate (length setup.now.spots) []) }
+        ensures inputs { IfOk result (λ lists. lists.inputs.items
+            ≡ replicate (7 * (setup.now.machine.width * setup.now.machine.height)) []) }
+        ensures hands { IfOk result (λ lists. lists.hands.items
+            ≡ replicate (setup.now.machine.width * setup.now.machine.height) None) }
+        ensures cores { IfOk result (λ lists. lists.cores.items
+            ≡ replicate (length setup.now.spots) []) }
     {
+        let chips = setup.machine().chips();
+        let vertices = setup.spots().len();
         let unsent = empty_queues(alloc, vertices)?;
         let inputs = empty_queues(alloc, Port::COUNT as usize * chips)?;
         let hands = empty_hands(alloc, chips)?;

@@ -25,7 +25,7 @@ pub enum Where {
     Unsent,
     At(Place),
     /// The place in the list of deliveries.
-    Delivered(u32),
+    Delivered(usize),
     /// The place in the list of dump records.
-    Dumped(u32),
+    Dumped(usize),
 }

@@ -1,8 +1,8 @@
 // Queues of copies by their place in a list of queues.
-ghost use Rattle.std.specs.Prelude.{◌≡◌, ◌<◌, [], ◌∷◌, slice_get, slice_set, replicate, length, OnOk, OnErr, IfOk};
+ghost use Rattle.std.specs.Prelude.{◌≡◌, [], ◌∷◌, slice_get, slice_set, replicate, OnOk, OnErr, IfOk};
 ghost use Rattle.mesh_core.specs.Step.{has_room, push_at};
 ghost use Rattle.mesh_core.specs.Queues.{front_of, drop_front};
-ghost use Rattle.mesh_core.specs.Serving.{queue_named, IsPlace, inputs_after, cores_after};
+ghost use Rattle.mesh_core.specs.Serving.{queue_named, inputs_after, cores_after};
 
 use spin_base::{Fifo, McCopy, Memory};
 use std::alloc::Global;
@@ -27,38 +27,43 @@ pub(crate) fn empty_queues(alloc: Global, count: usize) -> Result<Vec<Fifo<McCop
     Ok(queues)
 }
 
-// Whether the queue holds less than the capacity.
+// Whether there is such a queue, and it holds less than the capacity.
 pub(crate) fn has_room(queues: &[Fifo<McCopy>], place: usize, capacity: u32) -> bool
-    requires { place < length queues.now }
     ensures { result ≡ has_room capacity (slice_get queues.now place) }
 {
-    queues[place].len() < capacity as usize
+    match queues.get(place) {
+        Some(queue) => queue.len() < capacity as usize,
+        None => false,
+    }
 }
 
 // The copy at the queue's front.
 pub(crate) fn front(queues: &[Fifo<McCopy>], place: usize) -> Option<McCopy>
-    requires { place < length queues.now }
     ensures { result ≡ front_of (slice_get queues.now place) }
 {
-    queues[place].as_slice().first().copied()
+    queues.get(place)?.as_slice().first().copied()
 }
 
-// Puts a copy at the queue's back.
+// Puts a copy at the queue's back, if there is such a queue.
 pub(crate) fn push_at(queues: &mut [Fifo<McCopy>], place: usize, copy: McCopy) -> Result<(), Memory>
-    requires { place < length queues.old }
     ensures ok { OnOk result (queues.new
         ≡ push_at queues.old place copy (slice_get queues.old place)) }
     ensures err { OnErr result (queues.new ≡ queues.old) }
 {
-    queues[place].push(copy)
+    if place < queues.len() {
+        queues[place].push(copy)
+    } else {
+        Ok(())
+    }
 }
 
-// Takes the front copy off the queue.
+// Takes the front copy off the queue, if there is one.
 pub(crate) fn drop_front(queues: &mut [Fifo<McCopy>], place: usize)
-    requires { place < length queues.old }
     ensures { queues.new ≡ drop_front queues.old place (slice_get queues.old place) }
 {
-    let _ = queues[place].pop();
+    if place < queues.len() {
+        let _ = queues[place].pop();
+    }
 }
 
 // Puts a copy at the back of the queue behind an output.
@@ -68,7 +73,6 @@ pub(crate) fn push_behind(
     queue: Queue,
     copy: McCopy,
 ) -> Result<(), Memory>
-    requires { IsPlace (length inputs.old) (length cores.old) queue }
     ensures inputs { OnOk result (inputs.new ≡ inputs_after inputs.old (queue_named queue) copy) }
     ensures cores { OnOk result (cores.new ≡ cores_after cores.old (queue_named queue) copy) }
     ensures inputs_stay { OnErr result (inputs.new ≡ inputs.old) }

@@ -1,5 +1,5 @@
 // What a mesh never changes.
-ghost use Rattle.std.specs.Prelude.{◌≡◌, ◌≢◌, ◌+◌, ◌*◌, ◌<◌, ◌≤◌, All, AllPairs, IfOk, length};
+ghost use Rattle.std.specs.Prelude.{◌≡◌, ◌≢◌, ◌*◌, ◌<◌, ◌≤◌, All, AllPairs, IfOk, length};
 ghost use Rattle.machine_desc.specs.Live.{IsInside as IsInsideGrid, IsSite as IsSiteOf};
 ghost use Rattle.mesh_core.specs.State.{queue_at as place_of_queue};
 
@@ -39,7 +39,7 @@ impl Model for MeshSetup {
 
 impl MeshSetup {
     ghost use Rattle.spin_base.specs.declared.routes.Out.TheVariants.{Link};
-    ghost use Rattle.machine_desc.specs.Live.{IsInside, IsSite};
+    ghost use Rattle.machine_desc.specs.Live.{IsSite};
     ghost use Rattle.machine_desc.specs.NetsOn.{vertex_at};
     ghost use Rattle.mesh_core.specs.State.{behind, core_queue_of};
     ghost use Rattle.mesh_core.specs.Serving.{queue_named, IsPlace};
@@ -105,13 +105,12 @@ impl MeshSetup {
         std::mem::replace(&mut self.tables, tables)
     }
 
-    /// The vertex on a spot of a chip, with a core of 0 to 17 or 18 and the number of a link.
+    /// The vertex on a spot, if there is one: on a core of 0 to 17 of a chip, or on its link at 18 and the link's number.
     pub fn vertex_at(&self, spot: Spot) -> Option<usize>
-        requires inside { IsInside self.now.machine spot.chip }
-        requires numbered { spot.core < 24 }
         ensures { result ≡ vertex_at self.now.spots spot }
     {
-        match self.vertices[spot_place(&self.machine, spot)] {
+        let place = spot_place(&self.machine, spot)?;
+        match self.vertices[place] {
             Some(vertex) => Some(vertex as usize),
             None => None,
         }
@@ -123,9 +122,6 @@ impl MeshSetup {
         ensures place { IsPlace (7 * (self.now.machine.width * self.now.machine.height))
             (length self.now.spots) result }
     {
-        if !self.machine.live(c) {
-            return Queue::Nowhere;
-        }
         match out {
             Out::Link(link) => self.behind_link(c, link),
             Out::Core(core) => {
@@ -140,7 +136,6 @@ impl MeshSetup {
 
     // The queue behind a link: at its far end where it is live, else that of the device on it.
     fn behind_link(&self, c: Chip, link: Dir) -> Queue
-        requires { IsInside self.now.machine c }
         ensures queue { queue_named result ≡ behind self.now c (Link link) }
         ensures place { IsPlace (7 * (self.now.machine.width * self.now.machine.height))
             (length self.now.spots) result }
@@ -159,8 +154,6 @@ impl MeshSetup {
 
     // The queue of the vertex on a spot.
     fn queue_on(&self, spot: Spot) -> Queue
-        requires inside { IsInside self.now.machine spot.chip }
-        requires numbered { spot.core < 24 }
         ensures queue { queue_named result ≡ core_queue_of (vertex_at self.now.spots spot) }
         ensures place { IsPlace (7 * (self.now.machine.width * self.now.machine.height))
             (length self.now.spots) result }

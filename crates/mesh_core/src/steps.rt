@@ -69,15 +69,13 @@ impl Mesh {
         ensures err { OnErr result (self.new ≡ self.old) }
     {
         let vertex = v as usize;
-        let spots = self.setup.spots();
-        if vertex >= spots.len() {
+        let Some(spot) = self.setup.spots().get(vertex) else {
             return Ok(Did::Idle);
-        }
-        let chip = spots[vertex].chip;
+        };
         let Some(copy) = front(&self.unsent, vertex) else {
             return Ok(Did::Idle);
         };
-        let queue = queue_place(self.setup.machine(), chip, Port::Local);
+        let queue = queue_place(self.setup.machine(), spot.chip, Port::Local);
         if !has_room(&self.inputs, queue, self.setup.capacity()) {
             return Ok(Did::Idle);
         }
@@ -93,9 +91,6 @@ impl Mesh {
         ensures err { OnErr result (self.new ≡ self.old) }
     {
         let vertex = v as usize;
-        if vertex >= self.cores.len() {
-            return Ok(Did::Idle);
-        }
         let Some(copy) = front(&self.cores, vertex) else {
             return Ok(Did::Idle);
         };
@@ -193,7 +188,6 @@ impl Mesh {
 
     // Whether the queue behind an output has room.
     fn has_room_behind(&self, queue: Queue) -> bool
-        requires { IsPlace (length self.now.inputs) (length self.now.cores) queue }
         ensures { result ≡ has_room_behind self.now (queue_named queue) }
     {
         match queue {

@@ -1,7 +1,6 @@
 // The table from spots to vertices.
-ghost use Rattle.std.specs.Prelude.{◌≡◌, ◌≢◌, ◌*◌, ◌<◌, All, AllPairs, IfOk};
-ghost use Rattle.machine_desc.specs.Live.{IsInside, IsSite};
-ghost use Rattle.mesh_core.specs.VertexTable.{TellsVertices, spot_place};
+ghost use Rattle.std.specs.Prelude.{◌≡◌, ◌≢◌, AllPairs, IfOk};
+ghost use Rattle.mesh_core.specs.VertexTable.{TellsVertices, IsSpotPlace};
 
 use machine_desc::Machine;
 use spin_base::{Memory, Spot};
@@ -16,8 +15,7 @@ pub(crate) fn vertex_table(
     machine: &Machine,
     spots: &[Spot],
 ) -> Result<Vec<Option<u32>>, Memory>
-    requires different { AllPairs (λ a b. a ≢ b) spots.now }
-    requires sites { All (IsSite machine.now) spots.now }
+    requires { AllPairs (λ a b. a ≢ b) spots.now }
     ensures { IfOk result (λ v. TellsVertices machine.now spots.now v.items) }
 {
     let mut table = vec![in alloc; None; SPOTS * machine.chips()]?;
@@ -26,17 +24,21 @@ pub(crate) fn vertex_table(
         let Ok(number) = u32::try_from(vertex) else {
             return Err(Memory);
         };
-        table[spot_place(machine, *spot)] = Some(number);
+        if let Some(place) = spot_place(machine, *spot) {
+            table[place] = Some(number);
+        }
     }
     Ok(table)
 }
 
-// The place of a spot in the table.
-pub(crate) fn spot_place(machine: &Machine, spot: Spot) -> usize
-    requires inside { IsInside machine.now spot.chip }
-    requires numbered { spot.core < 24 }
-    ensures place { result ≡ spot_place machine.now spot }
-    ensures below { result < 24 * (machine.now.width * machine.now.height) }
+// The place of a spot in the table, if a chip of the machine has it.
+pub(crate) fn spot_place(machine: &Machine, spot: Spot) -> Option<usize>
+    ensures { IsSpotPlace machine.now spot result }
 {
-    SPOTS * machine.index(spot.chip) as usize + usize::from(spot.core)
+    let core = usize::from(spot.core);
+    if machine.is_inside(spot.chip) && core < SPOTS {
+        Some(SPOTS * machine.index(spot.chip) as usize + core)
+    } else {
+        None
+    }
 }

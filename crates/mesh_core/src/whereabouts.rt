@@ -1,5 +1,5 @@
 // Where a target's copy of a packet is.
-ghost use Rattle.std.specs.Prelude.{◌≡◌, ◌<◌, ◌^◌, ◌==◌, ◌&&◌, All, Contains, Some, None, length, position, slice_get};
+ghost use Rattle.std.specs.Prelude.{◌≡◌, ◌==◌, ◌&&◌, All, Contains, Some, None, position, slice_get};
 ghost use Rattle.std.specs.List.{list_any};
 ghost use Rattle.machine_desc.specs.Live.{IsInside};
 ghost use Rattle.mesh_core.specs.Searches.{IsEdgeInto, port_behind};
@@ -11,7 +11,7 @@ use spin_base::{Chip, McCopy, Out, Port, Spot};
 
 impl Mesh {
     ghost use Rattle.spin_base.specs.Equality.{chip_eq, out_eq};
-    ghost use Rattle.machine_desc.specs.Live.{index_of, IsSite};
+    ghost use Rattle.machine_desc.specs.Live.{index_of};
     ghost use Rattle.mesh_core.specs.Whereabouts.{IsTracked, IsWhere};
     ghost use Rattle.mesh_core.specs.Searches.{IsFound, IsOfCore, IsOfOutput, IsOfPort, is_held};
 
@@ -21,8 +21,6 @@ impl Mesh {
     pub fn where_is(&self, net: &NetPlan, packet: u32, target: Spot) -> Where
         requires tracked { IsTracked self.now net.now packet }
         requires is_target { Contains net.now.targets target }
-        requires few_deliveries { length self.now.delivered < 2 ^ 32 }
-        requires few_dumps { length self.now.dumped < 2 ^ 32 }
         ensures { IsWhere self.now net.now packet target result }
     {
         let machine = self.setup.machine();
@@ -50,13 +48,11 @@ impl Mesh {
 
     // Where a copy of the packet is at the vertex on a core: delivered, or in the core's queue.
     fn at_core(&self, packet: u32, spot: Spot) -> Option<Where>
-        requires site { IsSite self.now.setup.machine spot }
-        requires few_deliveries { length self.now.delivered < 2 ^ 32 }
         ensures { IsFound self.now packet (IsOfCore self.now spot) result }
     {
         let vertex = self.setup.vertex_at(spot)?;
         if let Some(place) = self.delivery_to(packet, vertex) {
-            return Some(Where::Delivered(place as u32));
+            return Some(Where::Delivered(place));
         }
         if has_packet(self.cores[vertex].as_slice(), packet) {
             return Some(Where::At(Place::CoreQueue(spot.chip, spot.core)));
@@ -66,20 +62,19 @@ impl Mesh {
 
     // Where a copy of the packet is at an output of a chip: in the hand, or dumped.
     fn at_output(&self, packet: u32, chip: Chip, out: Out) -> Option<Where>
-        requires inside { IsInside self.now.setup.machine chip }
-        requires few_dumps { length self.now.dumped < 2 ^ 32 }
+        requires { IsInside self.now.setup.machine chip }
         ensures { IsFound self.now packet (IsOfOutput chip out) result }
     {
         if self.holds(packet, chip, out) {
             return Some(Where::At(Place::Hand(chip, out)));
         }
         let place = self.dump_at(packet, chip, out)?;
-        Some(Where::Dumped(place as u32))
+        Some(Where::Dumped(place))
     }
 
     // Where a copy of the packet is at a port of a chip: in the input queue.
     fn at_port(&self, packet: u32, chip: Chip, port: Port) -> Option<Where>
-        requires inside { IsInside self.now.setup.machine chip }
+        requires { IsInside self.now.setup.machine chip }
         ensures { IsFound self.now packet (IsOfPort chip port) result }
     {
         if has_packet(self.queue(chip, port), packet) {

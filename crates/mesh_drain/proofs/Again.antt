@@ -1,26 +1,20 @@
 -- A router looks at a copy's hop number and what its table gives the key alone: so a packet with a key alike goes the same way.
-use Rattle.std.proofs.Common.{◌≡◌, ℕ, cond, inl, inr, subst, suc, zero, ◌*◌, ◌<◌, ◌&&◌, ◌==◌, Bool, true, false, nat_lt, if◌then◌else◌, List, [], ◌∷◌, ◌++◌, length, map}
-use Rattle.std.proofs.Common.{set, get_or, drop, refl, sym, ap, ◌∙◌, Option, None, Some, arith}
-use Rattle.std.proofs.lemmas.Bool.{cases_Bool, eqb-true, eq-eqb}
-use Rattle.std.proofs.lemmas.List.{append_assoc, append-nil, drop_at, length-map, map-append, map-set}
-use Rattle.std.proofs.lemmas.List.Elements.{All-cons, All-head, All-tail, All-weaker}
-use Rattle.std.proofs.lemmas.Option.{slice_get-get_or, slice_get-map}
+use Rattle.std.proofs.Common.{◌≡◌, ℕ, cond, inl, inr, subst, suc, zero, ◌*◌, ◌<◌, ◌&&◌, ◌==◌, Bool, true, false, nat_lt, if◌then◌else◌, List, [], ◌∷◌, ◌++◌, length, map, set, get_or, drop, refl, sym}
+use Rattle.std.proofs.Common.{ap, ◌∙◌, Option, None, Some, arith}
+use Rattle.std.proofs.lemmas.{Bool.cases_Bool, Bool.eqb-true, Bool.eq-eqb, List.append_assoc, List.append-nil, List.drop_at, List.length-map, List.map-append, List.map-set, List.Elements.All-cons}
+use Rattle.std.proofs.lemmas.{List.Elements.All-head, List.Elements.All-tail, List.Elements.All-weaker, Option.slice_get-get_or, Option.slice_get-map}
 use Rattle.std.specs.{Prelude.unwrap_or, List.slice_get, List.slice_index_or, List.All, Option.option_map}
-use Rattle.spin_base.specs.declared.{blocks.Entry.Entry, chips.Chip.Chip, chips.Spot.Spot, chips.Port.Port, chips.Port.TheVariants.Local}
-use Rattle.spin_base.specs.declared.copies.{Delivery.Delivery, DumpRec.DumpRec, Event.Event}
-use Rattle.spin_base.specs.declared.copies.Event.TheVariants.{Inject, Take, Send, Dump, Collect}
-use Rattle.spin_base.specs.declared.{copies.McCopy.McCopy, routes.Out.Out}
-use Rattle.spin_base.specs.{Hops.last_hop, Hops.onward, Lookup.lookup, Outputs.outs_of}
+use Rattle.spin_base.specs.declared.{blocks.Entry.Entry, chips.Chip.Chip, chips.Spot.Spot, chips.Port.Port, chips.Port.TheVariants.Local, copies.Delivery.Delivery, copies.DumpRec.DumpRec}
+use Rattle.spin_base.specs.declared.copies.{Event.Event, Event.TheVariants.Inject, Event.TheVariants.Take, Event.TheVariants.Send, Event.TheVariants.Dump, Event.TheVariants.Collect, McCopy.McCopy}
+use Rattle.spin_base.specs.{declared.routes.Out.Out, Hops.last_hop, Hops.onward, Lookup.lookup, Outputs.outs_of}
 use Rattle.spin_base.proofs.Places.{All-at}
 use Rattle.machine_desc.specs.{Live.index_of, Live.is_live_chip, RightTables.table_at}
-use Rattle.mesh_core.specs.Expected.{NothingWaits}
-use Rattle.mesh_core.specs.State.{Setup, State, Hand, IsMesh, Queue, behind, input, core, nowhere, queue_at}
+use Rattle.mesh_core.specs.{Expected.NothingWaits, State.Setup, State.State, State.Hand, State.IsMesh, State.Queue, State.behind, State.input, State.core, State.nowhere, State.queue_at}
 use Rattle.mesh_core.specs.Step.{after_event, after_events, after_serving, collect_of, has_room, has_room_behind, in_hand, outputs, outs_without, push_at, push_behind, send_of, serves, take_of}
 use Rattle.mesh_core.specs.HasRun.{DropsNone}
 use Rattle.mesh_core.proofs.Fixed.{by_send, by_take, setup_after}
 use Rattle.mesh_drain.specs.Draining.{AreRoutedAlike, HasBrought, IsOnward, IsReachedDropless, IsReachedOnward, MaySend, of_packet}
-use Rattle.mesh_drain.proofs.Frame.{kept_reached, onward_drops_none, sent_dropless, setup_reached}
-use Rattle.mesh_drain.proofs.Packets.{after_inject}
+use Rattle.mesh_drain.proofs.{Frame.kept_reached, Frame.onward_drops_none, Frame.sent_dropless, Frame.setup_reached, Packets.after_inject}
 
 -- ---- a mesh whose copies are all of one packet, with its key in place of an alike one, but otherwise as they were
 
@@ -272,9 +266,7 @@ module _ (s t : State) (v : ℕ) (k : McCopy) (rest : List McCopy) (may : MaySen
         ∙ sym (All-head (λ (y : McCopy). y.hop ≡ 0) k rest (All-at (λ q. All (λ (y : McCopy). y.hop ≡ 0) q) s.unsent v (k ∷ rest) may.kept.mesh.unsent_at_start first))
 
     is_numbered : x ≡ numbered k.key x k
-    is_numbered =
-        ap (λ b. let y : McCopy = record { packet = x.packet; key = cond b x.key k.key; payload = x.payload; hop = x.hop } in y) (sym (eq-eqb k.key k.key refl))
-        ∙ ap (λ n. let y : McCopy = record { packet = x.packet; key = renamed k.key x k.key; payload = x.payload; hop = n } in y) hop
+    is_numbered = grind (arith, hop, eq-eqb k.key k.key refl)
 
     -- after it was sent it stands where the first one stood
     begins : after_event r (Inject v) ≡ alike r.delivered (after_event s (Inject v))

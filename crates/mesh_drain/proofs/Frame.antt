@@ -1,23 +1,18 @@
 -- Events that drop no copy: what they leave as it is, and that they follow on each other.
-use Rattle.std.proofs.Common.{◌≡◌, ℕ, refl, sym, ap, ◌∙◌, subst, List, [], ◌∷◌, ◌++◌}
+use Rattle.std.proofs.Common.{subst, arith, ◌≡◌, ℕ, refl, sym, ap, ◌∙◌, List, [], ◌∷◌, ◌++◌}
 use Rattle.std.proofs.lemmas.List.Elements.{All-head, All-tail, All-nil, All-cons, All-append, All-weaker}
 use Rattle.std.specs.List.{slice_get, All}
-use Rattle.spin_base.specs.declared.copies.Event.{Event}
-use Rattle.spin_base.specs.declared.copies.Event.TheVariants.{Inject, Take, Send, Dump, Collect}
-use Rattle.machine_desc.specs.Live.{index_of}
-use Rattle.mesh_core.specs.{State.State, State.queue_at, Step.after_event, Step.after_events, HasRun.DropsNone}
-use Rattle.mesh_core.proofs.EventsLaw.{events_keep}
-use Rattle.mesh_core.proofs.Fixed.{setup_after, after_events-append, push_behind_leaves, by_take, by_send, by_collect, dumped_stays}
-use Rattle.mesh_drain.specs.Draining.{MeetsSomeLedger, IsOnward, IsReachedDropless, IsReachedOnward}
+use Rattle.spin_base.specs.declared.copies.Event.{Event, TheVariants.Inject, TheVariants.Take, TheVariants.Send, TheVariants.Dump, TheVariants.Collect}
+use Rattle.mesh_core.specs.{State.State, Step.after_event, Step.after_events, HasRun.DropsNone}
+use Rattle.mesh_core.proofs.{EventsLaw.events_keep, Fixed.setup_after, Fixed.after_events-append, Fixed.push_behind_leaves, Fixed.by_take, Fixed.by_send, Fixed.by_collect, Fixed.dumped_stays}
+use Rattle.mesh_drain.specs.Draining.{MeetsSomeLedger, IsAfter, IsOnward, IsReachedDropless, IsReachedOnward}
 
 -- ---- what stays
 
-pub unsent_stays : (s : State) (e : Event) → IsOnward e → (after_event s e).unsent ≡ s.unsent
+unsent_stays : (s : State) (e : Event) → IsOnward e → (after_event s e).unsent ≡ s.unsent
 unsent_stays s (Inject v) none = absurd none
-unsent_stays s (Take c port) is =
-    by_take (λ t. t.unsent ≡ s.unsent) s refl (λ l h. refl) c port (slice_get s.hands (index_of s.setup.machine c)) (slice_get s.inputs (queue_at s.setup.machine c port))
-unsent_stays s (Send c o) is =
-    by_send (λ t. t.unsent ≡ s.unsent) s refl (λ h b k. (push_behind_leaves (record s { hands = h }) b k).1) c o (slice_get s.hands (index_of s.setup.machine c))
+unsent_stays s (Take c port) is = grind (arith, by_take)
+unsent_stays s (Send c o) is = grind (arith, by_send, push_behind_leaves)
 unsent_stays s (Dump c o) none = absurd none
 unsent_stays s (Collect v) is = by_collect (λ t. t.unsent ≡ s.unsent) s refl (λ l d. refl) v (slice_get s.cores v)
 
@@ -45,11 +40,7 @@ pub onward_by : (s t : State) (e : Event) → IsOnward e → t ≡ after_event s
 onward_by s t e on is = record { events = e ∷ []; onward = All-cons IsOnward e [] on (All-nil IsOnward); is = is }
 
 pub onward_then : (s t u : State) → IsReachedOnward s t → IsReachedOnward t u → IsReachedOnward s u
-onward_then s t u first rest = record {
-  events = first.events ++ rest.events;
-  onward = All-append IsOnward first.events rest.events first.onward rest.onward;
-  is = rest.is ∙ (ap (λ x. after_events x rest.events) first.is ∙ sym (after_events-append s first.events rest.events));
-}
+onward_then s t u first rest = grind (arith, All-append IsOnward first.events rest.events first.onward rest.onward, after_events-append s first.events rest.events)
 
 pub onward_drops_none : (e : Event) → IsOnward e → DropsNone e
 onward_drops_none (Inject v) on = absurd on
@@ -67,11 +58,24 @@ sent_dropless s t v on = reached_then s (after_event s (Inject v)) t (reached_by
 
 -- ---- what holds of what is reached
 
-pub kept_reached : (s t : State) → MeetsSomeLedger s → IsReachedDropless s t → MeetsSomeLedger t
-kept_reached s t kept reached =
-    let keeps = events_keep s kept.nets kept.labels kept.mesh kept.right kept.ledger reached.events in
-    subst MeetsSomeLedger (sym reached.is)
+pub after_reached : (s t : State) → IsReachedDropless s t → IsAfter s t
+after_reached s t reached = record { events = reached.events; is = reached.is }
+
+pub kept_after : (s t : State) → MeetsSomeLedger s → IsAfter s t → MeetsSomeLedger t
+kept_after s t kept after =
+    let keeps = events_keep s kept.nets kept.labels kept.mesh kept.right kept.ledger after.events in
+    subst MeetsSomeLedger (sym after.is)
     (record { mesh = keeps.mesh; nets = kept.nets; labels = kept.labels; right = keeps.right; ledger = keeps.ledger })
+
+pub kept_reached : (s t : State) → MeetsSomeLedger s → IsReachedDropless s t → MeetsSomeLedger t
+kept_reached s t kept reached = kept_after s t kept (after_reached s t reached)
+
+unsent_after : (s : State) (es : List Event) → All IsOnward es → (after_events s es).unsent ≡ s.unsent
+unsent_after s [] on = refl
+unsent_after s (e ∷ es) on = unsent_after (after_event s e) es (All-tail IsOnward e es on) ∙ unsent_stays s e (All-head IsOnward e es on)
+
+pub onward_unsent : (s t : State) → IsReachedOnward s t → t.unsent ≡ s.unsent
+onward_unsent s t reached = ap (λ (x : State). x.unsent) reached.is ∙ unsent_after s reached.events reached.onward
 
 dumped_after : (s : State) (es : List Event) → All DropsNone es → (after_events s es).dumped ≡ s.dumped
 dumped_after s [] drops = refl
@@ -81,5 +85,8 @@ dumped_after s (e ∷ es) drops =
 pub dumped_reached : (s t : State) → IsReachedDropless s t → t.dumped ≡ s.dumped
 dumped_reached s t reached = ap (λ (x : State). x.dumped) reached.is ∙ dumped_after s reached.events reached.dropless
 
+pub after_setup : (s t : State) → IsAfter s t → t.setup ≡ s.setup
+after_setup s t after = ap (λ (x : State). x.setup) after.is ∙ setup_after s after.events
+
 pub setup_reached : (s t : State) → IsReachedDropless s t → t.setup ≡ s.setup
-setup_reached s t reached = ap (λ (x : State). x.setup) reached.is ∙ setup_after s reached.events
+setup_reached s t reached = after_setup s t (after_reached s t reached)

@@ -1,23 +1,21 @@
 -- A copy that waits can be moved, and is lighter then.
-use Rattle.std.proofs.Common.{◌≡◌, ℕ, ◌<◌, ◌≤◌, arith, length, refl, sym, ap, ◌∙◌, subst, inl, Bool, true, false, ◌&&◌, not, if◌then◌else◌, List, [], ◌∷◌, ◌++◌, Option, Some, None}
+use Rattle.std.proofs.Common.{◌≡◌, ℕ, ◌<◌, ◌≤◌, arith, length, refl, sym, ap, ◌∙◌, subst, Bool, true, false, ◌&&◌, not, if◌then◌else◌, List, [], ◌∷◌, ◌++◌, Option, Some, None}
 use Rattle.std.proofs.lemmas.{List.Elements.All-append, List.Elements.All-nil, Option.none-some}
-use Rattle.std.specs.Prelude.{unwrap_or, is_some, OnOk, Result, Ok, Err}
-use Rattle.std.specs.List.{slice_get, list_any}
-use Rattle.spin_base.specs.declared.{wants.Memory.Memory, chips.Chip.Chip, routes.Out.Out, copies.McCopy.McCopy}
-use Rattle.spin_base.specs.declared.copies.Event.{Event, TheVariants.Send, TheVariants.Dump}
-use Rattle.spin_base.specs.Equality.{out_eq}
+use Rattle.std.specs.{Prelude.unwrap_or, Prelude.is_some, Prelude.OnOk, Prelude.Result, Prelude.Ok, Prelude.Err, List.slice_get}
+use Rattle.spin_base.specs.declared.{wants.Memory.Memory, chips.Chip.Chip, routes.Out.Out, copies.McCopy.McCopy, copies.Event.Event, copies.Event.TheVariants.Send, copies.Event.TheVariants.Dump}
 use Rattle.spin_base.proofs.{Equality.out_eq_same, Members.Among, Members.among_any, Places.All-at}
-use Rattle.mesh_core.proofs.Fixed.{after_events-append, setup_after}
-use Rattle.mesh_core.proofs.EventsLaw.{events_keep, IsMesh-after_events}
+use Rattle.mesh_core.proofs.Fixed.{after_events-append}
+use Rattle.mesh_core.proofs.EventsLaw.{IsMesh-after_events}
 use Rattle.mesh_core.specs.State.{Setup, State, Hand, IsMesh, behind, queue_at}
 use Rattle.mesh_core.specs.Step.{has_room_behind, send_of, dump_of, step_of, after_event, after_events, answer}
-use Rattle.mesh_core.specs.declared.places.Did.TheVariants.{Moved, Idle}
+use Rattle.mesh_core.specs.declared.places.Did.{Did, TheVariants.Moved, TheVariants.Idle}
 use Rattle.mesh_core.specs.{HasRun.DropsNone, Expected.NothingWaits}
 use Rattle.machine_desc.specs.Live.{index_of, is_live_chip, IsInside}
 use Rattle.mesh_drain.specs.Draining.{MeetsSomeLedger, IsReachedDropless, IsAfter, IsMoved}
 use Rattle.mesh_drain.specs.UnderWay.{weight_in}
 use Rattle.mesh_drain.specs.declared.waiting.Waits.{Waits, TheVariants.InCore, TheVariants.InHand, TheVariants.AtPort}
 use Rattle.mesh_drain.specs.Waiting.{HasCopies, IsNextOut, IsWaiting}
+pub use Rattle.mesh_drain.proofs.Frame.{after_reached, after_setup, kept_after}
 use Rattle.mesh_drain.proofs.{Frame.dumped_reached, Progress.moved_lighter, Progress.event_lighter}
 
 -- ---- events, one after the other
@@ -28,27 +26,12 @@ after_none s = record { events = []; is = refl }
 pub after_one : (s t : State) (e : Event) → t ≡ after_event s e → IsAfter s t
 after_one s t e is = record { events = e ∷ []; is = is }
 
-pub kept_after : (s t : State) → MeetsSomeLedger s → IsAfter s t → MeetsSomeLedger t
-kept_after s t kept after =
-    let keeps = events_keep s kept.nets kept.labels kept.mesh kept.right kept.ledger after.events in
-    subst MeetsSomeLedger (sym after.is)
-    (record { mesh = keeps.mesh; nets = kept.nets; labels = kept.labels; right = keeps.right; ledger = keeps.ledger })
-
 -- a mesh is one after events
 pub mesh_after : (s t : State) → IsMesh s → IsAfter s t → IsMesh t
 mesh_after s t mesh after = subst IsMesh (sym after.is) (IsMesh-after_events s after.events mesh)
 
 pub after_then : (s t u : State) → IsAfter s t → IsAfter t u → IsAfter s u
-after_then s t u first rest = record {
-  events = first.events ++ rest.events;
-  is = rest.is ∙ (ap (λ x. after_events x rest.events) first.is ∙ sym (after_events-append s first.events rest.events));
-}
-
-pub after_reached : (s t : State) → IsReachedDropless s t → IsAfter s t
-after_reached s t reached = record { events = reached.events; is = reached.is }
-
-pub after_setup : (s t : State) → IsAfter s t → t.setup ≡ s.setup
-after_setup s t after = ap (λ (x : State). x.setup) after.is ∙ setup_after s after.events
+after_then s t u first rest = grind (arith, after_events-append s first.events rest.events)
 
 pub there_after : (s t : State) (v : ℕ) → IsAfter s t → v < length s.setup.spots → v < length t.setup.spots
 there_after s t v after below = subst (λ (u : Setup). v < length u.spots) (sym (after_setup s t after)) below
@@ -64,12 +47,7 @@ after_lighter s t mesh after = subst (λ x. weight_in x ≤ weight_in s) (sym af
 
 -- where something waited at the start, whatever comes
 pub moved_on : (s t u : State) → IsMoved s t → (NothingWaits s → ⊥) → IsAfter t u → IsMoved s u
-moved_on s t u first waits rest = record {
-  events = first.events ++ rest.events;
-  is = rest.is ∙ (ap (λ x. after_events x rest.events) first.is ∙ sym (after_events-append s first.events rest.events));
-  dropless = λ quiet. absurd (waits quiet);
-  no_record = λ quiet. absurd (waits quiet);
-}
+moved_on s t u first waits rest = grind (arith, after_events-append s first.events rest.events)
 
 -- and then events that drop no copy
 pub moved_then : (s t u : State) → IsMoved s t → IsReachedDropless t u → IsMoved s u
@@ -110,6 +88,10 @@ idle_stays s e idle = by_step (step_of s e) refl (idle)
     by_step (Some u) at on = cc
     by_step None at on = ap (λ o. unwrap_or o s) at
 
+pub idle_from : (did : Did) → (did ≡ Moved → ⊥) → did ≡ Idle
+idle_from Moved other = absurd (other refl)
+idle_from Idle other = refl
+
 pub moved_enabled : (s : State) (e : Event) → answer s e ≡ Moved → is_some (step_of s e) ≡ true
 moved_enabled s e moved = by_test (is_some (step_of s e)) refl moved
   where
@@ -142,11 +124,7 @@ dump_enabled s c o mesh waits idle = by_hand (slice_get s.hands (index_of s.setu
 
     by_hand : (hand : Option (Option Hand)) → slice_get s.hands (index_of s.setup.machine c) ≡ hand → IsNextOut o hand →
         (if is_some (send_of s c o hand) then Moved else Idle) ≡ Idle → is_some (dump_of s c o hand) ≡ true
-    by_hand (Some (Some h)) at next on =
-        let first : Among o h.outs = subst (λ (l : List Out). Among o l) (sym next.1) (inl refl) in
-        let listed : list_any (out_eq o) h.outs ≡ true = among_any (out_eq o) o h.outs first (out_eq_same o) in
-        by_room (is_live_chip s.setup.machine c) (list_any (out_eq o) h.outs) (has_room_behind s (behind s.setup c o)) _ _
-        (held_lives s mesh c h waits.0 at) listed on
+    by_hand (Some (Some h)) at next on = grind (arith, out_eq_same o, Among, among_any)
     by_hand (Some None) at none on = absurd none
     by_hand None at none on = absurd none
 

@@ -1,13 +1,10 @@
 -- A packet of a job, its net, and the vertex that sends it.
-use Rattle.std.proofs.Common.{◌≡◌, ℕ, ◌+◌, ◌<◌, sym, ap, ◌∙◌, subst, List, [], ◌∷◌, ◌++◌, map, take, length, get_or, Some, arith}
-use Rattle.std.proofs.lemmas.List.{take_more, length-take-le, length-map, get_or-map, Elements.All-contains}
-use Rattle.std.proofs.lemmas.Option.{slice_get_within, get_or_from_slice_get, slice_get-get_or}
-use Rattle.std.specs.List.{slice_get, slice_index_or, All, Contains}
-use Rattle.std.specs.Prelude.{unwrap_or}
+use Rattle.std.proofs.Common.{◌≡◌, ℕ, ◌+◌, ◌<◌, sym, ap, ◌∙◌, List, [], ◌∷◌, ◌++◌, map, take, length, get_or, Some, arith}
+use Rattle.std.proofs.lemmas.{List.take_more, List.length-take-le, List.length-map, List.get_or-map, List.Elements.All-contains, Option.slice_get_within, Option.get_or_from_slice_get}
+use Rattle.std.proofs.lemmas.Option.{slice_get-get_or}
+use Rattle.std.specs.{List.slice_get, List.slice_index_or, List.All, List.Contains, Prelude.unwrap_or}
 use Rattle.spin_base.specs.declared.{chips.Spot.Spot, copies.McCopy.McCopy, copies.Packet.Packet}
-use Rattle.machine_desc.specs.{Description.Description, Live.IsSite}
-use Rattle.machine_desc.specs.declared.nets.NetPlan.{NetPlan}
-use Rattle.machine_desc.specs.NetsOn.{vertex_at}
+use Rattle.machine_desc.specs.{declared.nets.NetPlan.NetPlan, NetsOn.vertex_at}
 use Rattle.mesh_core.specs.{State.Setup, State.State, Step.push_at, Opened.empty_mesh, Opened.opened_mesh, Opened.first_copy, Opened.AreOfNets}
 use Rattle.mesh_core.proofs.{ServingLaws.vertex_at-below, Ways.vertex_there}
 use Rattle.mesh_drain.specs.Opening.{source_vertex_of}
@@ -46,17 +43,8 @@ known spots nets packets of_nets sources i d within =
 -- the vertex that the list of sources has for a packet
 pub listed_source : (spots : List Spot) (nets : List NetPlan) (list : List ℕ) (p : Packet) (d : ℕ) → list ≡ map (source_vertex_of spots) nets → (k : Known spots nets p) →
     (p.net < length list) × (get_or list p.net d ≡ k.source)
-listed_source spots nets list p d is k = (
-  subst (λ (l : List ℕ). p.net < length l) (sym is) (let long = length-map nets (source_vertex_of spots) in let below = k.net_within in omega (arith, long, below)),
-  ap (λ (l : List ℕ). get_or l p.net d) is
-      ∙ (get_or-map (source_vertex_of spots) nets p.net k.net d k.net_within
-      ∙ (ap (source_vertex_of spots) (get_or_from_slice_get nets p.net k.net k.net k.is_net) ∙ k.is_source)),
-)
-
--- a source is on a site
-pub source_site : (m : Description) (spots : List Spot) (nets : List NetPlan) → All (IsSite m) spots → All (λ (net : NetPlan). Contains spots net.source) nets →
-    (i : ℕ) (d : NetPlan) → i < length nets → IsSite m (get_or nets i d).source
-source_site m spots nets sites sources i d within = All-contains (IsSite m) spots (get_or nets i d).source sites (sources i d within)
+listed_source spots nets list p d is k =
+    grind (arith, length-map nets (source_vertex_of spots), get_or-map (source_vertex_of spots) nets p.net k.net d k.net_within, get_or_from_slice_get nets p.net k.net k.net k.is_net, get_or)
 
 -- the mesh of no packet is the one without a copy
 pub opens : (u : Setup) (nets : List NetPlan) → empty_mesh u ≡ opened_mesh u nets []

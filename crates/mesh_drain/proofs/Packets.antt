@@ -1,20 +1,15 @@
 -- A packet is send_of, and at its end nothing waits.
 use Rattle.std.proofs.Common.{◌≡◌, ℕ, ◌+◌, ◌*◌, ◌<◌, ◌≤◌, ◌==◌, refl, sym, ap, ◌∙◌, subst, arith, List, [], ◌∷◌, length, map, get_or, Option, Some, None, Bool, true, false, if◌then◌else◌, nat_lt}
-use Rattle.std.proofs.Math.Nat.{mul-le-mul_left}
-use Rattle.std.proofs.lemmas.Bool.{lt-ltb, ltb-true, ltb-false}
-use Rattle.std.proofs.lemmas.List.{get_or_default, get_or_past, get_or-map, length-map}
-use Rattle.std.proofs.lemmas.List.Elements.{All-nil, All-cons, All-set}
+use Rattle.std.proofs.{Math.Nat.mul-le-mul_left, lemmas.Bool.lt-ltb, lemmas.Bool.ltb-true, lemmas.Bool.ltb-false, lemmas.List.get_or_default, lemmas.List.get_or_past, lemmas.List.get_or-map}
+use Rattle.std.proofs.lemmas.List.{length-map, Elements.All-nil, Elements.All-cons, Elements.All-set}
 use Rattle.std.specs.List.{slice_get, slice_index_or, slice_set, All}
 use Rattle.spin_base.specs.declared.{chips.Chip.Chip, chips.Spot.Spot, chips.Port.TheVariants.Local, copies.McCopy.McCopy, copies.Event.TheVariants.Inject}
 use Rattle.spin_base.proofs.{Equality.nat_eq_same, Counts.count_by-cons, Places.All-at}
 use Rattle.machine_desc.specs.Live.{index_of, IsLiveChip, IsSite}
 use Rattle.machine_desc.proofs.{Branches.length_le_from_apart, Sites.site_parts}
-use Rattle.mesh_core.specs.State.{State, IsMesh, Hand, queue_at}
-use Rattle.mesh_core.specs.{Step.has_room, Step.inject_of, Step.push_at, Step.after_event, VertexTable.spot_place, Expected.NothingWaits}
+use Rattle.mesh_core.specs.{State.State, State.IsMesh, State.Hand, State.queue_at, Step.has_room, Step.inject_of, Step.push_at, Step.after_event, VertexTable.spot_place, Expected.NothingWaits}
 use Rattle.mesh_core.proofs.VertexTableLaws.{site_inside, same_spot_place, spot_place-below}
-use Rattle.mesh_drain.specs.declared.draining.Waiting.{Waiting}
-use Rattle.mesh_drain.specs.Draining.{MeetsSomeLedger}
-use Rattle.mesh_drain.specs.UnderWay.{times, WaitsAlone, IsServing}
+use Rattle.mesh_drain.specs.{declared.draining.Waiting.Waiting, Draining.MeetsSomeLedger, UnderWay.times, UnderWay.WaitsAlone, UnderWay.IsServing}
 use Rattle.mesh_drain.proofs.Steps.{kept_after, moved, written, queue_there}
 
 -- ---- a packet begins

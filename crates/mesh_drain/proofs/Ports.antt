@@ -3,16 +3,13 @@ use Rattle.std.proofs.Common.{◌≡◌, ◌≢◌, ℕ, ◌*◌, ◌/◌, ◌%�
 use Rattle.std.proofs.lemmas.Option.{get_or_from_slice_get, same_Some}
 use Rattle.std.specs.List.{slice_get, All}
 use Rattle.spin_base.proofs.{Spots.dir_at-dir_number, Outputs.dir_number_below, Places.All-at}
-use Rattle.spin_base.specs.declared.chips.{Chip.Chip, Port.Port, Port.TheVariants.Link, Port.TheVariants.Local}
-use Rattle.spin_base.specs.declared.{routes.Out.Out, copies.McCopy.McCopy}
+use Rattle.spin_base.specs.declared.{chips.Chip.Chip, chips.Port.Port, chips.Port.TheVariants.Link, chips.Port.TheVariants.Local, routes.Out.Out, copies.McCopy.McCopy}
 use Rattle.spin_base.specs.Links.{dir_number, dir_at, port_number}
 use Rattle.machine_desc.specs.Live.{index_of, chip_of, IsInside}
 use Rattle.machine_desc.proofs.Live.{index_of-chip_of}
-use Rattle.mesh_core.specs.State.{State, Hand, FitsHand, IsMesh, queue_at}
-use Rattle.mesh_core.specs.Ledger.{port_of}
+use Rattle.mesh_core.specs.{State.State, State.Hand, State.FitsHand, State.IsMesh, State.queue_at, Ledger.port_of}
 use Rattle.mesh_core.proofs.Standing.{port_number-port_of}
-use Rattle.mesh_drain.specs.declared.waiting.Waits.TheVariants.{InHand}
-use Rattle.mesh_drain.specs.Waiting.{IsNextOut, IsWaiting}
+use Rattle.mesh_drain.specs.{declared.waiting.Waits.TheVariants.InHand, Waiting.IsNextOut, Waiting.IsWaiting}
 
 -- what holds at the chip's own port and at the links by number holds at each port
 pub at_each_port : (P : Port → Type 0) (n : ℕ) → 6 ≤ n → P Local → ((i : ℕ) → i < n → P (Link (dir_at i))) → (port : Port) → P port
@@ -33,9 +30,7 @@ no_input s n long all clear p d within =
 -- where no chip's router holds a copy, all hands are free
 pub no_hand : (s : State) (n : ℕ) → length s.hands ≡ s.setup.machine.width * s.setup.machine.height → s.setup.machine.width * s.setup.machine.height ≤ n →
     ((i : ℕ) → i < n → slice_get s.hands (index_of s.setup.machine (chip_of s.setup.machine i)) ≡ Some None) → All (λ (h : Option Hand). h ≡ None) s.hands
-no_hand s n long all clear p d within =
-    let chip : p < n = omega (arith, within, long, all) in
-    get_or_from_slice_get s.hands p None d (ap (λ i. slice_get s.hands i) (sym (index_of-chip_of s.setup.machine p)) ∙ clear p chip)
+no_hand s n long all clear p d within = grind (arith, index_of-chip_of s.setup.machine p, get_or_from_slice_get)
 
 -- where no vertex has a copy waiting, all cores' queues are empty
 pub no_core : (cores : List (List McCopy)) (n : ℕ) → length cores ≤ n → ((i : ℕ) → i < n → slice_get cores i ≡ Some []) → All (λ (q : List McCopy). q ≡ []) cores

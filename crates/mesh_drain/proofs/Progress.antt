@@ -1,21 +1,15 @@
 -- Each event that is enabled makes the marks of a mesh lighter.
 use Rattle.std.proofs.Common.{◌≡◌, ℕ, suc, ◌+◌, ◌*◌, ◌-◌, ◌<◌, ◌≤◌, ◌^◌, min, refl, sym, ap, ◌∙◌, subst, arith, inl, inr, List, [], ◌∷◌, ◌++◌, map, Option, Some, None, unwrap_or}
-use Rattle.std.proofs.Math.Nat.{mul-le-mul_left}
-use Rattle.std.proofs.lemmas.List.Sums.{sum_by-append, sum_by-cons}
+use Rattle.std.proofs.{Math.Nat.mul-le-mul_left, lemmas.List.Sums.sum_by-append, lemmas.List.Sums.sum_by-cons}
 use Rattle.std.specs.{List.sum_by, List.All, Prelude.IfSome}
-use Rattle.spin_base.specs.declared.{copies.Event.Event, copies.McCopy.McCopy, chips.Chip.Chip, chips.Port.Port, routes.Out.Out}
-use Rattle.spin_base.specs.Links.{opposite_of}
-use Rattle.spin_base.specs.declared.chips.Port.TheVariants.{Link as ByLink, Local}
-use Rattle.spin_base.specs.Hops.{last_hop, onward}
-use Rattle.spin_base.proofs.Exchange.{among_taken_out, TakenOut, PutIn}
-use Rattle.spin_base.proofs.{Members.Among, Members.among_contains, Members.among_only, Places.All-at}
-use Rattle.mesh_core.specs.State.{State, Hand, FitsHand, FitsQueue, IsMesh}
-use Rattle.mesh_core.specs.Step.{outputs, step_of, after_event}
-use Rattle.mesh_core.specs.Trail.{Station, unsent, in_queue, in_hand, at_core, delivered, dumped, Mark, IsUnderWayAt}
-use Rattle.mesh_core.specs.{Ledger.marks_of, Heavy.heavy}
-use Rattle.mesh_core.proofs.{Events.event_exchange, FewMoves.few_come, Heavy.one_heavy, Heavy.heavy_grows, Heavy.light}
-use Rattle.mesh_core.proofs.Moves.{mark, IsMove, IsMoveOf, Crosses}
-use Rattle.mesh_core.proofs.Standing.{StandsAt, mark_stands}
+use Rattle.spin_base.specs.{declared.copies.Event.Event, declared.copies.McCopy.McCopy, declared.chips.Chip.Chip, declared.chips.Port.Port, declared.routes.Out.Out, Links.opposite_of}
+use Rattle.spin_base.specs.{declared.chips.Port.TheVariants.Local, Hops.last_hop, Hops.onward}
+use Rattle.spin_base.specs.declared.chips.Port.TheVariants.{Link as ByLink}
+use Rattle.spin_base.proofs.{Exchange.among_taken_out, Exchange.TakenOut, Exchange.PutIn, Members.Among, Members.among_contains, Members.among_only, Places.All-at}
+use Rattle.mesh_core.specs.{State.State, State.Hand, State.FitsHand, State.FitsQueue, State.IsMesh, Step.outputs, Step.step_of, Step.after_event, Trail.Station, Trail.unsent, Trail.in_queue}
+use Rattle.mesh_core.specs.{Trail.in_hand, Trail.at_core, Trail.delivered, Trail.dumped, Trail.Mark, Trail.IsUnderWayAt, Ledger.marks_of, Heavy.heavy}
+use Rattle.mesh_core.proofs.{Events.event_exchange, FewMoves.few_come, Heavy.one_heavy, Heavy.heavy_grows, Heavy.light, Moves.mark, Moves.IsMove, Moves.IsMoveOf, Moves.Crosses, Standing.StandsAt}
+use Rattle.mesh_core.proofs.Standing.{mark_stands}
 use Rattle.mesh_drain.specs.UnderWay.{stage, advance, advance_weight_of, weight_in}
 
 -- ---- weights
@@ -140,10 +134,7 @@ moved_lighter s t e mesh is =
 
     sum_put_in : (ys rest to : List Mark) → PutIn ys rest to → sum_by advance_weight_of to ≡ sum_by advance_weight_of rest + sum_by advance_weight_of ys
     sum_put_in ys rest to put =
-        let more = sum_by-append advance_weight_of put.front (ys ++ put.back) in
-        let b : sum_by advance_weight_of rest ≡ sum_by advance_weight_of (put.front ++ put.back) = ap (sum_by advance_weight_of) put.before_is in
-        let a : sum_by advance_weight_of to ≡ sum_by advance_weight_of (put.front ++ (ys ++ put.back)) = ap (sum_by advance_weight_of) put.after_is in
-        omega (arith, sum_by-append advance_weight_of put.front put.back, more, sum_by-append advance_weight_of ys put.back, a, b)
+        grind (arith, sum_by-append advance_weight_of put.front (ys ++ put.back), sum_by-append advance_weight_of put.front put.back, sum_by-append advance_weight_of ys put.back)
 
 -- an event never makes them heavier
 pub event_lighter : (s : State) (e : Event) → IsMesh s → weight_in (after_event s e) ≤ weight_in s

@@ -2,10 +2,9 @@
 use Rattle.std.proofs.Common.{◌≡◌, ℕ, suc, ◌+◌, ◌<◌, ◌≤◌, get_or, drop, refl, sym, ap, ◌∙◌, subst, arith, inl, inr, List, [], ◌∷◌, length, Some}
 use Rattle.std.proofs.{Math.Seq.drop-cons, lemmas.Bool.cases_eq, lemmas.List.drop_all, lemmas.Option.slice_get-get_or, lemmas.Option.same_Some}
 use Rattle.std.specs.List.{slice_get, slice_set, All, Contains}
-use Rattle.spin_base.proofs.Members.{Among, among_contains, contains_among}
-use Rattle.spin_base.proofs.Places.{slice_get-set_other, slice_get-set_same, slice_get_there}
+use Rattle.spin_base.proofs.{Members.Among, Members.among_contains, Members.contains_among, Places.slice_get-set_other, Places.slice_get-set_same, Places.slice_get_there}
 use Rattle.spin_base.specs.declared.copies.McCopy.{McCopy}
-use Rattle.mesh_core.specs.{State.Setup, State.State, Expected.IsAtRest, Expected.NothingWaits}
+use Rattle.mesh_core.specs.{State.State, Expected.IsAtRest, Expected.NothingWaits}
 use Rattle.mesh_drain.specs.Draining.{IsMoved, IsReachedDropless, SendAlone}
 use Rattle.mesh_drain.proofs.Frame.{dumped_reached, setup_reached}
 
@@ -22,10 +21,7 @@ module _ (now after : List (List McCopy)) (vertices : List ℕ) (i d : ℕ) (bel
   left = let one : suc i ≡ i + 1 = omega arith in drop-cons vertices i d below ∙ ap (λ n. v ∷ drop n vertices) one
 
   none_there : v < length now → after ≡ slice_set now v [] → (k : McCopy) (rest : List McCopy) → slice_get after v ≡ Some (k ∷ rest) → ⊥
-  none_there within sent k rest there =
-      let q = slice_get_there now v within in
-      let none : [] ≡ k ∷ rest = same_Some _ _ (sym (slice_get-set_same now v q.0 [] q.1) ∙ (ap (λ l. slice_get l v) (sym sent) ∙ there)) in
-      cc
+  none_there within sent k rest there = grind (arith, slice_get_there now v within, slice_get-set_same now v (slice_get_there now v within).0, same_Some)
 
   behind : (w : ℕ) → (w ≡ v → ⊥) → Among w (v ∷ drop (i + 1) vertices) → Among w (drop (i + 1) vertices)
   behind w other (inl same) = absurd (other same)
@@ -52,8 +48,7 @@ rest_from s t vertices i all quiet before = record { waits = quiet; all_sent = n
 
 -- a vertex of the list is there, whatever events came
 pub sender_there : (s t : State) (vertices : List ℕ) (i d : ℕ) → SendAlone vertices s → IsReachedDropless s t → i < length vertices → get_or vertices i d < length t.setup.spots
-sender_there s t vertices i d alone reached below =
-    subst (λ (u : Setup). get_or vertices i d < length u.spots) (sym (setup_reached s t reached)) (alone.there i d below)
+sender_there s t vertices i d alone reached below = grind (arith, get_or vertices i d, setup_reached s t reached)
 
 -- what is reached without a copy dropped is moved
 pub moved_of_reached : (s t : State) → IsReachedDropless s t → IsMoved s t

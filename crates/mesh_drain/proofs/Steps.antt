@@ -1,28 +1,24 @@
 -- What each event of the packet under way does.
-use Rattle.std.proofs.Common.{◌≡◌, ◌≢◌, ℕ, zero, suc, ◌+◌, ◌<◌, ◌≤◌, ◌==◌, ◌&&◌, ◌||◌, refl, sym, ap, ◌∙◌, subst, arith, inl, List, [], ◌∷◌, ◌++◌, set, length, Option}
-use Rattle.std.proofs.Common.{Some, None, Bool, true, false, if◌then◌else◌, unwrap_or, nat_lt}
-use Rattle.std.proofs.lemmas.{Bool.and_from, Bool.eqb-true, Bool.lt-ltb, List.get_or-set_same, List.get_or-set_other}
-use Rattle.std.proofs.lemmas.List.Elements.{All-head, All-tail, All-nil, All-cons, All-append}
-use Rattle.std.proofs.lemmas.Option.{slice_get-get_or, get_or_from_slice_get}
+use Rattle.std.proofs.Common.{◌≡◌, ◌≢◌, ℕ, zero, suc, ◌+◌, ◌<◌, ◌≤◌, ◌==◌, ◌&&◌, ◌||◌, refl, sym, ap, ◌∙◌, subst, arith, inl, List, [], ◌∷◌, ◌++◌, set, length, Option, Some, None, Bool, true, false}
+use Rattle.std.proofs.Common.{if◌then◌else◌, unwrap_or, nat_lt}
+use Rattle.std.proofs.lemmas.{Bool.and_from, Bool.eqb-true, Bool.lt-ltb, List.get_or-set_same, List.get_or-set_other, List.Elements.All-head, List.Elements.All-tail, List.Elements.All-nil}
+use Rattle.std.proofs.lemmas.{List.Elements.All-cons, List.Elements.All-append, Option.slice_get-get_or, Option.get_or_from_slice_get}
 use Rattle.std.specs.List.{slice_get, slice_index_or, slice_set, All, list_any, Contains}
-use Rattle.spin_base.specs.declared.chips.{Chip.Chip, Dir.Dir, Port.Port, Port.TheVariants.Link as ByLink, Port.TheVariants.Local}
-use Rattle.spin_base.specs.declared.routes.Out.{Out, TheVariants.Link, TheVariants.Core}
+use Rattle.spin_base.specs.declared.{chips.Chip.Chip, chips.Dir.Dir, chips.Port.Port, chips.Port.TheVariants.Local, routes.Out.Out, routes.Out.TheVariants.Link, routes.Out.TheVariants.Core}
 use Rattle.spin_base.specs.declared.copies.{McCopy.McCopy, Event.Event, Event.TheVariants.Take, Event.TheVariants.Send, Event.TheVariants.Collect}
 use Rattle.spin_base.specs.{Equality.out_eq, Links.opposite_of, Hops.onward}
-use Rattle.spin_base.proofs.Equality.{nat_eq_same, out_eq_same}
-use Rattle.spin_base.proofs.{Counts.count_by-append, Counts.count_by-cons, Members.among_contains, Pairs.All-left, Pairs.All-right}
-use Rattle.spin_base.proofs.Places.{All-at, slice_get-set_same, set-slice_get, set_put_back}
-use Rattle.machine_desc.specs.Description.{Description}
-use Rattle.machine_desc.specs.Live.{far_of, index_of, IsInside, IsLiveChip, is_live_link}
+use Rattle.spin_base.specs.declared.chips.Port.TheVariants.{Link as ByLink}
+use Rattle.spin_base.proofs.{Equality.nat_eq_same, Equality.out_eq_same, Counts.count_by-append, Counts.count_by-cons, Members.among_contains, Pairs.All-left, Pairs.All-right, Places.All-at}
+use Rattle.spin_base.proofs.Places.{slice_get-set_same, set-slice_get, set_put_back}
+use Rattle.machine_desc.specs.{Description.Description, Live.far_of, Live.index_of, Live.IsInside, Live.IsLiveChip, Live.is_live_link}
 use Rattle.machine_desc.proofs.Far.{live_inside, live_ends, index_below}
 use Rattle.mesh_core.specs.State.{Setup, State, Hand, Queue, input, core, nowhere, core_queue_of, behind, behind_link, vertex_behind, queue_at}
 use Rattle.mesh_core.specs.Step.{has_room, has_room_behind, outputs, in_hand, outs_without, push_at, push_behind, after_serving, serves, take_of, send_of, collect_of, step_of, after_event}
-use Rattle.mesh_core.specs.{Trail.in_hand as held_at, Ledger.marks_of, Waiting.queue_of}
-use Rattle.mesh_core.proofs.Changes.{queue_at-below}
-use Rattle.mesh_core.proofs.{EventsLaw.event_keeps, Keeping.input_is_somewhere, Moves.mark, Queued.FreeBehind, Queued.free_behind, Standing.held_mark}
-use Rattle.mesh_drain.specs.declared.draining.Waiting.{Waiting}
-use Rattle.mesh_drain.specs.Draining.{MeetsSomeLedger}
-use Rattle.mesh_drain.specs.UnderWay.{far_port, next_place, outs_in, times, weight_in, WaitsAlone, IsServing}
+use Rattle.mesh_core.specs.{Ledger.marks_of, Waiting.queue_of}
+use Rattle.mesh_core.specs.Trail.{in_hand as held_at}
+use Rattle.mesh_core.proofs.{Changes.queue_at-below, EventsLaw.event_keeps, Keeping.input_is_somewhere, Moves.mark, Queued.FreeBehind, Queued.free_behind, Standing.held_mark}
+use Rattle.mesh_drain.specs.{declared.draining.Waiting.Waiting, Draining.MeetsSomeLedger, UnderWay.far_port, UnderWay.next_place, UnderWay.outs_in, UnderWay.times, UnderWay.weight_in}
+use Rattle.mesh_drain.specs.UnderWay.{WaitsAlone, IsServing}
 use Rattle.mesh_drain.proofs.Progress.{moved_lighter}
 
 -- ---- lists
@@ -52,16 +48,12 @@ written P lists i j q within at apart = by_test (i == j) refl
 -- one place more in the list of those where the packet waits
 pub times_more : (m : Description) (i : ℕ) (w : List Waiting) (a : Waiting) →
     times m i (w ++ a ∷ []) ≡ times m i w + (if queue_at m a.chip a.port == i then 1 else 0)
-times_more m i w a =
-    let p : Waiting → Bool = λ x. queue_at m x.chip x.port == i in
-    omega (arith, count_by-append p w (a ∷ []), count_by-cons p a [])
+times_more m i w a = grind (arith, i, m, count_by-append, count_by-cons)
 
 -- ---- the ledger goes with it
 
 pub kept_after : (s : State) (e : Event) → MeetsSomeLedger s → MeetsSomeLedger (after_event s e)
-kept_after s e kept =
-    let keeps = event_keeps s kept.nets kept.labels kept.mesh kept.right kept.ledger e in
-    record { mesh = keeps.mesh; nets = kept.nets; labels = kept.labels; right = keeps.right; ledger = keeps.ledger }
+kept_after s e kept = grind (arith, event_keeps s kept.nets kept.labels kept.mesh kept.right kept.ledger e)
 
 pub moved : (s t : State) (e : Event) → step_of s e ≡ Some t → after_event s e ≡ t
 moved s t e is = ap (λ (o : Option State). unwrap_or o s) is
@@ -76,18 +68,13 @@ module _ (s : State) (waiting : List Waiting) where
   pub queue_there : MeetsSomeLedger s → (c : Chip) (port : Port) → IsLiveChip s.setup.machine c →
       (queue_at s.setup.machine c port < length s.inputs) × (slice_get s.inputs (queue_at s.setup.machine c port) ≡ Some (slice_index_or s.inputs (queue_at s.setup.machine c port) []))
   queue_there kept c port live =
-      let below = queue_at-below s.setup.machine c port (live_inside s.setup.machine c live) in
-      let within : queue_at s.setup.machine c port < length s.inputs = omega (arith, below, kept.mesh.input_lists) in
-      (within, slice_get-get_or s.inputs (queue_at s.setup.machine c port) [] within)
+      grind (arith, queue_at-below s.setup.machine c port (live_inside s.setup.machine c live), live_inside s.setup.machine c live, slice_get-get_or s.inputs (queue_at s.setup.machine c port))
 
 -- ---- Take
 
 module _ (s : State) (w : List Waiting) (a : Waiting) (u : WaitsAlone s (w ++ a ∷ [])) where
   i : ℕ
   i = queue_at s.setup.machine a.chip a.port
-
-  index : ℕ
-  index = index_of s.setup.machine a.chip
 
   queue : List McCopy
   queue = slice_index_or s.inputs (queue_at s.setup.machine a.chip a.port) []
@@ -129,10 +116,7 @@ module _ (s : State) (w : List Waiting) (a : Waiting) (u : WaitsAlone s (w ++ a 
   -- this one once less
   listed_here : length queue ≤ times s.setup.machine i w + 1
   unfolding i queue
-  listed_here =
-      let more = times_more s.setup.machine (queue_at s.setup.machine a.chip a.port) w a
-      ∙ ap (λ b. times s.setup.machine (queue_at s.setup.machine a.chip a.port) w + (if b then 1 else 0)) (nat_eq_same (queue_at s.setup.machine a.chip a.port)) in
-      omega (arith, u.listed (queue_at s.setup.machine a.chip a.port), more)
+  listed_here = grind (arith, times_more s.setup.machine (queue_at s.setup.machine a.chip a.port) w a, nat_eq_same (queue_at s.setup.machine a.chip a.port))
 
   -- what the hand holds that was just made
   outs_in-hand : (k : McCopy) (os : List Out) → outs_in (Some (in_hand k a.port os)) ≡ os
@@ -260,11 +244,7 @@ module _ (s : State) (w : List Waiting) (c : Chip) (o : Out) (os : List Out) (u 
 
   -- the hands, once the output was served
   hands_then : slice_set s.hands (index_of s.setup.machine c) (in_hand u.copy u.port (outs_without o (o ∷ os))) ≡ slice_set u.others (index_of s.setup.machine c) (in_hand u.copy u.port os)
-  hands_then =
-      let n : ℕ = index_of s.setup.machine c in
-      ap (λ (l : List (Option Hand)). set l n (in_hand u.copy u.port (outs_without o (o ∷ os)))) u.hand
-      ∙ (set_twice u.others n (in_hand u.copy u.port (o ∷ os)) (in_hand u.copy u.port (outs_without o (o ∷ os)))
-      ∙ ap (λ (l : List Out). set u.others n (in_hand u.copy u.port l)) (ap (λ b. if b then os else o ∷ outs_without o os) (out_eq_same o)))
+  hands_then = grind (arith, set_twice u.others (index_of s.setup.machine c) (in_hand u.copy u.port (o ∷ os)) (in_hand u.copy u.port (outs_without o (o ∷ os))), out_eq_same o)
 
   -- the copy goes to the queue behind the output
   send_to : (b : Queue) → behind s.setup c o ≡ b → has_room_behind s b ≡ true →

@@ -1,22 +1,18 @@
 -- What the calls of a packet under way leave, as they follow on each other.
 use Rattle.std.proofs.Common.{◌≡◌, ◌≢◌, ◌==◌, true, false, ℕ, suc, ◌+◌, ◌<◌, ◌≤◌, set, get_or, drop, refl, sym, ap, ◌∙◌, subst, arith, List, [], ◌∷◌, ◌++◌, length, Some}
-use Rattle.std.proofs.Math.Seq.{drop-cons}
-use Rattle.std.proofs.lemmas.List.{length-append, get_or-set_same, get_or_default, set-get_or}
-use Rattle.std.proofs.lemmas.{Option.slice_get-get_or, Option.slice_get_within, Option.get_or_from_slice_get, Bool.eqb-true}
-use Rattle.std.specs.{List.slice_get, List.All, Option.option_to_list}
-use Rattle.std.specs.Prelude.{OnOk, Result, Ok, Err}
-use Rattle.spin_base.specs.declared.{chips.Chip.Chip, chips.Spot.Spot, chips.Port.TheVariants.Local, routes.Out.Out, copies.McCopy.McCopy}
-use Rattle.spin_base.specs.declared.copies.Event.TheVariants.{Inject, Take, Send, Collect}
+use Rattle.std.proofs.{Math.Seq.drop-cons, lemmas.List.length-append, lemmas.List.get_or-set_same, lemmas.List.get_or_default, lemmas.List.set-get_or, lemmas.Option.slice_get-get_or}
+use Rattle.std.proofs.lemmas.{Option.slice_get_within, Option.get_or_from_slice_get, Bool.eqb-true}
+use Rattle.std.specs.{List.slice_get, List.All, Option.option_to_list, Prelude.OnOk, Prelude.Result, Prelude.Ok, Prelude.Err}
+use Rattle.spin_base.specs.declared.{chips.Chip.Chip, chips.Spot.Spot, chips.Port.TheVariants.Local, routes.Out.Out, copies.McCopy.McCopy, copies.Event.TheVariants.Inject}
+use Rattle.spin_base.specs.declared.copies.Event.TheVariants.{Take, Send, Collect}
 use Rattle.machine_desc.specs.{Description.Description, Live.index_of}
-use Rattle.mesh_core.specs.State.{Setup, State, Queue, input, core, nowhere, behind}
-use Rattle.mesh_core.specs.{Step.after_event, Expected.IsAtRest, Expected.NothingWaits}
+use Rattle.mesh_core.specs.{State.Setup, State.State, State.Queue, State.input, State.core, State.nowhere, State.behind, Step.after_event, Expected.IsAtRest, Expected.NothingWaits}
 use Rattle.mesh_core.proofs.Fixed.{after_event_setup}
-use Rattle.mesh_drain.specs.declared.draining.Waiting.{Waiting}
-use Rattle.mesh_drain.specs.Draining.{MeetsSomeLedger, IsReachedDropless}
-use Rattle.mesh_drain.specs.UnderWay.{work, weight_in, outs_in, next_place, WaitsAlone, IsServing}
-use Rattle.mesh_drain.proofs.{Frame.setup_reached, Frame.kept_reached, Moving.after_reached, Moving.there_after, Progress.event_lighter}
-use Rattle.mesh_drain.proofs.Packets.{inject_step, inject_unsent, packet_done}
-use Rattle.mesh_drain.proofs.Steps.{kept_after, written, set_twice, take_step, next, next_is, send_link, send_link_lighter, send_core, send_nowhere}
+use Rattle.mesh_drain.specs.{declared.draining.Waiting.Waiting, Draining.MeetsSomeLedger, Draining.IsReachedDropless, UnderWay.work, UnderWay.weight_in, UnderWay.outs_in, UnderWay.next_place}
+use Rattle.mesh_drain.specs.UnderWay.{WaitsAlone, IsServing}
+use Rattle.mesh_drain.proofs.{Frame.setup_reached, Frame.kept_reached, Moving.after_reached, Moving.there_after, Progress.event_lighter, Packets.inject_step, Packets.inject_unsent}
+use Rattle.mesh_drain.proofs.{Packets.packet_done, Steps.kept_after, Steps.written, Steps.set_twice, Steps.take_step, Steps.next, Steps.next_is, Steps.send_link, Steps.send_link_lighter}
+use Rattle.mesh_drain.proofs.Steps.{send_core, send_nowhere}
 
 -- what follows where a call went well
 pub on_ok : {T E A B : Type 0} (r : Result T E) → OnOk r A → (A → B) → OnOk r B
@@ -67,19 +63,13 @@ module _ (s t : State) (w : List Waiting) (c : Chip) (o : Out) (is : t ≡ after
 
 pub taken_serving : (s t : State) (w : List Waiting) (a : Waiting) (os items : List Out) → t ≡ after_event s (Take a.chip a.port) → WaitsAlone s (w ++ a ∷ []) →
     os ≡ outs_in (slice_get t.hands (index_of t.setup.machine a.chip)) → items ≡ os → IsServing t w a.chip items
-taken_serving s t w a os items is u held list =
-    subst (IsServing t w a.chip) (sym (list ∙ held))
-    (subst (λ x. IsServing x w a.chip (outs_in (slice_get x.hands (index_of x.setup.machine a.chip)))) (sym is) (take_step s w a u))
+taken_serving s t w a os items is u held list = grind (arith, take_step s w a u)
 
 pub taken_less : (s t : State) (w v : List Waiting) (a : Waiting) → t ≡ after_event s (Take a.chip a.port) → WaitsAlone s (v ++ a ∷ []) → work t w ≤ work s w
-taken_less s t w v a is u =
-    let there : weight_in t ≡ weight_in (after_event s (Take a.chip a.port)) = ap weight_in is in
-    omega (arith, event_lighter s (Take a.chip a.port) u.kept.mesh, there)
+taken_less s t w v a is u = grind (arith, event_lighter s (Take a.chip a.port) u.kept.mesh)
 
 pub outs_left : (os : List Out) (i : ℕ) (d : Out) → i < length os → drop i os ≡ get_or os i d ∷ drop (i + 1) os
-outs_left os i d below =
-    let one : suc i ≡ i + 1 = omega arith in
-    drop-cons os i d below ∙ ap (λ n. get_or os i d ∷ drop n os) one
+outs_left os i d below = grind (arith, drop-cons os i d below, get_or os i d)
 
 -- ---- a packet begins
 
@@ -139,14 +129,11 @@ one_vertex_more now after v within is before i below =
     less other = omega (arith, below, other)
 
 pub all_vertices : (s : State) (n : ℕ) → MeetsSomeLedger s → length s.setup.spots ≤ n → ((i : ℕ) → i < n → get_or s.unsent i [] ≡ []) → All (λ (q : List McCopy). q ≡ []) s.unsent
-all_vertices s n kept all before = λ i d below.
-    get_or_default s.unsent i d [] below ∙ before i (omega (arith, below, kept.mesh.unsent_lists, all))
+all_vertices s n kept all before = grind (arith, get_or_default)
 
 -- one place less waits, and no more is to be done
 pub popped_smaller : (s t : State) (w left after : List Waiting) (a : Waiting) → w ≡ left ++ a ∷ [] → work t after ≤ work s left → work t after < work s w
-popped_smaller s t w left after a popped less =
-    let long : length w ≡ length left + 1 = ap length popped ∙ length-append left (a ∷ []) in
-    omega (arith, long, less)
+popped_smaller s t w left after a popped less = grind (arith, length-append left (a ∷ []))
 
 pub is_none : (q : List McCopy) → true ≡ (length q == 0) → q ≡ []
 is_none [] e = refl
@@ -167,7 +154,4 @@ was_there s v kept below = let long = kept.mesh.unsent_lists in omega (arith, be
 
 -- all is sent, and nothing waits
 pub at_rest : (s t : State) (n : ℕ) → MeetsSomeLedger s → IsReachedDropless s t → NothingWaits t → length s.setup.spots ≤ n → ((i : ℕ) → i < n → get_or t.unsent i [] ≡ []) → IsAtRest t
-at_rest s t n kept reached quiet all before = record {
-  all_sent = all_vertices t n (kept_reached s t kept reached) (subst (λ (l : List Spot). length l ≤ n) (sym (ap (λ (x : Setup). x.spots) (setup_reached s t reached))) all) before;
-  waits = quiet;
-}
+at_rest s t n kept reached quiet all before = grind (arith, kept_reached s t kept reached, setup_reached s t reached, all_vertices)

@@ -1,12 +1,10 @@
 -- What each vertex still has to send, packet by packet.
-use Rattle.std.proofs.Common.{◌≡◌, ◌≢◌, ℕ, zero, suc, ◌+◌, ◌<◌, ◌==◌, refl, sym, ap, ◌∙◌, false, if◌then◌else◌, List, [], ◌∷◌, ◌++◌, map, length, replicate, Option, Some, None, arith, append-nil}
+use Rattle.std.proofs.Common.{◌≡◌, ◌≢◌, ℕ, zero, suc, ◌+◌, ◌<◌, refl, sym, ap, ◌∙◌, List, [], ◌∷◌, ◌++◌, map, length, replicate, Option, Some, None, arith, append-nil}
 use Rattle.std.proofs.lemmas.{Bool.eq-eqb, Bool.ne_eqb, List.Elements.filter_map-append}
 use Rattle.std.specs.List.{slice_get, range_with_len, filter_map, enumerate_from, cons_option}
-use Rattle.std.specs.Option.{option_map_or}
 use Rattle.spin_base.specs.declared.{chips.Spot.Spot, copies.McCopy.McCopy, copies.Packet.Packet}
 use Rattle.spin_base.proofs.{Places.enumerate_push, Ranges.slice_get-map_range, Ranges.set-map_range}
-use Rattle.machine_desc.specs.declared.nets.NetPlan.{NetPlan}
-use Rattle.machine_desc.specs.NetsOn.{vertex_at}
+use Rattle.machine_desc.specs.{declared.nets.NetPlan.NetPlan, NetsOn.vertex_at}
 use Rattle.mesh_core.specs.{Opened.copy_from, Opened.first_copy, Step.push_at}
 
 -- ---- what a vertex has of a list of packets, numbered from i on
@@ -19,15 +17,11 @@ unsent_from spots nets i ps = map (copies_from spots nets i ps) (range_with_len 
 
 pub its_copy : (spots : List Spot) (nets : List NetPlan) (i : ℕ) (p : Packet) (net : NetPlan) (v : ℕ) → slice_get nets p.net ≡ Some net → vertex_at spots net.source ≡ Some v →
     copy_from spots v i p (slice_get nets p.net) ≡ Some (first_copy i net p)
-its_copy spots nets i p net v is vertex =
-    ap (copy_from spots v i p) is
-    ∙ ap (λ b. if b then Some (first_copy i net p) else None) (ap (λ w. option_map_or (λ n. n == v) w false) vertex ∙ eq-eqb v v refl)
+its_copy spots nets i p net v is vertex = grind (arith, eq-eqb v v refl)
 
 pub no_copy : (spots : List Spot) (nets : List NetPlan) (i : ℕ) (p : Packet) (net : NetPlan) (v w : ℕ) → slice_get nets p.net ≡ Some net → vertex_at spots net.source ≡ Some v → w ≢ v →
     copy_from spots w i p (slice_get nets p.net) ≡ None
-no_copy spots nets i p net v w is vertex other =
-    ap (copy_from spots w i p) is
-    ∙ ap (λ b. if b then Some (first_copy i net p) else None) (ap (λ x. option_map_or (λ n. n == w) x false) vertex ∙ ne_eqb v w (λ same. other (sym same)))
+no_copy spots nets i p net v w is vertex other = grind (arith, ne_eqb)
 
 -- ---- a mesh is opened packet by packet
 

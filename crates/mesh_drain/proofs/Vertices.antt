@@ -1,24 +1,20 @@
 -- No copy is dropped at an output that leads to a vertex, where none waits for one.
-use Rattle.std.proofs.Common.{◌≡◌, ℕ, ◌+◌, ◌<◌, ◌≤◌, refl, sym, ap, ◌∙◌, subst, arith, Bool, true, false, ◌&&◌, not, if◌then◌else◌, List, [], ◌∷◌, ◌++◌, append_assoc}
-use Rattle.std.proofs.Common.{append-nil, length, set, get_or, Option, Some, None, unwrap_or}
-use Rattle.std.proofs.{Math.Seq.set-get_or, lemmas.Bool.lt-ltb, lemmas.List.get_or_default}
-use Rattle.std.proofs.lemmas.List.Elements.{All-nil, All-cons, All-append}
-use Rattle.std.proofs.lemmas.Option.{slice_get-get_or, slice_get_within}
-use Rattle.std.specs.List.{slice_get, All}
-use Rattle.std.specs.Prelude.{OnErr, OnOk, Result, Ok, Err}
-use Rattle.spin_base.specs.declared.{chips.Chip.Chip, chips.Dir.Dir, chips.Port.Port, routes.Out.Out, routes.Out.TheVariants.Link, routes.Out.TheVariants.Core}
-use Rattle.spin_base.specs.declared.{copies.McCopy.McCopy, wants.Memory.Memory, copies.DumpRec.DumpRec}
-use Rattle.spin_base.specs.declared.copies.Event.TheVariants.{Take, Send, Dump, Collect}
+use Rattle.std.proofs.Common.{◌≡◌, ℕ, ◌+◌, ◌<◌, ◌≤◌, refl, sym, ap, ◌∙◌, subst, arith, Bool, true, false, ◌&&◌, not, if◌then◌else◌, List, [], ◌∷◌, ◌++◌, append_assoc, append-nil, length, set, get_or}
+use Rattle.std.proofs.Common.{Option, Some, None, unwrap_or, inl, inr}
+use Rattle.std.proofs.{Math.Seq.set-get_or, lemmas.Bool.lt-ltb, lemmas.Bool.cases_order, lemmas.List.get_or_default, lemmas.List.get_or_past, lemmas.List.Elements.All-nil}
+use Rattle.std.proofs.lemmas.{List.Elements.All-cons, List.Elements.All-append, Option.slice_get-get_or, Option.slice_get_within}
+use Rattle.std.specs.{List.slice_get, List.All, Prelude.is_some}
+use Rattle.spin_base.specs.declared.{chips.Chip.Chip, chips.Dir.Dir, chips.Port.Port, routes.Out.Out, routes.Out.TheVariants.Link, routes.Out.TheVariants.Core, copies.McCopy.McCopy}
+use Rattle.spin_base.specs.declared.copies.{DumpRec.DumpRec, Event.Event, Event.TheVariants.Inject, Event.TheVariants.Take, Event.TheVariants.Send, Event.TheVariants.Dump, Event.TheVariants.Collect}
 use Rattle.spin_base.specs.Hops.{onward}
-use Rattle.spin_base.proofs.Places.{All-at, slice_get-set_same, set-slice_get, set_put_back}
+use Rattle.spin_base.proofs.Places.{All-at, slice_get-set_same, set_put_back}
 use Rattle.machine_desc.specs.Live.{index_of, is_live_link, far_of}
-use Rattle.mesh_core.specs.Expected.{NothingWaits}
-use Rattle.mesh_core.specs.State.{Setup, State, Hand, IsMesh, Queue, input, core, nowhere, core_queue_of, behind, behind_link, vertex_behind, queue_at}
-use Rattle.mesh_core.specs.Step.{has_room_behind, has_room, push_at, push_behind, after_serving, serves, send_of, dump_of, collect_of, after_event}
-use Rattle.mesh_core.proofs.Fixed.{by_take, by_dump, by_collect, after_event_setup, dumped_stays}
-use Rattle.mesh_core.proofs.Keeping.{input_is_no_core, same_core, core_is_somewhere}
+use Rattle.mesh_core.specs.{Expected.NothingWaits, State.Setup, State.State, State.Hand, State.IsMesh, State.Queue, State.input, State.core, State.nowhere, State.core_queue_of, State.behind}
+use Rattle.mesh_core.specs.{State.behind_link, State.vertex_behind, Step.has_room_behind, Step.has_room, Step.push_at, Step.push_behind, Step.after_serving, Step.serves, Step.send_of, Step.dump_of}
+use Rattle.mesh_core.specs.{Step.collect_of, Step.after_event, Step.answer, declared.places.Did.TheVariants.Moved, declared.places.Did.TheVariants.Idle}
+use Rattle.mesh_core.proofs.{Fixed.by_take, Fixed.by_dump, Fixed.by_collect, Fixed.after_event_setup, Fixed.dumped_stays, Keeping.input_is_no_core, Keeping.same_core, Keeping.core_is_somewhere}
 use Rattle.mesh_core.proofs.Ways.{vertex_behind_stands}
-use Rattle.mesh_drain.specs.Draining.{AreCollected, DropsAtNoVertex, IsSameBesidesCores, LeadsToNoVertex, collected_from}
+use Rattle.mesh_drain.specs.Draining.{AreCollected, DropsAtNoVertex, IsSameBesidesCores, LeadsToNoVertex, SendsNone, collected_from}
 use Rattle.mesh_drain.proofs.{Steps.set_twice, Turns.one_vertex_more}
 
 -- ---- one after the other
@@ -48,8 +44,7 @@ collect_still s v none = by_queue (slice_get s.cores v) refl
     by_queue None at = refl
 
 pub take_collected : (s : State) (c : Chip) (port : Port) → AreCollected s → AreCollected (after_event s (Take c port))
-take_collected s c port none =
-    by_take AreCollected s none (λ l h. none) c port (slice_get s.hands (index_of s.setup.machine c)) (slice_get s.inputs (queue_at s.setup.machine c port))
+take_collected s c port none = grind (arith, by_take)
 
 -- a copy that comes into a queue, and is collected where that is a vertex's
 pushed_collected : (u : State) → AreCollected u → (b : Queue) (k : McCopy) → AreCollected (collected_from (push_behind u b k) b)
@@ -79,12 +74,6 @@ still_collected s none nowhere = none
 sent_collected : (s : State) (c : Chip) (o : Out) → AreCollected s → AreCollected (collected_from (after_event s (Send c o)) (behind s.setup c o))
 sent_collected s c o none = by_hand (slice_get s.hands (index_of s.setup.machine c))
   where
-    b : Queue
-    b = behind s.setup c o
-
-    P : State → Type 0
-    P t = AreCollected (collected_from t (behind s.setup c o))
-
     by_test : (x : Bool) (t : State) → AreCollected (collected_from t (behind s.setup c o)) → AreCollected (collected_from (unwrap_or (if x then Some t else None) s) (behind s.setup c o))
     by_test true t moved = moved
     by_test false t moved = still_collected s none (behind s.setup c o)
@@ -165,9 +154,7 @@ pub same_then : (s t u : State) → IsSameBesidesCores s t → IsSameBesidesCore
 same_then s t u first rest = record { inputs = rest.inputs ∙ first.inputs; hands = rest.hands ∙ first.hands }
 
 pub collect_besides : (s t : State) (v : ℕ) → t ≡ after_event s (Collect v) → IsSameBesidesCores s t
-collect_besides s t v is =
-    subst (IsSameBesidesCores s) (sym is)
-    (by_collect (IsSameBesidesCores s) s (same_besides s) (λ l d. record { inputs = refl; hands = refl }) v (slice_get s.cores v))
+collect_besides s t v is = grind (arith, same_besides s, by_collect)
 
 -- the vertex's queue alone changes
 pub collect_there : (s t : State) (v : ℕ) → t ≡ after_event s (Collect v) → (q : List McCopy) × (t.cores ≡ set s.cores v q)
@@ -186,20 +173,27 @@ collect_there s t v is = by_queue (slice_get s.cores v) refl
 
 -- where nothing waited, nothing waits
 pub quiet_still : (s t : State) → IsSameBesidesCores s t → AreCollected t → NothingWaits s → NothingWaits t
-quiet_still s t same none quiet = record {
-  inputs_empty = subst (All (λ q. q ≡ [])) (sym same.inputs) quiet.inputs_empty;
-  hands_empty = subst (All (λ h. h ≡ None)) (sym same.hands) quiet.hands_empty;
-  cores_empty = none;
-}
+quiet_still s t same none quiet = grind arith
 
 -- all vertices have taken what waited for them
 pub all_collected : (s : State) (n : ℕ) → IsMesh s → length s.setup.spots ≤ n → ((i : ℕ) → i < n → get_or s.cores i [] ≡ []) → AreCollected s
-all_collected s n mesh all before = λ i d below.
-    get_or_default s.cores i d [] below ∙ before i (omega (arith, below, mesh.core_lists, all))
+all_collected s n mesh all before = grind (arith, get_or_default)
 
 -- one vertex has taken all that waited for it
-pub collected_there : (before now : List (List McCopy)) (v : ℕ) (q : List McCopy) → now ≡ set before v q → slice_get now v ≡ Some [] → now ≡ set before v []
-collected_there before now v q is empty = sym (set-slice_get now v [] empty) ∙ (ap (λ l. set l v []) is ∙ set_twice before v q [])
+pub collected_there : (before now : List (List McCopy)) (v : ℕ) (q : List McCopy) → now ≡ set before v q → get_or now v [] ≡ [] → now ≡ set before v []
+collected_there before now v q is empty = sym (ap (set now v) (sym empty) ∙ set-get_or now v []) ∙ (ap (λ l. set l v []) is ∙ set_twice before v q [])
+
+-- a vertex that takes no copy has none waiting
+pub idle_empty : (s : State) (v : ℕ) → answer s (Collect v) ≡ Idle → get_or s.cores v [] ≡ []
+idle_empty s v idle = elim (cases_order v (length s.cores)) [
+  | inl same ↦ get_or_past s.cores v [] (omega (arith, same))
+  | inr (inl less) ↦ by_queue (get_or s.cores v []) (slice_get-get_or s.cores v [] less)
+  | inr (inr more) ↦ get_or_past s.cores v [] (omega (arith, more))
+]
+  where
+    by_queue : (q : List McCopy) → slice_get s.cores v ≡ Some q → q ≡ []
+    by_queue [] at = refl
+    by_queue (k ∷ rest) at = let taken : answer s (Collect v) ≡ Moved = ap (λ x. if is_some (collect_of s v x) then Moved else Idle) at in cc
 
 -- a vertex more has taken what waited for it
 pub one_more_collected : (s t : State) (v : ℕ) → IsMesh s → v < length s.setup.spots → t.cores ≡ set s.cores v [] → ((i : ℕ) → i < v → get_or s.cores i [] ≡ []) →
@@ -209,30 +203,18 @@ one_more_collected s t v mesh below is before = let long = mesh.core_lists in on
 pub as_it_was : (lists : List (List McCopy)) (v : ℕ) → (q : List McCopy) × (lists ≡ set lists v q)
 as_it_was lists v = (get_or lists v [], sym (set-get_or lists v []))
 
--- ---- an event that is enabled was taken, or memory ran out
+-- ---- an event by which no copy comes into a queue
 
--- whatever the answer
-either_way : {T : Type 0} {A B P : Type 0} (r : Result T Memory) → OnOk r A → OnErr r B → (A → P) → (B → P) → P
-either_way (Ok x) ok err by by' = by ok
-either_way (Err e) ok err by by' = by' err
+pub event_leads_on : (s : State) (e : Event) → IsMesh s → AreCollected s → SendsNone e → DropsAtNoVertex s (after_event s e)
+event_leads_on s (Inject v) mesh none is = absurd is
+event_leads_on s (Take c port) mesh none is = drops_none s (after_event s (Take c port)) (dumped_stays s (Take c port) tt)
+event_leads_on s (Send c o) mesh none is = absurd is
+event_leads_on s (Dump c o) mesh none is = dump_leads_on s c o mesh none
+event_leads_on s (Collect v) mesh none is = drops_none s (after_event s (Collect v)) (dumped_stays s (Collect v) tt)
 
-pub dumped_leads_on : {T : Type 0} (s t u : State) (c : Chip) (o : Out) (r : Result T Memory) → IsMesh s → AreCollected s → t ≡ s →
-    OnOk r (u ≡ after_event t (Dump c o)) → OnErr r (u ≡ t) → DropsAtNoVertex s u
-dumped_leads_on s t u c o r mesh none same ok err =
-    either_way r ok err
-    (λ is. subst (DropsAtNoVertex s) (sym (is ∙ ap (λ x. after_event x (Dump c o)) same)) (dump_leads_on s c o mesh none))
-    (λ is. drops_none s u (ap (λ (x : State). x.dumped) (is ∙ same)))
-
-pub dumped_collected : {T : Type 0} (s t u : State) (c : Chip) (o : Out) (r : Result T Memory) → AreCollected s → t ≡ s → OnOk r (u ≡ after_event t (Dump c o)) → OnOk r (AreCollected u)
-dumped_collected s t u c o (Ok x) none same is = subst AreCollected (sym (is ∙ ap (λ y. after_event y (Dump c o)) same)) (dump_collected s c o none)
-dumped_collected s t u c o (Err e) none same is = tt
-
-pub taken_drops : {T : Type 0} (s u : State) (c : Chip) (port : Port) (r : Result T Memory) → OnOk r (u ≡ after_event s (Take c port)) → OnErr r (u ≡ s) → DropsAtNoVertex s u
-taken_drops s u c port r ok err =
-    either_way r ok err
-    (λ is. drops_none s u (ap (λ (x : State). x.dumped) is ∙ dumped_stays s (Take c port) tt))
-    (λ is. drops_none s u (ap (λ (x : State). x.dumped) is))
-
-pub taken_collected : {T : Type 0} (s u : State) (c : Chip) (port : Port) (r : Result T Memory) → AreCollected s → OnOk r (u ≡ after_event s (Take c port)) → OnOk r (AreCollected u)
-taken_collected s u c port (Ok x) none is = subst AreCollected (sym is) (take_collected s c port none)
-taken_collected s u c port (Err e) none is = tt
+pub event_collected : (s : State) (e : Event) → AreCollected s → SendsNone e → AreCollected (after_event s e)
+event_collected s (Inject v) none is = absurd is
+event_collected s (Take c port) none is = take_collected s c port none
+event_collected s (Send c o) none is = absurd is
+event_collected s (Dump c o) none is = dump_collected s c o none
+event_collected s (Collect v) none is = subst AreCollected (sym (collect_still s v none)) none

@@ -109,6 +109,14 @@ collected_from s (input i) = s
 collected_from s (core v) = after_event s (Collect v)
 collected_from s nowhere = s
 
+-- an event by which no copy comes into a queue
+abbrev pub SendsNone : Event → Type 0
+SendsNone (Inject v) = ⊥
+SendsNone (Take c port) = Unit {0}
+SendsNone (Send c o) = ⊥
+SendsNone (Dump c o) = Unit {0}
+SendsNone (Collect v) = Unit {0}
+
 -- No copy waits for a vertex.
 abbrev pub AreCollected : State → Type 0
 AreCollected s = All (λ q. q ≡ []) s.cores

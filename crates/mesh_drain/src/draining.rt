@@ -140,7 +140,6 @@ fn go_on(mesh: &mut Mesh, waiting: &mut Vec<Waiting>, at: Waiting) -> Result<(),
     requires { WaitsAlone mesh.old (waiting.old.items ++ at ∷ []) }
     ensures reached { IsReachedOnward mesh.old mesh.new }
     ensures under_way { OnOk result (WaitsAlone mesh.new waiting.new.items) }
-    ensures unsent { OnOk result (mesh.new.unsent ≡ mesh.old.unsent) }
     ensures less { OnOk result (work mesh.new waiting.new.items ≤ work mesh.old waiting.old.items) }
 {
     mesh.step(Event::Take(at.chip, at.port))?;
@@ -171,9 +170,8 @@ fn serve(mesh: &mut Mesh, waiting: &mut Vec<Waiting>, chip: Chip, out: Out) -> R
     ensures reached { IsReachedOnward mesh.old mesh.new }
     ensures served { OnOk result ((rest : List Output) →
         IsServing mesh.old waiting.old.items chip (out ∷ rest)
-        → IsServing mesh.new waiting.new.items chip rest) }
-    ensures unsent { OnOk result (mesh.new.unsent ≡ mesh.old.unsent) }
-    ensures less { OnOk result (work mesh.new waiting.new.items ≤ work mesh.old waiting.old.items) }
+        → IsServing mesh.new waiting.new.items chip rest
+        × (work mesh.new waiting.new.items ≤ work mesh.old waiting.old.items)) }
 {
     mesh.step(Event::Send(chip, out))?;
     match mesh.behind(chip, out) {

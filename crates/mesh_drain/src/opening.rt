@@ -1,13 +1,13 @@
 // The mesh of a job before its first event.
-ghost use Rattle.std.specs.Prelude.{◌≡◌, ◌+◌, ◌*◌, ◌<◌, ◌^◌, All, Contains, map, length, IfOk, OnOk, []};
+ghost use Rattle.std.specs.Prelude.{◌≡◌, ◌+◌, ◌<◌, ◌^◌, map, IfOk, OnOk, []};
 ghost use Rattle.mesh_core.specs.State.{IsMesh};
-ghost use Rattle.mesh_core.specs.Opened.{opened_mesh, AreOfNets};
-ghost use Rattle.mesh_drain.specs.Opening.{source_vertex_of, AreListed};
+ghost use Rattle.mesh_core.specs.Opened.{opened_mesh};
+ghost use Rattle.mesh_drain.specs.Opening.{source_vertex_of, CanOpen, AreListed};
 
 use machine_desc::NetPlan;
-use mesh_core::laws::{every_mesh_is_one, every_setup_has_sites};
+use mesh_core::laws::every_mesh_is_one;
 use mesh_core::{Mesh, MeshSetup};
-use spin_base::{Block, McCopy, Memory, Packet};
+use spin_base::{McCopy, Memory, Packet};
 use std::alloc::Global;
 
 /// The mesh of a job before its first event. Packet number `i` of the list stands unsent at its net's source, with the key that it
@@ -22,10 +22,7 @@ pub fn open_mesh(
     nets: &[NetPlan],
     packets: &[Packet],
 ) -> Result<Mesh, Memory>
-    requires tables { length setup.tables ≡ setup.machine.width * setup.machine.height }
-    requires sources { All (λ net. Contains setup.spots net.source) nets.now }
-    requires few { length packets.now < 2 ^ 32 }
-    requires of_nets { AreOfNets nets.now packets.now }
+    requires { CanOpen setup nets.now packets.now }
     ensures opened { IfOk result (λ mesh. mesh ≡ opened_mesh setup nets.now packets.now) }
     ensures mesh { IfOk result IsMesh }
 {
@@ -44,14 +41,18 @@ fn add_packets(
     packets: &[Packet],
 ) -> Result<(), Memory>
     requires none_yet { mesh.old ≡ opened_mesh mesh.old.setup nets.now [] }
-    requires listed { AreListed mesh.old.setup.spots nets.now packets.now sources.now }
-    requires few { length packets.now < 2 ^ 32 }
+    requires listed { AreListed mesh.old.setup nets.now packets.now sources.now }
     ensures { OnOk result (mesh.new ≡ opened_mesh mesh.old.setup nets.now packets.now) }
 {
     every_mesh_is_one(mesh);
     for (number, packet) in packets.iter().enumerate() {
         let net = packet.net as usize;
-        let copy = first_copy(number as u32, nets[net].block, *packet);
+        let copy = McCopy {
+            packet: number as u32,
+            key: nets[net].block.key + packet.index,
+            payload: packet.payload,
+            hop: 0,
+        };
         mesh.add(sources[net] as u32, copy)?;
     }
     Ok(())
@@ -59,34 +60,13 @@ fn add_packets(
 
 // The vertex of each net's source.
 fn source_vertices(alloc: Global, setup: &MeshSetup, nets: &[NetPlan]) -> Result<Vec<usize>, Memory>
-    requires { All (λ net. Contains setup.now.spots net.source) nets.now }
     ensures { IfOk result (λ vertices. vertices.items
         ≡ map (source_vertex_of setup.now.spots) nets.now) }
 {
-    every_setup_has_sites(setup);
     let mut vertices = Vec::new(alloc);
     for net in nets {
         let vertex = setup.vertex_at(net.source).unwrap_or(0);
         vertices.push(vertex)?;
     }
     Ok(vertices)
-}
-
-// The copy of a packet before it is sent.
-fn first_copy(number: u32, block: Block, packet: Packet) -> McCopy
-    requires { block.key + packet.index < 2 ^ 32 }
-    ensures { result
-        ≡ record {
-          packet = number;
-          key = block.key + packet.index;
-          payload = packet.payload;
-          hop = 0;
-        } }
-{
-    McCopy {
-        packet: number,
-        key: block.key + packet.index,
-        payload: packet.payload,
-        hop: 0,
-    }
 }

@@ -1,14 +1,14 @@
 // What waits in a mesh, moved until nothing waits.
-ghost use Rattle.std.specs.Prelude.{◌≡◌, ◌<◌, true, OnErr, OnOk, is_some, length, slice_set, []};
+ghost use Rattle.std.specs.Prelude.{◌≡◌, ◌<◌, true, OnOk, is_some, slice_set, []};
 ghost use Rattle.mesh_core.specs.Expected.{NothingWaits};
 ghost use Rattle.mesh_core.specs.State.{behind};
-ghost use Rattle.mesh_core.specs.Step.{after_event, step_of};
-ghost use Rattle.mesh_drain.specs.Draining.{AreCollected, DropsAtNoVertex, IsAfter, IsMoved, IsReachedDropless, IsSameBesidesCores, collected_from};
+ghost use Rattle.mesh_core.specs.Step.{step_of};
+ghost use Rattle.mesh_drain.specs.Draining.{AreCollected, DropsAtNoVertex, IsAfter, IsMoved, IsReachedDropless, IsSameBesidesCores, SendsNone, collected_from};
 ghost use Rattle.mesh_drain.specs.UnderWay.{weight_in};
 ghost use Rattle.mesh_drain.specs.Waiting.{IsWaiting};
 
 use crate::draining::collect;
-use crate::waiting::{Waits, waiting, waiting_on, waits_for};
+use crate::waiting::{Waits, waiting, waiting_on};
 use mesh_core::laws::every_mesh_is_one;
 use mesh_core::{Did, Mesh, Queue};
 use spin_base::{Chip, Event, Memory, Out};
@@ -46,23 +46,20 @@ fn empty_cores(mesh: &mut Mesh) -> Result<(), Memory>
 
 // A vertex takes all that waits for it.
 fn empty_core(mesh: &mut Mesh, vertex: u32) -> Result<(), Memory>
-    requires { vertex < length mesh.old.setup.spots }
     ensures reached { IsReachedDropless mesh.old mesh.new }
     ensures others { IsSameBesidesCores mesh.old mesh.new }
     ensures emptied { OnOk result (mesh.new.cores ≡ slice_set mesh.old.cores vertex []) }
 {
-    'copies: while waits_for(mesh, vertex) {
-        take_event(mesh, Event::Collect(vertex))?;
-    }
+    every_mesh_is_one(mesh);
+    'copies: while let Did::Moved = mesh.step(Event::Collect(vertex))? {}
     Ok(())
 }
 
 // Goes once over all chips: each chip's router moves on all that waits there.
 fn sweep(mesh: &mut Mesh) -> Result<(), Memory>
-    requires { AreCollected mesh.old }
     ensures after { IsAfter mesh.old mesh.new }
-    ensures links { DropsAtNoVertex mesh.old mesh.new }
-    ensures collected { OnOk result (AreCollected mesh.new) }
+    ensures links { AreCollected mesh.old → DropsAtNoVertex mesh.old mesh.new }
+    ensures collected { AreCollected mesh.old → OnOk result (AreCollected mesh.new) }
 {
     let chips = mesh.machine().chips();
     for index in 0..chips {
@@ -74,10 +71,9 @@ fn sweep(mesh: &mut Mesh) -> Result<(), Memory>
 
 // A chip's router moves on all that waits there.
 fn empty_chip(mesh: &mut Mesh, chip: Chip) -> Result<(), Memory>
-    requires { AreCollected mesh.old }
     ensures after { IsAfter mesh.old mesh.new }
-    ensures links { DropsAtNoVertex mesh.old mesh.new }
-    ensures collected { OnOk result (AreCollected mesh.new) }
+    ensures links { AreCollected mesh.old → DropsAtNoVertex mesh.old mesh.new }
+    ensures collected { AreCollected mesh.old → OnOk result (AreCollected mesh.new) }
 {
     'events: while let Some(at) = waiting_on(mesh, chip) {
         move_on(mesh, at)?;
@@ -85,14 +81,13 @@ fn empty_chip(mesh: &mut Mesh, chip: Chip) -> Result<(), Memory>
     Ok(())
 }
 
-// Moves a copy that waits, where none waits for a vertex.
+// Moves a copy that waits.
 fn move_on(mesh: &mut Mesh, at: Waits) -> Result<(), Memory>
-    requires waits { IsWaiting mesh.old at }
-    requires collected { AreCollected mesh.old }
     ensures after { IsAfter mesh.old mesh.new }
-    ensures lighter { OnOk result (weight_in mesh.new < weight_in mesh.old) }
-    ensures links { DropsAtNoVertex mesh.old mesh.new }
-    ensures collected { OnOk result (AreCollected mesh.new) }
+    ensures lighter { IsWaiting mesh.old at
+        → OnOk result (weight_in mesh.new < weight_in mesh.old) }
+    ensures links { AreCollected mesh.old → DropsAtNoVertex mesh.old mesh.new }
+    ensures collected { AreCollected mesh.old → OnOk result (AreCollected mesh.new) }
 {
     every_mesh_is_one(mesh);
     match at {
@@ -102,13 +97,13 @@ fn move_on(mesh: &mut Mesh, at: Waits) -> Result<(), Memory>
     }
 }
 
-// Takes an event that is enabled.
+// Takes an event, which makes the mesh lighter where it is enabled.
 fn take_event(mesh: &mut Mesh, e: Event) -> Result<(), Memory>
-    requires { is_some (step_of mesh.old e) ≡ true }
     ensures after { IsAfter mesh.old mesh.new }
-    ensures lighter { OnOk result (weight_in mesh.new < weight_in mesh.old) }
-    ensures taken { OnOk result (mesh.new ≡ after_event mesh.old e) }
-    ensures err { OnErr result (mesh.new ≡ mesh.old) }
+    ensures lighter { is_some (step_of mesh.old e) ≡ true
+        → OnOk result (weight_in mesh.new < weight_in mesh.old) }
+    ensures links { SendsNone e → AreCollected mesh.old → DropsAtNoVertex mesh.old mesh.new }
+    ensures collected { SendsNone e → AreCollected mesh.old → OnOk result (AreCollected mesh.new) }
 {
     every_mesh_is_one(mesh);
     mesh.step(e)?;
@@ -118,12 +113,11 @@ fn take_event(mesh: &mut Mesh, e: Event) -> Result<(), Memory>
 // The chip's router sends the copy in its hand by an output, or drops it there where the queue behind it is full: that is never a
 // vertex's.
 fn serve(mesh: &mut Mesh, chip: Chip, out: Out) -> Result<(), Memory>
-    requires waits { IsWaiting mesh.old (Waits.InHand chip out) }
-    requires collected { AreCollected mesh.old }
     ensures after { IsAfter mesh.old mesh.new }
-    ensures lighter { OnOk result (weight_in mesh.new < weight_in mesh.old) }
-    ensures links { DropsAtNoVertex mesh.old mesh.new }
-    ensures collected { OnOk result (AreCollected mesh.new) }
+    ensures lighter { IsWaiting mesh.old (Waits.InHand chip out)
+        → OnOk result (weight_in mesh.new < weight_in mesh.old) }
+    ensures links { AreCollected mesh.old → DropsAtNoVertex mesh.old mesh.new }
+    ensures collected { AreCollected mesh.old → OnOk result (AreCollected mesh.new) }
 {
     every_mesh_is_one(mesh);
     match mesh.step(Event::Send(chip, out))? {

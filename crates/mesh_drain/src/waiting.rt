@@ -1,5 +1,5 @@
 // Where a copy waits.
-ghost use Rattle.std.specs.Prelude.{◌≡◌, ℕ, ◌<◌, ◌*◌, All, [], None, Some, IfSome, IfNone, length, true, false, slice_get};
+ghost use Rattle.std.specs.Prelude.{◌≡◌, ℕ, ◌*◌, All, [], None, Some, IfSome, IfNone, true, false};
 ghost use Rattle.spin_base.specs.declared.chips.Port.{Port as APort};
 ghost use Rattle.machine_desc.specs.Live.{IsInside};
 ghost use Rattle.mesh_core.specs.Expected.{NothingWaits};
@@ -64,7 +64,7 @@ fn full_core(mesh: &Mesh) -> Option<u32>
     every_mesh_is_one(mesh);
     let vertices = mesh.spots().len();
     for vertex in 0..vertices {
-        if waits_for(mesh, vertex as u32) {
+        if !mesh.core_queue(vertex as u32).is_empty() {
             return Some(vertex as u32);
         }
     }
@@ -103,10 +103,10 @@ fn next_output(router: Router) -> Option<Out>
         .copied()
 }
 
-// A chip and a port of it at which a copy waits, if there is one, where all hands are free.
+// A chip and a port of it at which a copy waits, if there is one. Where all hands are free it can be moved.
 fn full_port(mesh: &Mesh) -> Option<(Chip, Port)>
-    requires { All (λ h. h ≡ None) mesh.now.hands }
-    ensures some { IfSome result (λ p. IsWaiting mesh.now (Waits.AtPort p.0 p.1)) }
+    ensures some { All (λ h. h ≡ None) mesh.now.hands
+        → IfSome result (λ p. IsWaiting mesh.now (Waits.AtPort p.0 p.1)) }
     ensures none { IfNone result (All (λ q. q ≡ []) mesh.now.inputs) }
 {
     every_mesh_is_one(mesh);
@@ -147,13 +147,4 @@ fn waits_at(router: Router, port: Port) -> bool
         → port_copies router.entry.mesh.now router.entry.chip port ≡ Some [] }
 {
     !router.mesh.queue(router.chip, port).is_empty()
-}
-
-// Whether a copy waits for a vertex.
-pub(crate) fn waits_for(mesh: &Mesh, vertex: u32) -> bool
-    requires { vertex < length mesh.now.setup.spots }
-    ensures waits { result ≡ true → HasCopies (slice_get mesh.now.cores vertex) }
-    ensures clear { result ≡ false → slice_get mesh.now.cores vertex ≡ Some [] }
-{
-    !mesh.core_queue(vertex).is_empty()
 }

@@ -3,20 +3,15 @@ use Rattle.std.proofs.Common.{◌≡◌, ℕ, ◌==◌, List, [], ◌∷◌, map
 use Rattle.std.proofs.lemmas.{Bool.false≢true, List.Elements.All-from_recursion}
 use Rattle.std.specs.List.{Contains}
 use Rattle.spin_base.proofs.{Members.Among, Members.Contains-only, Equality.out_eq_true, Lookups.lookup_hit, Lookups.lookup_miss, Once.all_once}
-use Rattle.spin_base.specs.declared.chips.{Chip.Chip, Port.Port, Port.TheVariants.Link as ByLink, Port.TheVariants.Local}
-use Rattle.spin_base.specs.declared.chips.Dir.TheVariants.{East, West}
-use Rattle.spin_base.specs.declared.routes.{Out.Out, Out.TheVariants.Link, Route.Route}
-use Rattle.spin_base.specs.Equality.{out_eq}
-use Rattle.spin_base.specs.Outputs.{has, all_outs, link_outs, core_outs, IsOutput}
+use Rattle.spin_base.specs.declared.{chips.Chip.Chip, chips.Port.Port, chips.Port.TheVariants.Local, chips.Dir.TheVariants.East, chips.Dir.TheVariants.West, routes.Out.Out}
+use Rattle.spin_base.specs.{declared.routes.Out.TheVariants.Link, declared.routes.Route.Route, Equality.out_eq, Outputs.has, Outputs.all_outs, Outputs.link_outs, Outputs.core_outs, Outputs.IsOutput}
 use Rattle.spin_base.specs.{Lookup.lookup, Lookup.matches, Links.opposite_of}
-use Rattle.machine_desc.specs.declared.trees.Edge.{Edge}
-use Rattle.machine_desc.specs.RoutingTree.{end_of}
-use Rattle.machine_desc.specs.declared.nets.NetPlan.{NetPlan}
-use Rattle.machine_desc.specs.Outputs.{is_wanted}
-use Rattle.machine_desc.specs.RightTables.{IsKeyOf, RoutesByTree, AreRight, table_at}
+use Rattle.spin_base.specs.declared.chips.Port.TheVariants.{Link as ByLink}
+use Rattle.machine_desc.specs.{declared.trees.Edge.Edge, RoutingTree.end_of, declared.nets.NetPlan.NetPlan, Outputs.is_wanted, RightTables.IsKeyOf, RightTables.RoutesByTree, RightTables.AreRight}
+use Rattle.machine_desc.specs.RightTables.{table_at}
 use Rattle.mesh_core.proofs.Counting.{counted}
-use Rattle.mesh_example.specs.Board.{two_chip_board, left_chip, right_chip, east, targets, net, other_net, nets, tables, wrong_tables}
-use Rattle.mesh_example.specs.Board.{right_table, block, other_block, left_route, right_route, east_route, entry_of_key}
+use Rattle.mesh_example.specs.Board.{two_chip_board, left_chip, right_chip, east, targets, net, other_net, nets, tables, wrong_tables, right_table, block, other_block, left_route, right_route}
+use Rattle.mesh_example.specs.Board.{east_route, entry_of_key}
 
 is_first : (route : Route) (key : ℕ) → IsKeyOf block key → matches (entry_of_key 0 route) key ≡ true
 is_first route key k = ap (λ (n : ℕ). n == 0) k.matches

@@ -4,11 +4,8 @@ use Rattle.std.proofs.lemmas.{Option.none-some, List.Elements.All-from_recursion
 use Rattle.std.specs.List.{All, AllPairs, Any, Contains, slice_get}
 use Rattle.spin_base.proofs.Members.{Contains-only}
 use Rattle.spin_base.specs.declared.{chips.Chip.Chip, chips.Spot.Spot, copies.Packet.Packet}
-use Rattle.machine_desc.specs.declared.trees.Edge.{Edge}
-use Rattle.machine_desc.specs.{Description.HasSize, Live.IsLiveLink, Live.IsSite}
-use Rattle.machine_desc.specs.RoutingTree.{IsRoutingTree, IsTreeChip, IsPath, end_of}
-use Rattle.machine_desc.specs.declared.nets.NetPlan.{NetPlan}
-use Rattle.machine_desc.specs.{NetsOn.AreNetsOn, NetsOn.HaveDisjointBlocks, RightTables.IsKeyOf}
+use Rattle.machine_desc.specs.{declared.trees.Edge.Edge, Description.HasSize, Live.IsLiveLink, Live.IsSite, RoutingTree.IsRoutingTree, RoutingTree.IsTreeChip, RoutingTree.IsPath, RoutingTree.end_of}
+use Rattle.machine_desc.specs.{declared.nets.NetPlan.NetPlan, NetsOn.AreNetsOn, NetsOn.HaveDisjointBlocks, RightTables.IsKeyOf}
 use Rattle.mesh_core.specs.{State.IsMesh, Opened.AreOfNets}
 use Rattle.mesh_core.proofs.{Changes.IsMesh-empty, OpenedLaw.IsMesh-opened}
 use Rattle.mesh_example.specs.Board.{two_chip_board, left_chip, right_chip, east, source, targets, device, spots, net, other_net, nets, packets, setup, opened, block, other_block}

@@ -2,8 +2,7 @@
 use Rattle.std.proofs.Common.{◌≡◌, ℕ, List, Option, Some, sym, ap, ◌∙◌, subst}
 use Rattle.std.specs.List.{slice_get}
 use Rattle.spin_base.specs.declared.copies.Packet.{Packet}
-use Rattle.machine_desc.specs.declared.nets.NetPlan.{NetPlan}
-use Rattle.machine_desc.specs.RightTables.{IsKeyOf}
+use Rattle.machine_desc.specs.{declared.nets.NetPlan.NetPlan, RightTables.IsKeyOf}
 use Rattle.mesh_core.specs.{State.State, Ledger.Asked, Ledger.label_of, Opened.asked_by, Opened.MeetsJobLedger, Whereabouts.IsTracked}
 use Rattle.mesh_core.proofs.AskedPackets.{asks, asked_from, net_in_list}
 

@@ -1,17 +1,16 @@
 -- What is left of a way for a copy on its trail, where some places of the way count: each move leaves at most as much, and less by
 -- what it takes.
-use Rattle.std.proofs.Common.{◌≡◌, ℕ, zero, suc, ◌+◌, ◌*◌, ◌-◌, ◌<◌, ◌≤◌, ◌==◌, cond, min, refl, ap, sym, ◌∙◌, subst, arith, inl, inr, List, [], ◌∷◌, length, Bool, true, false, count_by}
+use Rattle.std.proofs.Common.{◌≡◌, ℕ, zero, suc, ◌+◌, ◌*◌, ◌-◌, ◌<◌, ◌≤◌, ◌==◌, cond, min, refl, ap, sym, subst, arith, inl, inr, List, [], ◌∷◌, length, Bool, true, false, count_by}
+use Rattle.std.proofs.Common.{◌∙◌}
 use Rattle.std.proofs.lemmas.{Bool.and_parts, Bool.eqb-true, List.Sums.sum_by-cons, Option.slice_get_within}
 use Rattle.std.specs.List.{sum_by}
-use Rattle.spin_base.proofs.Counts.{count_by-cons}
-use Rattle.spin_base.proofs.Members.{Among, among_map, among_only}
-use Rattle.spin_base.specs.declared.{chips.Chip.Chip, chips.Port.TheVariants.Link as ByLink, chips.Port.TheVariants.Local, routes.Out.Out, copies.McCopy.McCopy}
-use Rattle.spin_base.specs.{Links.opposite_of, Hops.last_hop, Hops.onward}
+use Rattle.spin_base.proofs.{Counts.count_by-cons, Members.Among, Members.among_map, Members.among_only}
+use Rattle.spin_base.specs.{declared.chips.Chip.Chip, declared.chips.Port.TheVariants.Local, declared.routes.Out.Out, declared.copies.McCopy.McCopy, Links.opposite_of, Hops.last_hop, Hops.onward}
+use Rattle.spin_base.specs.declared.chips.Port.TheVariants.{Link as ByLink}
 use Rattle.machine_desc.specs.Branch.{Exit}
-use Rattle.mesh_core.specs.{State.State, Step.outputs}
-use Rattle.mesh_core.specs.Trail.{Station, unsent, in_queue, in_hand, at_core, delivered, dumped, Mark, is_on_trail, is_packet_on_trail, on_trail}
-use Rattle.mesh_core.proofs.Law.{comes_parts, leaves_parts}
-use Rattle.mesh_core.proofs.Moves.{mark, IsMove, IsMoveOf, Crosses}
+use Rattle.mesh_core.specs.{State.State, Step.outputs, Trail.Station, Trail.unsent, Trail.in_queue, Trail.in_hand, Trail.at_core, Trail.delivered, Trail.dumped, Trail.Mark, Trail.is_on_trail}
+use Rattle.mesh_core.specs.Trail.{is_packet_on_trail, on_trail}
+use Rattle.mesh_core.proofs.{Law.comes_parts, Law.leaves_parts, Moves.mark, Moves.IsMove, Moves.IsMoveOf, Moves.Crosses}
 
 -- ---- places that count
 
@@ -25,9 +24,7 @@ abbrev pub counted_from : (ℕ → ℕ) → List Exit → ℕ → ℕ
 counted_from counted branch j = counted_in counted (length branch - j) j
 
 pub one_place : (counted : ℕ → ℕ) (branch : List Exit) (j : ℕ) → j < length branch → counted_from counted branch j ≡ counted j + counted_from counted branch (suc j)
-one_place counted branch j low =
-    let step : length branch - j ≡ suc (length branch - suc j) = omega (arith, low) in
-    ap (λ n. counted_in counted n j) step
+one_place counted branch j low = grind arith
 
 fewer_from : (counted : ℕ → ℕ) (branch : List Exit) (j : ℕ) → counted_from counted branch (suc j) ≤ counted_from counted branch j
 fewer_from counted branch j = by_rest (length branch - j) refl
@@ -110,10 +107,7 @@ module _ (w : Counted) where
       crossing k c o on' (inr (v, dead, vertex, is)) = one (mark (onward k) (at_core v)) 0 _ is (omega arith)
 
       by_station : (k : McCopy) (at : Station) → on_trail w.from w.to w.branch k.hop at ≡ true → IsMoveOf s k at come → left_of y + taken_at k.hop at ≤ left_at k.hop at
-      by_station k (unsent v) on' m =
-          let first : k.hop ≡ 0 = eqb-true k.hop 0 ((and_parts (v == w.from) (k.hop == 0) on').1) in
-          let same : counted_from w.counted w.branch k.hop ≡ counted_from w.counted w.branch 0 = ap (counted_from w.counted w.branch) first in
-          one (mark k (in_queue m.0.chip Local)) _ _ m.2 (omega (arith, same))
+      by_station k (unsent v) on' m = grind (arith, eqb-true k.hop 0 ((and_parts (v == w.from) (k.hop == 0) on').1), and_parts (v == w.from) (k.hop == 0) on', mark k (in_queue m.0.chip Local))
       by_station k (in_queue c port) on' m =
           let there = comes_parts w.branch k.hop c port on' in
           let all = one_place w.counted w.branch k.hop (slice_get_within w.branch k.hop there.exit there.at) in

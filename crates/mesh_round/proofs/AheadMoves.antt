@@ -1,21 +1,16 @@
 -- What is left of all ways of all packets: a bag of moves leaves less by what its moves take.
-use Rattle.std.proofs.Common.{◌≡◌, ℕ, zero, suc, ◌+◌, ◌*◌, ◌<◌, ◌≤◌, ◌==◌, ◌&&◌, cond, if◌then◌else◌, refl, ap, sym}
-use Rattle.std.proofs.Common.{◌∙◌, subst, arith, inl, inr, ◌⊎◌, List, [], ◌∷◌, length, Bool, true, false, count_by}
+use Rattle.std.proofs.Common.{◌≡◌, ℕ, zero, suc, ◌+◌, ◌*◌, ◌<◌, ◌≤◌, ◌==◌, ◌&&◌, cond, if◌then◌else◌, refl, ap, sym, ◌∙◌, subst, arith, inl, inr, ◌⊎◌, List, [], ◌∷◌, length, Bool, true, false}
+use Rattle.std.proofs.Common.{count_by}
 use Rattle.std.proofs.lemmas.{Bool.cases_order, Bool.eqb-true, List.Sums.sum_by-append, List.Sums.sum_by-cons}
 use Rattle.std.specs.List.{sum_by, Contains}
 use Rattle.spin_base.proofs.Members.{Among, among_contains, among_either}
 use Rattle.spin_base.specs.declared.chips.Spot.{Spot}
-use Rattle.machine_desc.specs.{NetsOn.IsWayOn, declared.nets.NetPlan.NetPlan}
-use Rattle.machine_desc.specs.RightTables.{AreRight, IsKeyOf}
+use Rattle.machine_desc.specs.{NetsOn.IsWayOn, declared.nets.NetPlan.NetPlan, RightTables.AreRight, RightTables.IsKeyOf}
 use Rattle.mesh_core.specs.{State.State, State.IsMesh, Trail.Mark, Ledger.Label, Ledger.MeetsLedger, Ledger.marks_of}
-use Rattle.mesh_core.proofs.{Counting.counted, Law.move_comes, Law.move_counts}
-use Rattle.mesh_core.proofs.LedgerLaw.{Bag, IsRight, Moved, one_net, right_before, right_come, stands}
-use Rattle.mesh_core.proofs.MarkTests.{mark_eq, mark_eq_same, mark_eq_true, move_raises, rank}
-use Rattle.mesh_core.proofs.Ways.{short_branch}
-use Rattle.mesh_round.proofs.Ahead.{Counted, is_on, left_for, left_of, move_takes, sum_of_passing, taken_for, taken_of}
-use Rattle.mesh_round.proofs.CountSums.{counts}
-use Rattle.mesh_round.proofs.Lighter.{all_come, all_left, come_counts, even_weights, left_counts}
-use Rattle.mesh_round.proofs.Sums.{sum_agree, sum_none}
+use Rattle.mesh_core.proofs.{Counting.counted, Law.move_comes, Law.move_counts, LedgerLaw.Bag, LedgerLaw.IsRight, LedgerLaw.Moved, LedgerLaw.one_net, LedgerLaw.right_before, LedgerLaw.right_come}
+use Rattle.mesh_core.proofs.{LedgerLaw.stands, MarkTests.mark_eq, MarkTests.mark_eq_same, MarkTests.mark_eq_true, MarkTests.move_raises, MarkTests.rank, Ways.short_branch}
+use Rattle.mesh_round.proofs.{Ahead.Counted, Ahead.is_on, Ahead.left_for, Ahead.left_of, Ahead.move_takes, Ahead.sum_of_passing, Ahead.taken_for, Ahead.taken_of, CountSums.counts, Lighter.all_come}
+use Rattle.mesh_round.proofs.{Lighter.all_left, Lighter.come_counts, Lighter.even_weights, Lighter.left_counts, Sums.sum_agree, Sums.sum_none}
 
 pub among_left_of : {s : State} (vs : List (Moved s)) (v : Moved s) → Among v vs → Among v.leaves (all_left vs)
 among_left_of [] v a = absurd a

@@ -1,36 +1,28 @@
 -- Where queues have room for a copy of each packet of a job, no round dumps a copy.
-use Rattle.std.proofs.Common.{◌≡◌, ◌≢◌, ℕ, ◌+◌, ◌-◌, ◌*◌, ◌/◌, ◌%◌, ◌<◌, ◌≤◌, ◌==◌, ◌&&◌, nat_lt, zero, suc, Bool, true, false, List, []}
-use Rattle.std.proofs.Common.{◌∷◌, ◌++◌, map, filter, get_or, Some, length, refl, ap, sym, ◌∙◌, subst, arith, inl, inr, count_by, append-nil}
-use Rattle.std.proofs.Math.Nat.{mul-le-mul_left}
-use Rattle.std.proofs.lemmas.Bool.{cases_Bool, cases_lt, and_parts, and_from, eqb-true, eq-eqb, lt-ltb}
-use Rattle.std.proofs.lemmas.List.{get_or_past, length-append, Elements.All-contains, Elements.All-head, Sums.sum_by-cons}
-use Rattle.std.proofs.lemmas.Option.{slice_get_within, get_or_from_slice_get}
+use Rattle.std.proofs.Common.{◌≡◌, ◌≢◌, ℕ, ◌+◌, ◌-◌, ◌*◌, ◌/◌, ◌%◌, ◌<◌, ◌≤◌, ◌==◌, ◌&&◌, nat_lt, zero, suc, Bool, true, false, List, [], ◌∷◌, ◌++◌, map, filter, get_or, Some, length, refl, ap, sym}
+use Rattle.std.proofs.Common.{◌∙◌, subst, arith, inl, inr, count_by, append-nil}
+use Rattle.std.proofs.{Math.Nat.mul-le-mul_left, lemmas.Bool.cases_Bool, lemmas.Bool.cases_lt, lemmas.Bool.and_parts, lemmas.Bool.and_from, lemmas.Bool.eqb-true, lemmas.Bool.eq-eqb}
+use Rattle.std.proofs.lemmas.{Bool.lt-ltb, List.get_or_past, List.length-append, List.Elements.All-contains, List.Elements.All-head, List.Sums.sum_by-cons, Option.slice_get_within}
+use Rattle.std.proofs.lemmas.Option.{get_or_from_slice_get}
 use Rattle.std.specs.List.{All, Contains, slice_get, sum_by, range_with_len}
-use Rattle.spin_base.specs.Gathered.{gathered}
-use Rattle.spin_base.proofs.Counts.{count_by-append}
-use Rattle.spin_base.proofs.Members.{Among, among_contains, contains_among, map_among, among_left, among_right, among_either, Contains-filter}
-use Rattle.spin_base.proofs.Places.{slice_get_there}
-use Rattle.spin_base.proofs.Equality.{nat_eq_same, chip_eq_same, out_eq_same}
-use Rattle.spin_base.specs.declared.{chips.Chip.Chip, chips.Spot.Spot, routes.Out.Out, copies.McCopy.McCopy, copies.DumpRec.DumpRec, copies.Packet.Packet}
-use Rattle.spin_base.specs.{Equality.chip_eq, Equality.out_eq, Outputs.IsOutput, Hops.last_hop, Hops.onward}
-use Rattle.machine_desc.specs.{Description.Description, Live.chip_of, Live.IsLiveChip, Branch.Exit, declared.nets.NetPlan.NetPlan}
-use Rattle.machine_desc.specs.NetsOn.{AreNetsOn, IsWayOn}
-use Rattle.machine_desc.specs.RightTables.{IsKeyOf, AreRight}
-use Rattle.mesh_core.specs.State.{Setup, State, IsMesh, Queue, input, core, nowhere, behind}
-use Rattle.mesh_core.specs.Trail.{Station, in_queue, in_hand, at_core, dumped, Mark, on_trail, is_on_trail}
-use Rattle.mesh_core.specs.Ledger.{marks_of, marks_at, port_of, input_marks, core_marks, label_of, Label, MeetsLedger}
-use Rattle.mesh_core.specs.Opened.{asked_by, MeetsJobLedger}
-use Rattle.mesh_core.proofs.{AskedPackets.asked_parts, Law.move_counts, Law.comes_parts, LedgerLaw.Bag, LedgerLaw.one_net, LedgerLaw.stands}
-use Rattle.mesh_core.proofs.{Moves.mark, Standing.dumped_mark, Ways.Stands, Ways.one_place, Ways.vertex_at_stands, Counting.counted}
-use Rattle.mesh_round.specs.RoundFlow.{Flow, Passes, IsRound, WasFullAt, HasRounds, none as no_rounds, more, held_in, capacity_of, dumped_at}
+use Rattle.spin_base.specs.{Gathered.gathered, declared.chips.Chip.Chip, declared.chips.Spot.Spot, declared.routes.Out.Out, declared.copies.McCopy.McCopy, declared.copies.DumpRec.DumpRec}
+use Rattle.spin_base.specs.{declared.copies.Packet.Packet, Equality.chip_eq, Equality.out_eq, Outputs.IsOutput, Hops.last_hop, Hops.onward}
+use Rattle.spin_base.proofs.{Counts.count_by-append, Members.Among, Members.among_contains, Members.contains_among, Members.map_among, Members.among_left, Members.among_right, Members.among_either}
+use Rattle.spin_base.proofs.{Members.Contains-filter, Places.slice_get_there, Equality.nat_eq_same, Equality.chip_eq_same, Equality.out_eq_same}
+use Rattle.machine_desc.specs.{Description.Description, Live.chip_of, Live.IsLiveChip, Branch.Exit, declared.nets.NetPlan.NetPlan, NetsOn.AreNetsOn, NetsOn.IsWayOn, RightTables.IsKeyOf}
+use Rattle.machine_desc.specs.RightTables.{AreRight}
+use Rattle.mesh_core.specs.{State.Setup, State.State, State.IsMesh, State.Queue, State.input, State.core, State.nowhere, State.behind, Trail.Station, Trail.in_queue, Trail.in_hand, Trail.at_core}
+use Rattle.mesh_core.specs.{Trail.dumped, Trail.Mark, Trail.on_trail, Trail.is_on_trail, Ledger.marks_of, Ledger.marks_at, Ledger.port_of, Ledger.input_marks, Ledger.core_marks, Ledger.label_of}
+use Rattle.mesh_core.specs.{Ledger.Label, Ledger.MeetsLedger, Opened.asked_by, Opened.MeetsJobLedger}
+use Rattle.mesh_core.proofs.{AskedPackets.asked_parts, Law.move_counts, Law.comes_parts, LedgerLaw.Bag, LedgerLaw.one_net, LedgerLaw.stands, Moves.mark, Standing.dumped_mark, Ways.Stands}
+use Rattle.mesh_core.proofs.{Ways.one_place, Ways.vertex_at_stands, Counting.counted}
+use Rattle.mesh_round.specs.RoundFlow.{Flow, Passes, IsRound, WasFullAt, HasRounds, more, held_in, capacity_of, dumped_at}
 use Rattle.mesh_round.specs.Work.{moves_left, to_go}
-use Rattle.mesh_round.proofs.Arrivals.{Right, held_right, arrived_right, crossing_right, on_behind, somewhere}
-use Rattle.mesh_round.proofs.CountSums.{one_if, sum_within, part_of_sum_at, counts}
-use Rattle.mesh_round.proofs.{Entered.station_of, Nearer.move_nears}
-use Rattle.mesh_round.proofs.PassedOnce.{here, before, passed_once}
-use Rattle.mesh_round.proofs.RoundBag.{bag_of_round, in_parts, crossing_comes}
-use Rattle.mesh_round.proofs.FlowLaw.{round_keeps, rounds_stand}
-use Rattle.mesh_round.proofs.{Sources.once_in_range, Sources.range_parts, Sums.sum_agree, Sums.sum_swap, Sums.sum_gathered, Sums.sum_map, Weights.back_onward}
+use Rattle.mesh_round.specs.RoundFlow.{none as no_rounds}
+use Rattle.mesh_round.proofs.{Arrivals.Right, Arrivals.held_right, Arrivals.arrived_right, Arrivals.crossing_right, Arrivals.on_behind, Arrivals.somewhere, CountSums.one_if, CountSums.sum_within}
+use Rattle.mesh_round.proofs.{CountSums.part_of_sum_at, CountSums.counts, Entered.station_of, Nearer.move_nears, PassedOnce.here, PassedOnce.before, PassedOnce.passed_once, RoundBag.bag_of_round}
+use Rattle.mesh_round.proofs.{RoundBag.in_parts, RoundBag.crossing_comes, FlowLaw.round_keeps, FlowLaw.rounds_stand, Sources.once_in_range, Sources.range_parts, Sums.sum_agree, Sums.sum_swap}
+use Rattle.mesh_round.proofs.{Sums.sum_gathered, Sums.sum_map, Weights.back_onward}
 
 -- two ways of a net to one target are one
 abbrev pub HasOneWay : Type 0

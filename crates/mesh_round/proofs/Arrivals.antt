@@ -1,32 +1,24 @@
 -- Each copy that came into a queue in a round stands right there: on a trail of its net, with the key and payload of its packet.
 -- By induction on its hop number.
 use Rattle.std.proofs.Common.{◌≡◌, ◌≢◌, ℕ, ◌+◌, ◌<◌, ◌≤◌, zero, suc, true, List, [], ◌∷◌, ◌++◌, map, filter, Some, None, length, refl, ap, sym, ◌∙◌, subst, arith, inl, inr}
-use Rattle.std.proofs.lemmas.Bool.{cases_Bool, cases_lt}
-use Rattle.std.proofs.lemmas.List.{get_or_past, Elements.All-contains, Sorted.All-permutation}
-use Rattle.std.proofs.lemmas.Option.{slice_get_within, get_or_from_slice_get, none-some}
+use Rattle.std.proofs.lemmas.{Bool.cases_Bool, Bool.cases_lt, List.get_or_past, List.Elements.All-contains, List.Sorted.All-permutation, Option.slice_get_within, Option.get_or_from_slice_get}
+use Rattle.std.proofs.lemmas.Option.{none-some}
 use Rattle.std.specs.List.{slice_index_or, Contains}
-use Rattle.spin_base.proofs.Gathering.{among_gathered, gathered_among}
-use Rattle.spin_base.proofs.Members.{Among, among_contains, contains_among, among_map, map_among, among_filter, any_among, among_left, among_either}
-use Rattle.spin_base.proofs.Places.{All-each, slice_get_there}
-use Rattle.spin_base.proofs.Equality.{chip_eq_true, out_eq_true}
-use Rattle.spin_base.specs.declared.chips.{Chip.Chip, Dir.Dir, Spot.Spot, Port.Port, Port.TheVariants.Link as ByLink, Port.TheVariants.Local}
-use Rattle.spin_base.specs.declared.{routes.Out.Out, routes.Out.TheVariants.Link, copies.McCopy.McCopy}
+use Rattle.spin_base.proofs.{Gathering.among_gathered, Gathering.gathered_among, Members.Among, Members.among_contains, Members.contains_among, Members.among_map, Members.map_among}
+use Rattle.spin_base.proofs.{Members.among_filter, Members.any_among, Members.among_left, Members.among_either, Places.All-each, Places.slice_get_there, Equality.chip_eq_true, Equality.out_eq_true}
+use Rattle.spin_base.specs.declared.{chips.Chip.Chip, chips.Dir.Dir, chips.Spot.Spot, chips.Port.Port, chips.Port.TheVariants.Local, routes.Out.Out, routes.Out.TheVariants.Link, copies.McCopy.McCopy}
 use Rattle.spin_base.specs.{Links.opposite_of, Equality.chip_eq, Equality.out_eq, Outputs.IsOutput, Hops.last_hop, Hops.onward}
-use Rattle.machine_desc.specs.Live.{far_of, is_live_chip, is_live_link, IsInside, IsLiveChip, IsLiveLink}
-use Rattle.machine_desc.specs.{declared.nets.NetPlan.NetPlan, RightTables.AreRight}
-use Rattle.machine_desc.proofs.Branches.{exit_leads, ExitLeads}
-use Rattle.machine_desc.proofs.Far.{live_inside, live_ends, live_back, far_back}
+use Rattle.spin_base.specs.declared.chips.Port.TheVariants.{Link as ByLink}
+use Rattle.machine_desc.specs.{Live.far_of, Live.is_live_chip, Live.is_live_link, Live.IsInside, Live.IsLiveChip, Live.IsLiveLink, declared.nets.NetPlan.NetPlan, RightTables.AreRight}
+use Rattle.machine_desc.proofs.{Branches.exit_leads, Branches.ExitLeads, Far.live_inside, Far.live_ends, Far.live_back, Far.far_back}
 use Rattle.mesh_core.specs.State.{Setup, State, IsMesh, Queue, input, core, nowhere, behind, behind_link, queue_at, vertex_behind}
-use Rattle.mesh_core.specs.Step.{outputs}
-use Rattle.mesh_core.specs.Trail.{unsent, in_queue, in_hand, Mark}
-use Rattle.mesh_core.specs.Ledger.{marks_of, marks_at, all_ports, unsent_marks, input_marks, all_hand_marks, core_marks, delivered_marks, dumped_marks, Label, MeetsLedger}
-use Rattle.mesh_core.proofs.{Keeping.input_is_somewhere, Keeping.core_is_somewhere, Law.leaves_parts}
-use Rattle.mesh_core.proofs.LedgerLaw.{IsRight, right_before, right_come, stands}
-use Rattle.mesh_core.proofs.{Moves.mark, Moves.IsMove, Moves.Crosses, Queued.waiting_mark, Ways.Stands, Ways.vertex_behind_there, Ways.leads_to}
+use Rattle.mesh_core.specs.{Step.outputs, Trail.unsent, Trail.in_queue, Trail.in_hand, Trail.Mark, Ledger.marks_of, Ledger.marks_at, Ledger.all_ports, Ledger.unsent_marks, Ledger.input_marks}
+use Rattle.mesh_core.specs.Ledger.{all_hand_marks, core_marks, delivered_marks, dumped_marks, Label, MeetsLedger}
+use Rattle.mesh_core.proofs.{Keeping.input_is_somewhere, Keeping.core_is_somewhere, Law.leaves_parts, LedgerLaw.IsRight, LedgerLaw.right_before, LedgerLaw.right_come, LedgerLaw.stands, Moves.mark}
+use Rattle.mesh_core.proofs.{Moves.IsMove, Moves.Crosses, Queued.waiting_mark, Ways.Stands, Ways.vertex_behind_there, Ways.leads_to}
 use Rattle.mesh_round.specs.RoundFlow.{Flow, Passes, at_port, held_in, leaves_by, taken_for, dumped_at, sent_on, of_chip}
-use Rattle.mesh_round.proofs.Ends.{by_link, to_vertex, to_none, leads, Leads}
-use Rattle.mesh_round.proofs.Entered.{station_of, station_is, crosses_behind, behind_far}
-use Rattle.mesh_round.proofs.Weights.{back, back_onward, not_last}
+use Rattle.mesh_round.proofs.{Ends.by_link, Ends.to_vertex, Ends.to_none, Ends.leads, Ends.Leads, Entered.station_of, Entered.station_is, Entered.crosses_behind, Entered.behind_far, Weights.back}
+use Rattle.mesh_round.proofs.Weights.{back_onward, not_last}
 
 module _ (m : State) (f : Flow) (n : State) (nets : List NetPlan) (labels : ℕ → Label) (mesh : IsMesh m) (passes : Passes m f n)
     (right : AreRight m.setup.machine m.setup.tables nets) (ledger : MeetsLedger m nets labels) where

@@ -1,5 +1,5 @@
 -- What the queues of a list held, and what entered and left them, as marks.
-use Rattle.std.proofs.Common.{◌≡◌, ℕ, ◌+◌, ◌<◌, suc, List, [], ◌∷◌, ◌++◌, length, Bool, refl, ap, sym, ◌∙◌, subst, arith, count_by, add-one}
+use Rattle.std.proofs.Common.{◌≡◌, ℕ, ◌+◌, ◌<◌, suc, List, [], ◌∷◌, ◌++◌, length, Bool, refl, ap, ◌∙◌, subst, arith, count_by, add-one}
 use Rattle.std.proofs.lemmas.List.{map-append, Sums.sum_by-cons}
 use Rattle.std.specs.List.{sum_by, slice_index_or, range_with_len}
 use Rattle.spin_base.specs.{Gathered.gathered, declared.copies.McCopy.McCopy}
@@ -16,14 +16,11 @@ module _ (p : Mark → Bool) (station : ℕ → Station) (entered left : ℕ →
   passing_in a queues = count_by p (gathered (λ i copies. marks_at (station i) copies) a queues)
 
   passing-append : (i : ℕ) (xs ys : List McCopy) → count_by p (marks_at (station i) (xs ++ ys)) ≡ count_by p (marks_at (station i) xs) + count_by p (marks_at (station i) ys)
-  passing-append i xs ys =
-      ap (count_by p) (map-append (λ k. record { copy = k; station = station i }) xs ys)
-      ∙ count_by-append p (marks_at (station i) xs) (marks_at (station i) ys)
+  passing-append i xs ys = grind (arith, count_by p, count_by-append p (marks_at (station i) xs) (marks_at (station i) ys), map-append)
 
   one_queue : (i : ℕ) (x y : List McCopy) → x ++ entered i ≡ left i ++ y →
       count_by p (marks_at (station i) x) + passing entered i ≡ passing left i + count_by p (marks_at (station i) y)
-  one_queue i x y same =
-      sym (passing-append i x (entered i)) ∙ (ap (λ c. count_by p (marks_at (station i) c)) same ∙ passing-append i (left i) y)
+  one_queue i x y same = grind (arith, passing-append i x (entered i), passing-append i (left i) y, count_by)
 
   -- Where each queue holds before and gets what it gives and holds after, so do their marks.
   pub queues_balance : (a : ℕ) (xs ys : List (List McCopy)) → length ys ≡ length xs →

@@ -1,5 +1,6 @@
 -- Sums and counts over lists: where all tests count as many, all sums are equal.
-use Rattle.std.proofs.Common.{◌≡◌, ℕ, ◌+◌, ◌-◌, ◌≤◌, zero, suc, Bool, true, cond, nat_lt, List, [], ◌∷◌, refl, ap, sym, ◌∙◌, arith, inl, inr, count_by, Some}
+use Rattle.std.proofs.Common.{◌≡◌, ℕ, ◌+◌, ◌-◌, ◌≤◌, zero, suc, Bool, true, cond, nat_lt, List, [], ◌∷◌, refl, ◌∙◌, arith, inl, inr, count_by, Some}
+use Rattle.std.proofs.Common.{sym}
 use Rattle.std.proofs.lemmas.{Bool.lt-ltb, List.Sums.sum_by-cons}
 use Rattle.std.specs.List.{sum_by, slice_get}
 use Rattle.spin_base.proofs.Members.{Among}
@@ -20,40 +21,21 @@ sum_within f g (x ∷ xs) less =
 -- a part of a sum
 pub part_of_sum : {X : Type 0} (f : X → ℕ) (x : X) (xs : List X) → Among x xs → f x ≤ sum_by f xs
 part_of_sum f x [] a = absurd a
-part_of_sum f x (y ∷ ys) (inl here) =
-    let all = sum_by-cons f y ys in
-    let same = ap f here in
-    omega arith
-part_of_sum f x (y ∷ ys) (inr later) =
-    let all = sum_by-cons f y ys in
-    let rest = part_of_sum f x ys later in
-    omega arith
+part_of_sum f x (y ∷ ys) (inl here) = grind (arith, sum_by-cons f y ys)
+part_of_sum f x (y ∷ ys) (inr later) = grind (arith, sum_by-cons f y ys, part_of_sum f x ys later)
 
 pub part_of_sum_at : {X : Type 0} (h : ℕ → X → ℕ) (a : ℕ) (xs : List X) (i : ℕ) (x : X) → slice_get xs i ≡ Some x → h (a + i) x ≤ sum_at h a xs
 part_of_sum_at h a [] i x at = cc
-part_of_sum_at {X} h a (y ∷ ys) zero x at =
-    let same : y ≡ x = cc in
-    let here : a + 0 ≡ a = omega arith in
-    let first : h (a + 0) x ≡ h a y = ap (λ n. h n x) here ∙ ap (h a) (sym same) in
-    omega arith
-part_of_sum_at h a (y ∷ ys) (suc i) x at =
-    let next : a + suc i ≡ (a + 1) + i = omega arith in
-    let rest = part_of_sum_at h (a + 1) ys i x at in
-    let first : h (a + suc i) x ≡ h ((a + 1) + i) x = ap (λ n. h n x) next in
-    omega arith
+part_of_sum_at {X} h a (y ∷ ys) zero x at = grind arith
+part_of_sum_at h a (y ∷ ys) (suc i) x at = grind (arith, part_of_sum_at h (a + 1) ys i x at)
 
 -- an item that passes counts
 pub counts : {X : Type 0} (p : X → Bool) (x : X) (xs : List X) → Among x xs → p x ≡ true → 1 ≤ count_by p xs
-counts p x xs a passes =
-    let part = part_of_sum (λ y. one_if (p y)) x xs a in
-    let one : one_if (p x) ≡ 1 = ap one_if passes in
-    omega arith
+counts p x xs a passes = grind (arith, part_of_sum)
 
 one_and_less : (n : ℕ) → n ≡ one_if (nat_lt 0 n) + (n - 1)
 one_and_less zero = refl
-one_and_less (suc n) =
-    let one : one_if (nat_lt 0 (suc n)) ≡ 1 = ap one_if (lt-ltb 0 (suc n) (omega arith)) in
-    omega arith
+one_and_less (suc n) = grind (arith, lt-ltb 0 (suc n) (omega arith))
 
 -- Where every test counts as many in one list as in another, every sum over the two is equal.
 pub same_sums : {X : Type 0} (xs ys : List X) → ((p : X → Bool) → count_by p xs ≡ count_by p ys) → (w : X → ℕ) → sum_by w xs ≡ sum_by w ys

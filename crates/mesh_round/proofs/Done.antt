@@ -1,21 +1,19 @@
 -- What one thing that was done tells of a chip's ports, its vertices and an output of it.
 use Rattle.std.proofs.Common.{◌≡◌, ℕ, ◌+◌, ◌*◌, ◌==◌, ◌&&◌, cond, Bool, true, false, List, [], ◌∷◌, ◌++◌, map, Option, Some, None, refl, sym, ap, ◌∙◌, subst, arith, inl, inr}
-use Rattle.std.proofs.lemmas.Bool.{and_parts, and_from, cases_Bool, cases_eq, cond-true, cond-false, eq-eqb, false_from_ne_true, ne_eqb}
-use Rattle.std.proofs.lemmas.{List.append-nil, Option.slice_get_within, Option.same_Some}
+use Rattle.std.proofs.lemmas.{Bool.and_parts, Bool.and_from, Bool.cases_Bool, Bool.cases_eq, Bool.cond-true, Bool.cond-false, Bool.eq-eqb, Bool.false_from_ne_true, Bool.ne_eqb, List.append-nil}
+use Rattle.std.proofs.lemmas.Option.{slice_get_within, same_Some}
 use Rattle.std.specs.List.{slice_get, filter, flat_map}
-use Rattle.spin_base.specs.Gathered.{gathered}
-use Rattle.spin_base.specs.declared.chips.{Chip.Chip, Dir.Dir}
-use Rattle.spin_base.specs.declared.chips.Dir.TheVariants.{East, NorthEast, North, West, SouthWest, South}
-use Rattle.spin_base.specs.declared.chips.Port.{Port, TheVariants.Link as ByLink, TheVariants.Local}
-use Rattle.spin_base.specs.declared.{routes.Out.Out, copies.McCopy.McCopy, copies.Delivery.Delivery, copies.DumpRec.DumpRec}
-use Rattle.spin_base.specs.{Equality.chip_eq, Equality.out_eq, Links.port_number}
-use Rattle.spin_base.proofs.Tests.{answers_none}
-use Rattle.spin_base.proofs.Equality.{chip_eq_same, chip_eq_true, out_eq_same, out_eq_true}
+use Rattle.spin_base.specs.{Gathered.gathered, declared.chips.Chip.Chip, declared.chips.Dir.Dir, declared.chips.Dir.TheVariants.East, declared.chips.Dir.TheVariants.NorthEast}
+use Rattle.spin_base.specs.declared.chips.{Dir.TheVariants.North, Dir.TheVariants.West, Dir.TheVariants.SouthWest, Dir.TheVariants.South, Port.Port, Port.TheVariants.Local}
+use Rattle.spin_base.specs.{declared.routes.Out.Out, declared.copies.McCopy.McCopy, declared.copies.Delivery.Delivery, declared.copies.DumpRec.DumpRec, Equality.chip_eq, Equality.out_eq}
+use Rattle.spin_base.specs.Links.{port_number}
+use Rattle.spin_base.specs.declared.chips.Port.TheVariants.{Link as ByLink}
+use Rattle.spin_base.proofs.{Tests.answers_none, Equality.chip_eq_same, Equality.chip_eq_true, Equality.out_eq_same, Equality.out_eq_true}
 use Rattle.machine_desc.specs.Live.{chip_of, index_of, IsInside, IsLiveChip, IsLiveLink}
 use Rattle.machine_desc.proofs.{Far.live_inside, Live.chip_of-index_of, Live.index_of-chip_of}
-use Rattle.chip_node.specs.declared.ends.Served.{Served, TheVariants.Sent, TheVariants.Dumped}
-use Rattle.chip_node.specs.Items.{Item, Service, took, served, sent, got, brought, lost, recorded, where_same, where_there, port_place, injection_place}
-use Rattle.chip_node.specs.Items.{entered_by, left_by, lost_by, sent_in, delivered_of, dumped_of, taking_of, service_of, sending_of, getting_of}
+use Rattle.chip_node.specs.{declared.ends.Served.Served, declared.ends.Served.TheVariants.Sent, declared.ends.Served.TheVariants.Dumped, Items.Item, Items.Service, Items.took, Items.served}
+use Rattle.chip_node.specs.Items.{sent, got, brought, lost, recorded, where_same, where_there, port_place, injection_place, entered_by, left_by, lost_by, sent_in, delivered_of, dumped_of, taking_of}
+use Rattle.chip_node.specs.Items.{service_of, sending_of, getting_of}
 use Rattle.mesh_core.specs.{State.Setup, State.queue_at, Ledger.all_ports}
 use Rattle.mesh_core.proofs.Changes.{port_below}
 use Rattle.mesh_run.specs.Played.{IsDoneOn, IsLiveIndex, IsVertexOn, place_behind, vertex_place}
@@ -82,10 +80,7 @@ module _ (u : Setup) where
       other : (j ≡ index → ⊥) → (chip_of u.machine j ≡ c → ⊥) → Doer j
 
     doer : (j : ℕ) → Doer j
-    doer j = elim (cases_eq j index) [
-      | inl same ↦ this same (ap (chip_of u.machine) same ∙ chip_of-index_of u.machine c inside)
-      | inr apart ↦ other apart (λ e. apart (sym (index_of-chip_of u.machine j) ∙ ap (index_of u.machine) e))
-    ]
+    doer j = grind (arith, cases_eq j index, chip_of-index_of u.machine c inside, index_of-chip_of u.machine j)
 
     -- ---- ports
 
@@ -121,12 +116,8 @@ module _ (u : Setup) where
     -- what its bank sent entered its injection queue
     pub injected_by : (x : Item) → IsDoneOn u x → entered_by (queue_at u.machine c Local) x ≡ sending_of index x
     injected_by (took j p k) done = refl
-    injected_by (served j e place s) (live, chip, behind, is, dark) =
-        not_there place (queue_at u.machine c Local) (brought s s.fate) (λ at. no_injection u e c s.out (inside_of j e live chip) inside (sym behind ∙ at))
-    injected_by (sent j v k) (live, on) = elim (cases_eq j index) [
-      | inl same ↦ here (injection_place j) (queue_at u.machine c Local) (k ∷ []) (ap injection_place same) ∙ sym (here j index (k ∷ []) same)
-      | inr apart ↦ elsewhere (injection_place j) (queue_at u.machine c Local) (k ∷ []) (λ e. apart (omega (arith, e))) ∙ sym (elsewhere j index (k ∷ []) apart)
-    ]
+    injected_by (served j e place s) (live, chip, behind, is, dark) = grind (arith, inside_of j e live chip, not_there, no_injection)
+    injected_by (sent j v k) (live, on) = grind (arith, cases_eq j index, here, elsewhere)
     injected_by (got j v place k) done = refl
 
     -- nothing entered the queue of a port to which no live link leads, and that is not its live chip's own

@@ -49,8 +49,7 @@ station_of u nowhere = at_core 0
 
 -- the copies in the input queue of a port stand there
 pub station_is : (u : Setup) (c : Chip) (port : Port) → IsInside u.machine c → station_of u (at_port u c port) ≡ in_queue c port
-station_is u c port inside =
-    ap (λ i. in_queue (chip_of u.machine (i / 7)) (port_of (i % 7))) (sym (zero-add (queue_at u.machine c port))) ∙ station_of_queue u.machine c port inside
+station_is u c port inside = grind (arith, zero-add (queue_at u.machine c port), station_of_queue u.machine c port inside)
 
 -- a copy in hand goes on to the queue behind the output, where there is one
 pub crosses_behind : (m : State) (k : McCopy) (c : Chip) (o : Out) → IsLiveChip m.setup.machine c → behind m.setup c o ≢ nowhere →
@@ -67,28 +66,10 @@ crosses_behind m k c o live some = by_end (leads m.setup c o)
 -- ---- each queue stands once among the queues
 
 pub input_once : (u : Setup) (i : ℕ) → i < 7 * (u.machine.width * u.machine.height) → count_by (behind_eq (input i)) (queues u) ≡ 1
-input_once u i below =
-    let n = 7 * (u.machine.width * u.machine.height) in
-    let inputs = map input (range_with_len 0 n) in
-    let cores = map core (range_with_len 0 (length u.spots)) in
-    let both = sum_by-append (λ q. one_where (behind_eq (input i) q)) inputs cores in
-    let first = sum_map input (λ q. one_where (behind_eq (input i) q)) (range_with_len 0 n) in
-    let one = once_in_range i 0 n (omega arith) (omega (arith, below)) in
-    let second = sum_map core (λ q. one_where (behind_eq (input i) q)) (range_with_len 0 (length u.spots)) in
-    let none = sum_none (λ v. one_where (behind_eq (input i) (core v))) (range_with_len 0 (length u.spots)) (λ v a. refl) in
-    omega (arith, both, first, one, second, none)
+input_once u i below = grind (arith, once_in_range i 0 (7 * (u.machine.width * u.machine.height)) (omega arith) (omega (arith, below)), sum_by-append, behind_eq, sum_map, sum_none)
 
 pub core_once : (u : Setup) (v : ℕ) → v < length u.spots → count_by (behind_eq (core v)) (queues u) ≡ 1
-core_once u v below =
-    let n = 7 * (u.machine.width * u.machine.height) in
-    let inputs = map input (range_with_len 0 n) in
-    let cores = map core (range_with_len 0 (length u.spots)) in
-    let both = sum_by-append (λ q. one_where (behind_eq (core v) q)) inputs cores in
-    let first = sum_map input (λ q. one_where (behind_eq (core v) q)) (range_with_len 0 n) in
-    let none = sum_none (λ i. one_where (behind_eq (core v) (input i))) (range_with_len 0 n) (λ i a. refl) in
-    let second = sum_map core (λ q. one_where (behind_eq (core v) q)) (range_with_len 0 (length u.spots)) in
-    let one = once_in_range v 0 (length u.spots) (omega arith) (omega (arith, below)) in
-    omega (arith, both, first, one, second, none)
+core_once u v below = grind (arith, once_in_range v 0 (length u.spots) (omega arith) (omega (arith, below)), sum_by-append, behind_eq, sum_map, sum_none)
 
 -- ---- a source that a queue alone has
 
@@ -174,33 +155,17 @@ module _ (p : Mark → Bool) (m : State) (f : Flow) (n : State) (mesh : IsMesh m
   only_local c inside (e, None) live is =
       let one = one_port u.machine e c Local Local (live_inside u.machine e live) inside (same_input _ _ is) in
       ap (λ (x : Chip). (x, None)) one.0
-  only_local c inside (e, Some o) live is = elim (leads u e o) [
-    | by_link d h out link far at ↦
-        let in_h = far_inside u.machine e h d (live_inside u.machine e live) far in
-        let one = one_port u.machine h c (ByLink (opposite_of d)) Local in_h inside (same_input _ _ (sym at ∙ is)) in
-        absurd (link_is_not_local (opposite_of d) one.1)
-    | to_vertex v dead at is_core ↦ absurd (input_is_no_core (sym is ∙ is_core))
-    | to_none without none ↦ absurd (input_is_somewhere (sym is ∙ none))
-  ]
+  only_local c inside (e, Some o) live is =
+      grind (arith, leads u e o, live_inside u.machine e live, by_link, far_inside, one_port, link_is_not_local, to_vertex, input_is_no_core, to_none, input_is_somewhere, same_input)
 
   -- the queue of a port whose link is live gets the copies that the chip at the far end sends by that link
   only_far : (c e : Chip) (g : Dir) → IsInside u.machine c → IsInside u.machine e → far_of u.machine e (opposite_of g) ≡ Some c →
       (s : Chip × Option Out) → IsLiveChip u.machine s.0 → from u s ≡ at_port u c (ByLink g) → s ≡ (e, Some (Link (opposite_of g)))
-  only_far c e g inside in_e far (a, None) live is =
-      let one = one_port u.machine a c Local (ByLink g) (live_inside u.machine a live) inside (same_input _ _ is) in
-      absurd (link_is_not_local g (sym one.1))
-  only_far c e g inside in_e far (a, Some o) live is =
-      let there : behind u a o ≡ input (queue_at u.machine c (ByLink (opposite_of (opposite_of g)))) =
-      is ∙ ap (λ (d : Dir). at_port u c (ByLink d)) (sym (opposite_of-opposite g)) in
-      let one = one_link u e a (opposite_of g) o c in_e (live_inside u.machine a live) far there in
-      let chip : e ≡ a = one.0 in
-      let out : Link (opposite_of g) ≡ o = one.1 in
-      cc
+  only_far c e g inside in_e far (a, None) live is = grind (arith, live_inside u.machine a live, one_port, same_input, link_is_not_local)
+  only_far c e g inside in_e far (a, Some o) live is = grind (arith, opposite_of-opposite g, live_inside u.machine a live, one_link)
 
   pub behind_far : (c e : Chip) (g : Dir) → IsLiveLink u.machine e (opposite_of g) → far_of u.machine e (opposite_of g) ≡ Some c → behind u e (Link (opposite_of g)) ≡ at_port u c (ByLink g)
-  behind_far c e g live far =
-      ap (λ b. behind_link u e (opposite_of g) b (far_of u.machine e (opposite_of g))) live
-      ∙ (ap (behind_link u e (opposite_of g) true) far ∙ ap (λ (d : Dir). at_port u c (ByLink d)) (opposite_of-opposite g))
+  behind_far c e g live far = grind (arith, opposite_of-opposite g)
 
   at_one_port : (c : Chip) (port : Port) → IsInside u.machine c →
       (came (at_port u c port) ≡ 0) ⊎ (count_by (λ s. feeds s (at_port u c port)) (sources u.machine) ≡ 1)
@@ -250,12 +215,7 @@ module _ (p : Mark → Bool) (m : State) (f : Flow) (n : State) (mesh : IsMesh m
 
       only : (s : Chip × Option Out) → IsLiveChip u.machine s.0 → from u s ≡ core v → s ≡ (t.chip, Some (out_of t.core))
       only (c, None) live is = absurd (input_is_no_core is)
-      only (c, Some o) live is =
-          let ends = one_end u c o v is in
-          let same : ends.0 ≡ t = cc in
-          let chip : c ≡ t.chip = sym ends.2 ∙ ap (λ (x : Spot). x.chip) same in
-          let out : o ≡ out_of t.core = sym ends.3 ∙ ap (λ (x : Spot). out_of x.core) same in
-          cc
+      only (c, Some o) live is = grind (arith, one_end u c o v is)
 
   from_one : (q : Queue) → Among q (queues u) → (came q ≡ 0) ⊎ (count_by (λ s. feeds s q) (sources u.machine) ≡ 1)
   from_one q a = elim (among_either q (map input (range_with_len 0 (7 * (u.machine.width * u.machine.height)))) (map core (range_with_len 0 (length u.spots))) a) [

@@ -3,20 +3,15 @@ use Rattle.std.proofs.Common.{◌≡◌, ◌≢◌, ℕ, ◌<◌, List, [], ◌�
 use Rattle.std.proofs.lemmas.{Bool.lt-ltb, List.Elements.All-contains, Option.slice_get_within}
 use Rattle.std.specs.List.{All, Contains, slice_get}
 use Rattle.spin_base.proofs.{Members.Among, Members.among_contains, Places.All-at, Places.slice_get_there}
-use Rattle.spin_base.specs.declared.chips.{Chip.Chip, Spot.Spot, Port.TheVariants.Link as ByLink}
-use Rattle.spin_base.specs.declared.{routes.Out.Out, routes.Out.TheVariants.Link, copies.McCopy.McCopy, copies.DumpRec.DumpRec}
+use Rattle.spin_base.specs.declared.{chips.Chip.Chip, chips.Spot.Spot, routes.Out.Out, routes.Out.TheVariants.Link, copies.McCopy.McCopy, copies.DumpRec.DumpRec}
 use Rattle.spin_base.specs.Links.{opposite_of}
-use Rattle.machine_desc.specs.{Description.Description, Live.far_of, Live.IsLiveLink, Branch.Exit, RoutingTree.IsRoutingTree}
-use Rattle.machine_desc.specs.declared.nets.NetPlan.{NetPlan}
-use Rattle.machine_desc.proofs.Branches.{exit_leads, ExitLeads}
-use Rattle.machine_desc.proofs.Far.{live_inside, live_ends, far_inside}
-use Rattle.mesh_core.specs.declared.places.Did.TheVariants.{Moved, Idle}
-use Rattle.mesh_core.specs.State.{State, IsMesh, input, nowhere, behind, behind_link, queue_at, vertex_behind}
+use Rattle.spin_base.specs.declared.chips.Port.TheVariants.{Link as ByLink}
+use Rattle.machine_desc.specs.{Description.Description, Live.far_of, Live.IsLiveLink, Branch.Exit, RoutingTree.IsRoutingTree, declared.nets.NetPlan.NetPlan}
+use Rattle.machine_desc.proofs.{Branches.exit_leads, Branches.ExitLeads, Far.live_inside, Far.live_ends, Far.far_inside}
+use Rattle.mesh_core.specs.{declared.places.Did.TheVariants.Moved, declared.places.Did.TheVariants.Idle, State.State, State.IsMesh, State.nowhere, State.behind, State.queue_at, State.vertex_behind}
 use Rattle.mesh_core.specs.{Step.has_room, Step.has_room_behind, Trail.Mark, Trail.dumped, Ledger.marks_of, Ledger.Label, Ledger.MeetsLedger, Expected.IsAtRest}
-use Rattle.mesh_core.proofs.{Changes.queue_at-below, Law.leaves_parts, Moves.mark, Standing.dumped_mark}
-use Rattle.mesh_core.proofs.Ways.{leads_to, vertex_behind_stands, vertex_behind_there}
-use Rattle.mesh_round.proofs.Ends.{Leads, leads, by_link, to_vertex, to_none}
-use Rattle.mesh_round.proofs.PutBackParts.{back_some}
+use Rattle.mesh_core.proofs.{Changes.queue_at-below, Law.leaves_parts, Moves.mark, Standing.dumped_mark, Ways.leads_to, Ways.vertex_behind_stands, Ways.vertex_behind_there}
+use Rattle.mesh_round.proofs.{Ends.Leads, Ends.leads, Ends.by_link, Ends.to_vertex, Ends.to_none, PutBackParts.back_some}
 use Rattle.mesh_round.specs.Reinjecting.{put_back_answer}
 
 module _ (s : State) (mesh : IsMesh s) (nets : List NetPlan) (labels : ℕ → Label) (ledger : MeetsLedger s nets labels) where
@@ -25,10 +20,7 @@ module _ (s : State) (mesh : IsMesh s) (nets : List NetPlan) (labels : ℕ → L
 
   -- an edge's output leads to a queue
   some_queue : (c : Chip) (o : Out) (e : Chip) (d : _) → o ≡ Link d → IsLiveLink m c d → far_of m c d ≡ Some e → behind s.setup c o ≡ nowhere → ⊥
-  some_queue c o e d out live far gone =
-      let is : behind s.setup c o ≡ input (queue_at m e (ByLink (opposite_of d))) =
-      ap (behind s.setup c) out ∙ (ap (λ b. behind_link s.setup c d b (far_of m c d)) live ∙ ap (behind_link s.setup c d true) far) in
-      cc
+  some_queue c o e d out live far gone = grind arith
 
   -- where a copy was dumped there is a queue behind the output, or a vertex
   led_on : (k : McCopy) (c : Chip) (o : Out) → Contains (marks_of s) (mark k (dumped c o)) → behind s.setup c o ≡ nowhere → vertex_behind s.setup.spots c o ≡ None → ⊥

@@ -2,9 +2,7 @@
 use Rattle.std.proofs.Common.{◌≡◌, ℕ, List, Option, refl, sym, subst, ◌∙◌, ap}
 use Rattle.spin_base.specs.declared.copies.Packet.{Packet}
 use Rattle.machine_desc.specs.{declared.nets.NetPlan.NetPlan, RightTables.AreRight}
-use Rattle.mesh_core.specs.State.{Setup, State, IsMesh}
-use Rattle.mesh_core.specs.Ledger.{Asked, Label, label_of, MeetsLedger, MeetsLedgerFor}
-use Rattle.mesh_core.specs.Opened.{asked_by, MeetsJobLedger}
+use Rattle.mesh_core.specs.{State.Setup, State.State, State.IsMesh, Ledger.Asked, Ledger.Label, Ledger.label_of, Ledger.MeetsLedger, Ledger.MeetsLedgerFor, Opened.asked_by, Opened.MeetsJobLedger}
 use Rattle.mesh_core.proofs.LedgerLaw.{bag_keeps_ledger, bag_adds_no_packet, bag_keeps_packets}
 use Rattle.mesh_round.specs.RoundFlow.{Flow, Passes, HasRounds, none, more}
 use Rattle.mesh_round.proofs.RoundBag.{bag_of_round}

@@ -1,17 +1,13 @@
 -- A round leaves less to be done: each of its moves makes the marks lighter.
 use Rattle.std.proofs.Common.{◌≡◌, ℕ, zero, suc, ◌+◌, ◌*◌, ◌-◌, ◌<◌, ◌≤◌, refl, ap, arith, List, [], ◌∷◌, ◌++◌, length, Bool, count_by}
-use Rattle.std.proofs.Math.Nat.{mul-le-mul_left}
-use Rattle.std.proofs.lemmas.List.Sums.{sum_by-append, sum_by-cons}
+use Rattle.std.proofs.{Math.Nat.mul-le-mul_left, lemmas.List.Sums.sum_by-append, lemmas.List.Sums.sum_by-cons}
 use Rattle.std.specs.List.{sum_by}
 use Rattle.spin_base.proofs.{Counts.count_by-append, Members.Among}
 use Rattle.spin_base.specs.declared.copies.McCopy.{McCopy}
-use Rattle.mesh_core.specs.State.{State, IsMesh}
-use Rattle.mesh_core.specs.Trail.{Station, unsent, in_queue, in_hand, at_core, delivered, dumped, Mark}
-use Rattle.mesh_core.specs.{Ledger.marks_of, Heavy.heavy}
-use Rattle.mesh_core.proofs.{Moves.IsMoveOf, LedgerLaw.Bag, LedgerLaw.Moved, LedgerLaw.count_left, LedgerLaw.count_come, FewMoves.few_come}
-use Rattle.mesh_core.proofs.Heavy.{one_heavy, heavy_grows, light}
-use Rattle.mesh_round.specs.RoundFlow.{Flow, Passes, HasMoved}
-use Rattle.mesh_round.specs.Work.{moves_left, to_go, work_weight_of, work_in}
+use Rattle.mesh_core.specs.{State.State, State.IsMesh, Trail.Station, Trail.unsent, Trail.in_queue, Trail.in_hand, Trail.at_core, Trail.delivered, Trail.dumped, Trail.Mark, Ledger.marks_of}
+use Rattle.mesh_core.specs.Heavy.{heavy}
+use Rattle.mesh_core.proofs.{Moves.IsMoveOf, LedgerLaw.Bag, LedgerLaw.Moved, LedgerLaw.count_left, LedgerLaw.count_come, FewMoves.few_come, Heavy.one_heavy, Heavy.heavy_grows, Heavy.light}
+use Rattle.mesh_round.specs.{RoundFlow.Flow, RoundFlow.Passes, RoundFlow.HasMoved, Work.moves_left, Work.to_go, Work.work_weight_of, Work.work_in}
 use Rattle.mesh_round.proofs.{CountSums.one_if, CountSums.same_sums, Nearer.move_nears, RoundBag.bag_of_round, RoundBag.some_moves}
 
 -- ---- one move

@@ -1,19 +1,14 @@
 -- The ways of a net, one for each target. A place counts where no way before it comes in there: so each chip of the tree counts once.
-use Rattle.std.proofs.Common.{◌≡◌, ◌≢◌, ℕ, zero, suc, ◌+◌, ◌-◌, ◌<◌, ◌≤◌, cond, refl, ap, sym, ◌∙◌, subst, arith, inl, inr}
-use Rattle.std.proofs.Common.{◌⊎◌, List, [], ◌∷◌, ◌++◌, length, map, get_or, Bool, true, false, Option, Some, None}
-use Rattle.std.proofs.lemmas.Bool.{and_from, true≢false}
-use Rattle.std.proofs.lemmas.List.{get_or_default, length-append, Elements.All-contains, Sums.sum_by-cons}
+use Rattle.std.proofs.Common.{◌≡◌, ◌≢◌, ℕ, zero, suc, ◌+◌, ◌-◌, ◌<◌, ◌≤◌, cond, refl, ap, sym, ◌∙◌, subst, arith, inl, inr, ◌⊎◌, List, [], ◌∷◌, ◌++◌, length, map, get_or, Bool, true, false, Option}
+use Rattle.std.proofs.Common.{Some, None}
+use Rattle.std.proofs.lemmas.{Bool.and_from, Bool.true≢false, List.get_or_default, List.length-append, List.Elements.All-contains, List.Sums.sum_by-cons}
 use Rattle.std.specs.List.{All, Contains, list_any, slice_get, sum_by}
-use Rattle.spin_base.proofs.Equality.{chip_eq_same, port_eq_same}
-use Rattle.spin_base.proofs.Members.{Among, Contains-map, among_any, among_contains, among_either, any_among, contains_among}
-use Rattle.spin_base.proofs.Tests.{answers_none}
-use Rattle.spin_base.specs.Equality.{chip_eq, port_eq}
-use Rattle.spin_base.specs.declared.chips.{Chip.Chip, Port.Port, Port.TheVariants.Local, Spot.Spot}
-use Rattle.machine_desc.specs.{Branch.Exit, Branch.IsBranch, Branch.arrival_at, Description.Description, NetsOn.IsWayOn}
-use Rattle.machine_desc.specs.RoutingTree.{IsRoutingTree, IsTreeChip, end_of}
+use Rattle.spin_base.proofs.{Equality.chip_eq_same, Equality.port_eq_same, Members.Among, Members.Contains-map, Members.among_any, Members.among_contains, Members.among_either, Members.any_among}
+use Rattle.spin_base.proofs.{Members.contains_among, Tests.answers_none}
+use Rattle.spin_base.specs.{Equality.chip_eq, Equality.port_eq, declared.chips.Chip.Chip, declared.chips.Port.Port, declared.chips.Port.TheVariants.Local, declared.chips.Spot.Spot}
+use Rattle.machine_desc.specs.{Branch.Exit, Branch.IsBranch, Branch.arrival_at, Description.Description, NetsOn.IsWayOn, RoutingTree.IsRoutingTree, RoutingTree.IsTreeChip, RoutingTree.end_of}
 use Rattle.machine_desc.specs.declared.{nets.NetPlan.NetPlan, trees.Edge.Edge}
-use Rattle.machine_desc.proofs.Branches.{ComesBy, comes_by, length_le_from_apart, same_place, target_on_branch, way_first}
-use Rattle.machine_desc.proofs.TreeLemmas.{tree_end}
+use Rattle.machine_desc.proofs.{Branches.ComesBy, Branches.comes_by, Branches.length_le_from_apart, Branches.same_place, Branches.target_on_branch, Branches.way_first, TreeLemmas.tree_end}
 use Rattle.mesh_core.specs.Trail.{comes_in_there}
 use Rattle.mesh_core.proofs.{Law.comes_parts, Ways.vertex_there}
 use Rattle.mesh_round.proofs.Ahead.{Counted, counted_from, counted_in}

@@ -5,8 +5,7 @@ use Rattle.std.specs.List.{sum_by, slice_get}
 use Rattle.spin_base.proofs.Members.{Among}
 use Rattle.spin_base.specs.{declared.copies.McCopy.McCopy, Hops.last_hop}
 use Rattle.mesh_core.specs.{State.State, Trail.Station, Trail.Mark, Ledger.marks_at}
-use Rattle.mesh_core.proofs.Moves.{mark, IsMoveOf}
-use Rattle.mesh_core.proofs.LedgerLaw.{Moved, count_left, count_come}
+use Rattle.mesh_core.proofs.{Moves.mark, Moves.IsMoveOf, LedgerLaw.Moved, LedgerLaw.count_left, LedgerLaw.count_come}
 use Rattle.mesh_round.proofs.Sums.{sum_at}
 
 -- how many marks of each kind
@@ -21,15 +20,11 @@ pub record Part (m : State) (leave come : Counts) : Type 0 where
 
 pub count_left-append : {m : State} (p : Mark → Bool) (vs ws : List (Moved m)) → count_left p (vs ++ ws) ≡ count_left p vs + count_left p ws
 count_left-append p [] ws = omega arith
-count_left-append p (v ∷ vs) ws =
-    let rest = count_left-append p vs ws in
-    omega arith
+count_left-append p (v ∷ vs) ws = grind (arith, count_left-append p vs ws)
 
 pub count_come-append : {m : State} (p : Mark → Bool) (vs ws : List (Moved m)) → count_come p (vs ++ ws) ≡ count_come p vs + count_come p ws
 count_come-append p [] ws = omega arith
-count_come-append p (v ∷ vs) ws =
-    let rest = count_come-append p vs ws in
-    omega arith
+count_come-append p (v ∷ vs) ws = grind (arith, count_come-append p vs ws)
 
 module _ {m : State} where
   pub no_part : Part m (λ p. 0) (λ p. 0)

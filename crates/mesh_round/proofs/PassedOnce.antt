@@ -2,12 +2,9 @@
 use Rattle.std.proofs.Common.{◌≡◌, ℕ, ◌+◌, ◌≤◌, ◌==◌, ◌&&◌, not, nat_lt, Bool, true, false, List, [], ◌∷◌, refl, ap, sym, ◌∙◌, subst, arith, inl, inr, count_by}
 use Rattle.std.proofs.lemmas.Bool.{cases_Bool, not-true, and_parts, and_from, eqb-true, eq-eqb, ltb-true, ltb-false}
 use Rattle.machine_desc.specs.{declared.nets.NetPlan.NetPlan, NetsOn.IsWayOn, RightTables.IsKeyOf, RightTables.AreRight}
-use Rattle.mesh_core.specs.State.{Setup, State, IsMesh}
-use Rattle.mesh_core.specs.Trail.{Mark, is_on_trail, is_packet_on_trail}
-use Rattle.mesh_core.specs.Ledger.{marks_of, Label, MeetsLedger}
-use Rattle.mesh_core.proofs.Law.{move_comes, move_counts}
-use Rattle.mesh_core.proofs.LedgerLaw.{Bag, Moved, count_left, count_come, IsRight, stands, bag_keeps_packets}
-use Rattle.mesh_core.proofs.{Ways.Stands, Counting.counted}
+use Rattle.mesh_core.specs.{State.Setup, State.State, State.IsMesh, Trail.Mark, Trail.is_on_trail, Trail.is_packet_on_trail, Ledger.marks_of, Ledger.Label, Ledger.MeetsLedger}
+use Rattle.mesh_core.proofs.{Law.move_comes, Law.move_counts, LedgerLaw.Bag, LedgerLaw.Moved, LedgerLaw.count_left, LedgerLaw.count_come, LedgerLaw.IsRight, LedgerLaw.stands}
+use Rattle.mesh_core.proofs.{LedgerLaw.bag_keeps_packets, Ways.Stands, Counting.counted}
 use Rattle.mesh_round.specs.Work.{to_go}
 use Rattle.mesh_round.proofs.{Sums.sum_none, Sums.sum_plus, CountSums.one_if, CountSums.sum_within, CountSums.counts, Nearer.move_nears}
 

@@ -1,13 +1,11 @@
 -- What holds after rounds and copies put back: the machine is the same, the ledger is kept, and passes may follow each other.
-use Rattle.std.proofs.Common.{◌≡◌, ◌≤◌, ℕ, List, Option, Some, None, refl, sym, subst, ◌∙◌, unwrap_or, arith}
+use Rattle.std.proofs.Common.{◌≡◌, ◌≤◌, ℕ, List, Option, Some, None, refl, sym, subst, unwrap_or, arith}
 use Rattle.spin_base.specs.declared.copies.Packet.{Packet}
 use Rattle.machine_desc.specs.{declared.nets.NetPlan.NetPlan, RightTables.AreRight}
-use Rattle.mesh_core.specs.State.{Setup, State, IsMesh}
-use Rattle.mesh_core.specs.{PutBack.put_back_of, PutBack.after_put_back, Ledger.Label, Ledger.MeetsLedger, Opened.MeetsJobLedger}
+use Rattle.mesh_core.specs.{State.Setup, State.State, State.IsMesh, PutBack.put_back_of, PutBack.after_put_back, Ledger.Label, Ledger.MeetsLedger, Opened.MeetsJobLedger}
 use Rattle.mesh_core.proofs.EventsLaw.{put_back_is, IsMesh-after_put_back, put_back_keeps, put_back_keeps_job}
-use Rattle.mesh_round.specs.RoundFlow.{Flow, Passes, HasRounds, none as no_round, more}
-use Rattle.mesh_round.specs.Work.{work_in}
-use Rattle.mesh_round.specs.Reinjecting.{HasPasses, none, round, put_back}
+use Rattle.mesh_round.specs.{RoundFlow.Flow, RoundFlow.Passes, RoundFlow.HasRounds, RoundFlow.more, Work.work_in, Reinjecting.HasPasses, Reinjecting.none, Reinjecting.round, Reinjecting.put_back}
+use Rattle.mesh_round.specs.RoundFlow.{none as no_round}
 
 put_back_setup : (s : State) → (after_put_back s).setup ≡ s.setup
 put_back_setup s = by_answer (put_back_of s s.dumped) refl
@@ -18,11 +16,9 @@ put_back_setup s = by_answer (put_back_of s s.dumped) refl
 
 pub passes_keep_mesh : (patience turns : ℕ) (m n : State) → IsMesh m → HasPasses patience turns m n → IsMesh n × (n.setup ≡ m.setup)
 passes_keep_mesh patience turns m n mesh none = (mesh, refl)
-passes_keep_mesh patience turns m n mesh (round f k n' before after is) =
-    (after, is.passes.setup ∙ (passes_keep_mesh patience turns m k mesh before).1)
+passes_keep_mesh patience turns m n mesh (round f k n' before after is) = grind (arith, passes_keep_mesh patience turns m k mesh before)
 passes_keep_mesh patience turns m n mesh (put_back k before) =
-    let was = passes_keep_mesh patience turns m k mesh before in
-    (IsMesh-after_put_back k was.0, put_back_setup k ∙ was.1)
+    grind (arith, passes_keep_mesh patience turns m k mesh before, IsMesh-after_put_back k (passes_keep_mesh patience turns m k mesh before).0)
 
 -- that a round keeps the ledger of a job
 abbrev RoundsKeep : Type 0
@@ -74,5 +70,4 @@ pub rounds_no_more : ((m n : State) (f : Flow) → IsMesh m → IsMesh n → Pas
     (patience turns : ℕ) (m n : State) → IsMesh m → HasRounds patience turns m n → work_in n ≤ work_in m
 rounds_no_more no_more patience turns m n mesh no_round = omega arith
 rounds_no_more no_more patience turns m n mesh (more f k n' before after is) =
-    let was = passes_keep_mesh patience turns m k mesh (rounds_pass patience turns m k before) in
-    omega (arith, rounds_no_more no_more patience turns m k mesh before, no_more k n' f was.0 after is.passes)
+    grind (arith, passes_keep_mesh patience turns m k mesh (rounds_pass patience turns m k before), rounds_pass patience turns m k before, rounds_no_more no_more patience turns m k mesh before)

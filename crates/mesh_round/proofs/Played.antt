@@ -1,15 +1,13 @@
 -- Rounds on threads that were played one after the other lead on.
-use Rattle.std.proofs.Common.{◌≡◌, ◌∙◌, ℕ, Bool, true, false, List, [], sym, subst, inl, inr}
+use Rattle.std.proofs.Common.{arith, ◌≡◌, ◌∙◌, ℕ, Bool, true, false, List, [], sym, subst, inl, inr}
 use Rattle.std.proofs.lemmas.Result.{IfErr-weaker, IfOk-weaker}
 use Rattle.std.specs.Prelude.{IfErr, IfOk, Result, Ok, Err}
 use Rattle.spin_base.specs.declared.wants.Memory.{Memory}
 use Rattle.chip_node.specs.Items.{Item}
 use Rattle.mesh_core.specs.{State.State, State.IsMesh, Expected.IsAtRest}
-use Rattle.mesh_run.specs.declared.{paces.Pace.Pace, raised.RaisedMesh.RaisedMesh}
-use Rattle.mesh_run.specs.{Played.IsPlayedBy, Raised.IsRaisedFrom, Raised.PlaysTo, Shares.IsNoted}
-use Rattle.mesh_round.specs.RoundFlow.{HasNoHand, IsRound, none, more}
-use Rattle.mesh_round.specs.Bound.{HasMovingRounds}
-use Rattle.mesh_round.specs.OnThreads.{LeadsByFlow, LeadsByRound, MayGoOn, has_none}
+use Rattle.mesh_run.specs.{declared.paces.Pace.Pace, declared.raised.RaisedMesh.RaisedMesh, Played.IsPlayedBy, Raised.IsRaisedFrom, Raised.PlaysTo, Shares.IsNoted}
+use Rattle.mesh_round.specs.{RoundFlow.HasNoHand, RoundFlow.IsRound, RoundFlow.none, RoundFlow.more, Bound.HasMovingRounds, OnThreads.LeadsByFlow, OnThreads.LeadsByRound, OnThreads.MayGoOn}
+use Rattle.mesh_round.specs.OnThreads.{has_none}
 use Rattle.mesh_round.proofs.Resting.{none_left, rests}
 
 -- what the law of rounds on threads tells of one of them
@@ -33,8 +31,7 @@ begins patience turns m r ready raised = record { mesh = m; rounds = record { ro
 -- what a round leads to, at the pace at which the mesh was split
 pub at_pace : (pace own : Pace) (m : State) (r s : RaisedMesh) (told moved : Bool) → IsMesh m → IsRaisedFrom m 0 r → own ≡ pace → told ≡ moved →
     ((k : State) → IsMesh k → IsRaisedFrom k 0 r → PlaysTo own.patience own.turns k told s) → PlaysTo pace.patience pace.turns m moved s
-at_pace pace own m r s told moved mesh raised same says plays =
-    subst (λ (p : Pace). PlaysTo p.patience p.turns m moved s) same (subst (λ b. PlaysTo own.patience own.turns m b s) says (plays m mesh raised))
+at_pace pace own m r s told moved mesh raised same says plays = grind arith
 
 -- ---- the answer where a mesh may be at rest
 

@@ -1,25 +1,21 @@
 -- A round on threads leads to a mesh. It moves a copy where anything was done, and else changes nothing.
 use Rattle.std.proofs.Common.{◌≡◌, ◌≢◌, ℕ, ◌+◌, ◌<◌, List, [], ◌∷◌, ◌++◌, length, take, drop, Option, Some, refl, sym, ap, ap₂, ◌∙◌, subst, arith, inl, inr}
-use Rattle.std.proofs.Math.Seq.{drop-append_seam, take-append_seam}
-use Rattle.std.proofs.lemmas.List.{append-nil, get_or_append_left, get_or-append-add, get_or_default, length-append, same_lists}
-use Rattle.std.proofs.lemmas.Option.{get_or_from_slice_get, slice_get_within, slice_get-get_or}
-use Rattle.std.specs.Prelude.{IfSome}
-use Rattle.std.specs.List.{All, Contains, slice_get, slice_index_or}
+use Rattle.std.proofs.{Math.Seq.drop-append_seam, Math.Seq.take-append_seam, lemmas.List.append-nil, lemmas.List.get_or_append_left, lemmas.List.get_or-append-add, lemmas.List.get_or_default}
+use Rattle.std.proofs.lemmas.{List.length-append, List.same_lists, Option.get_or_from_slice_get, Option.slice_get_within, Option.slice_get-get_or}
+use Rattle.std.specs.{Prelude.IfSome, List.All, List.Contains, List.slice_get, List.slice_index_or}
 use Rattle.spin_base.proofs.{Members.Among, Members.among_contains, Pairs.All-right, Places.both_none}
-use Rattle.spin_base.specs.declared.chips.{Chip.Chip, Port.Port, Port.TheVariants.Link as ByLink, Port.TheVariants.Local}
-use Rattle.spin_base.specs.declared.copies.McCopy.{McCopy}
+use Rattle.spin_base.specs.declared.{chips.Chip.Chip, chips.Port.Port, chips.Port.TheVariants.Local, copies.McCopy.McCopy}
+use Rattle.spin_base.specs.declared.chips.Port.TheVariants.{Link as ByLink}
 use Rattle.machine_desc.specs.Live.{chip_of, index_of, IsInside}
 use Rattle.chip_node.specs.Items.{Item, took, served, sent, got, port_place, entered, left, left_by, sent_by, sent_in, taking_of}
 use Rattle.mesh_core.specs.State.{Setup, State, Hand, FitsQueue, FitsHand, IsMesh, core, queue_at}
 use Rattle.mesh_core.proofs.Changes.{queue_at-below}
 use Rattle.mesh_run.specs.Played.{held_at, vertex_place, IsPlayedBy}
 use Rattle.mesh_run.proofs.Apart.{first_here}
-use Rattle.mesh_round.specs.RoundFlow.{HasMoved, at_port, held_in}
-use Rattle.mesh_round.specs.OnThreads.{LeadsByFlow}
-use Rattle.mesh_round.proofs.{Done.inside_of, Done.place_is, Joined.among_flat, Joined.among_into}
-use Rattle.mesh_round.proofs.PlayedQueues.{done_of, fits_after, from_taken, in_order}
-use Rattle.mesh_round.proofs.PlayedRound.{dead_chips, dead_ports, is_input, is_round, left_port}
-use Rattle.mesh_round.proofs.TheFlow.{Round, flow_of, stands, told_at}
+use Rattle.mesh_round.specs.{RoundFlow.HasMoved, RoundFlow.at_port, RoundFlow.held_in, OnThreads.LeadsByFlow}
+use Rattle.mesh_round.proofs.{Done.inside_of, Done.place_is, Joined.among_flat, Joined.among_into, PlayedQueues.done_of, PlayedQueues.fits_after, PlayedQueues.from_taken, PlayedQueues.in_order}
+use Rattle.mesh_round.proofs.{PlayedRound.dead_chips, PlayedRound.dead_ports, PlayedRound.is_input, PlayedRound.is_round, PlayedRound.left_port, TheFlow.Round, TheFlow.flow_of, TheFlow.stands}
+use Rattle.mesh_round.proofs.TheFlow.{told_at}
 
 not_empty : {X : Type 0} (x : X) (xs : List X) → Among x xs → xs ≢ []
 not_empty x [] a none = a

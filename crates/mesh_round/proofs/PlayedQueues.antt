@@ -1,25 +1,22 @@
 -- What a round on threads does with each queue.
 use Rattle.std.proofs.Common.{◌≡◌, ℕ, ◌+◌, ◌*◌, ◌<◌, ◌≤◌, ◌==◌, min, List, [], ◌∷◌, ◌++◌, length, Option, Some, None, refl, sym, ap, ◌∙◌, subst, arith, inl, inr}
-use Rattle.std.proofs.lemmas.{Bool.cases_lt, Bool.cond_both, List.get_or_past, List.length-append}
-use Rattle.std.proofs.lemmas.List.Elements.{All-nil, All-append, All-cons, All-contains, All-head, All-replicate}
-use Rattle.std.proofs.lemmas.Option.{slice_get_within}
+use Rattle.std.proofs.lemmas.{Bool.cases_lt, Bool.cond_both, List.get_or_past, List.length-append, List.Elements.All-nil, List.Elements.All-append, List.Elements.All-cons, List.Elements.All-contains}
+use Rattle.std.proofs.lemmas.{List.Elements.All-head, List.Elements.All-replicate, Option.slice_get_within}
 use Rattle.std.specs.List.{All, Contains, slice_index_or}
-use Rattle.spin_base.proofs.Members.{Among, among_contains}
-use Rattle.spin_base.proofs.Pairs.{All-flat_map, All-from_flat_map, All-left, All-right}
-use Rattle.spin_base.proofs.Places.{All-each}
-use Rattle.spin_base.specs.declared.{chips.Chip.Chip, chips.Port.Port, copies.McCopy.McCopy, copies.Delivery.Delivery, copies.DumpRec.DumpRec}
-use Rattle.spin_base.specs.{Hops.last_hop, Hops.onward, Outputs.IsOutput}
+use Rattle.spin_base.proofs.{Members.Among, Members.among_contains, Pairs.All-flat_map, Pairs.All-from_flat_map, Pairs.All-left, Pairs.All-right, Places.All-each}
+use Rattle.spin_base.specs.{declared.chips.Chip.Chip, declared.chips.Port.Port, declared.copies.McCopy.McCopy, declared.copies.Delivery.Delivery, declared.copies.DumpRec.DumpRec, Hops.last_hop}
+use Rattle.spin_base.specs.{Hops.onward, Outputs.IsOutput}
 use Rattle.machine_desc.specs.Live.{chip_of, IsLiveChip}
-use Rattle.chip_node.specs.declared.ends.Served.{Served, TheVariants.Sent, TheVariants.Dumped}
-use Rattle.chip_node.specs.Items.{Item, Service, took, served, sent, got, brought, recorded, where_same, where_there, port_place, entered, left, entered_by}
-use Rattle.chip_node.specs.Items.{left_by, sent_in, taking_of, service_of, delivered_of, dumped_of, records, sent_by, services, takings}
+use Rattle.chip_node.specs.{declared.ends.Served.Served, declared.ends.Served.TheVariants.Sent, declared.ends.Served.TheVariants.Dumped, Items.Item, Items.Service, Items.took, Items.served}
+use Rattle.chip_node.specs.Items.{sent, got, brought, recorded, where_same, where_there, port_place, entered, left, entered_by, left_by, sent_in, taking_of, service_of, delivered_of, dumped_of}
+use Rattle.chip_node.specs.Items.{records, sent_by, services, takings}
 use Rattle.mesh_core.specs.State.{Setup, FitsQueue, Queue}
 use Rattle.mesh_core.proofs.Changes.{queue_at-below}
 use Rattle.mesh_run.specs.Played.{held_at, port_count, IsDoneOn, IsLiveIndex}
 use Rattle.mesh_run.proofs.Apart.{first_here, here}
 use Rattle.mesh_round.specs.RoundFlow.{WasFullAt, capacity_of, held_in}
-use Rattle.mesh_round.proofs.{Done.inside_of, Done.place_is, Joined.among_into, Serving.served_fits}
-use Rattle.mesh_round.proofs.TheFlow.{Round, Stands, found, beyond, dark, stands, by_place, goes, flow_of, nowhere_fulls}
+use Rattle.mesh_round.proofs.{Done.inside_of, Done.place_is, Joined.among_into, Serving.served_fits, TheFlow.Round, TheFlow.Stands, TheFlow.found, TheFlow.beyond, TheFlow.dark, TheFlow.stands}
+use Rattle.mesh_round.proofs.TheFlow.{by_place, goes, flow_of, nowhere_fulls}
 
 abbrev IsSmall : McCopy → Type 0
 IsSmall k = k.hop ≤ last_hop

@@ -1,10 +1,9 @@
 -- What putting the first dumped copy back does to a mesh, and when it does nothing.
-use Rattle.std.proofs.Common.{◌≡◌, List, [], ◌∷◌, Bool, true, false, if◌then◌else◌, Option, Some, None, refl, ap, sym, ◌∙◌, subst, unwrap_or}
+use Rattle.std.proofs.Common.{arith, ◌≡◌, List, [], ◌∷◌, Bool, true, false, if◌then◌else◌, Option, Some, None, refl, ap, sym, ◌∙◌, subst, unwrap_or}
 use Rattle.std.specs.List.{All}
-use Rattle.spin_base.specs.declared.copies.{McCopy.McCopy, DumpRec.DumpRec}
-use Rattle.spin_base.specs.Hops.{onward}
-use Rattle.mesh_core.specs.State.{State, Hand, IsMesh, Queue, input, core, nowhere, behind}
-use Rattle.mesh_core.specs.{Step.has_room_behind, Step.push_behind, PutBack.put_back_of, PutBack.after_put_back}
+use Rattle.spin_base.specs.{declared.copies.McCopy.McCopy, declared.copies.DumpRec.DumpRec, Hops.onward}
+use Rattle.mesh_core.specs.{State.State, State.Hand, State.Queue, State.input, State.core, State.nowhere, State.behind, Step.has_room_behind, Step.push_behind, PutBack.put_back_of}
+use Rattle.mesh_core.specs.PutBack.{after_put_back}
 use Rattle.mesh_core.proofs.EventsLaw.{IsMesh-after_put_back}
 use Rattle.mesh_round.specs.{RoundFlow.HasNoHand, OnThreads.MayGoOn}
 
@@ -59,8 +58,4 @@ ready_back s ready = by_answer (put_back_of s s.dumped) refl
 
     by_answer : (t : Option State) → put_back_of s s.dumped ≡ t → MayGoOn (unwrap_or t s)
     by_answer None is = ready
-    by_answer (Some t) is =
-        record {
-          mesh = subst (λ (x : Option State). IsMesh (unwrap_or x s)) is (IsMesh-after_put_back s ready.mesh);
-          no_hand = goes_on t (is_back s s.dumped refl t is);
-        }
+    by_answer (Some t) is = grind (arith, IsMesh-after_put_back s ready.mesh, unwrap_or)

@@ -3,11 +3,10 @@ use Rattle.std.proofs.Common.{◌≡◌, ◌⊎◌, ℕ, zero, suc, ◌+◌, ◌
 use Rattle.std.proofs.lemmas.List.Sums.{sum_by-append, sum_by-cons}
 use Rattle.std.specs.List.{sum_by}
 use Rattle.spin_base.proofs.Exchange.{TakenOut, PutIn}
-use Rattle.spin_base.specs.declared.{chips.Chip.Chip, chips.Port.TheVariants.Link as ByLink, routes.Out.Out, copies.McCopy.McCopy, copies.DumpRec.DumpRec}
-use Rattle.spin_base.specs.{Links.opposite_of, Hops.onward}
-use Rattle.mesh_core.specs.declared.places.Did.TheVariants.{Moved, Idle}
-use Rattle.mesh_core.specs.{State.State, State.Queue, State.behind, Step.push_behind}
-use Rattle.mesh_core.specs.{PutBack.put_back_of, PutBack.after_put_back, Trail.in_queue, Trail.at_core, Trail.dumped, Trail.Mark, Ledger.marks_of, Heavy.heavy}
+use Rattle.spin_base.specs.{declared.chips.Chip.Chip, declared.routes.Out.Out, declared.copies.McCopy.McCopy, declared.copies.DumpRec.DumpRec, Links.opposite_of, Hops.onward}
+use Rattle.spin_base.specs.declared.chips.Port.TheVariants.{Link as ByLink}
+use Rattle.mesh_core.specs.{declared.places.Did.TheVariants.Moved, declared.places.Did.TheVariants.Idle, State.State, State.Queue, State.behind, Step.push_behind, PutBack.put_back_of}
+use Rattle.mesh_core.specs.{PutBack.after_put_back, Trail.in_queue, Trail.at_core, Trail.dumped, Trail.Mark, Ledger.marks_of, Heavy.heavy}
 use Rattle.mesh_core.proofs.{EventsLaw.same_room, Events.arrives, Heavy.one_heavy, Heavy.heavy_grows, Moves.mark, Moves.Crosses, Moves.dumped_out}
 use Rattle.mesh_round.specs.{Work.to_go, Work.work_weight_of, Work.work_in, Reinjecting.put_back_answer}
 use Rattle.mesh_round.proofs.PutBackParts.{IsBack, is_back}
@@ -17,9 +16,7 @@ use Rattle.mesh_round.proofs.PutBackParts.{IsBack, is_back}
 heavier : (m n : ℕ) → m < n → heavy m < heavy n
 unfolding heavy
 heavier m zero below = absurd (omega (arith, below))
-heavier m (suc n) below =
-    let grows = heavy_grows m n (omega (arith, below)) in
-    omega (arith, grows, one_heavy n)
+heavier m (suc n) below = grind (arith, heavy_grows m n (omega (arith, below)), one_heavy n)
 
 -- a dumped copy that crosses its output is lighter than it was
 lighter_mark : (s : State) (k : McCopy) (c : Chip) (o : Out) (come : List Mark) → Crosses s k c o come →
@@ -29,8 +26,7 @@ lighter_mark s k c o come (inl (d, e, out, live, far, is)) =
     let y : Mark = mark (onward k) (in_queue e (ByLink (opposite_of d))) in
     (y, is, heavier (to_go y) (to_go (mark k (dumped c o))) (omega arith))
 lighter_mark s k c o come (inr (v, dead, vertex, is)) =
-    let y : Mark = mark (onward k) (at_core v) in
-    (y, is, heavier (to_go y) (to_go (mark k (dumped c o))) (omega arith))
+    grind (arith, mark (onward k) (at_core v), heavier (to_go (mark (onward k) (at_core v))) (to_go (mark k (dumped c o))) (omega arith), mark k (dumped c o))
 
 -- one item goes out, and one comes in
 sum_exchanged : {X : Type 0} (f : X → ℕ) (x y : X) (before between after : List X) → TakenOut x before between → PutIn (y ∷ []) between after →

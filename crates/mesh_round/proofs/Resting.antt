@@ -3,10 +3,8 @@ use Rattle.std.proofs.Common.{◌≡◌, ℕ, true, ◌&&◌, List, [], ◌∷�
 use Rattle.std.proofs.lemmas.{Bool.and_parts, Bool.cases_lt, Bool.eqb-true, List.get_or_past, List.Elements.All-nil, List.Elements.All-cons}
 use Rattle.std.specs.List.{All, list_all, slice_index_or}
 use Rattle.spin_base.specs.declared.copies.McCopy.{McCopy}
-use Rattle.mesh_core.specs.State.{State, input, core, nowhere}
-use Rattle.mesh_core.specs.Expected.{IsAtRest}
-use Rattle.mesh_round.specs.RoundFlow.{HasNoHand}
-use Rattle.mesh_round.specs.OnThreads.{HasSome, holds_none, has_none}
+use Rattle.mesh_core.specs.{State.State, State.input, State.core, State.nowhere, Expected.IsAtRest}
+use Rattle.mesh_round.specs.{RoundFlow.HasNoHand, OnThreads.HasSome, OnThreads.holds_none, OnThreads.has_none}
 
 no_copies : (q : List McCopy) → holds_none q ≡ true → q ≡ []
 no_copies [] is = refl
@@ -29,10 +27,7 @@ rests s is no_hand =
 
 -- Where each list is empty, no item stands at a place.
 all_none : (qs : List (List McCopy)) (i : ℕ) → All (λ q. q ≡ []) qs → slice_index_or qs i [] ≡ []
-all_none qs i all = elim (cases_lt i (length qs)) [
-  | inl below ↦ all i [] below
-  | inr past ↦ get_or_past qs i [] past
-]
+all_none qs i all = grind (arith, cases_lt i (length qs), get_or_past qs i)
 
 -- In a mesh that has none there is none.
 pub none_left : (s : State) → has_none s ≡ true → HasNoHand s → HasSome s → ⊥

@@ -1,34 +1,25 @@
 -- What passes the queues of a mesh in a round is a bag of moves.
-use Rattle.std.proofs.Common.{◌≡◌, ◌≢◌, ℕ, ◌+◌, ◌*◌, ◌/◌, ◌%◌, ◌<◌, ◌≤◌, Bool, true, false, cond, ◌==◌, List, [], ◌∷◌, ◌++◌, map, filter, Some, None, length, suc}
-use Rattle.std.proofs.Common.{refl, ap, ap₂, sym, ◌∙◌, subst, arith, inl, inr, count_by, if◌then◌else◌, append-nil, zero-add}
-use Rattle.std.proofs.lemmas.{Bool.cases_Bool, Bool.eqb-true, List.map-append, List.length-map, List.Elements.All-contains}
-use Rattle.std.proofs.lemmas.List.Sums.{sum_by-cons, sum_by-append, length-filter, count_by-le-length}
-use Rattle.std.proofs.lemmas.{List.Sorted.sum_by-IsPermutation, Option.slice_get_within}
+use Rattle.std.proofs.Common.{◌≡◌, ◌≢◌, ℕ, ◌+◌, ◌*◌, ◌/◌, ◌%◌, ◌<◌, ◌≤◌, Bool, true, false, cond, ◌==◌, List, [], ◌∷◌, ◌++◌, map, filter, Some, None, length, suc, refl, ap, ap₂, sym, ◌∙◌, subst}
+use Rattle.std.proofs.Common.{arith, inl, inr, count_by, if◌then◌else◌, append-nil, zero-add}
+use Rattle.std.proofs.lemmas.{Bool.cases_Bool, Bool.eqb-true, List.map-append, List.length-map, List.Elements.All-contains, List.Sums.sum_by-cons, List.Sums.sum_by-append, List.Sums.length-filter}
+use Rattle.std.proofs.lemmas.{List.Sums.count_by-le-length, List.Sorted.sum_by-IsPermutation, Option.slice_get_within}
 use Rattle.std.specs.List.{All, sum_by, range_with_len, slice_get, slice_index_or}
-use Rattle.spin_base.specs.Gathered.{gathered}
-use Rattle.spin_base.specs.declared.chips.{Chip.Chip, Spot.Spot, Port.TheVariants.Local}
-use Rattle.spin_base.specs.declared.{routes.Out.Out, copies.McCopy.McCopy, copies.Delivery.Delivery, copies.DumpRec.DumpRec}
-use Rattle.spin_base.specs.{Equality.chip_eq, Equality.out_eq, Outputs.all_outs, Outputs.IsOutput, Hops.last_hop, Hops.onward}
-use Rattle.spin_base.proofs.{Counts.count_by-append, Gathering.gathered_of_none}
-use Rattle.spin_base.proofs.Members.{Among, among_contains, among_map, among_left, Contains-filter, map_among, contains_among}
-use Rattle.spin_base.proofs.{Places.All-at, Places.slice_get_there, Equality.nat_eq_same, Equality.chip_eq_true, Equality.out_eq_true, Once.all_once}
+use Rattle.spin_base.specs.{Gathered.gathered, declared.chips.Chip.Chip, declared.chips.Spot.Spot, declared.chips.Port.TheVariants.Local, declared.routes.Out.Out, declared.copies.McCopy.McCopy}
+use Rattle.spin_base.specs.{declared.copies.Delivery.Delivery, declared.copies.DumpRec.DumpRec, Equality.chip_eq, Equality.out_eq, Outputs.all_outs, Outputs.IsOutput, Hops.last_hop, Hops.onward}
+use Rattle.spin_base.proofs.{Counts.count_by-append, Gathering.gathered_of_none, Members.Among, Members.among_contains, Members.among_map, Members.among_left, Members.Contains-filter}
+use Rattle.spin_base.proofs.{Members.map_among, Members.contains_among, Places.All-at, Places.slice_get_there, Equality.nat_eq_same, Equality.chip_eq_true, Equality.out_eq_true, Once.all_once}
 use Rattle.machine_desc.specs.Live.{chip_of, IsLiveChip, IsSite}
 use Rattle.machine_desc.proofs.{Far.live_inside, Sites.site_parts}
-use Rattle.mesh_core.specs.State.{Setup, State, IsMesh, Queue, input, core, nowhere, behind}
-use Rattle.mesh_core.specs.Step.{outputs}
-use Rattle.mesh_core.specs.Trail.{Station, unsent, in_queue, in_hand, at_core, delivered, dumped, Mark}
-use Rattle.mesh_core.specs.Ledger.{marks_of, marks_at, hand_marks, port_of, unsent_marks, input_marks, all_hand_marks, core_marks, delivered_marks, dumped_marks}
+use Rattle.mesh_core.specs.{State.Setup, State.State, State.IsMesh, State.Queue, State.input, State.core, State.nowhere, State.behind, Step.outputs, Trail.Station, Trail.unsent, Trail.in_queue}
+use Rattle.mesh_core.specs.{Trail.in_hand, Trail.at_core, Trail.delivered, Trail.dumped, Trail.Mark, Ledger.marks_of, Ledger.marks_at, Ledger.hand_marks, Ledger.port_of, Ledger.unsent_marks}
+use Rattle.mesh_core.specs.Ledger.{input_marks, all_hand_marks, core_marks, delivered_marks, dumped_marks}
 use Rattle.mesh_core.proofs.{Moves.mark, Moves.IsMoveOf, LedgerLaw.Bag, LedgerLaw.Moved, LedgerLaw.count_left, LedgerLaw.count_come, Counting.counted}
 use Rattle.mesh_round.specs.RoundFlow.{Flow, Passes, at_port, sent_on, of_chip, delivered_to, HasNoHand, HasMoved}
-use Rattle.mesh_round.proofs.CountSums.{part_of_sum, part_of_sum_at}
-use Rattle.mesh_round.proofs.Sums.{sum_agree, sum_none, sum_map, sum_filter, sum_swap, sum_plus, sum_gathered, sum_at, sum_at-swap, one_passes}
-use Rattle.mesh_round.proofs.Balance.{queues_balance, passing, passing_in}
-use Rattle.mesh_round.proofs.Sources.{once_in_range, range_parts, live_chips, live_of_live_chips, live_chip_once, choices, sum_sources}
-use Rattle.mesh_round.proofs.Entered.{from, station_of, station_is, crosses_behind, came, all_came, has_bit}
-use Rattle.mesh_round.proofs.Ahead.{is_step, is_step_at}
-use Rattle.mesh_round.proofs.Parts.{Part, both_parts, part_each, part_at, part_of, count_come-append, count_left-append}
-use Rattle.mesh_round.proofs.Weights.{one_where, back, entered_is}
-use Rattle.mesh_round.proofs.Taken.{weight, taken_from, hands_balance}
+use Rattle.mesh_round.proofs.{CountSums.part_of_sum, CountSums.part_of_sum_at, Sums.sum_agree, Sums.sum_none, Sums.sum_map, Sums.sum_filter, Sums.sum_swap, Sums.sum_plus, Sums.sum_gathered}
+use Rattle.mesh_round.proofs.{Sums.sum_at, Sums.sum_at-swap, Sums.one_passes, Balance.queues_balance, Balance.passing, Balance.passing_in, Sources.once_in_range, Sources.range_parts}
+use Rattle.mesh_round.proofs.{Sources.live_chips, Sources.live_of_live_chips, Sources.live_chip_once, Sources.choices, Sources.sum_sources, Entered.from, Entered.station_of, Entered.station_is}
+use Rattle.mesh_round.proofs.{Entered.crosses_behind, Entered.came, Entered.all_came, Entered.has_bit, Ahead.is_step, Ahead.is_step_at, Parts.Part, Parts.both_parts, Parts.part_each, Parts.part_at}
+use Rattle.mesh_round.proofs.{Parts.part_of, Parts.count_come-append, Parts.count_left-append, Weights.one_where, Weights.back, Weights.entered_is, Taken.weight, Taken.taken_from, Taken.hands_balance}
 
 -- the sum over the places of a list
 sum_at-range : {X : Type 0} (g : ℕ → ℕ) (a : ℕ) (xs : List X) → sum_at (λ i x. g i) a xs ≡ sum_by g (range_with_len a (length xs))

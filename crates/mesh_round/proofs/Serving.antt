@@ -1,14 +1,13 @@
 -- What was served at an output of a chip: each copy went on or was dumped.
 use Rattle.std.proofs.Common.{◌≡◌, ℕ, ◌+◌, ◌<◌, ◌≤◌, Bool, true, false, cond, if◌then◌else◌, ◌||◌, ◌==◌, List, [], ◌∷◌, ◌++◌, map, refl, sym, ap, ◌∙◌, subst, arith, inl, inr, count_by}
-use Rattle.std.proofs.lemmas.Bool.{cases_Bool}
-use Rattle.std.proofs.lemmas.List.Sorted.{IsPermutation-refl, IsPermutation-sym, IsPermutation-cons, IsPermutation-trans, IsPermutation-middle}
+use Rattle.std.proofs.lemmas.{Bool.cases_Bool, List.Sorted.IsPermutation-refl, List.Sorted.IsPermutation-sym, List.Sorted.IsPermutation-cons, List.Sorted.IsPermutation-trans}
+use Rattle.std.proofs.lemmas.List.Sorted.{IsPermutation-middle}
 use Rattle.std.specs.List.{filter, flat_map, list_any, Sorted.IsPermutation}
 use Rattle.spin_base.proofs.{Counts.count_by-cons, Members.Among, Members.among_map, Members.map_among, Once.outs_once}
-use Rattle.spin_base.specs.declared.{chips.Chip.Chip, chips.Port.Port, routes.Out.Out, copies.McCopy.McCopy}
-use Rattle.spin_base.specs.{Equality.out_eq, Hops.last_hop, Hops.onward, Lookup.lookup, Outputs.IsOutput, Outputs.has, Outputs.outs_of}
+use Rattle.spin_base.specs.{declared.chips.Chip.Chip, declared.chips.Port.Port, declared.routes.Out.Out, declared.copies.McCopy.McCopy, Equality.out_eq, Hops.last_hop, Hops.onward, Lookup.lookup}
+use Rattle.spin_base.specs.Outputs.{IsOutput, outs_of}
 use Rattle.machine_desc.specs.RightTables.{table_at}
-use Rattle.chip_node.specs.declared.ends.Served.{Served, TheVariants.Sent, TheVariants.Dumped}
-use Rattle.chip_node.specs.Items.{Service, brought, lost}
+use Rattle.chip_node.specs.{declared.ends.Served.Served, declared.ends.Served.TheVariants.Sent, declared.ends.Served.TheVariants.Dumped, Items.Service, Items.brought, Items.lost}
 use Rattle.mesh_core.specs.{State.Setup, Step.outputs}
 use Rattle.mesh_core.proofs.MarkTests.{below_last}
 use Rattle.mesh_run.specs.Played.{owed_on}
@@ -97,9 +96,7 @@ module _ (o : Out) where
 
       by : (b : Bool) → (k.hop == last_hop) ≡ b → count_by (out_eq o) (outs (k.hop == last_hop)) ≤ 1
       by true last = subst (λ b. count_by (out_eq o) (outs b) ≤ 1) (sym last) (omega arith)
-      by false more =
-          let route = lookup (table_at u.machine u.tables c) k.key port in
-          subst (λ b. count_by (out_eq o) (outs b) ≤ 1) (sym more) (at_most_one (has route o) (count_by (out_eq o) (outs_of route)) (outs_once route o is))
+      by false more = grind (arith, count_by (out_eq o) (outs_of (lookup (table_at u.machine u.tables c) k.key port)), outs_once (lookup (table_at u.machine u.tables c) k.key port) o is, outs)
 
   -- what is owed at the output is what lookup gives it
   pub owed_at : IsOutput o → (u : Setup) (c : Chip) (taken : List (Port × McCopy)) → at_out (owed_on u c taken) ≡ flat_map (λ t. filter (leaves_by u c o t.0) (t.1 ∷ [])) taken

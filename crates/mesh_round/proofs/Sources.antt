@@ -51,9 +51,7 @@ once_in_range i a (suc n) from below =
     first b = cond b 1 0
 
     differ : (i a : ℕ) → (i == a) ≡ false → i ≡ a → ⊥
-    differ i a other same =
-        let yes' : (i == a) ≡ true = ap (λ k. i == k) (sym same) ∙ nat_eq_same i in
-        cc
+    differ i a other same = grind (arith, nat_eq_same i)
 
 -- ---- each live chip stands once among the live chips, and each output once among the outputs
 
@@ -129,10 +127,7 @@ choice_once None is =
     let rest = sum_map Some (λ y. one_where (choice_eq None y)) all_outs in
     let none = sum_none (λ (o : Out). one_where (choice_eq None (Some o))) all_outs (λ o a. refl) in
     omega (arith, all, rest, none)
-choice_once (Some o) is =
-    let all = sum_by-cons (λ y. one_where (choice_eq (Some o) y)) None (map Some all_outs) in
-    let rest = sum_map Some (λ y. one_where (choice_eq (Some o) y)) all_outs in
-    omega (arith, all, rest, all_once o is)
+choice_once (Some o) is = grind (arith, all_once o is, sum_by-cons, sum_map)
 
 -- each chip with each of its sources
 abbrev pub sources : Description → List (Chip × Option Out)

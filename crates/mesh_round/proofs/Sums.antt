@@ -84,10 +84,7 @@ one_passes t c (x ∷ xs) one =
     ]
 
 zero_where : {X : Type 0} (t : X → Bool) (xs : List X) → sum_by (where_passes t 0) xs ≡ 0
-zero_where t xs = sum_none (where_passes t 0) xs (λ x a. elim (cases_Bool (t x)) [
-  | inl is ↦ ap (given 0) is
-  | inr is ↦ ap (given 0) is
-])
+zero_where t xs = grind (arith, sum_none, cases_Bool)
 
 -- Of a number for each that passes, where just one passes, or the number is 0, the sum is that number.
 pub one_or_none : {X : Type 0} (t : X → Bool) (c : ℕ) (xs : List X) → (c ≡ 0) ⊎ (count_by t xs ≡ 1) → sum_by (where_passes t c) xs ≡ c
@@ -101,10 +98,7 @@ module _ {X Y : Type 0} (test : X → Y → Bool) (f : X → ℕ) (g : Y → ℕ
     (one_y : (x : X) → Among x xs → (f x ≡ 0) ⊎ (count_by (test x) ys ≡ 1))
     (one_x : (y : Y) → Among y ys → (g y ≡ 0) ⊎ (count_by (λ x. test x y) xs ≡ 1)) where
   agree_by : (x : X) (y : Y) → Among x xs → Among y ys → cond (test x y) (f x) 0 ≡ cond (test x y) (g y) 0
-  agree_by x y a c = elim (cases_Bool (test x y)) [
-    | inl is ↦ ap (given (f x)) is ∙ (same x y a c is ∙ sym (ap (given (g y)) is))
-    | inr is ↦ ap (given (f x)) is ∙ sym (ap (given (g y)) is)
-  ]
+  agree_by x y a c = grind (arith, cases_Bool (test x y))
 
   pub carried : sum_by f xs ≡ sum_by g ys
   carried =
@@ -148,17 +142,11 @@ sum_at h a (x ∷ xs) = h a x + sum_at h (a + 1) xs
 
 pub sum_gathered : {X Y : Type 0} (g : Y → ℕ) (h : ℕ → X → List Y) (a : ℕ) (xs : List X) → sum_by g (gathered h a xs) ≡ sum_at (λ i x. sum_by g (h i x)) a xs
 sum_gathered g h a [] = refl
-sum_gathered g h a (x ∷ xs) =
-    let both = sum_by-append g (h a x) (gathered h (a + 1) xs) in
-    let rest = sum_gathered g h (a + 1) xs in
-    omega arith
+sum_gathered g h a (x ∷ xs) = grind (arith, sum_by-append g (h a x) (gathered h (a + 1) xs), sum_gathered g h (a + 1) xs)
 
 pub sum_at-plain : {X : Type 0} (g : X → ℕ) (a : ℕ) (xs : List X) → sum_at (λ i x. g x) a xs ≡ sum_by g xs
 sum_at-plain g a [] = refl
-sum_at-plain g a (x ∷ xs) =
-    let first = sum_by-cons g x xs in
-    let rest = sum_at-plain g (a + 1) xs in
-    omega arith
+sum_at-plain g a (x ∷ xs) = grind (arith, sum_by-cons g x xs, sum_at-plain g (a + 1) xs)
 
 pub sum_at-swap : {X Y : Type 0} (h : Y → ℕ → X → ℕ) (a : ℕ) (xs : List X) (ys : List Y) → sum_by (λ y. sum_at (h y) a xs) ys ≡ sum_at (λ i x. sum_by (λ y. h y i x) ys) a xs
 sum_at-swap h a [] ys = sum_none (λ y. sum_at (h y) a []) ys (λ y c. refl)

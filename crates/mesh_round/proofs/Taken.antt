@@ -1,28 +1,21 @@
 -- What all routers took, output by output: it crossed an output or was dumped there.
 use Rattle.std.proofs.Common.{◌≡◌, ℕ, ◌+◌, ◌*◌, ◌/◌, ◌%◌, ◌<◌, Bool, true, false, cond, ◌==◌, ◌&&◌, List, [], ◌∷◌, ◌++◌, map, filter, refl, ap, ap₂, sym, ◌∙◌, subst, arith, inl, inr, ◌⊎◌, count_by}
-use Rattle.std.proofs.lemmas.Bool.{cases_Bool, and_from, and_parts, eqb-true}
-use Rattle.std.proofs.lemmas.{Option.get_or_from_slice_get, List.Elements.All-contains}
+use Rattle.std.proofs.lemmas.{Bool.cases_Bool, Bool.and_from, Bool.and_parts, Bool.eqb-true, Option.get_or_from_slice_get, List.Elements.All-contains}
 use Rattle.std.specs.{Cmp.both_ways, List.sum_by, List.range_with_len}
-use Rattle.spin_base.specs.Gathered.{gathered}
-use Rattle.spin_base.specs.declared.chips.{Chip.Chip, Dir.Dir}
-use Rattle.spin_base.specs.declared.chips.Dir.TheVariants.{East, NorthEast, North, West, SouthWest, South}
-use Rattle.spin_base.specs.declared.chips.Port.{Port, TheVariants.Link as ByLink, TheVariants.Local}
-use Rattle.spin_base.specs.declared.{routes.Out.Out, copies.McCopy.McCopy, copies.DumpRec.DumpRec}
-use Rattle.spin_base.specs.{Links.port_number, Equality.chip_eq, Equality.port_eq, Equality.out_eq, Outputs.all_outs, Outputs.IsOutput, Hops.last_hop}
-use Rattle.spin_base.proofs.Members.{Among, among_contains, among_map, among_at}
-use Rattle.spin_base.proofs.{Gathering.among_gathered, Tests.answers_none}
-use Rattle.spin_base.proofs.Equality.{nat_eq_same, chip_eq_same, chip_eq_true, port_eq_same, port_eq_true, out_eq_true}
-use Rattle.spin_base.proofs.Once.{all_once}
+use Rattle.spin_base.specs.{Gathered.gathered, declared.chips.Chip.Chip, declared.chips.Dir.Dir, declared.chips.Dir.TheVariants.East, declared.chips.Dir.TheVariants.NorthEast}
+use Rattle.spin_base.specs.declared.chips.{Dir.TheVariants.North, Dir.TheVariants.West, Dir.TheVariants.SouthWest, Dir.TheVariants.South, Port.Port, Port.TheVariants.Local}
+use Rattle.spin_base.specs.{declared.routes.Out.Out, declared.copies.McCopy.McCopy, declared.copies.DumpRec.DumpRec, Links.port_number, Equality.chip_eq, Equality.port_eq, Equality.out_eq}
+use Rattle.spin_base.specs.{Outputs.all_outs, Outputs.IsOutput, Hops.last_hop}
+use Rattle.spin_base.specs.declared.chips.Port.TheVariants.{Link as ByLink}
+use Rattle.spin_base.proofs.{Members.Among, Members.among_contains, Members.among_map, Members.among_at, Gathering.among_gathered, Tests.answers_none, Equality.nat_eq_same, Equality.chip_eq_same}
+use Rattle.spin_base.proofs.{Equality.chip_eq_true, Equality.port_eq_same, Equality.port_eq_true, Equality.out_eq_true, Once.all_once}
 use Rattle.machine_desc.specs.Live.{index_of, chip_of, is_live_chip, is_live_link, IsInside, IsLiveChip}
 use Rattle.machine_desc.proofs.{Far.live_inside, Far.live_ends, Live.chip_of-inside, Live.index_of-chip_of, Live.chip_of-index_of}
-use Rattle.mesh_core.specs.State.{Setup, State, IsMesh, Queue, input, behind, queue_at}
-use Rattle.mesh_core.specs.{Step.outputs, Trail.in_hand, Trail.Mark, Ledger.all_ports, Ledger.port_of}
+use Rattle.mesh_core.specs.{State.Setup, State.State, State.IsMesh, State.Queue, State.input, State.behind, State.queue_at, Step.outputs, Trail.in_hand, Trail.Mark, Ledger.all_ports, Ledger.port_of}
 use Rattle.mesh_core.proofs.{Changes.port_below, Changes.queue_at-below, Moves.mark, Moves.port_of-port_number}
 use Rattle.mesh_round.specs.RoundFlow.{Flow, Passes, at_port, leaves_by, taken_for, dumped_at, held_in}
 use Rattle.mesh_round.proofs.Sums.{sum_agree, sum_none, sum_map, sum_filter, sum_swap, sum_plus, sum_gathered, sum_at-plain, one_passes, carried}
-use Rattle.mesh_round.proofs.Ends.{one_port}
-use Rattle.mesh_round.proofs.Sources.{once_in_range, range_parts, live_chips, live_of_live_chips, live_chip_once}
-use Rattle.mesh_round.proofs.Entered.{numbered_port, has_bit}
+use Rattle.mesh_round.proofs.{Ends.one_port, Sources.once_in_range, Sources.range_parts, Sources.live_chips, Sources.live_of_live_chips, Sources.live_chip_once, Entered.numbered_port, Entered.has_bit}
 use Rattle.mesh_round.proofs.Weights.{one_where, back, sum_outputs, taken_is}
 
 port_once : (port : Port) → count_by (port_eq port) all_ports ≡ 1
@@ -90,10 +83,7 @@ module _ (p : Mark → Bool) (m : State) (f : Flow) (n : State) (mesh : IsMesh m
       ∙ sum_agree (λ c. sum_by g (map (λ port. (c, port)) all_ports)) (λ c. sum_by (λ port. g (c, port)) all_ports) (live_chips u.machine) (λ c a. sum_map (λ port. (c, port)) g all_ports))
 
   port_lives : (s : Chip × Port) → Among s ports → IsLiveChip u.machine s.0
-  port_lives s a =
-      let at = among_gathered (λ i c. map (λ port. (c, port)) all_ports) s (live_chips u.machine) a in
-      let of = among_map (λ (port : Port). (at.1, port)) s all_ports at.3 in
-      subst (λ (t : Chip × Port). IsLiveChip u.machine t.0) (sym of.2) (live_of_live_chips u.machine at.1 (among_at (live_chips u.machine) at.0 at.1 at.2))
+  port_lives s a = grind (arith, live_chips u.machine, among_gathered, among_map, live_of_live_chips, among_at)
 
   abbrev numbers : ℕ → Chip × Port → Bool
   numbers i s = queue_at u.machine s.0 s.1 == i
@@ -119,11 +109,7 @@ module _ (p : Mark → Bool) (m : State) (f : Flow) (n : State) (mesh : IsMesh m
       empty (x ∷ xs) ys same = cc
 
   dead_link : (c : Chip) (d : Dir) → is_live_chip u.machine c ≡ false → is_live_link u.machine c d ≡ false
-  dead_link c d dead = elim (cases_Bool (is_live_link u.machine c d)) [
-    | inl live ↦
-        absurd (answers_none (is_live_chip u.machine c) (live_ends u.machine c d live).2 dead)
-    | inr none ↦ none
-  ]
+  dead_link c d dead = grind (arith, cases_Bool (is_live_link u.machine c d), answers_none, live_ends)
 
   dead_taken : (c : Chip) (port : Port) → IsInside u.machine c → is_live_chip u.machine c ≡ false → taken_at c port ≡ 0
   dead_taken c Local inside dead =
@@ -192,25 +178,10 @@ module _ (p : Mark → Bool) (m : State) (f : Flow) (n : State) (mesh : IsMesh m
       w = weight r.chip r.out r.copy
 
       at_out : (c : Chip) (o : Out) → chip_eq r.chip c ≡ true → cond (out_eq r.out o) (weight c o r.copy) 0 ≡ cond (out_eq r.out o) w 0
-      at_out c o here = elim (cases_Bool (out_eq r.out o)) [
-        | inl is ↦
-            ap (λ b. cond b (weight c o r.copy) 0) is
-            ∙ (ap₂ (λ (e : Chip) (q : Out). weight e q r.copy) (sym (chip_eq_true r.chip c here)) (sym (out_eq_true r.out o is))
-            ∙ sym (ap (λ b. cond b w 0) is))
-        | inr other ↦ ap (λ b. cond b (weight c o r.copy) 0) other ∙ sym (ap (λ b. cond b w 0) other)
-      ]
+      at_out c o here = grind (arith, cases_Bool (out_eq r.out o), chip_eq_true r.chip c here, out_eq_true)
 
       at_chip : (c : Chip) → sum_by (λ o. cond (chip_eq r.chip c && out_eq r.out o) (weight c o r.copy) 0) all_outs ≡ cond (chip_eq r.chip c) w 0
-      at_chip c = elim (cases_Bool (chip_eq r.chip c)) [
-        | inl here ↦
-            sum_agree (λ o. cond (chip_eq r.chip c && out_eq r.out o) (weight c o r.copy) 0) (λ o. cond (out_eq r.out o) w 0) all_outs
-            (λ o a. ap (λ b. cond (b && out_eq r.out o) (weight c o r.copy) 0) here ∙ at_out c o here)
-            ∙ (one_passes (out_eq r.out) w all_outs (all_once r.out is) ∙ sym (ap (λ b. cond b w 0) here))
-        | inr other ↦
-            sum_none (λ o. cond (chip_eq r.chip c && out_eq r.out o) (weight c o r.copy) 0) all_outs
-            (λ o a. ap (λ b. cond (b && out_eq r.out o) (weight c o r.copy) 0) other)
-            ∙ sym (ap (λ b. cond b w 0) other)
-      ]
+      at_chip c = grind (arith, cases_Bool (chip_eq r.chip c), one_passes (out_eq r.out) w all_outs (all_once r.out is), all_once r.out is, sum_agree, sum_none, at_out)
 
   all_dumped : sum_by (λ c. sum_by (λ o. sum_by (weight c o) (dumped_at f c o)) all_outs) (live_chips u.machine) ≡ sum_by (λ (r : DumpRec). weight r.chip r.out r.copy) f.dumped
   all_dumped =

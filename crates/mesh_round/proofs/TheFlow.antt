@@ -39,21 +39,7 @@ module _ (r : Round) where
 
   pub stands : (q : Queue) → Stands q
   stands (input i) =
-      let before = r.mesh.input_lists in
-      let after = r.played.inputs_long in
-      elim (cases_lt i (port_count u)) [
-        | inl below ↦ found (record {
-          at = i;
-          is = refl;
-          below = omega arith;
-          before = sym (get_or_append_left r.m.inputs r.m.cores [] i (omega (arith, below, before)));
-          after = sym (get_or_append_left r.n.inputs r.n.cores [] i (omega (arith, below, before, after)));
-          room = refl;
-        })
-        | inr past ↦
-            beyond (λ is. omega (arith, is, past, before)) input_is_somewhere
-            (get_or_past r.m.inputs i [] (omega (arith, past, before))) (get_or_past r.n.inputs i [] (omega (arith, past, before, after)))
-      ]
+      grind (arith, cases_lt i (port_count u), get_or_append_left r.m.inputs r.m.cores, get_or_append_left r.n.inputs r.n.cores, get_or_past r.m.inputs i, get_or_past r.n.inputs i, input_is_somewhere)
   stands (core v) =
       let before = r.mesh.core_lists in
       let after = r.played.cores_long in

@@ -1,12 +1,11 @@
 -- What a router took, by output: each copy that lookup gives an output crosses it or is dumped there.
-use Rattle.std.proofs.Common.{◌≡◌, ℕ, ◌+◌, ◌-◌, ◌<◌, ◌≤◌, Bool, true, false, cond, ◌==◌, ◌&&◌, if◌then◌else◌, List, [], ◌++◌, map, filter, min, refl, ap, sym, ◌∙◌, subst, arith}
+use Rattle.std.proofs.Common.{◌≡◌, ℕ, ◌+◌, ◌-◌, ◌<◌, ◌≤◌, Bool, true, false, cond, ◌==◌, if◌then◌else◌, List, [], ◌++◌, map, filter, refl, ap, sym, subst, arith}
 use Rattle.std.proofs.lemmas.List.{Elements.All-contains, Sums.sum_by-append, Sorted.sum_by-IsPermutation, Sorted.All-permutation}
-use Rattle.std.specs.{Cmp.both_ways, List.All, List.sum_by, List.list_any}
+use Rattle.std.specs.List.{All, sum_by, list_any}
 use Rattle.spin_base.proofs.Members.{Among, among_contains, contains_among, among_map, among_filter, among_any, any_among, among_left, Contains-filter}
 use Rattle.spin_base.proofs.{Places.All-each, Gathering.among_gathered, Tests.answers_none, Equality.out_eq_same, Equality.out_eq_true}
-use Rattle.spin_base.specs.declared.{chips.Chip.Chip, chips.Port.Port, routes.Out.Out, copies.McCopy.McCopy, copies.DumpRec.DumpRec}
-use Rattle.spin_base.specs.Equality.{chip_eq, out_eq}
-use Rattle.spin_base.specs.{Lookup.lookup, Outputs.has, Outputs.outs_of, Outputs.all_outs, Outputs.IsOutput, Hops.last_hop, Hops.onward}
+use Rattle.spin_base.specs.{declared.chips.Chip.Chip, declared.chips.Port.Port, declared.routes.Out.Out, declared.copies.McCopy.McCopy, Equality.out_eq, Lookup.lookup, Outputs.has, Outputs.outs_of}
+use Rattle.spin_base.specs.{Outputs.all_outs, Outputs.IsOutput, Hops.last_hop, Hops.onward}
 use Rattle.machine_desc.specs.{Live.IsLiveChip, RightTables.table_at}
 use Rattle.mesh_core.specs.{State.Setup, State.State, State.behind, Step.outputs, Ledger.all_ports}
 use Rattle.mesh_round.specs.RoundFlow.{Flow, Passes, at_port, leaves_by, taken_for, dumped_at}
@@ -20,9 +19,7 @@ abbrev pub back : McCopy → McCopy
 back k = record k { hop = k.hop - 1 }
 
 pub back_onward : (k : McCopy) → k.hop < last_hop → back (onward k) ≡ k
-back_onward k low =
-    let hop : min (k.hop + 1) last_hop - 1 ≡ k.hop = omega (arith, low) in
-    ap (λ (h : ℕ). record k { hop = h }) hop
+back_onward k low = grind arith
 
 -- ---- the outputs that lookup gives
 
@@ -35,23 +32,11 @@ sum_outputs u c port k w = by_hop (k.hop == last_hop) refl
     given os o = cond (list_any (out_eq o) os) (w o) 0
 
     among_outs : (r : _) (o : Out) → Among o all_outs → list_any (out_eq o) (filter (has r) all_outs) ≡ has r o
-    among_outs r o a =
-        both_ways (list_any (out_eq o) (filter (has r) all_outs)) (has r o)
-        (λ any. let found = any_among (out_eq o) (filter (has r) all_outs) any in
-        ap (has r) (out_eq_true o found.0 found.2) ∙ (among_filter (has r) found.0 all_outs found.1).1)
-        (λ it. among_any (out_eq o) o (filter (has r) all_outs) (contains_among o (filter (has r) all_outs) (Contains-filter (has r) all_outs o (among_contains o all_outs a) it)) (out_eq_same o))
+    among_outs r o a = grind (arith, out_eq_same o, among_contains o all_outs a, any_among, out_eq_true, among_filter, among_any, contains_among, Contains-filter)
 
     by_hop : (b : Bool) → (k.hop == last_hop) ≡ b → sum_by w (outputs u c port k) ≡ sum_by (λ o. cond (leaves_by u c o port k) (w o) 0) all_outs
-    by_hop true last =
-        let none : outputs u c port k ≡ [] = ap (λ b. if b then [] else outs_of (lookup (table_at u.machine u.tables c) k.key port)) last in
-        ap (sum_by w) none ∙ sym (sum_none (λ o. cond (leaves_by u c o port k) (w o) 0) all_outs (λ o a. ap (λ os. given os o) none))
-    by_hop false more =
-        let r = lookup (table_at u.machine u.tables c) k.key port in
-        let some : outputs u c port k ≡ outs_of r = ap (λ b. if b then [] else outs_of r) more in
-        ap (sum_by w) some
-        ∙ (sum_filter (has r) w all_outs
-        ∙ sum_agree (λ o. cond (has r o) (w o) 0) (λ o. cond (leaves_by u c o port k) (w o) 0) all_outs
-        (λ o a. ap (λ b. cond b (w o) 0) (sym (among_outs r o a)) ∙ sym (ap (λ os. given os o) some)))
+    by_hop true last = grind (arith, sum_none)
+    by_hop false more = grind (arith, sum_filter (has (lookup (table_at u.machine u.tables c) k.key port)) w all_outs, sum_agree, among_outs)
 
 -- a copy that leaves by an output has not the last hop number
 pub not_last : (u : Setup) (c : Chip) (o : Out) (port : Port) (k : McCopy) → leaves_by u c o port k ≡ true → k.hop ≤ last_hop → k.hop < last_hop
@@ -79,12 +64,7 @@ module _ (m : State) (f : Flow) (n : State) (passes : Passes m f n) (c : Chip) (
       (among_contains k (f.left (at_port m.setup c at.1)) passing.0))
 
   dumped_low : (k : McCopy) → Among k (dumped_at f c o) → k.hop < last_hop
-  dumped_low k a =
-      let of = among_map (λ (r : DumpRec). r.copy) k (filter (λ (r : DumpRec). chip_eq r.chip c && out_eq r.out o) f.dumped) a in
-      let there = among_filter (λ (r : DumpRec). chip_eq r.chip c && out_eq r.out o) of.0 f.dumped of.1 in
-      let low = (All-contains (λ (r : DumpRec). IsLiveChip m.setup.machine r.chip × IsOutput r.out × (r.copy.hop < last_hop)) f.dumped of.0 passes.at_outputs
-      (among_contains of.0 f.dumped there.0)).2 in
-      subst (λ (j : McCopy). j.hop < last_hop) (sym of.2) low
+  dumped_low k a = grind (arith, among_map, among_filter, All-contains, among_contains)
 
   -- what the router took for the output is what crossed it and what was dumped there, by any weight on copies
   pub taken_is : (w : McCopy → ℕ) → sum_by w (taken_for m.setup f c o) ≡ sum_by w crossed + sum_by w (dumped_at f c o)

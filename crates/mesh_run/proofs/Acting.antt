@@ -1,42 +1,22 @@
 -- What one turn of the actor at a place does to a share, and turns one after the other.
-use Rattle.std.proofs.Common.{◌≡◌, ◌≢◌, ◌⊎◌, ℕ, zero, suc, ◌+◌, ◌*◌, ◌/◌, ◌%◌, ◌<◌, ◌≤◌, Bool, true, false, List, [], ◌∷◌}
-use Rattle.std.proofs.Common.{◌++◌, length, take, drop, Option, None, Some, refl, sym, ap, ◌∙◌, subst, arith, inl, inr}
-use Rattle.std.proofs.lemmas.List.{length-take, length-drop, Elements.All-append, Elements.All-nil, Elements.All-weaker}
-use Rattle.std.proofs.lemmas.{Bool.cases_eq, Nat.div-add-mod', Nat.mod_below, Option.slice_get_within}
-use Rattle.std.specs.List.{All, slice_get, slice_index_or}
-use Rattle.spin_base.proofs.{Outputs.out_number_below, Places.All-each, Places.both_none}
-use Rattle.spin_base.specs.declared.routes.Out.{Out, TheVariants.Link, TheVariants.Core}
-use Rattle.spin_base.specs.{Links.port_number, Outputs.out_number, Outputs.IsOutput}
-use Rattle.machine_desc.specs.Live.{chip_of, index_of, is_live_chip}
+use Rattle.std.proofs.Common.{◌≡◌, ◌≢◌, ◌⊎◌, ℕ, ◌+◌, ◌*◌, ◌/◌, ◌%◌, ◌<◌, ◌≤◌, Bool, true, false, List, [], ◌++◌, length, Option, None, Some, refl, sym, ap, ◌∙◌, subst, arith, inl, inr}
+use Rattle.std.proofs.lemmas.{List.Elements.All-append, List.Elements.All-nil, List.Elements.All-weaker, Bool.cases_eq, Nat.div-add-mod', Nat.mod_below, Option.slice_get_within}
+use Rattle.std.specs.List.{All, slice_get}
+use Rattle.spin_base.proofs.Places.{All-each, both_none}
+use Rattle.spin_base.specs.{declared.routes.Out.Out, declared.routes.Out.TheVariants.Link, declared.routes.Out.TheVariants.Core, Links.port_number, Outputs.out_number, Outputs.IsOutput}
+use Rattle.machine_desc.specs.Live.{chip_of, index_of}
 use Rattle.machine_desc.proofs.{Far.live_inside, Live.index_of-chip_of}
 use Rattle.link_queue.specs.declared.links.Link.{Link as QueueLink}
-use Rattle.chip_node.specs.declared.holdings.{Holdings.Holdings, Turn.Turn}
-use Rattle.chip_node.specs.declared.holdings.Turn.TheVariants.{Moved, Nothing, Waits}
-use Rattle.chip_node.specs.declared.nodes.{Behind.Behind, CoreBank.CoreBank, RouterNode.RouterNode}
-use Rattle.chip_node.specs.Acting.{place_in, BankActs, IsReadyBank, IsReadyRouter, RouterActs, place_at_router}
-use Rattle.chip_node.specs.Going.{AreEndsOf, Goes, HoldsSender, Stays}
-use Rattle.chip_node.specs.Items.{Item, injection_place, port_place}
+use Rattle.chip_node.specs.declared.holdings.{Holdings.Holdings, Turn.Turn, Turn.TheVariants.Moved, Turn.TheVariants.Nothing, Turn.TheVariants.Waits}
+use Rattle.chip_node.specs.{declared.nodes.Behind.Behind, declared.nodes.CoreBank.CoreBank, declared.nodes.RouterNode.RouterNode, Acting.place_in, Acting.BankActs, Acting.IsReadyBank}
+use Rattle.chip_node.specs.{Acting.IsReadyRouter, Acting.RouterActs, Acting.place_at_router, Going.AreEndsOf, Going.Goes, Going.HoldsSender, Going.Stays, Items.Item, Items.injection_place}
+use Rattle.chip_node.specs.Items.{port_place}
 use Rattle.chip_node.proofs.{Flows.goes_none, Flows.goes_on, Flows.holds_sender_on, Stays.stays_same}
 use Rattle.mesh_core.specs.State.{Setup}
-use Rattle.mesh_run.specs.declared.{floors.Floor.Floor, shares.Share.Share}
-use Rattle.mesh_run.specs.Floors.{grid_size, IsBankOf, IsFloorOf}
-use Rattle.mesh_run.specs.Played.{place_behind, port_count, IsLiveIndex}
-use Rattle.mesh_run.specs.Shares.{actor_of, bank_place, router_place, ActsAt, AreOf, DoesAt, IsInRun, IsNoted, IsShareOf, MovesAt, PlaysOne, PlaysRound, PlaysTurns, SharePlays}
-use Rattle.mesh_run.proofs.Apart.{not_to_itself, one_output}
-use Rattle.mesh_run.proofs.Turns.{IsNotOf, IsRouterOf, bank_by, bank_turns, routed_by, routed_some, routed_turns, turns_beside, turns_none, turns_on}
-
--- ---- parts of lists
-
-slice_get_take : {X : Type 0} (n k : ℕ) (xs : List X) → k < n → slice_get (take n xs) k ≡ slice_get xs k
-slice_get_take zero k xs below = absurd (omega (arith, below))
-slice_get_take (suc n) k [] below = refl
-slice_get_take (suc n) zero (x ∷ xs) below = refl
-slice_get_take (suc n) (suc k) (x ∷ xs) below = slice_get_take n k xs (omega (arith, below))
-
-slice_get_drop : {X : Type 0} (n k : ℕ) (xs : List X) → slice_get (drop n xs) k ≡ slice_get xs (n + k)
-slice_get_drop zero k xs = let same : k ≡ 0 + k = omega arith in ap (slice_get xs) same
-slice_get_drop (suc n) k [] = refl
-slice_get_drop (suc n) k (x ∷ xs) = let same : suc (n + k) ≡ suc n + k = omega arith in slice_get_drop n k xs ∙ ap (slice_get (x ∷ xs)) same
+use Rattle.mesh_run.specs.{declared.shares.Share.Share, Floors.grid_size, Floors.IsBankOf, Floors.IsRouterOf, Played.place_behind, Played.IsLiveIndex, Shares.actor_of, Shares.bank_place}
+use Rattle.mesh_run.specs.Shares.{router_place, ActsAt, AreOf, DoesAt, IsInRun, IsNoted, IsShareOf, MovesAt, PlaysOne, PlaysRound, PlaysTurns, SharePlays}
+use Rattle.mesh_run.proofs.{Apart.not_to_itself, Apart.one_output, Turns.IsNotOf, Turns.bank_by, Turns.bank_turns, Turns.routed_by, Turns.routed_some, Turns.routed_turns, Turns.turns_beside}
+use Rattle.mesh_run.proofs.Turns.{turns_none, turns_on}
 
 -- ---- places of actors
 
@@ -46,94 +26,50 @@ even_place at even = omega (arith, even, div-add-mod' at 2)
 pub odd_place : (at : ℕ) → at % 2 ≢ 0 → bank_place (at / 2) ≡ at
 odd_place at odd = omega (arith, odd, div-add-mod' at 2, mod_below at 2 (omega arith))
 
-pub in_place : (from to at a : ℕ) → a ≡ at → from ≤ at → at < to → IsInRun from to a
-in_place from to at a is above below = record { above = omega (arith, is, above); below = omega (arith, is, below) }
-
-pub half_below : (at to chips : ℕ) → at < to → to ≤ 2 * chips → at / 2 < chips
-half_below at to chips below within = omega (arith, below, within, div-add-mod' at 2)
-
-pub live_some : (b : Bool) → (b ≡ false → true ≡ false) → b ≡ true
-live_some true other = refl
-live_some false other = sym (other refl)
-
 -- ---- what a share has for an actor
 
--- what the floor says of the router of an index
-abbrev pub IsFloorRouter : Setup → Floor → ℕ → RouterNode → Type 0
-IsFloorRouter u f i r =
-    (r.chip ≡ chip_of u.machine i) × (r.index ≡ i) × (r.table.now ≡ slice_index_or u.tables i []) × (r.behind.now ≡ take 24 (drop (24 * i) f.behind.items))
+something : (x : Option (Option Behind)) (q : ℕ) → place_in x ≡ Some q → (y : Option Behind) × (x ≡ Some y)
+something None q is = absurd (none_some is)
+  where
+    none_some : None ≡ Some q → ⊥
+    none_some same = cc
+something (Some y) q is = (y, refl)
 
-module _ (u : Setup) (f : Floor) where
-  pub live_index : (i : ℕ) → is_live_chip u.machine (chip_of u.machine i) ≡ true → IsLiveIndex u i
-  live_index i live = record { live = live; is = index_of-chip_of u.machine i }
+bit_within : (o : Out) → out_number o < 24 → IsOutput o
+bit_within (Link d) below = tt
+bit_within (Core p) below = omega (arith, below)
 
-  router_outputs : (i : ℕ) (r : RouterNode) → IsFloorOf u f → i < grid_size u → IsFloorRouter u f i r → length r.behind.now ≡ 24
-  router_outputs i r of below is =
-      let taken = length-take 24 (drop (24 * i) f.behind.items) in
-      let dropped = length-drop (24 * i) f.behind.items in
-      omega (arith, ap length is.3, taken, dropped, of.behind_long, below)
+-- an output behind which a router knows a queue has a bit
+has_bit : (r : RouterNode) (o : Out) (q : ℕ) → place_at_router r.behind.now o ≡ Some q → IsOutput o
+has_bit r o q is =
+    let at = something (slice_get r.behind.now (out_number o)) q is in
+    bit_within o (let within = slice_get_within r.behind.now (out_number o) at.0 at.1 in omega (arith, within, r.outputs))
 
-  pub router_of : (i : ℕ) (r : RouterNode) → IsFloorOf u f → i < grid_size u → is_live_chip u.machine (chip_of u.machine i) ≡ true → IsFloorRouter u f i r → IsRouterOf u i r
-  router_of i r of below live is = record {
-    live = live_index i live;
-    index = is.1;
-    chip = is.0;
-    table = is.2;
-    behind = λ o output.
-        ap place_in (ap (λ l. slice_get l (out_number o)) is.3
-        ∙ (slice_get_take 24 (out_number o) (drop (24 * i) f.behind.items) (out_number_below o output) ∙ slice_get_drop (24 * i) (out_number o) f.behind.items))
-        ∙ of.behind i o below live output;
+module _ (u : Setup) (links : List QueueLink) (s : Share) where
+  pub ready_router : (i : ℕ) (r : RouterNode) → IsRouterOf u i r → IsShareOf u links s → IsInRun s.from s.to (router_place i) → IsReadyRouter links r s.hold
+  ready_router i r router share within =
+      let inside = live_inside u.machine (chip_of u.machine i) router.live.live in
+      let at : (o : Out) (q : ℕ) → place_at_router r.behind.now o ≡ Some q → place_behind u (chip_of u.machine i) o ≡ Some q =
+      λ o q behind. sym (router.behind o (has_bit r o q behind)) ∙ behind in
+      record {
+        senders = λ o q behind. share.routers i o q router.live within (at o q behind);
+        differ = λ o p q one two o_is p_is. (one_output u (chip_of u.machine i) (chip_of u.machine i) o p q inside inside (at o q one) (at p q two)).1;
+        apart = λ o port behind.
+            let place : port_place r.index port ≡ 7 * index_of u.machine (chip_of u.machine i) + port_number port =
+            ap (λ n. 7 * n + port_number port) (router.index ∙ sym (index_of-chip_of u.machine i)) in
+            not_to_itself u (chip_of u.machine i) o port inside (at o (port_place r.index port) behind ∙ ap Some place);
+        ends = share.ends;
+      }
+
+  pub ready_bank : (i : ℕ) (b : CoreBank) → IsLiveIndex u i → IsBankOf u i b → IsShareOf u links s → IsInRun s.from s.to (bank_place i) → IsReadyBank links b s.hold
+  ready_bank i b live bank share within = record {
+    sender = subst (λ n. HoldsSender s.hold.ends.items (injection_place n)) (sym bank.index) (share.banks i live within);
+    vertices = All-each (λ v. (v < length s.hold.unsent.items) × (b.cores + v < length s.hold.ends.items)) b.vertices.items (λ v has.
+        let on = bank.vertices v has in
+        let below = slice_get_within u.spots v on.spot on.stands in
+        (omega (arith, below, share.unsent_long), omega (arith, below, share.ends_long, bank.cores)));
+    ends = share.ends;
   }
-
-  something : (x : Option (Option Behind)) (q : ℕ) → place_in x ≡ Some q → (y : Option Behind) × (x ≡ Some y)
-  something None q is = absurd (none_some is)
-    where
-      none_some : None ≡ Some q → ⊥
-      none_some same = cc
-  something (Some y) q is = (y, refl)
-
-  bit_within : (o : Out) → out_number o < 24 → IsOutput o
-  bit_within (Link d) below = tt
-  bit_within (Core p) below = omega (arith, below)
-
-  -- an output behind which a router knows a queue has a bit
-  has_bit : (r : RouterNode) (o : Out) (q : ℕ) → length r.behind.now ≡ 24 → place_at_router r.behind.now o ≡ Some q → IsOutput o
-  has_bit r o q long is =
-      let at = something (slice_get r.behind.now (out_number o)) q is in
-      bit_within o (let within = slice_get_within r.behind.now (out_number o) at.0 at.1 in omega (arith, within, long))
-
-  module _ (links : List QueueLink) (s : Share) where
-    pub ready_router : (i : ℕ) (r : RouterNode) → IsFloorOf u f → IsShareOf u links s → i < grid_size u → is_live_chip u.machine (chip_of u.machine i) ≡ true → IsFloorRouter u f i r →
-        IsInRun s.from s.to (router_place i) → IsReadyRouter links r s.hold
-    ready_router i r of share below live is within =
-        let long = router_outputs i r of below is in
-        let router = router_of i r of below live is in
-        let inside = live_inside u.machine (chip_of u.machine i) live in
-        let at : (o : Out) (q : ℕ) → place_at_router r.behind.now o ≡ Some q → place_behind u (chip_of u.machine i) o ≡ Some q =
-        λ o q behind. sym (router.behind o (has_bit r o q long behind)) ∙ behind in
-        record {
-          outputs = long;
-          senders = λ o q behind. share.routers i o q router.live within (at o q behind);
-          differ = λ o p q one two o_is p_is. (one_output u (chip_of u.machine i) (chip_of u.machine i) o p q inside inside (at o q one) (at p q two)).1;
-          apart = λ o port behind.
-              let place : port_place r.index port ≡ 7 * index_of u.machine (chip_of u.machine i) + port_number port =
-              ap (λ n. 7 * n + port_number port) (is.1 ∙ sym (index_of-chip_of u.machine i)) in
-              not_to_itself u (chip_of u.machine i) o port inside (at o (port_place r.index port) behind ∙ ap Some place);
-          ends = share.ends;
-        }
-
-    pub ready_bank : (i : ℕ) (b : CoreBank) → IsFloorOf u f → IsShareOf u links s → slice_get f.banks.items i ≡ Some b → is_live_chip u.machine (chip_of u.machine i) ≡ true →
-        IsInRun s.from s.to (bank_place i) → IsReadyBank links b s.hold
-    ready_bank i b of share stands live within =
-        let bank = of.banks i b stands in
-        record {
-          sender = subst (λ n. HoldsSender s.hold.ends.items (injection_place n)) (sym bank.index) (share.banks i (live_index i live) within);
-          vertices = All-each (λ v. (v < length s.hold.unsent.items) × (b.cores + v < length s.hold.ends.items)) b.vertices.items (λ v has.
-              let on = bank.vertices v has in
-              let below = slice_get_within u.spots v on.spot on.stands in
-              (omega (arith, below, share.unsent_long), omega (arith, below, share.ends_long, bank.cores)));
-          ends = share.ends;
-        }
 
 module _ (u : Setup) (links : List QueueLink) (s : Share) where
   was_in : (t : Share) → t.from ≡ s.from → t.to ≡ s.to → {a : ℕ} → IsInRun t.from t.to a → IsInRun s.from s.to a
@@ -152,14 +88,7 @@ module _ (u : Setup) (links : List QueueLink) (s : Share) where
   }
 
   pub share_same : (t : Share) → t.from ≡ s.from → t.to ≡ s.to → t.hold ≡ s.hold → IsShareOf u links s → IsShareOf u links t
-  share_same t from to hold share = record {
-    ends_long = subst (λ (h : Holdings). length h.ends.items ≡ port_count u + length u.spots) (sym hold) share.ends_long;
-    unsent_long = subst (λ (h : Holdings). length h.unsent.items ≡ length u.spots) (sym hold) share.unsent_long;
-    within = subst (λ n. n ≤ 2 * grid_size u) (sym to) share.within;
-    routers = λ i o q live within behind. subst (λ (h : Holdings). HoldsSender h.ends.items q) (sym hold) (share.routers i o q live (was_in t from to within) behind);
-    banks = λ i live within. subst (λ (h : Holdings). HoldsSender h.ends.items (injection_place i)) (sym hold) (share.banks i live (was_in t from to within));
-    ends = subst (λ (h : Holdings). AreEndsOf links h.ends.items) (sym hold) share.ends;
-  }
+  share_same t from to hold share = grind (arith, was_in)
 
 -- ---- what a turn does
 
@@ -188,25 +117,13 @@ module _ (u : Setup) (patience : ℕ) where
 
   router_does : (cap at i : ℕ) (r : RouterNode) (s t : Share) (turn : Turn) → cap ≡ u.capacity → IsRouterOf u i r → router_place i ≡ at →
       RouterActs cap patience r.table.now r s.hold turn t.hold → DoesAt u patience at s turn t
-  router_does cap at i r s t Moved is of place acts = record {
-    items = acts.0;
-    goes = subst (λ n. Goes n patience s.hold acts.0 t.hold) is acts.2;
-    of_it = All-weaker (λ x. actor_of x ≡ router_place r.index) (λ x. actor_of x ≡ at) (λ x by. by ∙ (ap router_place of.index ∙ place)) acts.0 (routed_by u r acts.0 acts.1);
-    turns_are = routed_turns u r i of acts.0 acts.1;
-    some = routed_some u r acts.0 acts.1;
-  }
+  router_does cap at i r s t Moved is of place acts = grind (arith, routed_turns u r i of acts.0 acts.1, routed_some u r acts.0 acts.1, routed_by u r acts.0 acts.1, All-weaker)
   router_does cap at i r s t Nothing is of place acts = acts
   router_does cap at i r s t Waits is of place acts = acts
 
   bank_does : (cap at i : ℕ) (k : CoreBank) (s t : Share) (turn : Turn) → cap ≡ u.capacity → IsLiveIndex u i → IsBankOf u i k → bank_place i ≡ at →
       BankActs cap patience k s.hold turn t.hold → DoesAt u patience at s turn t
-  bank_does cap at i k s t Moved is live of place acts = record {
-    items = acts.0;
-    goes = subst (λ n. Goes n patience s.hold acts.0 t.hold) is acts.2;
-    of_it = All-weaker (λ x. actor_of x ≡ bank_place k.index) (λ x. actor_of x ≡ at) (λ x by. by ∙ (ap bank_place of.index ∙ place)) acts.0 (bank_by u k acts.0 acts.1);
-    turns_are = bank_turns u i k acts.0 live of acts.1;
-    some = acts.1.some;
-  }
+  bank_does cap at i k s t Moved is live of place acts = grind (arith, bank_turns u i k acts.0 live of acts.1, bank_by u k acts.0 acts.1, All-weaker)
   bank_does cap at i k s t Nothing is live of place acts = acts
   bank_does cap at i k s t Waits is live of place acts = acts
 
@@ -246,14 +163,14 @@ module _ (u : Setup) (patience : ℕ) where
     noted = noted_none s.moved t.moved moved;
   }
 
-  pub one_moves : (at : ℕ) (s t : Share) → t.from ≡ s.from → t.to ≡ s.to → t.moved ≡ true → s.from ≤ at → at < s.to → MovesAt u patience at s t → PlaysOne u patience at s t
-  one_moves at s t from to moved above below h = record {
+  pub one_moves : (at : ℕ) (s t : Share) → t.from ≡ s.from → t.to ≡ s.to → t.moved ≡ true → IsInRun s.from s.to at → MovesAt u patience at s t → PlaysOne u patience at s t
+  one_moves at s t from to moved within h = record {
     items = h.items;
     plays = record {
       from = from;
       to = to;
       goes = h.goes;
-      own = All-weaker (λ x. actor_of x ≡ at) (λ x. IsInRun s.from s.to (actor_of x)) (λ x is. subst (IsInRun s.from s.to) (sym is) (record { above = above; below = below })) h.items h.of_it;
+      own = All-weaker (λ x. actor_of x ≡ at) (λ x. IsInRun s.from s.to (actor_of x)) (λ x is. subst (IsInRun s.from s.to) (sym is) within) h.items h.of_it;
       turns_are = h.turns_are;
     };
     of_it = h.of_it;
@@ -270,13 +187,7 @@ module _ (u : Setup) (patience : ℕ) where
     pub noted : IsNoted start.moved items now.moved
 
   plays_none : (n : ℕ) (s t : Share) → t.from ≡ s.from → t.to ≡ s.to → t.hold ≡ s.hold → SharePlays u patience n s [] t
-  plays_none n s t from to hold = record {
-    from = from;
-    to = to;
-    goes = subst (Goes u.capacity patience s.hold []) (sym hold) (goes_none u.capacity patience s.hold s.hold (stays_same s.hold));
-    own = All-nil (λ x. IsInRun s.from s.to (actor_of x));
-    turns_are = turns_none u n;
-  }
+  plays_none n s t from to hold = grind (arith, goes_none u.capacity patience s.hold s.hold (stays_same s.hold), stays_same s.hold, turns_none u n, All-nil)
 
   pub each_none : (start : Share) (at : ℕ) → OneEach start at start
   each_none start at = record { items = []; plays = plays_none 1 start start refl refl refl; before = All-nil (λ x. actor_of x < at); noted = noted_none start.moved start.moved refl }
@@ -287,12 +198,7 @@ module _ (u : Setup) (patience : ℕ) where
 
   -- a place further on
   pub each_past : (start now : Share) (at next : ℕ) → at ≤ next → OneEach start at now → OneEach start next now
-  each_past start now at next past h = record {
-    items = h.items;
-    plays = h.plays;
-    before = All-weaker (λ x. actor_of x < at) (λ x. actor_of x < next) (λ x below. omega (arith, below, past)) h.items h.before;
-    noted = h.noted;
-  }
+  each_past start now at next past h = grind (arith, All-weaker)
 
   pub each_more : (start now new : Share) (at : ℕ) → OneEach start at now → PlaysOne u patience at now new → OneEach start (at + 1) new
   each_more start now new at h k = record {

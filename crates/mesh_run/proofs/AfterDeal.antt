@@ -1,26 +1,20 @@
 -- The shares of a split mesh, with the ends of the links between them dealt: each share holds what its actors need.
-use Rattle.std.proofs.Common.{◌≡◌, ◌≢◌, ℕ, ◌*◌, ◌^◌, ◌<◌, ◌≤◌, List, [], ◌++◌, length, map, get_or, Option, Some, refl, sym, ap, ◌∙◌, subst, arith, inl, inr, zero, suc}
-use Rattle.std.proofs.lemmas.{Bool.cases_eq, List.length-map}
-use Rattle.std.proofs.lemmas.Option.{get_or_from_slice_get, slice_get_within, slice_get-get_or, same_Some}
+use Rattle.std.proofs.Common.{◌≡◌, ◌≢◌, ℕ, ◌*◌, ◌<◌, ◌≤◌, List, [], ◌++◌, length, map, get_or, Option, Some, refl, sym, ap, ◌∙◌, subst, arith, inl, inr, zero, suc}
+use Rattle.std.proofs.lemmas.{Bool.cases_eq, List.length-map, Option.get_or_from_slice_get, Option.slice_get_within, Option.slice_get-get_or, Option.same_Some}
 use Rattle.std.specs.List.{All, slice_get, slice_index_or}
-use Rattle.spin_base.proofs.Places.{one_item_at, slice_get-mapped, slice_get_there}
-use Rattle.spin_base.proofs.Spots.{out_of-has_bit}
-use Rattle.spin_base.specs.{Outputs.IsOutput, WithRoom.WithRoom}
-use Rattle.spin_base.specs.declared.{copies.McCopy.McCopy, routes.Out.Out, routes.Out.TheVariants.Link as ByLink}
+use Rattle.spin_base.proofs.{Places.one_item_at, Places.slice_get-mapped, Places.slice_get_there, Spots.out_of-has_bit}
+use Rattle.spin_base.specs.{Outputs.IsOutput, WithRoom.WithRoom, declared.copies.McCopy.McCopy, declared.routes.Out.Out}
+use Rattle.spin_base.specs.declared.routes.Out.TheVariants.{Link as ByLink}
 use Rattle.machine_desc.specs.Live.{chip_of}
 use Rattle.machine_desc.proofs.Far.{live_inside}
 use Rattle.link_queue.specs.declared.links.{Link.Link, LinkEnds.LinkEnds}
-use Rattle.chip_node.specs.declared.ends.End.{End}
-use Rattle.chip_node.specs.declared.ends.End.TheVariants.{Away, Own, Sends, Takes}
+use Rattle.chip_node.specs.declared.ends.End.{End, TheVariants.Away, TheVariants.Own, TheVariants.Sends, TheVariants.Takes}
 use Rattle.chip_node.specs.{Going.HoldsSender, Going.IsEndOf, Items.injection_place}
 use Rattle.mesh_core.specs.State.{IsMesh, Setup, State}
-use Rattle.mesh_run.specs.declared.{homes.Cut.Cut, homes.Home.Home, raised.RaisedMesh.RaisedMesh, shares.Share.Share}
-use Rattle.mesh_run.specs.Crossing.{AreCuts, Deals, IsUncut}
-use Rattle.mesh_run.specs.{Floors.grid_size, Homes.AreShareRuns, Homes.run_start, Queues.WasUp, Raised.IsRaisedFrom}
-use Rattle.mesh_run.specs.Shares.{bank_place, router_place, IsInRun, IsShareOf}
+use Rattle.mesh_run.specs.{declared.homes.Cut.Cut, declared.homes.Home.Home, declared.raised.RaisedMesh.RaisedMesh, declared.shares.Share.Share, Crossing.AreCuts, Crossing.Deals, Crossing.IsUncut}
+use Rattle.mesh_run.specs.{Floors.grid_size, Homes.AreShareRuns, Homes.run_start, Queues.WasUp, Raised.IsRaisedFrom, Shares.bank_place, Shares.router_place, Shares.IsInRun, Shares.IsShareOf}
 use Rattle.mesh_run.specs.Split.{end_at, end_in}
-use Rattle.mesh_run.proofs.Feeding.{LeadsTo, by_link, leads, place_below, to_vertex}
-use Rattle.mesh_run.proofs.{HomeLaws.live_below, PlanLaws.few_cuts, PlanLaws.few_homes}
+use Rattle.mesh_run.proofs.{Feeding.LeadsTo, Feeding.by_link, Feeding.leads, Feeding.place_below, Feeding.to_vertex, FloorLaws.live_below}
 
 -- an output that leads somewhere has a bit
 has_bit : (u : Setup) (i : ℕ) (o : Out) (q : ℕ) → LeadsTo u (chip_of u.machine i) o q → IsOutput o
@@ -62,8 +56,7 @@ in_share dealt k q s e at stands = ap (λ (x : Option Share). end_in x q) (sym a
 by_sender : (ends : List LinkEnds) (dealt : List Share) (k q sender : ℕ) (s : Share) → slice_get dealt k ≡ Some s → k ≡ sender →
     Holds ends dealt k q sender → HoldsSender s.hold.ends.items q
 by_sender ends dealt k q sender s at same (lane a stands) = record { end = Own a; stands = in_share dealt k q s (Own a) at stands; sends = tt }
-by_sender ends dealt k q sender s at same (sends l e of stands) =
-    record { end = Sends (record { link = l; tx = e.tx }); stands = in_share dealt k q s (Sends (record { link = l; tx = e.tx })) at stands; sends = tt }
+by_sender ends dealt k q sender s at same (sends l e of stands) = grind (arith, in_share dealt k q s (Sends (record { link = l; tx = e.tx })) at stands)
 by_sender ends dealt k q sender s at same (takes other l e of stands) = absurd (other same)
 by_sender ends dealt k q sender s at same (none other stands) = absurd (other same)
 
@@ -74,15 +67,14 @@ module _ (m : State) (is_mesh : IsMesh m) (more : ℕ) (r : RaisedMesh) (raised 
   -- the homes of a queue are shares that are there
   pub homes_below : (q : ℕ) (h : Home) → slice_get r.layout.now.homes.items q ≡ Some h → (h.sender < length r.shares.items) × (h.receiver < length r.shares.items)
   homes_below q h at =
-      let shared = raised.shared in
-      let below = shared.homes_are.below q h (length shared.ends) at shared.numbers.below in
-      let many = shared.long in
+      let below = raised.laid.homes.below q h (length r.layout.now.runs.items) at raised.laid.numbers.below in
+      let many = raised.shared.long in
       (omega (arith, below.0, many), omega (arith, below.1, many))
 
   -- where a cut has neither its sender nor its receiver, no end of a link of its queue is held
   pub no_end_of_cut : (l : ℕ) (c : Cut) → slice_get r.layout.now.cuts.items l ≡ Some c → (k : ℕ) → k ≢ c.sender → k ≢ c.receiver → IsUncut r.layout.now.cuts.items k c.queue
   no_end_of_cut l c at k no_sender no_receiver j d also of =
-      let same = one_item_at r.layout.now.cuts.items l j c d (raised.shared.apart l j c d at also of.0) at also in
+      let same = one_item_at r.layout.now.cuts.items l j c d (raised.laid.cuts.apart l j c d at also of.0) at also in
       elim of.1 [
         | inl is ↦ no_sender (is ∙ ap (λ (x : Cut). x.sender) (sym same))
         | inr is ↦ no_receiver (is ∙ ap (λ (x : Cut). x.receiver) (sym same))
@@ -91,7 +83,7 @@ module _ (m : State) (is_mesh : IsMesh m) (more : ℕ) (r : RaisedMesh) (raised 
   -- no cut is of a queue that has both homes in one share
   pub lane_uncut : (q : ℕ) (h : Home) → slice_get r.layout.now.homes.items q ≡ Some h → h.sender ≡ h.receiver → (s : ℕ) → IsUncut r.layout.now.cuts.items s q
   lane_uncut q h at same s l c stands of =
-      let cut = raised.shared.cut l c stands in
+      let cut = raised.laid.cuts.cut l c stands in
       let home : h ≡ home_of c =
       same_Some h (home_of c) (sym at ∙ (ap (slice_get r.layout.now.homes.items) of.0 ∙ cut.0)) in
       cut.1 (ap (λ (x : Home). x.sender) (sym home) ∙ (same ∙ ap (λ (x : Home). x.receiver) home))
@@ -99,20 +91,14 @@ module _ (m : State) (is_mesh : IsMesh m) (more : ℕ) (r : RaisedMesh) (raised 
   -- the cuts are of different queues, each between two shares that are there
   pub cuts_apart : AreCuts r.layout.now.cuts.items r.shares.items
   cuts_apart = record {
-    two = λ l c at. (raised.shared.cut l c at).1;
-    senders = λ l c at. let cut = raised.shared.cut l c at in
+    two = λ l c at. (raised.laid.cuts.cut l c at).1;
+    senders = λ l c at. let cut = raised.laid.cuts.cut l c at in
         (Away, raised.lanes.away c.queue (home_of c) c.sender cut.0 (homes_below c.queue (home_of c) cut.0).0 (inr cut.1));
-    receivers = λ l c at. let cut = raised.shared.cut l c at in
+    receivers = λ l c at. let cut = raised.laid.cuts.cut l c at in
         (Away, raised.lanes.away c.queue (home_of c) c.receiver cut.0 (homes_below c.queue (home_of c) cut.0).1 (inr cut.1));
-    apart = raised.shared.apart;
+    apart = raised.laid.cuts.apart;
+    few = raised.laid.cuts.few;
   }
-
-  -- a link's number fits a word
-  pub few_links : length r.layout.now.cuts.items < 2 ^ 32
-  few_links =
-      let cuts = few_cuts u r.layout.now.homes.items r.layout.now.cuts.items r.shares.items raised.shared in
-      let homes = few_homes m raised.shared.table r.layout.now.homes.items is_mesh raised.shared.homes_are in
-      omega (arith, cuts, homes)
 
   -- each cut has a link
   pub links_many : length raised.ends ≡ length r.layout.now.cuts.items
@@ -131,7 +117,7 @@ module _ (m : State) (is_mesh : IsMesh m) (more : ℕ) (r : RaisedMesh) (raised 
     -- a queue between two shares
     of_cut : (l : ℕ) (c : Cut) (k : ℕ) → slice_get r.layout.now.cuts.items l ≡ Some c → k < length r.shares.items → Holds raised.ends dealt k c.queue c.sender
     of_cut l c k at below =
-        let cut = raised.shared.cut l c at in
+        let cut = raised.laid.cuts.cut l c at in
         let e = slice_get_there raised.ends l (omega (arith, slice_get_within r.layout.now.cuts.items l c at, links_many)) in
         let is = deals.dealt l c e.0 at e.1 in
         elim (cases_eq k c.sender) [
@@ -158,9 +144,9 @@ module _ (m : State) (is_mesh : IsMesh m) (more : ℕ) (r : RaisedMesh) (raised 
     of_queue q h k at below = elim (cases_eq h.sender h.receiver) [
       | inl same ↦ of_lane q h k at same below
       | inr two ↦
-          let cut = raised.shared.all_cut q h at two in
+          let cut = raised.laid.cuts.all_cut q h at two in
           let c = cut.1 in
-          let is = (raised.shared.cut cut.0 c cut.2).0 in
+          let is = (raised.laid.cuts.cut cut.0 c cut.2).0 in
           let home : home_of c ≡ h = same_Some (home_of c) h (sym is ∙ (ap (slice_get r.layout.now.homes.items) cut.3 ∙ at)) in
           subst (λ n. Holds raised.ends dealt k n h.sender) cut.3
           (subst (λ (x : Home). Holds raised.ends dealt k c.queue x.sender) home (of_cut cut.0 c k cut.2 below))
@@ -186,39 +172,39 @@ module _ (m : State) (is_mesh : IsMesh m) (more : ℕ) (r : RaisedMesh) (raised 
         was : (s : Share) × (slice_get r.shares.items k ≡ Some s)
         was = slice_get_there r.shares.items k below_dealt
 
-        has_run : k < length raised.shared.ends
+        has_run : k < length r.layout.now.runs.items
         has_run = let below = below_dealt in let many = raised.shared.long in omega (arith, below, many)
 
-        run_from : t.from ≡ run_start raised.shared.ends k
+        run_from : t.from ≡ run_start r.layout.now.runs.items k
         run_from = (deals.same.1 k was.0 t was.1 at).from ∙ raised.shared.from k was.0 was.1
 
-        run_to : t.to ≡ slice_index_or raised.shared.ends k 0
+        run_to : t.to ≡ slice_index_or r.layout.now.runs.items k 0
         run_to = (deals.same.1 k was.0 t was.1 at).to ∙ raised.shared.to k was.0 was.1
 
         -- its actors have its number
-        numbered : (a : ℕ) → IsInRun t.from t.to a → slice_get raised.shared.table a ≡ Some k
+        numbered : (a : ℕ) → IsInRun t.from t.to a → slice_get raised.laid.table a ≡ Some k
         numbered a in_run =
-            raised.shared.numbers.number a k has_run (record { above = omega (arith, in_run.above, run_from); below = omega (arith, in_run.below, run_to) })
+            raised.laid.numbers.number a k has_run (record { above = omega (arith, in_run.above, run_from); below = omega (arith, in_run.below, run_to) })
 
         ends_many : length t.hold.ends.items ≡ length r.layout.now.homes.items
-        ends_many = (deals.same.1 k was.0 t was.1 at).ends_long ∙ (raised.shared.ends_long k was.0 was.1 ∙ sym raised.shared.homes_are.long)
+        ends_many = (deals.same.1 k was.0 t was.1 at).ends_long ∙ (raised.shared.ends_long k was.0 was.1 ∙ sym raised.laid.homes.long)
 
         sender_of : (q : ℕ) (h : Home) → slice_get r.layout.now.homes.items q ≡ Some h → h.sender ≡ k → HoldsSender t.hold.ends.items q
         sender_of q h home is = by_sender raised.ends dealt k q h.sender t at (sym is) (of_queue q h k home below_dealt)
 
         pub dealt_share : IsShareOf u links t
         dealt_share = record {
-          ends_long = ends_many ∙ raised.shared.homes_are.long;
+          ends_long = ends_many ∙ raised.laid.homes.long;
           unsent_long = ap (λ v. length v.items) (deals.same.1 k was.0 t was.1 at).unsent ∙ raised.shared.unsent_long k was.0 was.1;
-          within = let to = run_to in let most = run_within (2 * grid_size u) raised.shared.ends k raised.shared.runs has_run in omega (arith, to, most);
+          within = let to = run_to in let most = run_within (2 * grid_size u) r.layout.now.runs.items k raised.laid.runs has_run in omega (arith, to, most);
           routers = λ i o q live in_run behind.
               let led = leads u (chip_of u.machine i) o q behind in
               let place = place_below u (chip_of u.machine i) o q (live_inside u.machine (chip_of u.machine i) live.live) led in
-              let h = slice_get_there r.layout.now.homes.items q (omega (arith, place, raised.shared.homes_are.long)) in
-              sender_of q h.0 h.1 (raised.shared.homes_are.routers i o q k h.0 live (has_bit u i o q led) behind (numbered (router_place i) in_run) h.1);
+              let h = slice_get_there r.layout.now.homes.items q (omega (arith, place, raised.laid.homes.long)) in
+              sender_of q h.0 h.1 (raised.laid.homes.routers i o q k h.0 live (has_bit u i o q led) behind (numbered (router_place i) in_run) h.1);
           banks = λ i live in_run.
-              let h = slice_get_there r.layout.now.homes.items (injection_place i) (omega (arith, live_below u i live, raised.shared.homes_are.long)) in
-              sender_of (injection_place i) h.0 h.1 (raised.shared.homes_are.banks i k h.0 live (numbered (bank_place i) in_run) h.1);
+              let h = slice_get_there r.layout.now.homes.items (injection_place i) (omega (arith, live_below u i live, raised.laid.homes.long)) in
+              sender_of (injection_place i) h.0 h.1 (raised.laid.homes.banks i k h.0 live (numbered (bank_place i) in_run) h.1);
           ends = λ q d inside.
               let h = slice_get_there r.layout.now.homes.items q (omega (arith, inside, ends_many)) in
               let e = is_end k q h.0.sender (of_queue q h.0 k h.1 below_dealt) in

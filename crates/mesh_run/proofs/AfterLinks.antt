@@ -1,12 +1,11 @@
 -- After a whole round the links are up for the queues of the cuts, and nothing is logged in the shares.
-use Rattle.std.proofs.Common.{◌≡◌, ℕ, ◌<◌, List, [], ◌++◌, length, map, get_or, refl, sym, ◌∙◌, subst, arith}
-use Rattle.std.proofs.lemmas.List.{get_or_default, length-map}
-use Rattle.std.proofs.lemmas.Option.{get_or_from_slice_get, slice_get_within, slice_get-get_or}
+use Rattle.std.proofs.Common.{◌≡◌, ℕ, ◌<◌, List, [], ◌++◌, length, map, get_or, refl, sym, ◌∙◌, arith}
+use Rattle.mesh_run.specs.Queues.{IsUp}
+use Rattle.std.proofs.Common.{subst}
+use Rattle.std.proofs.lemmas.{List.get_or_default, List.length-map, Option.get_or_from_slice_get, Option.slice_get_within, Option.slice_get-get_or}
 use Rattle.spin_base.proofs.Places.{slice_get-mapped, slice_get_there}
 use Rattle.spin_base.specs.declared.copies.McCopy.{McCopy}
-use Rattle.mesh_run.specs.declared.homes.Cut.{Cut}
-use Rattle.mesh_run.specs.Queues.{queue_of_link, AreUp, IsUp}
-use Rattle.mesh_run.specs.Split.{cut_queues, HaveNoLogs}
+use Rattle.mesh_run.specs.{declared.homes.Cut.Cut, Queues.queue_of_link, Queues.AreUp, Split.cut_queues, Split.HaveNoLogs}
 use Rattle.mesh_run.proofs.{AfterMesh.mesh, AfterMesh.queue_there, Resting.fewer, WholeRound.Whole}
 
 module _ (w : Whole) where
@@ -17,16 +16,14 @@ module _ (w : Whole) where
       (same.dumps, same.deliveries)
 
   after_long : length w.rests.now ≡ length w.r.layout.now.cuts.items
-  after_long =
-      let many = length-map w.r.layout.now.cuts.items (λ (d : Cut). get_or (w.m.inputs ++ w.m.cores) d.queue []) in
-      omega (arith, w.roomy.raised.up.long, many, w.collects.long, w.rests.long)
+  after_long = grind (arith, length-map, get_or)
 
   queue_at_cut : (l : ℕ) (q : List McCopy) → l < length w.r.layout.now.cuts.items →
       get_or (map queue_of_link w.rests.now) l q ≡ get_or (cut_queues ((mesh w).inputs ++ (mesh w).cores) w.r.layout.now.cuts.items) l q
   queue_at_cut l q below =
       let cut = slice_get_there w.r.layout.now.cuts.items l below in
-      let place = slice_get_within w.r.layout.now.homes.items cut.0.queue (record { sender = cut.0.sender; receiver = cut.0.receiver }) (w.roomy.raised.shared.cut l cut.0 cut.1).0 in
-      let is = (queue_there w cut.0.queue (omega (arith, place, w.roomy.raised.shared.homes_are.long))).link l cut.0 cut.1 refl in
+      let place = slice_get_within w.r.layout.now.homes.items cut.0.queue (record { sender = cut.0.sender; receiver = cut.0.receiver }) (w.roomy.raised.laid.cuts.cut l cut.0 cut.1).0 in
+      let is = (queue_there w cut.0.queue (omega (arith, place, w.roomy.raised.laid.homes.long))).link l cut.0 cut.1 refl in
       get_or_default (map queue_of_link w.rests.now) l q [] (omega (arith, below, length-map w.rests.now queue_of_link, after_long)) ∙ (is
       ∙ sym (get_or_from_slice_get (cut_queues ((mesh w).inputs ++ (mesh w).cores) w.r.layout.now.cuts.items) l (get_or ((mesh w).inputs ++ (mesh w).cores) cut.0.queue []) q
       (slice_get-mapped (λ (d : Cut). get_or ((mesh w).inputs ++ (mesh w).cores) d.queue []) w.r.layout.now.cuts.items l cut.0 cut.1)))

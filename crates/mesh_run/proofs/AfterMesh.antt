@@ -1,15 +1,13 @@
 -- The mesh to which a whole round leads, and that it was played to it.
 use Rattle.std.proofs.Common.{◌≡◌, ℕ, ◌+◌, ◌-◌, ◌<◌, ◌≤◌, List, [], ◌∷◌, ◌++◌, length, get_or, refl, sym, ap, ◌∙◌, subst, arith, inl, inr}
-use Rattle.std.proofs.lemmas.{Bool.cases_lt, List.get_or_append_left, List.get_or-append_right, List.get_or_past}
-use Rattle.std.proofs.lemmas.{List.Elements.All-head, List.Elements.All-tail, Option.slice_get_within}
+use Rattle.std.proofs.lemmas.{Bool.cases_lt, List.get_or_append_left, List.get_or-append_right, List.get_or_past, List.Elements.All-head, List.Elements.All-tail, Option.slice_get_within}
 use Rattle.std.specs.List.{All, slice_index_or}
 use Rattle.spin_base.specs.declared.copies.McCopy.{McCopy}
 use Rattle.chip_node.specs.Items.{Item, took, served, sent, got, deliveries, records, sent_by, sent_in}
 use Rattle.mesh_core.specs.State.{Setup, State}
 use Rattle.mesh_run.specs.Played.{port_count, IsDoneOn, IsPlayedBy}
-use Rattle.mesh_run.proofs.{Apart.elsewhere, EachQueue.AfterRound, EachQueue.queue_after, EachVertex.VertexAfter, EachVertex.vertex_after}
-use Rattle.mesh_run.proofs.Together.{joined, listed}
-use Rattle.mesh_run.proofs.WholeRound.{Whole, parts, whole_turns}
+use Rattle.mesh_run.proofs.{Apart.elsewhere, EachQueue.AfterRound, EachQueue.queue_after, EachVertex.VertexAfter, EachVertex.vertex_after, Together.joined, Together.listed, WholeRound.Whole}
+use Rattle.mesh_run.proofs.WholeRound.{parts, whole_turns}
 
 -- no vertex that is not there sent a copy
 none_sent_of : (u : Setup) (v : ℕ) → length u.spots ≤ v → (x : Item) → IsDoneOn u x → sent_in v x ≡ []
@@ -25,12 +23,12 @@ none_sent u v past (x ∷ items) done =
 
 module _ (w : Whole) where
   pub after_inputs : (xs : List (List McCopy)) × (length xs ≡ port_count w.m.setup) × ((q : ℕ) (d : List McCopy) → q < port_count w.m.setup → AfterRound w q (get_or xs q d))
-  after_inputs = listed (port_count w.m.setup) (λ q x. AfterRound w q x) (λ q below. queue_after w q (let long = w.roomy.raised.shared.homes_are.long in omega (arith, below, long)))
+  after_inputs = listed (port_count w.m.setup) (λ q x. AfterRound w q x) (λ q below. queue_after w q (let long = w.roomy.raised.laid.homes.long in omega (arith, below, long)))
 
   pub after_cores : (xs : List (List McCopy)) × (length xs ≡ length w.m.setup.spots)
       × ((v : ℕ) (d : List McCopy) → v < length w.m.setup.spots → AfterRound w (port_count w.m.setup + v) (get_or xs v d))
   after_cores = listed (length w.m.setup.spots) (λ v x. AfterRound w (port_count w.m.setup + v) x)
-      (λ v below. queue_after w (port_count w.m.setup + v) (let long = w.roomy.raised.shared.homes_are.long in omega (arith, below, long)))
+      (λ v below. queue_after w (port_count w.m.setup + v) (let long = w.roomy.raised.laid.homes.long in omega (arith, below, long)))
 
   pub after_unsent : (xs : List (List McCopy)) × (length xs ≡ length w.m.setup.spots) × ((v : ℕ) (d : List McCopy) → v < length w.m.setup.spots → VertexAfter w v (get_or xs v d))
   after_unsent = listed (length w.m.setup.spots) (λ v x. VertexAfter w v x) (vertex_after w)

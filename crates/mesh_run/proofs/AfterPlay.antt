@@ -1,20 +1,15 @@
 -- The shares after the turns of a round: the ends that they hold can be collected, and there is room for what they logged.
 use Rattle.std.proofs.Common.{◌≡◌, ℕ, ◌<◌, ◌≤◌, List, [], ◌∷◌, length, map, get_or, Some, sym, ap, ◌∙◌, subst, arith, suc}
-use Rattle.std.proofs.lemmas.List.{get_or_default, Sums.sum_by-cons}
-use Rattle.std.proofs.lemmas.Option.{get_or_from_slice_get, slice_get_within, slice_get-get_or, same_Some}
+use Rattle.std.proofs.lemmas.{List.get_or_default, List.Sums.sum_by-cons, Option.get_or_from_slice_get, Option.slice_get_within, Option.slice_get-get_or, Option.same_Some}
 use Rattle.std.specs.List.{All, slice_get, sum_by}
 use Rattle.spin_base.proofs.Places.{All-at, slice_get-mapped, slice_get_there}
-use Rattle.link_queue.specs.declared.links.{Link.Link, LinkEnds.LinkEnds}
-use Rattle.link_queue.specs.Ends.{cap_of, IsRx, IsTx}
-use Rattle.chip_node.specs.declared.ends.{End.End, End.TheVariants.Sends, End.TheVariants.Takes, InEnd.InEnd, OutEnd.OutEnd}
-use Rattle.chip_node.specs.{Going.Goes, Going.IsEndOf, Items.Item}
+use Rattle.link_queue.specs.{declared.links.Link.Link, declared.links.LinkEnds.LinkEnds, Ends.cap_of, Ends.IsRx, Ends.IsTx}
+use Rattle.chip_node.specs.{declared.ends.End.End, declared.ends.End.TheVariants.Sends, declared.ends.End.TheVariants.Takes, declared.ends.InEnd.InEnd, declared.ends.OutEnd.OutEnd, Going.Goes}
+use Rattle.chip_node.specs.{Going.IsEndOf, Items.Item}
 use Rattle.mesh_core.specs.State.{IsMesh, State}
-use Rattle.mesh_run.specs.declared.{gathering.MeshLogs.MeshLogs, raised.RaisedMesh.RaisedMesh, shares.Share.Share, standing.Standing.Standing}
-use Rattle.mesh_run.specs.Crossing.{AreLaid, Deals, HoldsCollected}
-use Rattle.mesh_run.specs.Gathering.{FitsLogs, HasRoomForLogs}
-use Rattle.mesh_run.specs.{Queues.WasUp, Raised.IsRaisedFrom, Shares.PlaysAndStays, Split.end_at}
-use Rattle.mesh_run.proofs.AfterDeal.{link_at, link_up_at, links_many}
-use Rattle.mesh_run.proofs.Together.{PlayedParts, listed, sender_passes, stood, taker_passes}
+use Rattle.mesh_run.specs.{declared.gathering.MeshLogs.MeshLogs, declared.raised.RaisedMesh.RaisedMesh, declared.shares.Share.Share, declared.standing.Standing.Standing, Crossing.AreLaid}
+use Rattle.mesh_run.specs.{Crossing.Deals, Crossing.HoldsCollected, Gathering.FitsLogs, Gathering.HasRoomForLogs, Queues.WasUp, Raised.IsRaisedFrom, Shares.PlaysAndStays, Split.end_at}
+use Rattle.mesh_run.proofs.{AfterDeal.link_at, AfterDeal.link_up_at, AfterDeal.links_many, Together.PlayedParts, Together.listed, Together.sender_passes, Together.stood, Together.taker_passes}
 
 -- a sum of terms each of which is at most another one is at most the sum of these
 sum_within : {X Y : Type 0} (f : X → ℕ) (g : Y → ℕ) (xs : List X) (ys : List Y) → length xs ≡ length ys →
@@ -85,9 +80,7 @@ module _ (m : State) (is_mesh : IsMesh m) (more : ℕ) (r : RaisedMesh) (raised 
 
   -- the ends that a played share holds are ends of the links at their places
   played_ends : (k : ℕ) (t : Share) → slice_get played k ≡ Some t → All (IsEndOf links) t.hold.ends.items
-  played_ends k t at =
-      let stays = (plays k t (omega (arith, slice_get_within played k t at, long))).1 in
-      subst (λ (x : Share). All (IsEndOf links) x.hold.ends.items) (get_or_from_slice_get played k t t at) stays.ends
+  played_ends k t at = grind (arith, slice_get_within played k t at, get_or_from_slice_get played k t t at)
 
   -- the links that were collected can rest
   pub links_were_up : (brought : Standing) (collected : List Share) (collects : HoldsCollected raised.ends r.layout.now.cuts.items played brought collected) →

@@ -1,15 +1,15 @@
 -- What a whole round logged is what its items tell, and the mesh to which it leads is split as it was.
-use Rattle.std.proofs.Common.{◌≡◌, ℕ, ◌<◌, Bool, false, ◌||◌, List, [], ◌∷◌, ◌++◌, length, get_or, refl, sym, ap, ap₂, ◌∙◌, subst, arith, suc}
+use Rattle.std.proofs.Common.{◌≡◌, ℕ, ◌<◌, Bool, false, List, [], ◌∷◌, ◌++◌, length, get_or, refl, sym, ap, ap₂, ◌∙◌, subst, arith}
+use Rattle.std.proofs.Common.{suc}
+use Rattle.std.proofs.Common.{◌||◌}
 use Rattle.std.proofs.lemmas.{List.get_or_default, Option.slice_get-get_or}
 use Rattle.std.specs.{List.flat_map, List.list_any, Global.Vec}
-use Rattle.chip_node.specs.Going.{Goes}
-use Rattle.chip_node.specs.Items.{Item, deliveries, delivered_of, dumped_of, records}
-use Rattle.mesh_run.specs.declared.{gathering.MeshLogs.MeshLogs, raised.RaisedMesh.RaisedMesh, shares.Share.Share}
-use Rattle.mesh_run.specs.{Gathering.IsAnyMoved, Raised.IsRaisedFrom, Raised.PlaysTo, Shares.IsNoted}
-use Rattle.mesh_run.specs.Split.{AreShared, HaveNoLogs, HoldLanes, HoldUnsent}
-use Rattle.mesh_run.proofs.{AfterLinks.whole_no_logs, AfterLinks.whole_up, AfterLogs.flat_same, AfterMesh.mesh, AfterMesh.whole_played}
-use Rattle.mesh_run.proofs.{AfterRuns.whole_shared, AfterSplit.whole_lanes, AfterSplit.whole_unsent, Together.flat_map_joined, Together.joined}
-use Rattle.mesh_run.proofs.WholeRound.{Whole, dealt_long, parts, played_parts, whole_noted}
+use Rattle.chip_node.specs.{Going.Goes, Items.Item, Items.deliveries, Items.delivered_of, Items.dumped_of, Items.records}
+use Rattle.mesh_run.specs.{declared.gathering.MeshLogs.MeshLogs, declared.raised.RaisedMesh.RaisedMesh, declared.shares.Share.Share, Gathering.IsAnyMoved, Raised.IsRaisedFrom, Raised.PlaysTo}
+use Rattle.mesh_run.specs.{Shares.IsNoted, Split.AreShared, Split.HaveNoLogs, Split.HoldLanes, Split.HoldUnsent}
+use Rattle.mesh_run.proofs.{AfterLinks.whole_no_logs, AfterLinks.whole_up, AfterLogs.flat_same, AfterMesh.mesh, AfterMesh.whole_played, AfterRuns.whole_shared, AfterSplit.whole_lanes}
+use Rattle.mesh_run.proofs.{AfterSplit.whole_unsent, Together.flat_map_joined, Together.joined, WholeRound.Whole, WholeRound.dealt_long, WholeRound.parts, WholeRound.played_parts}
+use Rattle.mesh_run.proofs.WholeRound.{whole_noted}
 
 -- a test that is the same at each place has the same answer
 any_same : {X Y : Type 0} (f : X → Bool) (g : Y → Bool) (xs : List X) (ys : List Y) → length xs ≡ length ys →
@@ -24,10 +24,7 @@ any_same f g (x ∷ xs) (y ∷ ys) long each =
 share_logged : (cap patience : ℕ) (s d p c : Share) (items : List Item) → (d.hold.deliveries ≡ s.hold.deliveries) × (d.hold.dumps ≡ s.hold.dumps) →
     (s.hold.dumps.items ≡ []) × (s.hold.deliveries.items ≡ []) → Goes cap patience d.hold items p.hold →
     (c.hold.deliveries ≡ p.hold.deliveries) × (c.hold.dumps ≡ p.hold.dumps) → (c.hold.deliveries.items ≡ deliveries items) × (c.hold.dumps.items ≡ records items)
-share_logged cap patience s d p c items first empty goes last = (
-  ap (λ v. v.items) last.0 ∙ (goes.delivered ∙ ap (λ l. l ++ deliveries items) (ap (λ v. v.items) first.0 ∙ empty.1)),
-  ap (λ v. v.items) last.1 ∙ (goes.dumped ∙ ap (λ l. l ++ records items) (ap (λ v. v.items) first.1 ∙ empty.0)),
-)
+share_logged cap patience s d p c items first empty goes last = grind arith
 
 module _ (w : Whole) where
   collected_long : length w.collected ≡ length w.dealt
@@ -56,16 +53,10 @@ module _ (w : Whole) where
 
   -- what all shares logged
   pub whole_delivered : flat_map (λ (s : Share). s.hold.deliveries.items) w.collected ≡ deliveries (joined (parts w))
-  whole_delivered =
-      flat_same (λ (s : Share). s.hold.deliveries.items) (λ (p : List Item). flat_map delivered_of p) w.collected (parts w)
-      (omega (arith, parts_many, collected_long)) (λ i x z below. (logged i x z below).0)
-      ∙ sym (flat_map_joined delivered_of (parts w))
+  whole_delivered = grind (arith, flat_map_joined delivered_of (parts w), parts w, parts_many, collected_long, flat_same, logged)
 
   pub whole_dumped : flat_map (λ (s : Share). s.hold.dumps.items) w.collected ≡ records (joined (parts w))
-  whole_dumped =
-      flat_same (λ (s : Share). s.hold.dumps.items) (λ (p : List Item). flat_map dumped_of p) w.collected (parts w)
-      (omega (arith, parts_many, collected_long)) (λ i x z below. (logged i x z below).1)
-      ∙ sym (flat_map_joined dumped_of (parts w))
+  whole_dumped = grind (arith, flat_map_joined dumped_of (parts w), parts w, parts_many, collected_long, flat_same, logged)
 
   -- whether a copy moved is noted after ends are collected as it was before
   moved_same : list_any (λ (s : Share). s.moved) w.played ≡ list_any (λ (s : Share). s.moved) w.collected
@@ -92,8 +83,8 @@ module _ (w : Whole) where
           inputs_long = raised.inputs_long ∙ sym (whole_played w).inputs_long;
           cores_long = raised.cores_long ∙ sym (whole_played w).cores_long;
           unsent_long = raised.unsent_long ∙ sym (whole_played w).unsent_long;
-          floor = raised.floor;
-          shared = subst (AreShared w.m.setup w.r.layout.now.homes.items w.r.layout.now.cuts.items) (sym left) (whole_shared w);
+          laid = raised.laid;
+          shared = subst (AreShared w.m.setup w.r.layout.now.runs.items) (sym left) (whole_shared w);
           lanes = subst (HoldLanes ((mesh w).inputs ++ (mesh w).cores) w.r.layout.now.homes.items) (sym left) (whole_lanes w);
           unsent = subst (HoldUnsent w.m.setup (mesh w).unsent w.r.layout.now.homes.items) (sym left) (whole_unsent w);
           ends = w.rests.now;

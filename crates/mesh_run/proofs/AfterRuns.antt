@@ -3,8 +3,7 @@ use Rattle.std.proofs.Common.{◌≡◌, ℕ, length, get_or, Some, ◌∙◌, s
 use Rattle.std.proofs.lemmas.Option.{get_or_from_slice_get, slice_get_within}
 use Rattle.std.specs.List.{slice_get}
 use Rattle.spin_base.proofs.Places.{slice_get_there}
-use Rattle.mesh_run.specs.declared.shares.Share.{Share}
-use Rattle.mesh_run.specs.{Shares.PlaysRound, Split.AreShared}
+use Rattle.mesh_run.specs.{declared.shares.Share.Share, Shares.PlaysRound, Split.AreShared}
 use Rattle.mesh_run.proofs.WholeRound.{Whole, dealt_long}
 
 same_unsent_long : (s t : Share) → t.hold.unsent ≡ s.hold.unsent → length t.hold.unsent.items ≡ length s.hold.unsent.items
@@ -51,21 +50,13 @@ module _ (w : Whole) where
         },
       )
 
-  pub whole_shared : AreShared w.m.setup w.r.layout.now.homes.items w.r.layout.now.cuts.items w.cleared
+  pub whole_shared : AreShared w.m.setup w.r.layout.now.runs.items w.cleared
   whole_shared =
       let shared = w.roomy.raised.shared in
       record {
-        ends = shared.ends;
-        table = shared.table;
-        runs = shared.runs;
-        numbers = shared.numbers;
-        homes_are = shared.homes_are;
         long = all_long ∙ shared.long;
         from = λ k t at. let s = keeps k t at in s.2.from ∙ shared.from k s.0 s.1;
         to = λ k t at. let s = keeps k t at in s.2.to ∙ shared.to k s.0 s.1;
         ends_long = λ k t at. let s = keeps k t at in s.2.ends_long ∙ shared.ends_long k s.0 s.1;
         unsent_long = λ k t at. let s = keeps k t at in s.2.unsent_long ∙ shared.unsent_long k s.0 s.1;
-        cut = shared.cut;
-        all_cut = shared.all_cut;
-        apart = shared.apart;
       }

@@ -3,11 +3,10 @@ use Rattle.std.proofs.Common.{◌≡◌, ◌≢◌, ◌⊎◌, ℕ, zero, suc, �
 use Rattle.std.proofs.lemmas.{Bool.cases_eq, Bool.cases_lt, Option.slice_get_within}
 use Rattle.std.specs.List.{slice_get}
 use Rattle.chip_node.specs.declared.ends.End.TheVariants.{Away}
-use Rattle.mesh_run.specs.declared.{homes.Cut.Cut, homes.Home.Home, shares.Share.Share}
-use Rattle.mesh_run.specs.{Crossing.IsUncut, Played.vertex_place}
-use Rattle.mesh_run.specs.Split.{end_at, unsent_in, HoldLanes, HoldUnsent}
-use Rattle.mesh_run.proofs.{AfterMesh.after_unsent, AfterMesh.mesh, AfterMesh.queue_there, EachQueue.cleared_end, EachQueue.elsewhere, Together.none_passes}
-use Rattle.mesh_run.proofs.WholeRound.{Whole, dealt_long, parts, played_parts, uncut}
+use Rattle.mesh_run.specs.{declared.homes.Cut.Cut, declared.homes.Home.Home, declared.shares.Share.Share, Crossing.IsUncut, Played.vertex_place, Split.end_at, Split.unsent_in, Split.HoldLanes}
+use Rattle.mesh_run.specs.Split.{HoldUnsent}
+use Rattle.mesh_run.proofs.{AfterMesh.after_unsent, AfterMesh.mesh, AfterMesh.queue_there, EachQueue.cleared_end, EachQueue.elsewhere, Together.none_passes, WholeRound.Whole, WholeRound.dealt_long}
+use Rattle.mesh_run.proofs.WholeRound.{parts, played_parts, uncut}
 
 past_none : (xs : List Share) (i : ℕ) → length xs ≤ i → slice_get xs i ≡ None
 past_none [] i past = refl
@@ -31,7 +30,7 @@ module _ (w : Whole) where
       elim (cases_eq h.sender h.receiver) [
         | inl same ↦ stays_away s q (uncut w q h at same s) was
         | inr two ↦
-            let cut = w.roomy.raised.shared.all_cut q h at two in
+            let cut = w.roomy.raised.laid.cuts.all_cut q h at two in
             subst (λ n. end_at w.cleared s n ≡ Some Away) cut.3 (gone cut.0 cut.1 cut.2 (subst (λ n. end_at w.r.shares.items s n ≡ Some Away) (sym cut.3) was))
       ]
     where
@@ -47,7 +46,7 @@ module _ (w : Whole) where
   pub whole_lanes : HoldLanes ((mesh w).inputs ++ (mesh w).cores) w.r.layout.now.homes.items w.cleared
   whole_lanes = record {
     lanes = λ q h at same.
-        (queue_there w q (let below = slice_get_within w.r.layout.now.homes.items q h at in let long = w.roomy.raised.shared.homes_are.long in omega (arith, below, long))).lane h at same;
+        (queue_there w q (let below = slice_get_within w.r.layout.now.homes.items q h at in let long = w.roomy.raised.laid.homes.long in omega (arith, below, long))).lane h at same;
     away = away_after;
   }
 
@@ -61,4 +60,4 @@ module _ (w : Whole) where
   }
     where
       there : (v : ℕ) (h : Home) → slice_get w.r.layout.now.homes.items (vertex_place w.m.setup v) ≡ Some h → v < length w.m.setup.spots
-      there v h at = let below = slice_get_within w.r.layout.now.homes.items (vertex_place w.m.setup v) h at in let long = w.roomy.raised.shared.homes_are.long in omega (arith, below, long)
+      there v h at = let below = slice_get_within w.r.layout.now.homes.items (vertex_place w.m.setup v) h at in let long = w.roomy.raised.laid.homes.long in omega (arith, below, long)

@@ -1,12 +1,9 @@
 -- Links brought up, from the first list on.
-use Rattle.std.proofs.Common.{◌≡◌, ℕ, ◌+◌, ◌-◌, ◌<◌, ◌≤◌, List, [], ◌∷◌, ◌++◌, length, get_or, refl, sym, ap, ◌∙◌, subst, arith, inl, inr}
-use Rattle.std.proofs.lemmas.Bool.{cases_eq}
-use Rattle.std.proofs.lemmas.List.{length-append, get_or_default, get_or_push, get_or_append_left}
+use Rattle.std.proofs.Common.{◌≡◌, ℕ, ◌+◌, ◌-◌, ◌<◌, ◌≤◌, List, [], ◌∷◌, ◌++◌, length, get_or, sym, ap, ◌∙◌, subst, arith, inl, inr}
+use Rattle.std.proofs.lemmas.{Bool.cases_eq, List.length-append, List.get_or_default, List.get_or_push, List.get_or_append_left}
 use Rattle.spin_base.specs.declared.copies.McCopy.{McCopy}
 use Rattle.link_queue.specs.declared.links.LinkEnds.{LinkEnds}
-use Rattle.mesh_run.specs.declared.standing.Rising.{Rising}
-use Rattle.mesh_run.specs.Standing.{RisenTo}
-use Rattle.mesh_run.specs.Queues.{AreUp, HasPlaces, IsUp, places_for}
+use Rattle.mesh_run.specs.{declared.standing.Rising.Rising, Standing.RisenTo, Queues.AreUp, Queues.HasPlaces, Queues.IsUp, Queues.places_for}
 
 -- a link has the places with which it is made
 pub made_with : (cap turns held places : ℕ) → held ≤ cap → places ≡ places_for cap turns held → HasPlaces cap (turns + 1) held places
@@ -32,12 +29,7 @@ pub record UpTo (cap more : ℕ) (lists : List (List McCopy)) (k : ℕ) (r : Ris
   pub up : (j : ℕ) (q : List McCopy) (e : LinkEnds) → j < k → IsUp cap more (get_or lists j q) (get_or ends j e)
 
 pub up_none : (cap more n : ℕ) (lists : List (List McCopy)) (r : Rising) → n ≡ length lists → RisenTo [] n r → UpTo cap more lists 0 r
-up_none cap more n lists r is risen = record {
-  ends = [];
-  many = refl;
-  risen = subst (λ k. RisenTo [] k r) (let e : n ≡ length lists - 0 = omega (arith, is) in e) risen;
-  up = λ j q e before. absurd (omega (arith, before));
-}
+up_none cap more n lists r is risen = grind arith
 
 -- there is room for one more
 pub may_rise : (cap more : ℕ) (lists : List (List McCopy)) (k : ℕ) (r : Rising) → (u : UpTo cap more lists k r) → k < length lists → RisenTo u.ends (length lists - (k + 1) + 1) r

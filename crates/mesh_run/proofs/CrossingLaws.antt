@@ -1,15 +1,12 @@
 -- Ends of links, dealt to shares and collected from them.
 use Rattle.std.proofs.Common.{◌≡◌, ℕ, ◌+◌, ◌<◌, ◌≤◌, List, map, length, get_or, set, Option, None, Some, refl, sym, ap, ◌∙◌, subst, arith, inl, inr}
-use Rattle.std.proofs.lemmas.Bool.{cases_eq}
-use Rattle.std.proofs.lemmas.Option.{get_or_from_slice_get, none-some, same_Some, slice_get_within}
-use Rattle.std.proofs.lemmas.List.{length-map, length-set, map-set, same_lists}
+use Rattle.std.proofs.lemmas.{Bool.cases_eq, Option.get_or_from_slice_get, Option.none-some, Option.same_Some, Option.slice_get_within, List.length-map, List.length-set, List.map-set, List.same_lists}
 use Rattle.std.specs.List.{slice_get}
 use Rattle.spin_base.proofs.Places.{slice_get_there, slice_get-mapped, slice_get-set_same, slice_get-set_other, set-slice_get}
 use Rattle.link_queue.specs.declared.links.{LinkEnds.LinkEnds, Tx.Tx, Rx.Rx}
 use Rattle.chip_node.specs.declared.ends.End.{End, TheVariants.Away, TheVariants.Sends, TheVariants.Takes}
-use Rattle.mesh_run.specs.declared.{homes.Cut.Cut, shares.Share.Share, standing.Standing.Standing}
-use Rattle.mesh_run.specs.Crossing.{AreCuts, AreLaid, AreSameButEnds, Deals, HoldsCollected, HoldsNoEnds, IsLaid, IsOfCut, PutsEnd, SameButEnds}
-use Rattle.mesh_run.specs.{Split.end_at, Split.end_in, Standing.HoldsAll}
+use Rattle.mesh_run.specs.{declared.homes.Cut.Cut, declared.shares.Share.Share, declared.standing.Standing.Standing, Crossing.AreCuts, Crossing.AreLaid, Crossing.AreSameButEnds, Crossing.Deals}
+use Rattle.mesh_run.specs.{Crossing.HoldsCollected, Crossing.HoldsNoEnds, Crossing.IsLaid, Crossing.IsOfCut, Crossing.PutsEnd, Crossing.SameButEnds, Split.end_at, Split.end_in, Standing.HoldsAll}
 use Rattle.mesh_run.proofs.Holding.{only_ends}
 
 -- ---- lists of which each item is as the one at its place
@@ -30,16 +27,7 @@ each_on R on a b c first second = (
 
 -- one item is another
 pub each_set : {X : Type 0} (R : X → X → Type 0) → ((x : X) → R x x) → (xs : List X) (i : ℕ) (s t : X) → slice_get xs i ≡ Some s → R s t → AreEach R xs (set xs i t)
-each_set {X} R self xs i s t stands new = (
-  length-set xs i t,
-  λ k x y at also. elim (cases_eq k i) [
-    | inl here ↦
-        let is_x : s ≡ x = same_Some s x (sym stands ∙ (ap (slice_get xs) (sym here) ∙ at)) in
-        let is_y : t ≡ y = same_Some t y (sym (slice_get-set_same xs i s t stands) ∙ (ap (slice_get (set xs i t)) (sym here) ∙ also)) in
-        subst (λ (z : X). R x z) is_y (subst (λ (z : X). R z t) is_x new)
-    | inr other ↦ subst (R x) (same_Some x y (sym at ∙ (sym (slice_get-set_other xs i k t other) ∙ also))) (self x)
-  ],
-)
+each_set {X} R self xs i s t stands new = grind (arith, length-set xs i t, slice_get-set_same xs i s t stands, cases_eq, same_Some, slice_get-set_other)
 
 -- ---- all but ends is the same
 
@@ -47,15 +35,7 @@ pub ends_self : (s : Share) → SameButEnds s s
 ends_self s = record { from = refl; to = refl; moved = refl; ends_long = refl; unsent = refl; dumps = refl; deliveries = refl }
 
 ends_on : (x y z : Share) → SameButEnds x y → SameButEnds y z → SameButEnds x z
-ends_on x y z p q = record {
-  from = q.from ∙ p.from;
-  to = q.to ∙ p.to;
-  moved = q.moved ∙ p.moved;
-  ends_long = q.ends_long ∙ p.ends_long;
-  unsent = q.unsent ∙ p.unsent;
-  dumps = q.dumps ∙ p.dumps;
-  deliveries = q.deliveries ∙ p.deliveries;
-}
+ends_on x y z p q = grind arith
 
 pub same_self : (shares : List Share) → AreSameButEnds shares shares
 same_self shares = each_self SameButEnds ends_self shares
@@ -137,16 +117,11 @@ end_still a b s q e same is =
 pub puts_two : (cuts : List Cut) (start before mid after : List Share) (n : ℕ) (c : Cut) (first second : End) → AreCuts cuts start → slice_get cuts n ≡ Some c →
     PutsEnd c.sender c.queue first before mid → PutsEnd c.receiver c.queue second mid after →
     (end_at after c.sender c.queue ≡ Some first) × (end_at after c.receiver c.queue ≡ Some second) × ((s q : ℕ) → (IsOfCut c s q → ⊥) → end_at after s q ≡ end_at before s q)
-puts_two cuts start before mid after n c first second are at one two = (
-  two.others c.sender c.queue (λ same. are.two n c at same.0) ∙ one.here,
-  two.here,
-  λ s q not. two.others s q (λ same. not (same.1, inr same.0)) ∙ one.others s q (λ same. not (same.1, inl same.0)),
-)
+puts_two cuts start before mid after n c first second are at one two = grind arith
 
 -- an end of one cut's link is none of another's
 pub apart : (cuts : List Cut) (start : List Share) (k l s : ℕ) (a b : Cut) → AreCuts cuts start → slice_get cuts k ≡ Some a → slice_get cuts l ≡ Some b → l < k → IsOfCut a s b.queue → ⊥
-apart cuts start k l s a b are at_k at_l less of =
-    omega (arith, are.apart l k b a at_l at_k of.0, less)
+apart cuts start k l s a b are at_k at_l less of = grind arith
 
 -- ---- dealing
 
@@ -166,20 +141,7 @@ pub record DealtTo (cuts : List Cut) (start : Standing) (before : List Share) (n
   pub others : (s q : ℕ) → ((l : ℕ) (c : Cut) → l < n → slice_get cuts l ≡ Some c → IsOfCut c s q → ⊥) → end_at now s q ≡ end_at before s q
 
 pub dealt_none : (cuts : List Cut) (start : Standing) (before : List Share) (ends : List LinkEnds) → HoldsAll ends start → length ends ≡ length cuts → DealtTo cuts start before 0 start before
-dealt_none cuts start before ends holds long = record {
-  ends = ends;
-  held = holds;
-  long = long;
-  links = refl;
-  rooms = refl;
-  txs_long = ap length holds.txs ∙ length-map ends (λ (e : LinkEnds). Some e.tx);
-  rxs_long = ap length holds.rxs ∙ length-map ends (λ (e : LinkEnds). Some e.rx);
-  txs = λ k e from at. ap (λ l. slice_get l k) holds.txs ∙ slice_get-mapped (λ (x : LinkEnds). Some x.tx) ends k e at;
-  rxs = λ k e from at. ap (λ l. slice_get l k) holds.rxs ∙ slice_get-mapped (λ (x : LinkEnds). Some x.rx) ends k e at;
-  same = same_self before;
-  dealt = λ l c e less. absurd (omega (arith, less));
-  others = λ s q uncut. refl;
-}
+dealt_none cuts start before ends holds long = grind (arith, same_self before, length-map, slice_get-mapped)
 
 -- the link at the next place
 pub next_link : (cuts : List Cut) (start standing : Standing) (before now : List Share) (n : ℕ) → DealtTo cuts start before n standing now → n < length cuts →
@@ -266,22 +228,7 @@ pub record CollectedTo (cuts : List Cut) (start : Standing) (before : List Share
 
 pub collected_none : (cuts : List Cut) (start : Standing) (before : List Share) (ends : List LinkEnds) → HoldsNoEnds ends start → length ends ≡ length cuts →
     CollectedTo cuts start before 0 start before
-collected_none cuts start before ends holds long = record {
-  ends = ends;
-  long = long;
-  links = refl;
-  rooms = refl;
-  links_are = holds.links;
-  rooms_are = holds.rooms;
-  txs_long = holds.txs_long;
-  rxs_long = holds.rxs_long;
-  txs = λ k e less. absurd (omega (arith, less));
-  rxs = λ k e less. absurd (omega (arith, less));
-  same = same_self before;
-  dealt = λ l c e less. absurd (omega (arith, less));
-  gone = λ l c less. absurd (omega (arith, less));
-  others = λ s q uncut. refl;
-}
+collected_none cuts start before ends holds long = grind (arith, same_self before)
 
 -- the ends of the next cut's link lie where they were laid
 pub next_laid : (cuts : List Cut) (start standing : Standing) (before now : List Share) (n : ℕ) (c : Cut) → CollectedTo cuts start before n standing now → AreCuts cuts before →

@@ -1,21 +1,17 @@
 -- What a whole round makes of each queue: a lane goes on in its share, and a link rests with what is left of its queue.
 use Rattle.std.proofs.Common.{◌≡◌, ◌≢◌, ℕ, ◌+◌, ◌<◌, ◌≤◌, min, List, [], ◌++◌, length, map, get_or, Option, Some, refl, sym, ap, ◌∙◌, subst, arith, inl, inr}
-use Rattle.std.proofs.lemmas.{Bool.cases_eq, List.length-map, List.Elements.All-append}
-use Rattle.std.proofs.lemmas.Option.{get_or_from_slice_get, slice_get_within, same_Some}
+use Rattle.std.proofs.lemmas.{Bool.cases_eq, List.length-map, List.Elements.All-append, Option.get_or_from_slice_get, Option.slice_get_within, Option.same_Some}
 use Rattle.std.specs.List.{slice_get}
 use Rattle.spin_base.proofs.Places.{slice_get-mapped, slice_get_there}
-use Rattle.spin_base.specs.declared.copies.McCopy.{McCopy}
-use Rattle.spin_base.specs.WithRoom.{WithRoom}
-use Rattle.link_queue.specs.declared.links.{Link.Link, LinkEnds.LinkEnds}
-use Rattle.link_queue.specs.Ends.{cap_of}
+use Rattle.spin_base.specs.{declared.copies.McCopy.McCopy, WithRoom.WithRoom}
+use Rattle.link_queue.specs.{declared.links.Link.Link, declared.links.LinkEnds.LinkEnds, Ends.cap_of}
 use Rattle.chip_node.specs.declared.ends.{End.End, End.TheVariants.Own, End.TheVariants.Sends, End.TheVariants.Takes, InEnd.InEnd, OutEnd.OutEnd}
 use Rattle.mesh_core.specs.State.{FitsQueue}
-use Rattle.mesh_run.specs.declared.{homes.Cut.Cut, homes.Home.Home, shares.Share.Share}
-use Rattle.mesh_run.specs.{Crossing.IsUncut, Played.held_at, Played.QueueGoes, Queues.queue_of_link, Queues.IsDown, Queues.IsUp}
-use Rattle.mesh_run.specs.Split.{cut_queues, end_at, end_in}
-use Rattle.mesh_run.proofs.{AfterDeal.homes_below, AfterDeal.no_end_of_cut, Filling.few_entered, Passing.lane_queue, Passing.link_queue, PlanLaws.fits_at}
-use Rattle.mesh_run.proofs.Together.{joined, lane_passes, sender_passes, stood, taker_passes}
-use Rattle.mesh_run.proofs.WholeRound.{Whole, collected_same, dealt_long, dealt_same, parts, played_parts, uncut, whole_turns}
+use Rattle.mesh_run.specs.{declared.homes.Cut.Cut, declared.homes.Home.Home, declared.shares.Share.Share, Crossing.IsUncut, Played.held_at, Played.QueueGoes, Queues.queue_of_link, Queues.IsDown}
+use Rattle.mesh_run.specs.{Queues.IsUp, Split.cut_queues, Split.end_at, Split.end_in}
+use Rattle.mesh_run.proofs.{AfterDeal.homes_below, AfterDeal.no_end_of_cut, Filling.few_entered, Passing.lane_queue, Passing.link_queue, PlanLaws.fits_at, Together.joined, Together.lane_passes}
+use Rattle.mesh_run.proofs.{Together.sender_passes, Together.stood, Together.taker_passes, WholeRound.Whole, WholeRound.collected_same, WholeRound.dealt_long, WholeRound.dealt_same, WholeRound.parts}
+use Rattle.mesh_run.proofs.WholeRound.{played_parts, uncut, whole_turns}
 
 same_sends : (a b : OutEnd) → Some (Sends a) ≡ Some (Sends b) → a ≡ b
 same_sends a b same = cc
@@ -34,10 +30,7 @@ module _ (w : Whole) where
     pub link : (l : ℕ) (c : Cut) → slice_get w.r.layout.now.cuts.items l ≡ Some c → c.queue ≡ q → get_or (map queue_of_link w.rests.now) l [] ≡ after
 
   pub home_below : (q : ℕ) (h : Home) → slice_get w.r.layout.now.homes.items q ≡ Some h → (h.sender < length w.dealt) × (h.receiver < length w.dealt)
-  home_below q h at =
-      let below = homes_below w.m w.is_mesh (w.turns + 1) w.r w.roomy.raised q h at in
-      let as_dealt = dealt_long w in
-      (omega (arith, below.0, as_dealt), omega (arith, below.1, as_dealt))
+  home_below q h at = grind (arith, homes_below w.m w.is_mesh (w.turns + 1) w.r w.roomy.raised q h at, dealt_long w)
 
   held_fits : (q : ℕ) → length (held_at w.m q) ≤ w.m.setup.capacity
   held_fits q = fits_at w.m.setup.capacity (w.m.inputs ++ w.m.cores) q (All-append (FitsQueue w.m.setup.capacity) w.m.inputs w.m.cores w.is_mesh.inputs_within w.is_mesh.cores_within)
@@ -73,10 +66,10 @@ module _ (w : Whole) where
     home = record { sender = c.sender; receiver = c.receiver }
 
     between : slice_get w.r.layout.now.homes.items c.queue ≡ Some (record { sender = c.sender; receiver = c.receiver })
-    between = (w.roomy.raised.shared.cut l c stands).0
+    between = (w.roomy.raised.laid.cuts.cut l c stands).0
 
     two : c.sender ≢ c.receiver
-    two = (w.roomy.raised.shared.cut l c stands).1
+    two = (w.roomy.raised.laid.cuts.cut l c stands).1
 
     pub elsewhere : (k : ℕ) → k ≢ c.sender → k ≢ c.receiver → IsUncut w.r.layout.now.cuts.items k c.queue
     elsewhere = no_end_of_cut w.m w.is_mesh (w.turns + 1) w.r w.roomy.raised l c stands
@@ -148,7 +141,7 @@ module _ (w : Whole) where
                 filled = few_entered w.m.setup w.turns c.queue (joined (parts w)) (whole_turns w);
               });
           lane = λ h at same. absurd (two (both_ends h at same));
-          link = λ j d at is. ap (λ i. get_or (map queue_of_link w.rests.now) i []) (w.roomy.raised.shared.apart j l d c at stands is);
+          link = λ j d at is. ap (λ i. get_or (map queue_of_link w.rests.now) i []) (w.roomy.raised.laid.cuts.apart j l d c at stands is);
         }
       where
         both_ends : (h : Home) → slice_get w.r.layout.now.homes.items c.queue ≡ Some h → h.sender ≡ h.receiver → c.sender ≡ c.receiver
@@ -163,7 +156,7 @@ module _ (w : Whole) where
       elim (cases_eq home.0.sender home.0.receiver) [
         | inl same ↦ lane_after q home.0 home.1 same
         | inr other ↦
-            let cut = w.roomy.raised.shared.all_cut q home.0 home.1 other in (
+            let cut = w.roomy.raised.laid.cuts.all_cut q home.0 home.1 other in (
               get_or (map queue_of_link w.rests.now) cut.0 [],
               subst (λ (n : ℕ). AfterRound n (get_or (map queue_of_link w.rests.now) cut.0 [])) cut.3 (link_after cut.0 cut.1 cut.2),
             )

@@ -5,10 +5,8 @@ use Rattle.std.specs.List.{slice_get, slice_index_or}
 use Rattle.spin_base.proofs.Places.{both_none, slice_get_there}
 use Rattle.spin_base.specs.declared.copies.McCopy.{McCopy}
 use Rattle.chip_node.specs.Items.{sent_by, sent_in}
-use Rattle.mesh_run.specs.declared.{homes.Home.Home, shares.Share.Share}
-use Rattle.mesh_run.specs.{Played.vertex_place, Split.unsent_at, Split.unsent_in}
-use Rattle.mesh_run.proofs.{EachQueue.home_below, Together.joined, Together.told_by_one}
-use Rattle.mesh_run.proofs.WholeRound.{Whole, dealt_long, parts, played_parts}
+use Rattle.mesh_run.specs.{declared.homes.Home.Home, declared.shares.Share.Share, Played.vertex_place, Split.unsent_at, Split.unsent_in}
+use Rattle.mesh_run.proofs.{EachQueue.home_below, Together.joined, Together.told_by_one, WholeRound.Whole, WholeRound.dealt_long, WholeRound.parts, WholeRound.played_parts}
 
 same_lists_unsent : (s t : Share) (v : ℕ) → t.hold.unsent ≡ s.hold.unsent → slice_index_or t.hold.unsent.items v [] ≡ slice_index_or s.hold.unsent.items v []
 same_lists_unsent s t v same = cc
@@ -23,9 +21,7 @@ same_unsent before after k v long same below =
 
 module _ (w : Whole) where
   dealt_unsent : (k v : ℕ) → k < length w.dealt → unsent_at w.dealt k v ≡ unsent_at w.r.shares.items k v
-  dealt_unsent k v below =
-      let as_dealt = dealt_long w in
-      same_unsent w.r.shares.items w.dealt k v as_dealt (λ s t at there. (w.deals.same.1 k s t at there).unsent) (omega (arith, below, as_dealt))
+  dealt_unsent k v below = grind (arith, dealt_long w, same_unsent)
 
   -- the lists after the round are those that the turns left
   cleared_unsent : (k v : ℕ) → k < length w.dealt → unsent_at w.cleared k v ≡ unsent_at w.played k v
@@ -56,7 +52,7 @@ module _ (w : Whole) where
   pub vertex_after : (v : ℕ) → v < length w.m.setup.spots → (after : List McCopy) × VertexAfter v after
   vertex_after v inside =
       let unsent = w.roomy.raised.unsent in
-      let home = slice_get_there w.r.layout.now.homes.items (vertex_place w.m.setup v) (omega (arith, inside, w.roomy.raised.shared.homes_are.long)) in
+      let home = slice_get_there w.r.layout.now.homes.items (vertex_place w.m.setup v) (omega (arith, inside, w.roomy.raised.laid.homes.long)) in
       let at = home.1 in
       let below = (home_below w (vertex_place w.m.setup v) home.0 at).1 in
       let k = home.0.receiver in

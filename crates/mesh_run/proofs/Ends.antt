@@ -1,4 +1,5 @@
 -- Which queue is behind which output: each queue has at most one output that leads to it.
+use Rattle.std.proofs.Common.{arith}
 use Rattle.std.proofs.Common.{◌≡◌, ℕ, Bool, true, false, Option, Some, None, refl, ap, sym, ◌∙◌}
 use Rattle.std.specs.List.{slice_get}
 use Rattle.spin_base.specs.declared.chips.{Chip.Chip, Spot.Spot, Dir.Dir, Port.TheVariants.Link as ByLink}
@@ -57,10 +58,4 @@ one_link u a c d o e in_a in_c far is = elim (leads u c o) [
 
 -- An output that leads to a vertex is the one of the vertex's spot.
 pub one_end : (u : Setup) (c : Chip) (o : Out) (v : ℕ) → behind u c o ≡ core v → (t : Spot) × (slice_get u.spots v ≡ Some t) × (t.chip ≡ c) × (out_of t.core ≡ o)
-one_end u c o v is = elim (leads u c o) [
-  | by_link g h out live far' at ↦ absurd (input_is_no_core (sym at ∙ is))
-  | to_vertex w dead at is_core ↦
-      let same : w ≡ v = same_core w v (sym is_core ∙ is) in
-      vertex_behind_stands u.spots c o v (at ∙ ap Some same)
-  | to_none without none ↦ absurd (core_is_somewhere (sym is ∙ none))
-]
+one_end u c o v is = grind (arith, leads u c o, input_is_no_core, same_core, vertex_behind_stands, core_is_somewhere)

@@ -2,9 +2,9 @@
 use Rattle.std.proofs.Common.{◌≡◌, ℕ, ◌<◌, Bool, true, false, length, Option, Some, None, refl, ap, sym, ◌∙◌, arith}
 use Rattle.std.proofs.lemmas.Option.{slice_get_within, none-some, same_Some}
 use Rattle.std.specs.List.{slice_get}
-use Rattle.spin_base.specs.declared.chips.{Chip.Chip, Spot.Spot, Dir.Dir, Port.Port, Port.TheVariants.Link as ByLink, Port.TheVariants.Local}
-use Rattle.spin_base.specs.declared.routes.Out.{Out, TheVariants.Link, TheVariants.Core}
-use Rattle.spin_base.specs.{Links.opposite_of, Outputs.out_of}
+use Rattle.spin_base.specs.declared.{chips.Chip.Chip, chips.Spot.Spot, chips.Dir.Dir, chips.Port.Port, chips.Port.TheVariants.Local, routes.Out.Out, routes.Out.TheVariants.Link}
+use Rattle.spin_base.specs.{declared.routes.Out.TheVariants.Core, Links.opposite_of, Outputs.out_of}
+use Rattle.spin_base.specs.declared.chips.Port.TheVariants.{Link as ByLink}
 use Rattle.spin_base.proofs.Equality.{link_is_not_local}
 use Rattle.machine_desc.specs.Live.{far_of, is_live_link, IsInside}
 use Rattle.machine_desc.proofs.Far.{far_inside, far_back, live_ends, opposite_of-opposite}
@@ -43,9 +43,7 @@ one_vertex u v w same = omega (arith, same)
 
 -- a vertex stands on one chip
 pub on_one_chip : (u : Setup) (v w : ℕ) (s t : Spot) (a b : Chip) → slice_get u.spots v ≡ Some s → slice_get u.spots w ≡ Some t → s.chip ≡ a → t.chip ≡ b → v ≡ w → (a ≡ b) × (s ≡ t)
-on_one_chip u v w s t a b at also here there same =
-    let spot : s ≡ t = same_Some s t (sym at ∙ (ap (slice_get u.spots) same ∙ also)) in
-    (sym here ∙ (ap (λ (x : Spot). x.chip) spot ∙ there), spot)
+on_one_chip u v w s t a b at also here there same = grind (arith, same_Some s t (sym at ∙ (ap (slice_get u.spots) same ∙ also)))
 
 -- Two outputs of chips of the grid that lead to one place are one.
 pub one_output : (u : Setup) (a c : Chip) (o q : Out) (p : ℕ) → IsInside u.machine a → IsInside u.machine c → LeadsTo u a o p → LeadsTo u c q p → (a ≡ c) × (o ≡ q)
@@ -77,7 +75,5 @@ no_injection u a c o p in_a in_c (to_vertex v t stands here leads at) is = port_
 
 -- a place behind an output is one of all places
 pub place_below : (u : Setup) (c : Chip) (o : Out) (p : ℕ) → IsInside u.machine c → LeadsTo u c o p → p < vertex_place u (length u.spots)
-place_below u c o p inside (by_link d e out far at) =
-    let below = queue_at-below u.machine e (ByLink (opposite_of d)) (far_inside u.machine c e d inside far) in
-    omega (arith, below, at)
+place_below u c o p inside (by_link d e out far at) = grind (arith, queue_at-below u.machine e (ByLink (opposite_of d)) (far_inside u.machine c e d inside far), far_inside u.machine c e d inside far)
 place_below u c o p inside (to_vertex v t stands here leads at) = let within = slice_get_within u.spots v t stands in omega (arith, within, at)

@@ -3,13 +3,12 @@ use Rattle.std.proofs.Common.{◌≡◌, ℕ, ◌+◌, ◌*◌, ◌≤◌, ◌==
 use Rattle.std.proofs.lemmas.{Bool.cases_eq, Bool.cond_both, List.length-append, List.map-append, List.Elements.All-head, List.Elements.All-tail}
 use Rattle.std.specs.List.{All, flat_map}
 use Rattle.spin_base.proofs.{Counts.count_by-append, Counts.count_by-map, Equality.out_eq_same, Once.outs_once}
-use Rattle.spin_base.specs.declared.{chips.Chip.Chip, chips.Port.Port, routes.Out.Out, copies.McCopy.McCopy}
-use Rattle.spin_base.specs.{Equality.out_eq, Hops.last_hop, Lookup.lookup}
-use Rattle.spin_base.specs.Outputs.{has, outs_of, IsOutput}
+use Rattle.spin_base.specs.{declared.chips.Chip.Chip, declared.chips.Port.Port, declared.routes.Out.Out, declared.copies.McCopy.McCopy, Equality.out_eq, Hops.last_hop, Lookup.lookup, Outputs.has}
+use Rattle.spin_base.specs.Outputs.{outs_of, IsOutput}
 use Rattle.machine_desc.specs.{Live.chip_of, Live.index_of, RightTables.table_at}
 use Rattle.machine_desc.proofs.Far.{live_inside}
-use Rattle.chip_node.specs.declared.ends.Served.{Served, TheVariants.Sent, TheVariants.Dumped}
-use Rattle.chip_node.specs.Items.{Item, Service, took, served, sent, got, brought, entered, entered_by, injection_place, sending_of, service_of, services, takings}
+use Rattle.chip_node.specs.{declared.ends.Served.Served, declared.ends.Served.TheVariants.Sent, declared.ends.Served.TheVariants.Dumped, Items.Item, Items.Service, Items.took, Items.served}
+use Rattle.chip_node.specs.Items.{sent, got, brought, entered, entered_by, injection_place, sending_of, service_of, services, takings}
 use Rattle.mesh_core.specs.{State.Setup, Step.outputs}
 use Rattle.mesh_run.specs.Played.{owed_on, place_behind, AreTurns, IsDoneOn, IsLiveIndex}
 use Rattle.mesh_run.proofs.Apart.{elsewhere, here, no_injection, not_there, one_output}
@@ -32,15 +31,7 @@ module _ (u : Setup) where
       (ap (λ (e : Chip). place_behind u e s.out) is ∙ (sym done.2 ∙ (same ∙ ap (λ n. Some (7 * n + 6)) (sym live.is)))) in
       let none = ap length (not_there place (injection_place i) (brought s s.fate) other) in
       omega (arith, none)
-  sent_there i live (sent j v k) done = elim (cases_eq j i) [
-    | inl same ↦
-        let one = ap length (here (injection_place j) (injection_place i) (k ∷ []) (ap injection_place same)) in
-        let also = ap length (here j i (k ∷ []) same) in
-        omega (arith, one, also)
-    | inr other ↦
-        let none = ap length (elsewhere (injection_place j) (injection_place i) (k ∷ []) (λ same. other (omega (arith, same)))) in
-        omega (arith, none)
-  ]
+  sent_there i live (sent j v k) done = grind (arith, cases_eq j i, here, elsewhere)
   sent_there i live (got j v place k) done = omega arith
 
   fewer : {X Y : Type 0} (f : Item → List X) (g : Item → List Y) → ((x : Item) → IsDoneOn u x → length (f x) ≤ length (g x)) → (items : List Item) → All (IsDoneOn u) items →
@@ -83,11 +74,7 @@ module _ (u : Setup) where
 
   few_owed : (c : Chip) (o : Out) → IsOutput o → (taken : List (Port × McCopy)) → count_by (by o) (owed_on u c taken) ≤ length taken
   few_owed c o output [] = omega arith
-  few_owed c o output (t ∷ taken) =
-      let first = map {B = Out × McCopy} (λ p. (p, t.1)) (outputs u c t.0 t.1) in
-      let both = count_by-append (by o) first (owed_on u c taken) in
-      let mapped = count_by-map {B = Out × McCopy} (by o) (λ p. (p, t.1)) (outputs u c t.0 t.1) in
-      omega (arith, both, mapped, few_outputs c o t.0 t.1 output, few_owed c o output taken)
+  few_owed c o output (t ∷ taken) = grind (arith, few_outputs c o t.0 t.1 output, few_owed c o output taken, count_by-append, count_by-map)
 
   -- what one item brings to the queue behind an output, its router served there
   served_there : (i : ℕ) (o : Out) (q : ℕ) → IsLiveIndex u i → place_behind u (chip_of u.machine i) o ≡ Some q → (x : Item) → IsDoneOn u x →

@@ -1,34 +1,26 @@
 -- Floors chip by chip: the vertices on a chip, the queues behind its outputs, and that there are few vertices.
-use Rattle.std.proofs.Common.{◌≡◌, ◌≢◌, ℕ, ◌+◌, ◌*◌, ◌<◌, ◌≤◌, List, [], ◌∷◌, ◌++◌, map, length, get_or, Option, Some}
-use Rattle.std.proofs.Common.{None, refl, sym, ap, ◌∙◌, subst, arith, suc, append_assoc, length-append, inl, inr}
-use Rattle.std.proofs.lemmas.Bool.{cases_eq, cases_lt}
-use Rattle.std.proofs.lemmas.Option.{get_or_from_slice_get, none-some, slice_get_within}
-use Rattle.std.proofs.lemmas.List.{get_or-map, length-map, length_push}
-use Rattle.std.proofs.Math.Nat.{mul-le-mul_left}
-use Rattle.std.specs.{List.All, List.AllPairs, List.slice_get, Option.option_to_list}
-use Rattle.spin_base.specs.declared.{chips.Chip.Chip, chips.Spot.Spot, routes.Out.Out}
-use Rattle.spin_base.specs.Outputs.{out_number, IsOutput}
+use Rattle.std.proofs.Common.{◌≡◌, ◌≢◌, ℕ, zero, suc, ◌+◌, ◌*◌, ◌<◌, ◌≤◌, Bool, true, false, List, [], ◌∷◌, ◌++◌, map, take, drop, length, get_or, Option, Some, None, refl, sym, ap, ◌∙◌, subst, arith}
+use Rattle.std.proofs.Common.{append_assoc, length-append, inl, inr}
+use Rattle.std.proofs.lemmas.{Bool.cases_eq, Bool.cases_lt, Option.get_or_from_slice_get, Option.none-some, Option.same_Some, Option.slice_get-get_or, Option.slice_get_within, List.get_or-map}
+use Rattle.std.proofs.{lemmas.List.length-drop, lemmas.List.length-map, lemmas.List.length_push, lemmas.List.length-take, Math.Nat.mul-le-mul_left}
+use Rattle.std.specs.{List.All, List.AllPairs, List.slice_get, List.slice_index_or, Option.option_to_list}
+use Rattle.spin_base.specs.{declared.chips.Chip.Chip, declared.chips.Spot.Spot, declared.routes.Out.Out, Outputs.out_number, Outputs.IsOutput}
 use Rattle.spin_base.proofs.Members.{Among, Contains-at, among_contains, among_either, among_left, among_only, among_right, contains_among}
-use Rattle.spin_base.proofs.Places.{All-at, slice_get_there, slice_get-append_left, slice_get-push_cases, slice_get-pushed}
-use Rattle.spin_base.proofs.Outputs.{out_number_below, out_number_injective}
-use Rattle.machine_desc.specs.{Description.Description, Description.HasSize, Live.chip_of, Live.IsSite, NetsOn.vertex_at}
-use Rattle.machine_desc.proofs.Branches.{length_le_from_apart}
+use Rattle.spin_base.proofs.{Places.All-at, Places.slice_get_there, Places.slice_get-append_left, Places.slice_get-push_cases, Places.slice_get-pushed, Outputs.out_number_below}
+use Rattle.spin_base.proofs.Outputs.{out_number_injective}
+use Rattle.machine_desc.specs.{Description.Description, Description.HasSize, Live.chip_of, Live.is_live_chip, Live.IsSite, NetsOn.vertex_at}
+use Rattle.machine_desc.proofs.{Branches.length_le_from_apart, Far.index_below, Far.live_inside, Live.index_of-chip_of}
 use Rattle.mesh_core.specs.{State.Setup, VertexTable.spot_place}
-use Rattle.mesh_core.proofs.VertexTableLaws.{same_spot_place, site_inside, spot_place-below}
-use Rattle.mesh_core.proofs.Ways.{vertex_at_stands, vertex_there}
-use Rattle.chip_node.specs.Acting.{place_in}
-use Rattle.chip_node.specs.declared.nodes.{Behind.Behind, CoreBank.CoreBank}
-use Rattle.mesh_run.specs.declared.floors.Floor.{Floor}
-use Rattle.mesh_run.specs.Floors.{AddsBehind, AreVerticesOn, AreVerticesOf, IsBankOf, IsFloorOf, IsFloorSoFar, grid_size, live_one, place_of_slot}
-use Rattle.mesh_run.specs.Played.{place_behind, port_count, IsVertexOn}
+use Rattle.mesh_core.proofs.{VertexTableLaws.same_spot_place, VertexTableLaws.site_inside, VertexTableLaws.spot_place-below, Ways.vertex_at_stands, Ways.vertex_there}
+use Rattle.chip_node.specs.{Acting.place_in, declared.nodes.Behind.Behind, declared.nodes.CoreBank.CoreBank, declared.nodes.RouterNode.RouterNode}
+use Rattle.mesh_run.specs.{declared.floors.Floor.Floor, Floors.AddsBehind, Floors.AreVerticesOn, Floors.AreVerticesOf, Floors.IsBankOf, Floors.IsFloorOf, Floors.IsFloorSoFar, Floors.IsRouterOf}
+use Rattle.mesh_run.specs.{Floors.grid_size, Floors.live_if, Floors.live_one, Floors.place_of_slot, Played.place_behind, Played.port_count, Played.IsLiveIndex, Played.IsVertexOn}
 
 -- ---- few vertices
 
 -- vertices on different sites are at different places of the table of spots
 pub few_chips : (m : Description) → HasSize m → m.width * m.height ≤ 4096
-few_chips m size =
-    let area : m.width * m.height ≤ m.width * 64 = mul-le-mul_left m.width size.height_to_64 in
-    omega (arith, size.width_to_64, area)
+few_chips m size = grind (arith, mul-le-mul_left m.width size.height_to_64)
 
 -- Different items with different numbers below a bound are no more than the bound.
 few_numbered : {A : Type 0} (f : A → ℕ) (n : ℕ) (xs : List A) (x : A) → AllPairs (λ a b. a ≢ b) xs → ((k : ℕ) → k < length xs → f (get_or xs k x) < n)
@@ -76,6 +68,17 @@ pub slice_get-second : {X : Type 0} (xs ys : List X) (n : ℕ) → slice_get (xs
 slice_get-second [] ys n = let e : 0 + n ≡ n = omega arith in ap (slice_get ys) e
 slice_get-second (x ∷ xs) ys n = let e : suc (length xs) + n ≡ suc (length xs + n) = omega arith in ap (slice_get (x ∷ (xs ++ ys))) e ∙ slice_get-second xs ys n
 
+slice_get_take : {X : Type 0} (n k : ℕ) (xs : List X) → k < n → slice_get (take n xs) k ≡ slice_get xs k
+slice_get_take zero k xs below = absurd (omega (arith, below))
+slice_get_take (suc n) k [] below = refl
+slice_get_take (suc n) zero (x ∷ xs) below = refl
+slice_get_take (suc n) (suc k) (x ∷ xs) below = slice_get_take n k xs (omega (arith, below))
+
+slice_get_drop : {X : Type 0} (n k : ℕ) (xs : List X) → slice_get (drop n xs) k ≡ slice_get xs (n + k)
+slice_get_drop zero k xs = let same : k ≡ 0 + k = omega arith in ap (slice_get xs) same
+slice_get_drop (suc n) k [] = refl
+slice_get_drop (suc n) k (x ∷ xs) = let same : suc (n + k) ≡ suc n + k = omega arith in slice_get_drop n k xs ∙ ap (slice_get (x ∷ xs)) same
+
 -- an item stands once in a list whose items differ
 pub one_place : {X : Type 0} (xs : List X) (x : X) (v w : ℕ) → AllPairs (λ a b. a ≢ b) xs → slice_get xs v ≡ Some x → slice_get xs w ≡ Some x → v ≡ w
 one_place {X} xs x v w differ first second = elim (cases_lt v w) [
@@ -96,10 +99,7 @@ spot_is spot chip n here number = ap (λ (x : Chip). let t : Spot = record { chi
 
 module _ (u : Setup) (i : ℕ) where
   pub vertices_none : (vs : List ℕ) → vs ≡ [] → AreVerticesOn u i 0 vs
-  vertices_none vs none = record {
-    each = λ v has. absurd (subst (λ (l : List ℕ). Among v l) none (contains_among v vs has));
-    all = λ v spot stands here below. absurd (omega (arith, below));
-  }
+  vertices_none vs none = grind (arith, Among, contains_among)
 
   more_by : (n : ℕ) (old new : List ℕ) (found : Option ℕ) → AllPairs (λ a b. a ≢ b) u.spots → AreVerticesOn u i n old → vertex_at u.spots (record { chip = chip_of u.machine i; core = n }) ≡ found →
       new ≡ old ++ option_to_list found → AreVerticesOn u i (n + 1) new
@@ -193,7 +193,7 @@ floor_all u n f tables all so_far =
     record { tables_long = tables; chips_long = g.chips_long; behind_long = g.behind_long; banks_long = g.banks_long; chips = g.chips; behind = g.behind; banks = g.banks }
 
 pub bank_of : (u : Setup) (i : ℕ) (b : CoreBank) → b.index ≡ i → b.cores ≡ port_count u → AreVerticesOf u i b.vertices.items → IsBankOf u i b
-bank_of u i b index cores vertices = record { index = index; cores = cores; vertices = vertices.each; all = λ live v on. vertices.all v on }
+bank_of u i b index cores vertices = record { index = index; cores = cores; vertices = vertices.each; all = λ live v on. ∣ vertices.all v on ∣₁ }
 
 pub floor_more : (u : Setup) (n : ℕ) (f g : Floor) (chip : Option Chip) (bank : CoreBank) → IsFloorSoFar u n f → g.chips.items ≡ f.chips.items ++ chip ∷ [] → chip ≡ live_one u n →
     AddsBehind u (chip_of u.machine n) 24 f.behind.items g.behind.items → g.banks.items ≡ f.banks.items ++ bank ∷ [] → IsBankOf u n bank → IsFloorSoFar u (n + 1) g
@@ -228,3 +228,54 @@ floor_more u n f g chip bank so_far chips is_chip adds banks is_bank =
         | inr last ↦ subst (λ (x : CoreBank). IsBankOf u i x) last.1 (subst (λ k. IsBankOf u k bank) (sym (last.0 ∙ so_far.banks_long)) is_bank)
       ];
     }
+
+-- ---- on a floor
+
+-- a live chip's index is below the number of chips
+pub live_below : (u : Setup) (i : ℕ) → IsLiveIndex u i → i < grid_size u
+live_below u i on = subst (λ (n : ℕ). n < grid_size u) on.is (index_below u.machine (chip_of u.machine i) (live_inside u.machine (chip_of u.machine i) on.live))
+
+live_if_some : (b : Bool) (c d : Chip) → live_if b c ≡ Some d → (b ≡ true) × (d ≡ c)
+live_if_some true c d is = (refl, sym (same_Some c d is))
+live_if_some false c d is = absurd (none-some d is)
+
+live_if_none : (b : Bool) (c : Chip) → live_if b c ≡ None → b ≡ true → ⊥
+live_if_none true c is live = none-some c (sym is)
+live_if_none false c is live = absurd (let differ : false ≡ true = live in cc)
+
+module _ (u : Setup) (f : Floor) (of : IsFloorOf u f) (i : ℕ) where
+  -- a chip that stands there is live
+  pub index_live : (c : Chip) → slice_get f.chips.items i ≡ Some (Some c) → IsLiveIndex u i × (c ≡ chip_of u.machine i) × (i < grid_size u)
+  index_live c at =
+      let within = slice_get_within f.chips.items i (Some c) at in
+      let below : i < grid_size u = omega (arith, within, of.chips_long) in
+      let is = live_if_some (is_live_chip u.machine (chip_of u.machine i)) (chip_of u.machine i) c (same_Some (live_one u i) (Some c) (sym (of.chips i below) ∙ at)) in
+      (record { live = is.0; is = index_of-chip_of u.machine i }, is.1, below)
+
+  -- and each live chip stands there
+  pub index_dead : IsLiveIndex u i → slice_get f.chips.items i ≡ Some None → ⊥
+  index_dead on at =
+      live_if_none (is_live_chip u.machine (chip_of u.machine i)) (chip_of u.machine i) (same_Some (live_one u i) None (sym (of.chips i (live_below u i on)) ∙ at)) on.live
+
+  pub router_of : (r : RouterNode) → IsLiveIndex u i → i < grid_size u → r.index ≡ i → r.chip ≡ chip_of u.machine i → r.table.now ≡ slice_index_or u.tables i [] →
+      r.behind.now ≡ take 24 (drop (24 * i) f.behind.items) → IsRouterOf u i r
+  router_of r live below index chip table behind = record {
+    live = live;
+    index = index;
+    chip = chip;
+    table = table;
+    behind = λ o output.
+        ap place_in (ap (λ l. slice_get l (out_number o)) behind
+        ∙ (slice_get_take 24 (out_number o) (drop (24 * i) f.behind.items) (out_number_below o output) ∙ slice_get_drop (24 * i) (out_number o) f.behind.items))
+        ∙ of.behind i o below live.live output;
+  }
+
+  -- the place of an output of a live chip is there, and what is read there is the queue behind it
+  pub behind_inside : (o : Out) → IsLiveIndex u i → IsOutput o → 24 * i + out_number o < length f.behind.items
+  behind_inside o live output = omega (arith, live_below u i live, out_number_below o output, of.behind_long)
+
+  pub read_behind : (o : Out) (k : ℕ) (b : Option Behind) → IsLiveIndex u i → IsOutput o → k ≡ 24 * i + out_number o → b ≡ get_or f.behind.items k b →
+      place_of_slot b ≡ place_behind u (chip_of u.machine i) o
+  read_behind o k b live output is read =
+      let stands = slice_get-get_or f.behind.items (24 * i + out_number o) b (behind_inside o live output) in
+      sym (placed b) ∙ (ap place_in (ap Some (read ∙ ap (λ n. get_or f.behind.items n b) is) ∙ sym stands) ∙ of.behind i o (live_below u i live) live.live output)

@@ -1,9 +1,9 @@
 -- What the shares so far have logged.
-use Rattle.std.proofs.Common.{◌≡◌, Bool, ℕ, ◌+◌, ◌≤◌, List, ◌++◌, length, take, drop, get_or, ap, ◌∙◌, subst, arith}
+use Rattle.std.proofs.Common.{◌≡◌, Bool, ℕ, ◌≤◌, List, ◌++◌, length, take, drop, get_or, arith}
+use Rattle.std.proofs.Common.{◌+◌}
 use Rattle.std.proofs.lemmas.{Option.get_or_from_slice_get, Option.slice_get_within, List.take_all}
 use Rattle.std.specs.List.{flat_map, list_any, sum_by}
-use Rattle.mesh_run.specs.declared.{gathering.MeshLogs.MeshLogs, shares.Share.Share}
-use Rattle.mesh_run.specs.Gathering.{AreEmptied, IsAnyMoved, IsEmptied}
+use Rattle.mesh_run.specs.{declared.gathering.MeshLogs.MeshLogs, declared.shares.Share.Share, Gathering.AreEmptied, Gathering.IsAnyMoved, Gathering.IsEmptied}
 use Rattle.mesh_run.proofs.Going.{GoneTo, gone_all}
 
 -- what the shares before a place logged was gathered, and there is room for what the others did
@@ -22,17 +22,4 @@ pub record Gathered (old now : List Share) (start logs : MeshLogs) (moved : Bool
   pub moved_are : IsAnyMoved old moved
 
 pub gathered_all : (old now : List Share) (n : ℕ) (start logs : MeshLogs) (moved : Bool) → GatheredTo old now n start logs moved → length now ≤ n → Gathered old now start logs moved
-gathered_all old now n start logs moved so_far past =
-    let long = so_far.gone.long in
-    let all : take n old ≡ old = take_all n old (omega (arith, long, past)) in
-    record {
-      delivered = so_far.delivered ∙ ap (λ l. start.delivered.items ++ flat_map (λ (x : Share). x.hold.deliveries.items) l) all;
-      dumped = so_far.dumped ∙ ap (λ l. start.dumped.items ++ flat_map (λ (x : Share). x.hold.dumps.items) l) all;
-      cleared = (
-        long,
-        λ k s t before after.
-            subst (λ (x : Share). IsEmptied x t) (get_or_from_slice_get old k s s before)
-            (subst (λ (x : Share). IsEmptied (get_or old k s) x) (get_or_from_slice_get now k t s after) (gone_all IsEmptied old now n so_far.gone past k s (slice_get_within old k s before))),
-      );
-      moved_are = so_far.moved_are ∙ ap (list_any (λ (x : Share). x.moved)) all;
-    }
+gathered_all old now n start logs moved so_far past = grind (arith, take_all n old (omega (arith, (so_far.gone.long), past)), get_or_from_slice_get, get_or, gone_all, slice_get_within)

@@ -1,7 +1,6 @@
 -- A loop that goes over the places of a list, and changes one after the other.
-use Rattle.std.proofs.Common.{◌≡◌, ℕ, ◌+◌, ◌<◌, ◌≤◌, List, length, get_or, set, refl, sym, ap, ◌∙◌, subst, arith, inl, inr}
-use Rattle.std.proofs.{Math.ListN.length-set, lemmas.Bool.cases_eq}
-use Rattle.std.proofs.lemmas.List.{get_or_default, get_or-set_same, get_or-set_other}
+use Rattle.std.proofs.Common.{◌≡◌, ℕ, ◌+◌, ◌<◌, ◌≤◌, List, length, get_or, set, refl, arith}
+use Rattle.std.proofs.{Math.ListN.length-set, lemmas.Bool.cases_eq, lemmas.List.get_or_default, lemmas.List.get_or-set_same, lemmas.List.get_or-set_other}
 use Rattle.std.specs.List.{All}
 
 module _ {X : Type 0} (R : X → X → Type 0) where
@@ -17,24 +16,11 @@ module _ {X : Type 0} (R : X → X → Type 0) where
   -- one more
   pub gone_more : (start now new : List X) (k : ℕ) (old w : X) → GoneTo start now k → k < length now → old ≡ get_or now k old → new ≡ set now k w →
       R old w → GoneTo start new (k + 1)
-  gone_more start now new k old w so_far below read is step = subst (λ l. GoneTo start l (k + 1)) (sym is) (record {
-    long = length-set now k w ∙ so_far.long;
-    done = λ j d before inside. elim (cases_eq j k) [
-      | inl here ↦
-          let first : get_or start j d ≡ old = ap (λ n. get_or start n d) here ∙ (sym (so_far.left k d (omega arith)) ∙ (get_or_default now k d old below ∙ sym read)) in
-          let last : get_or (set now k w) j d ≡ w = ap (λ n. get_or (set now k w) n d) here ∙ get_or-set_same now k w d below in
-          subst (R (get_or start j d)) (sym last) (subst (λ x. R x w) (sym first) step)
-      | inr other ↦
-          subst (R (get_or start j d)) (sym (get_or-set_other now k j w d other)) (so_far.done j d (omega (arith, before, other)) inside)
-    ];
-    left = λ j d from. get_or-set_other now k j w d (λ here. omega (arith, from, here)) ∙ so_far.left j d (omega (arith, from));
-  })
+  gone_more start now new k old w so_far below read is step = grind (arith, length-set now k w, cases_eq, get_or, get_or_default, get_or-set_same, get_or-set_other)
 
   pub gone_all : (start now : List X) (k : ℕ) → GoneTo start now k → length now ≤ k → (j : ℕ) (d : X) → j < length start → R (get_or start j d) (get_or now j d)
   gone_all start now k so_far past j d inside = let long = so_far.long in so_far.done j d (omega (arith, past, long, inside)) inside
 
   -- what holds of all items at the start holds of the next one
   pub gone_next : (P : X → Type 0) (start now : List X) (k : ℕ) (old : X) → GoneTo start now k → All P start → k < length now → old ≡ get_or now k old → P old
-  gone_next P start now k old so_far all below read =
-      let long = so_far.long in
-      subst P (sym (read ∙ so_far.left k old (omega arith))) (all k old (omega (arith, below, long)))
+  gone_next P start now k old so_far all below read = grind arith

@@ -1,12 +1,11 @@
 -- Links with all their ends, seen as a list, and brought down from the last one on.
 use Rattle.std.proofs.Common.{◌≡◌, ℕ, suc, zero, ◌+◌, ◌-◌, ◌<◌, ◌≤◌, List, [], ◌∷◌, ◌++◌, length, map, take, get_or, set, Option, Some, refl, sym, ap, ◌∙◌, subst, arith, inl, inr}
-use Rattle.std.proofs.{lemmas.Option.same_Some, Math.ListN.length-set, lemmas.Bool.cases_eq}
-use Rattle.std.proofs.lemmas.List.{map-append, length-map, take_all, take_more, same_from_push, get_or-set_same, get_or-set_other}
+use Rattle.std.proofs.{lemmas.Option.same_Some, Math.ListN.length-set, lemmas.Bool.cases_eq, lemmas.List.map-append, lemmas.List.length-map, lemmas.List.take_all, lemmas.List.take_more}
+use Rattle.std.proofs.lemmas.List.{same_from_push, get_or-set_same, get_or-set_other}
 use Rattle.std.specs.List.{All}
 use Rattle.spin_base.specs.declared.copies.McCopy.{McCopy}
 use Rattle.link_queue.specs.declared.links.{LinkEnds.LinkEnds, Tx.Tx, Rx.Rx}
-use Rattle.mesh_run.specs.declared.standing.Standing.{Standing}
-use Rattle.mesh_run.specs.{Standing.HoldsAll, Queues.AreEnds, Queues.IsDown, Queues.DownTo}
+use Rattle.mesh_run.specs.{declared.standing.Standing.Standing, Standing.HoldsAll, Queues.AreEnds, Queues.IsDown, Queues.DownTo}
 
 -- ---- the list is the only one
 
@@ -75,12 +74,7 @@ none_less : (n : ℕ) → n - 0 ≡ n
 none_less n = omega arith
 
 pub down_none : (all : List LinkEnds) (s : Standing) (qs : List (List McCopy)) → HoldsAll all s → DownFrom all 0 s qs qs
-down_none all s qs holds = record {
-  few = omega arith;
-  long = refl;
-  stand = subst (λ l. HoldsAll l s) (sym (ap (λ n. take n all) (none_less (length all)) ∙ take_all (length all) all (omega arith))) holds;
-  down = λ i e q from below. absurd (omega (arith, from, below));
-}
+down_none all s qs holds = grind (arith, none_less (length all), take_all (length all) all (omega arith))
 
 -- an item within a list
 there : {X : Type 0} (xs : List X) (i : ℕ) → i < length xs → (x : X) × ((d : X) → get_or xs i d ≡ x)

@@ -1,26 +1,20 @@
 -- Runs of actors, the numbers of their shares, homes of queues, and cuts.
-use Rattle.std.proofs.Common.{◌≡◌, ◌≢◌, ◌⊎◌, ℕ, ◌+◌, ◌*◌, ◌<◌, ◌≤◌, List, [], ◌∷◌, ◌++◌, replicate, length, get_or, set}
-use Rattle.std.proofs.Common.{Option, Some, None, refl, sym, ap, ◌∙◌, subst, arith, suc, zero, length-append, inl, inr}
-use Rattle.std.proofs.lemmas.Bool.{cases_eq, cases_lt}
-use Rattle.std.proofs.lemmas.Option.{none-some, same_Some, slice_get_within, slice_get-get_or}
-use Rattle.std.proofs.lemmas.List.{get_or_append_left, get_or_push, length_push, length-set}
-use Rattle.std.proofs.lemmas.List.Elements.{All-append, All-nil, All-push}
+use Rattle.std.proofs.Common.{◌≡◌, ◌≢◌, ◌⊎◌, ℕ, ◌+◌, ◌-◌, ◌*◌, ◌^◌, ◌<◌, ◌≤◌, List, [], ◌∷◌, ◌++◌, replicate, length, get_or, set, Option, Some, None, refl, sym, ap, ◌∙◌, subst, arith, suc, zero}
+use Rattle.std.proofs.Common.{length-append, inl, inr}
+use Rattle.std.proofs.lemmas.{Bool.cases_eq, Bool.cases_lt, Option.none-some, Option.same_Some, Option.slice_get_within, Option.slice_get-get_or, List.get_or_append_left, List.get_or_push}
+use Rattle.std.proofs.lemmas.List.{length_push, length-set, Elements.All-append, Elements.All-nil, Elements.All-push}
 use Rattle.std.specs.List.{All, slice_get}
-use Rattle.spin_base.specs.declared.routes.Out.{Out}
-use Rattle.spin_base.specs.Outputs.{out_number, IsOutput}
+use Rattle.spin_base.specs.{declared.routes.Out.Out, declared.routes.Out.TheVariants.Link, declared.routes.Out.TheVariants.Core, Links.dir_at, Outputs.out_number, Outputs.IsOutput}
 use Rattle.spin_base.proofs.Places.{All-at, slice_get-append_left, slice_get-push_cases, slice_get-pushed, slice_get-set_same, slice_get-set_other}
-use Rattle.spin_base.proofs.Outputs.{out_number_below, out_number_injective}
+use Rattle.spin_base.proofs.{Outputs.out_number_below, Outputs.out_number_injective, Spots.dir_number-dir_at}
 use Rattle.machine_desc.specs.Live.{chip_of, index_of}
-use Rattle.machine_desc.proofs.{Far.live_inside, Far.index_below, Live.chip_of-inside, Live.index_of-chip_of}
+use Rattle.machine_desc.proofs.{Far.live_inside, Live.chip_of-inside, Live.index_of-chip_of}
 use Rattle.mesh_core.specs.State.{Setup}
 use Rattle.chip_node.specs.Items.{injection_place}
-use Rattle.mesh_run.specs.declared.homes.{Cut.Cut, Home.Home}
-use Rattle.mesh_run.specs.Floors.{grid_size}
-use Rattle.mesh_run.specs.Homes.{AreCutsOf, AreHomesOf, AreHomesTo, AreShareRuns, HaveSenders, IsBefore, IsInTable, IsShareTable, MayCut, MayGrow, SetsSender, homes_of_ports, run_start}
-use Rattle.mesh_run.specs.Played.{IsLiveIndex, place_behind}
-use Rattle.mesh_run.specs.Shares.{IsInRun, bank_place, router_place}
-use Rattle.mesh_run.proofs.FloorLaws.{slice_get-first, slice_get-second}
-use Rattle.mesh_run.proofs.Feeding.{leads, no_injection, one_output}
+use Rattle.mesh_run.specs.{declared.homes.Cut.Cut, declared.homes.Home.Home, Floors.grid_size, Homes.AreCutsOf, Homes.AreHomesOf, Homes.AreHomesTo, Homes.AreShareRuns, Homes.HaveSenders}
+use Rattle.mesh_run.specs.{Homes.IsBefore, Homes.IsInTable, Homes.IsShareTable, Homes.MayCut, Homes.MayGrow, Homes.SetsSender, Homes.homes_of_ports, Homes.run_start, Played.IsLiveIndex}
+use Rattle.mesh_run.specs.{Played.place_behind, Shares.IsInRun, Shares.bank_place, Shares.router_place}
+use Rattle.mesh_run.proofs.{FloorLaws.live_below, FloorLaws.slice_get-first, FloorLaws.slice_get-second, Feeding.leads, Feeding.no_injection, Feeding.one_output}
 
 -- ---- runs
 
@@ -31,14 +25,10 @@ pub record RiseTo (place : ℕ) (ends : List ℕ) : Type 0 where
   pub few : length ends ≤ place
 
 pub rise_none : (ends : List ℕ) → ends ≡ [] → RiseTo 0 ends
-rise_none ends none =
-    let long = ap length none in
-    record { rising = λ a b less below. absurd (omega (arith, below, long)); most = λ a below. absurd (omega (arith, below, long)); few = omega (arith, long) }
+rise_none ends none = grind arith
 
 rise_on : (p : ℕ) (ends : List ℕ) → RiseTo p ends → RiseTo (p + 1) ends
-rise_on p ends so_far =
-    let few = so_far.few in
-    record { rising = so_far.rising; most = λ a below. let m = so_far.most a below in omega (arith, m); few = omega (arith, few) }
+rise_on p ends so_far = grind arith
 
 pushed_rises : (p : ℕ) (ends : List ℕ) → RiseTo p ends → (a b : ℕ) → a < b → b < length (ends ++ p ∷ []) → get_or (ends ++ p ∷ []) a 0 ≤ get_or (ends ++ p ∷ []) b 0
 pushed_rises p ends so_far a b less below =
@@ -77,6 +67,7 @@ runs_all p count before after all so_far grown = subst (AreShareRuns count) (sym
       rising = pushed_rises count before so_far;
       last = λ n is. get_or_push before count 0 n (omega (arith, is, long));
       some = omega (arith, long);
+      few = omega (arith, long, so_far.few);
     })
 
 -- ---- the numbers of shares
@@ -102,11 +93,7 @@ run_from count ends zero runs below = omega arith
 run_from count ends (suc k) runs below = runs.rising k (suc k) (omega arith) below
 
 pub table_none : (ends table : List ℕ) → table ≡ [] → TableTo ends 0 table
-table_none ends table none = record {
-  long = ap length none;
-  done = λ a k less in_run. absurd (omega (arith, less));
-  below = λ a k at. absurd (none-some k (ap (λ (l : List ℕ). slice_get l a) (sym none) ∙ at));
-}
+table_none ends table none = grind (arith, none-some)
 
 pub run_more : (ends : List ℕ) (n p : ℕ) (table new : List ℕ) → RunTo ends n p table → new ≡ table ++ n ∷ [] → RunTo ends n (p + 1) new
 run_more ends n p table new so_far is = subst (RunTo ends n (p + 1)) (sym is) (record {
@@ -123,17 +110,7 @@ run_more ends n p table new so_far is = subst (RunTo ends n (p + 1)) (sym is) (r
 })
 
 pub run_all : (ends : List ℕ) (n p : ℕ) (table : List ℕ) → RunTo ends n p table → p ≡ get_or ends n 0 → TableTo ends (n + 1) table
-run_all ends n p table so_far all = record {
-  long = so_far.long ∙ (all ∙ sym (start_more ends n));
-  done = λ a k less in_run. elim (cases_eq k n) [
-    | inl same ↦
-        let from : run_start ends n ≤ a = subst (λ (j : ℕ). run_start ends j ≤ a) same in_run.above in
-        let to : a < get_or ends n 0 = subst (λ (j : ℕ). a < get_or ends j 0) same in_run.below in
-        so_far.here a from (omega (arith, to, all)) ∙ ap Some (sym same)
-    | inr other ↦ so_far.done a k (omega (arith, less, other)) in_run
-  ];
-  below = so_far.below;
-}
+run_all ends n p table so_far all = grind (arith, start_more ends n, get_or ends n 0, cases_eq)
 
 pub table_all : (count : ℕ) (ends : List ℕ) (n : ℕ) (table : List ℕ) → AreShareRuns count ends → n ≡ length ends → TableTo ends n table → IsShareTable count ends table
 table_all count ends n table runs all so_far = record {
@@ -149,11 +126,7 @@ table_all count ends n table runs all so_far = record {
 -- ---- homes
 
 pub homes_none : (table : List ℕ) (homes : List Home) → homes ≡ [] → AreHomesTo table 0 0 homes
-homes_none table homes none = subst (AreHomesTo table 0 0) (sym none) (record {
-  long = refl;
-  listed = All-nil (IsInTable table);
-  banks = λ i k h below. absurd (omega (arith, below));
-})
+homes_none table homes none = grind (arith, All-nil (IsInTable table))
 
 pub ports_more : (table : List ℕ) (n router bank : ℕ) (homes new : List Home) → AreHomesTo table n 0 homes → slice_get table (router_place n) ≡ Some router →
     slice_get table (bank_place n) ≡ Some bank → new ≡ homes ++ homes_of_ports router bank → AreHomesTo table (n + 1) 0 new
@@ -186,20 +159,20 @@ ports_more table n router bank homes new so_far at_router at_bank is = subst (Ar
 
 pub vertex_more : (table : List ℕ) (chips m : ℕ) (home : Home) (homes new : List Home) → AreHomesTo table chips m homes → IsInTable table home → new ≡ homes ++ home ∷ [] →
     AreHomesTo table chips (m + 1) new
-vertex_more table chips m home homes new so_far listed is = subst (AreHomesTo table chips (m + 1)) (sym is) (
-    let long = so_far.long in
-    record {
-      long = omega (arith, long, length_push homes home);
-      listed = All-push (IsInTable table) homes home so_far.listed listed;
-      banks = λ i k h below at_k at_h.
-          so_far.banks i k h below at_k (sym (slice_get-first homes (home ∷ []) (injection_place i) (omega (arith, below, long))) ∙ at_h);
-    })
+vertex_more table chips m home homes new so_far listed is = grind (arith, length_push homes home, All-push (IsInTable table) homes home so_far.listed listed, slice_get-first)
 
 -- ---- senders
 
 -- the indices of live chips on the same chip are the same
 pub same_chip : (u : Setup) (i j : ℕ) → IsLiveIndex u i → IsLiveIndex u j → chip_of u.machine i ≡ chip_of u.machine j → i ≡ j
 same_chip u i j first second same = sym first.is ∙ (ap (index_of u.machine) same ∙ second.is)
+
+-- each number below 24 is an output's
+pub output_of : (n : ℕ) → n < 24 → (o : Out) × IsOutput o × (out_number o ≡ n)
+output_of n below = elim (cases_lt n 6) [
+  | inl link ↦ (Link (dir_at n), tt, dir_number-dir_at n link)
+  | inr core ↦ (Core (n - 6), omega (arith, below, core), omega (arith, core))
+]
 
 -- an output more
 pub senders_more : (u : Setup) (table : List ℕ) (n m sender : ℕ) (place : Option ℕ) (p : Out) (homes new : List Home) → HaveSenders u table n m homes → IsLiveIndex u n → n < grid_size u →
@@ -281,10 +254,6 @@ senders_dead u table n homes so_far dead = record {
     ]
     less i o on (inr same) = let none = same.1 in absurd (omega (arith, none))
 
--- a live chip's index is below the number of chips
-pub live_below : (u : Setup) (i : ℕ) → IsLiveIndex u i → i < grid_size u
-live_below u i on = subst (λ (n : ℕ). n < grid_size u) on.is (index_below u.machine (chip_of u.machine i) (live_inside u.machine (chip_of u.machine i) on.live))
-
 pub homes_all : (u : Setup) (table : List ℕ) (n : ℕ) (homes : List Home) → grid_size u ≤ n → HaveSenders u table n 0 homes → AreHomesOf u table homes
 homes_all u table n homes past so_far = record {
   long = so_far.homes_are.long;
@@ -298,6 +267,14 @@ pub sets_none : (sender : ℕ) (homes : List Home) → SetsSender None sender ho
 sets_none sender homes = record {
   long = refl;
   here = λ q h e. absurd (none-some q e);
+  others = λ q h elsewhere at. at;
+  receivers = λ q h at. (h, at, refl);
+}
+
+pub sets_past : (place sender : ℕ) (homes : List Home) → length homes ≤ place → SetsSender (Some place) sender homes homes
+sets_past place sender homes past = record {
+  long = refl;
+  here = λ q h e at. absurd (omega (arith, past, same_Some place q e, slice_get_within homes q h at));
   others = λ q h elsewhere at. at;
   receivers = λ q h at. (h, at, refl);
 }
@@ -324,6 +301,7 @@ pub record CutsTo (homes : List Home) (n : ℕ) (cuts : List Cut) : Type 0 where
   pub all_cut : (q : ℕ) (h : Home) → q < n → slice_get homes q ≡ Some h → h.sender ≢ h.receiver → (l : ℕ) × (c : Cut) × (slice_get cuts l ≡ Some c) × (c.queue ≡ q)
   pub apart : (k l : ℕ) (a b : Cut) → slice_get cuts k ≡ Some a → slice_get cuts l ≡ Some b → a.queue ≡ b.queue → k ≡ l
   pub below : (l : ℕ) (c : Cut) → slice_get cuts l ≡ Some c → c.queue < n
+  pub few : length cuts ≤ n
 
 pub cuts_none : (homes : List Home) (cuts : List Cut) → cuts ≡ [] → CutsTo homes 0 cuts
 cuts_none homes cuts none = subst (CutsTo homes 0) (sym none) (record {
@@ -331,6 +309,7 @@ cuts_none homes cuts none = subst (CutsTo homes 0) (sym none) (record {
   all_cut = λ q h less. absurd (omega (arith, less));
   apart = λ k l a b at. absurd (none-some a at);
   below = λ l c at. absurd (none-some c at);
+  few = omega arith;
 })
 
 pub cuts_more : (homes : List Home) (n : ℕ) (home : Home) (cuts new : List Cut) → slice_get homes n ≡ Some home → CutsTo homes n cuts → MayCut n home cuts new → CutsTo homes (n + 1) new
@@ -344,6 +323,7 @@ cuts_more homes n home cuts new at_n so_far (inl same) = subst (CutsTo homes (n 
   ];
   apart = so_far.apart;
   below = λ l c at. let was = so_far.below l c at in omega (arith, was);
+  few = omega (arith, so_far.few);
 })
 cuts_more homes n home cuts new at_n so_far (inr other) = subst (CutsTo homes (n + 1)) (sym other.1) (
     let last : Cut = record { queue = n; sender = home.sender; receiver = home.receiver } in
@@ -377,11 +357,13 @@ cuts_more homes n home cuts new at_n so_far (inr other) = subst (CutsTo homes (n
         | inl before ↦ let was = so_far.below l c before.1 in omega (arith, was)
         | inr here ↦ let queue : n ≡ c.queue = ap (λ (x : Cut). x.queue) here.1 in omega (arith, queue)
       ];
+      few = omega (arith, length_push cuts last, so_far.few);
     })
 
-pub cuts_all : (homes : List Home) (n : ℕ) (cuts : List Cut) → length homes ≤ n → CutsTo homes n cuts → AreCutsOf homes cuts
-cuts_all homes n cuts past so_far = record {
+pub cuts_all : (homes : List Home) (n : ℕ) (cuts : List Cut) → n ≡ length homes → length homes < 2 ^ 32 → CutsTo homes n cuts → AreCutsOf homes cuts
+cuts_all homes n cuts past small so_far = record {
   cut = so_far.cut;
   all_cut = λ q h at. let inside = slice_get_within homes q h at in so_far.all_cut q h (omega (arith, inside, past)) at;
   apart = so_far.apart;
+  few = omega (arith, so_far.few, past, small);
 }

@@ -1,21 +1,15 @@
 -- A split mesh put together again.
 use Rattle.std.proofs.Common.{◌≡◌, ◌≢◌, ℕ, ◌+◌, ◌<◌, ◌≤◌, List, [], ◌∷◌, ◌++◌, length, get_or, set, Some, refl, sym, ap, ◌∙◌, subst, arith, inl, inr, length-append}
-use Rattle.std.proofs.lemmas.Bool.{cases_eq}
-use Rattle.std.proofs.lemmas.Option.{get_or_from_slice_get, same_Some, slice_get_within, slice_get-get_or}
-use Rattle.std.proofs.lemmas.List.{get_or-map, get_or-set_other, get_or-set_same, length-map, length-set, same_lists}
+use Rattle.std.proofs.lemmas.{Bool.cases_eq, Option.get_or_from_slice_get, Option.same_Some, Option.slice_get_within, Option.slice_get-get_or, List.get_or-map, List.get_or-set_other}
+use Rattle.std.proofs.lemmas.List.{get_or-set_same, length-map, length-set, same_lists}
 use Rattle.std.specs.List.{All, slice_get}
 use Rattle.spin_base.proofs.Places.{slice_get_there}
 use Rattle.spin_base.specs.declared.copies.McCopy.{McCopy}
 use Rattle.link_queue.specs.declared.links.LinkEnds.{LinkEnds}
-use Rattle.link_queue.specs.Ends.{sending}
 use Rattle.mesh_core.specs.State.{IsMesh, State}
-use Rattle.mesh_run.specs.declared.{homes.Cut.Cut, homes.Home.Home, raised.RaisedMesh.RaisedMesh}
-use Rattle.mesh_run.specs.Played.{port_count}
-use Rattle.mesh_run.specs.Queues.{AreEnds, AreUp, DownTo, IsDown, IsUp}
-use Rattle.mesh_run.specs.{Raised.IsRaisedFrom, Split.cut_queues}
-use Rattle.mesh_run.specs.Splitting.{FitHomes, HoldVertices, MovesOut, SameButCopies, SetsQueue}
-use Rattle.mesh_run.proofs.Holding.{both_same, first_same, rest_same}
-use Rattle.mesh_run.proofs.SplitLaws.{default_at, same_state, state_on}
+use Rattle.mesh_run.specs.{declared.homes.Cut.Cut, declared.homes.Home.Home, declared.raised.RaisedMesh.RaisedMesh, Played.port_count, Queues.AreEnds, Queues.AreUp, Queues.DownTo, Queues.IsDown}
+use Rattle.mesh_run.specs.{Queues.IsUp, Raised.IsRaisedFrom, Split.cut_queues, Splitting.FitHomes, Splitting.HoldVertices, Splitting.MovesOut, Splitting.SameButCopies, Splitting.SetsQueue}
+use Rattle.mesh_run.proofs.{Holding.both_same, Holding.first_same, Holding.rest_same, SplitLaws.default_at, SplitLaws.same_state, SplitLaws.state_on}
 
 -- ---- what the calls ask for
 
@@ -23,7 +17,7 @@ use Rattle.mesh_run.proofs.SplitLaws.{default_at, same_state, state_on}
 pub fits_raised : (m : State) (more : ℕ) (r : RaisedMesh) → IsMesh m → IsRaisedFrom m more r → FitHomes r.parts r.layout.now.homes.items r.shares.items
 fits_raised m more r mesh raised =
     let shared = raised.shared in
-    let long = shared.homes_are.long in
+    let long = raised.laid.homes.long in
     let cores = mesh.core_lists in
     let unsent = mesh.unsent_lists in
     let cores_long = raised.cores_long in
@@ -42,17 +36,15 @@ fits_raised m more r mesh raised =
     both : (i : ℕ) (d : Home) → i < length r.layout.now.homes.items →
         ((get_or r.layout.now.homes.items i d).sender < length r.shares.items) × ((get_or r.layout.now.homes.items i d).receiver < length r.shares.items)
     both i d below =
-        raised.shared.homes_are.below i (get_or r.layout.now.homes.items i d) (length r.shares.items) (slice_get-get_or r.layout.now.homes.items i d below)
-        (λ a k at. subst (λ (n : ℕ). k < n) (sym raised.shared.long) (raised.shared.numbers.below a k at))
+        raised.laid.homes.below i (get_or r.layout.now.homes.items i d) (length r.shares.items) (slice_get-get_or r.layout.now.homes.items i d below)
+        (λ a k at. subst (λ (n : ℕ). k < n) (sym raised.shared.long) (raised.laid.numbers.below a k at))
 
 -- links that are up have their ends
 pub all_are_ends : (cap more : ℕ) (queues : List (List McCopy)) (ends : List LinkEnds) → AreUp cap more queues ends → All AreEnds ends
 all_are_ends cap more queues ends up = λ i e below. let long = up.long in (up.each i [] e (omega (arith, below, long))).ends
 
 pub no_more_links : (m : State) (more : ℕ) (r : RaisedMesh) → (raised : IsRaisedFrom m more r) → length raised.ends ≤ length r.crossing.items
-no_more_links m more r raised =
-    let mapped = length-map r.layout.now.cuts.items (λ (c : Cut). get_or (m.inputs ++ m.cores) c.queue []) in
-    omega (arith, raised.up.long, mapped, raised.crossing)
+no_more_links m more r raised = grind (arith, length-map, get_or)
 
 -- ---- a link that is down
 
@@ -62,8 +54,7 @@ none_behind (c ∷ copies) = ap (λ l. c ∷ l) (none_behind copies)
 
 -- a link that is up and then down gives its queue back
 pub same_queue : (cap more : ℕ) (queue after : List McCopy) (e : LinkEnds) → IsUp cap more queue e → IsDown e after → after ≡ queue
-same_queue cap more queue after e up down =
-    ap (λ l. l ++ after) (sym up.rx_new.took) ∙ (sym down.all ∙ (ap (λ l. l ++ (sending e.tx).sent) up.tx_new.first ∙ (ap (λ l. queue ++ l) up.tx_new.sent ∙ none_behind queue)))
+same_queue cap more queue after e up down = grind (arith, none_behind queue)
 
 pub down_at : (m : State) (more : ℕ) (r : RaisedMesh) (down : List (List McCopy)) → (raised : IsRaisedFrom m more r) → DownTo raised.ends down → (l : ℕ) (c : Cut) →
     slice_get r.layout.now.cuts.items l ≡ Some c → get_or down l [] ≡ get_or (m.inputs ++ m.cores) c.queue []
@@ -91,14 +82,7 @@ pub record QueuesBackTo (mid : State) (cuts : List Cut) (down : List (List McCop
   pub long : length left ≡ length down
 
 pub cuts_none : (mid : State) (cuts : List Cut) (down : List (List McCopy)) → QueuesBackTo mid cuts down 0 mid down
-cuts_none mid cuts down = record {
-  same = same_state mid;
-  unsent = refl;
-  done = λ l c less. absurd (omega (arith, less));
-  others = λ q not. refl;
-  left_down = λ l from. refl;
-  long = refl;
-}
+cuts_none mid cuts down = grind (arith, same_state mid)
 
 -- each queue is of one cut at most
 abbrev pub AreOfOneCut : List Cut → Type 0
@@ -133,10 +117,10 @@ cut_at cuts n c below read = slice_get-get_or cuts n c below ∙ ap Some (sym re
 pub cut_inside : (m : State) (more n : ℕ) (r : RaisedMesh) (mid now : State) (down left : List (List McCopy)) (c : Cut) → IsMesh m → IsRaisedFrom m more r → SameButCopies r.parts mid →
     QueuesBackTo mid r.layout.now.cuts.items down n now left → slice_get r.layout.now.cuts.items n ≡ Some c → c.queue < length now.inputs + length now.cores
 cut_inside m more n r mid now down left c mesh raised same so_far at =
-    let below = slice_get_within r.layout.now.homes.items c.queue (record { sender = c.sender; receiver = c.receiver }) (raised.shared.cut n c at).0 in
+    let below = slice_get_within r.layout.now.homes.items c.queue (record { sender = c.sender; receiver = c.receiver }) (raised.laid.cuts.cut n c at).0 in
     let inputs : length now.inputs ≡ length m.inputs = so_far.same.inputs_long ∙ (same.inputs_long ∙ raised.inputs_long) in
     let cores : length now.cores ≡ length m.cores = so_far.same.cores_long ∙ (same.cores_long ∙ raised.cores_long) in
-    omega (arith, below, raised.shared.homes_are.long, mesh.input_lists, mesh.core_lists, inputs, cores)
+    omega (arith, below, raised.laid.homes.long, mesh.input_lists, mesh.core_lists, inputs, cores)
 
 -- ---- the whole mesh
 
@@ -150,15 +134,7 @@ two_lists (x ∷ a) (y ∷ c) b d e long =
     (both_same x y a c (first_same x y (a ++ b) (c ++ d) e) rest.0, rest.1)
 
 equal_states : (s t : State) → s.setup ≡ t.setup → s.unsent ≡ t.unsent → s.inputs ≡ t.inputs → s.hands ≡ t.hands → s.cores ≡ t.cores → s.delivered ≡ t.delivered → s.dumped ≡ t.dumped → s ≡ t
-equal_states s t setup unsent inputs hands cores delivered dumped = λ i. record {
-  setup = setup i;
-  unsent = unsent i;
-  inputs = inputs i;
-  hands = hands i;
-  cores = cores i;
-  delivered = delivered i;
-  dumped = dumped i;
-}
+equal_states s t setup unsent inputs hands cores delivered dumped = grind arith
 
 -- all that was split stands again where it stood
 pub lowered : (m : State) (more n : ℕ) (r : RaisedMesh) (mid now back : State) (down left : List (List McCopy)) → IsMesh m → (raised : IsRaisedFrom m more r) →
@@ -189,7 +165,7 @@ lowered m more n r mid now back down left mesh raised moves are so_far past setu
     -- a queue that is in one share is of no cut
     uncut : (q : ℕ) (h : Home) → slice_get r.layout.now.homes.items q ≡ Some h → h.sender ≡ h.receiver → (l : ℕ) (c : Cut) → slice_get r.layout.now.cuts.items l ≡ Some c → c.queue ≢ q
     uncut q h at one l c stands here =
-        let cut = raised.shared.cut l c stands in
+        let cut = raised.laid.cuts.cut l c stands in
         let is : h ≡ record { sender = c.sender; receiver = c.receiver } = same_Some h (record { sender = c.sender; receiver = c.receiver })
         (sym at ∙ (ap (slice_get r.layout.now.homes.items) (sym here) ∙ cut.0)) in
         cut.1 (subst (λ (x : Home). x.sender ≡ x.receiver) is one)
@@ -198,7 +174,7 @@ lowered m more n r mid now back down left mesh raised moves are so_far past setu
     each q h at = elim (cases_eq h.sender h.receiver) [
       | inl one ↦ so_far.others q (uncut q h at one) ∙ moves.lanes (m.inputs ++ m.cores) q h raised.lanes at one
       | inr two ↦
-          let cut = raised.shared.all_cut q h at two in
+          let cut = raised.laid.cuts.all_cut q h at two in
           let below = slice_get_within r.layout.now.cuts.items cut.0 cut.1 cut.2 in
           let here = so_far.done cut.0 cut.1 (omega (arith, below, past)) cut.2 ∙ down_at m more r down raised are cut.0 cut.1 cut.2 in
           subst (λ (k : ℕ). get_or (now.inputs ++ now.cores) k [] ≡ get_or (m.inputs ++ m.cores) k []) cut.3 here
@@ -210,7 +186,7 @@ lowered m more n r mid now back down left mesh raised moves are so_far past setu
         let long_m : length (m.inputs ++ m.cores) ≡ length m.inputs + length m.cores = length-append m.inputs m.cores in
         let a = inputs_long in
         let b = cores_long in
-        let homes = raised.shared.homes_are.long in
+        let homes = raised.laid.homes.long in
         same_lists (now.inputs ++ now.cores) (m.inputs ++ m.cores) (omega (arith, long_now, long_m, a, b)) (λ q d below.
         let h = slice_get_there r.layout.now.homes.items q (omega (arith, below, long_now, a, b, homes, mesh.input_lists, mesh.core_lists)) in
         default_at (now.inputs ++ now.cores) q d below ∙ (each q h.0 h.1 ∙ sym (default_at (m.inputs ++ m.cores) q d (omega (arith, below, long_now, long_m, a, b)))))

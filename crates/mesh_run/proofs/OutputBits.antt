@@ -1,18 +1,15 @@
 -- The numbers of a range, and that each of a chip's outputs has a bit.
-use Rattle.std.proofs.Common.{◌≡◌, ℕ, zero, suc, ◌+◌, ◌<◌, ◌≤◌, arith, inl, inr}
+use Rattle.std.proofs.Common.{ℕ, zero, suc, ◌+◌, ◌<◌, ◌≤◌, arith, inl, inr}
 use Rattle.std.specs.List.{range_with_len}
-use Rattle.spin_base.specs.declared.routes.Out.{Out, TheVariants.Link, TheVariants.Core}
-use Rattle.spin_base.specs.Links.{all_dirs}
-use Rattle.spin_base.specs.Outputs.{all_outs, core_outs, link_outs, IsOutput}
+use Rattle.spin_base.specs.{declared.routes.Out.Out, declared.routes.Out.TheVariants.Link, declared.routes.Out.TheVariants.Core, Links.all_dirs, Outputs.all_outs, Outputs.core_outs, Outputs.link_outs}
+use Rattle.spin_base.specs.Outputs.{IsOutput}
 use Rattle.spin_base.proofs.Members.{Among, among_either, among_map}
 
 -- what stands in a range is within it
 pub range_parts : (a n j : ℕ) → Among j (range_with_len a n) → (a ≤ j) × (j < a + n)
 range_parts a zero j none = absurd none
 range_parts a (suc n) j (inl here) = (omega (arith, here), omega (arith, here))
-range_parts a (suc n) j (inr there) =
-    let parts = range_parts (a + 1) n j there in
-    (omega (arith, parts.0), omega (arith, parts.1))
+range_parts a (suc n) j (inr there) = grind (arith, range_parts (a + 1) n j there)
 
 link_bit : (o : Out) → Among o link_outs → IsOutput o
 unfolding link_outs
@@ -23,12 +20,7 @@ core_bit : (o : Out) → Among o core_outs → IsOutput o
 unfolding core_outs
 core_bit (Link d) a = tt
 core_bit (Core c) a =
-    let of = among_map Core (Core c) (range_with_len 0 18) a in
-    let same : c ≡ of.0 = cc in
-    omega (arith, same, (range_parts 0 18 of.0 of.1).1)
+    grind (arith, among_map Core (Core c) (range_with_len 0 18) a, range_parts 0 18 (among_map Core (Core c) (range_with_len 0 18) a).0 (among_map Core (Core c) (range_with_len 0 18) a).1)
 
 pub has_bit : (o : Out) → Among o all_outs → IsOutput o
-has_bit o a = elim (among_either o link_outs core_outs a) [
-  | inl links ↦ link_bit o links
-  | inr cores ↦ core_bit o cores
-]
+has_bit o a = grind (arith, among_either o link_outs core_outs a, link_bit, core_bit)

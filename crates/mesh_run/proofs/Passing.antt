@@ -1,16 +1,12 @@
 -- What a whole round does with one queue: a lane of one share, or a link between two.
-use Rattle.std.proofs.Common.{◌≡◌, ◌≢◌, ℕ, ◌+◌, ◌-◌, ◌*◌, ◌<◌, ◌≤◌, min, List, [], ◌++◌, length, map, get_or, Some, sym, ap, ap₂, ◌∙◌, subst, arith, inl, inr}
+use Rattle.std.proofs.Common.{◌≡◌, ◌≢◌, ℕ, ◌+◌, ◌-◌, ◌*◌, ◌<◌, ◌≤◌, min, List, [], ◌++◌, length, map, get_or, Some, sym, ap, ◌∙◌, subst, arith, inl, inr}
 use Rattle.std.proofs.lemmas.{Bool.cases_eq, List.length-append, List.length-map, List.Elements.All-map, List.Elements.All-weaker}
 use Rattle.std.specs.List.{All}
-use Rattle.spin_base.specs.declared.copies.McCopy.{McCopy}
-use Rattle.spin_base.specs.WithRoom.{WithRoom}
-use Rattle.link_queue.specs.declared.links.LinkEnds.{LinkEnds}
-use Rattle.link_queue.specs.{Ends.cap_of, Ends.sending, Ends.taking, TheRule.put_of, TheRule.IsFullNote, Ups.NoNotes}
-use Rattle.chip_node.specs.declared.ends.{End.TheVariants.Away, InEnd.InEnd, OutEnd.OutEnd}
-use Rattle.chip_node.specs.Going.{IsFullMoment}
-use Rattle.chip_node.specs.Items.{Item, entered, entered_by, left, left_by, lost_at, lost_by}
-use Rattle.mesh_run.specs.declared.shares.Share.{Share}
-use Rattle.mesh_run.specs.{Played.QueueGoes, Queues.IsDown, Split.end_at}
+use Rattle.spin_base.specs.{declared.copies.McCopy.McCopy, WithRoom.WithRoom}
+use Rattle.link_queue.specs.{declared.links.LinkEnds.LinkEnds, Ends.cap_of, Ends.sending, Ends.taking, TheRule.put_of, TheRule.IsFullNote, Ups.NoNotes}
+use Rattle.chip_node.specs.{declared.ends.End.TheVariants.Away, declared.ends.InEnd.InEnd, declared.ends.OutEnd.OutEnd, Going.IsFullMoment, Items.Item, Items.entered, Items.entered_by, Items.left}
+use Rattle.chip_node.specs.Items.{left_by, lost_at, lost_by}
+use Rattle.mesh_run.specs.{declared.shares.Share.Share, Played.QueueGoes, Queues.IsDown, Split.end_at}
 use Rattle.mesh_run.proofs.Together.{LanePasses, PlayedParts, SenderPasses, TakerPasses, joined, none_passes, told_by_one}
 
 module _ (cap patience : ℕ) (before after : List Share) (parts : List (List Item)) (h : PlayedParts cap patience before after parts) where
@@ -84,9 +80,7 @@ module _ (cap patience : ℕ) (before after : List Share) (parts : List (List It
     ])
 
     put : put_of (sending e.tx) ≡ held ++ entered q items
-    put =
-        ap (λ t. put_of (sending t)) (sym l.tx)
-        ∙ ap₂ (λ (x y : List McCopy). x ++ y) (l.sends.goes.first ∙ l.sender_new.first) (l.sends.goes.sent ∙ (ap (λ (x : List McCopy). x ++ entered q (part s)) l.sender_new.sent ∙ sym came))
+    put = grind (arith, came)
 
     took : (taking e.rx).took ≡ left q items
     took = ap (λ t. (taking t).took) (sym l.rx) ∙ (l.takes.goes.took ∙ (ap (λ (x : List McCopy). x ++ left q (part r)) l.receiver_new.took ∙ sym went))
@@ -99,20 +93,7 @@ module _ (cap patience : ℕ) (before after : List Share) (parts : List (List It
 
     -- A note of Full is such a moment: turns cannot fill a link that has fewer places than its queue.
     full_note : (x : ℕ) → IsFullNote (cap_of e.link) (put_of (sending e.tx)) (taking e.rx).took x → IsFullMoment cap (length held) (entered q items) (left q items) (moment x)
-    full_note x note =
-        let enough = l.enough in
-        let few = l.few in
-        let fits = l.fits in
-        let filled = l.filled in
-        let from = note.0 in
-        let to_put = note.1 in
-        let all = ap length put in
-        let both = length-append held (entered q items) in
-        record {
-          entered_by_then = omega (arith, to_put, all, both);
-          left_by_then = omega (arith, enough, few, fits, filled, from, to_put, note.2, all, both, ap length took);
-          full = omega (arith, enough, few, fits, filled, from, to_put, all, both);
-        }
+    full_note x note = grind (arith, put, length-append held (entered q items), took)
 
     pub link_queue : QueueGoes cap patience (joined parts) q held rest
     link_queue = record {

@@ -1,16 +1,13 @@
 -- How a mesh is split.
-use Rattle.std.proofs.Common.{◌≡◌, ◌≢◌, ℕ, ◌*◌, ◌<◌, ◌≤◌, List, [], ◌++◌, map, length, get_or, Some, sym, ap, ◌∙◌, subst, arith, inl, inr}
-use Rattle.std.proofs.lemmas.{Bool.cases_lt, Option.slice_get_within, Option.slice_get-get_or}
-use Rattle.std.proofs.lemmas.List.{get_or-map, get_or_past, length-map, length-replicate, Elements.All-append}
+use Rattle.std.proofs.Common.{◌≡◌, ℕ, ◌+◌, ◌*◌, ◌<◌, ◌≤◌, List, [], ◌++◌, length, get_or, Some, sym, ap, ◌∙◌, subst, arith}
+use Rattle.std.proofs.lemmas.{Bool.cases_lt, Option.slice_get_within, Option.slice_get-get_or, List.get_or-map, List.get_or_past, List.length-map, List.length-replicate, List.Elements.All-append}
 use Rattle.std.specs.List.{All, slice_get}
 use Rattle.spin_base.specs.declared.copies.McCopy.{McCopy}
 use Rattle.spin_base.proofs.Places.{All-at}
 use Rattle.chip_node.specs.declared.ends.End.TheVariants.{Away}
-use Rattle.machine_desc.proofs.Branches.{length_le_from_apart}
 use Rattle.mesh_core.specs.State.{FitsQueue, IsMesh, Setup, State}
-use Rattle.mesh_run.specs.declared.{homes.Cut.Cut, homes.Home.Home, shares.Share.Share}
-use Rattle.mesh_run.specs.{Floors.grid_size, Homes.AreCutsOf, Homes.AreHomesOf, Homes.AreShareRuns, Homes.IsShareTable, Split.AreShared, Split.cut_queues}
-use Rattle.mesh_run.specs.Splitting.{AreInside, FitHomes, HoldNothing, IsEmptyHand}
+use Rattle.mesh_run.specs.{declared.homes.Cut.Cut, declared.homes.Home.Home, declared.shares.Share.Share, Floors.grid_size, Homes.AreCutsOf, Homes.AreHomesOf, Homes.IsShareTable, Played.port_count}
+use Rattle.mesh_run.specs.{Split.AreShared, Split.cut_queues, Splitting.AreInside, Splitting.FitHomes, Splitting.HoldNothing, Splitting.IsEmptyHand}
 use Rattle.mesh_run.proofs.FloorLaws.{few_chips, few_vertices}
 
 -- each share has a place for each queue, and for each vertex
@@ -24,23 +21,14 @@ unsent_many : (runs : List ℕ) (queues vertices : ℕ) (shares : List Share) (k
     length s.hold.unsent.items ≡ vertices
 unsent_many runs queues vertices shares k s nothing at = ap length (hand_at runs queues vertices shares k s nothing at).unsent ∙ length-replicate vertices []
 
-pub plan_shared : (u : Setup) (ends table : List ℕ) (homes : List Home) (cuts : List Cut) (vertices : ℕ) (shares : List Share) → AreShareRuns (2 * grid_size u) ends →
-    IsShareTable (2 * grid_size u) ends table → AreHomesOf u table homes → AreCutsOf homes cuts →
-    HoldNothing ends (length homes) vertices shares → vertices ≡ length u.spots → AreShared u homes cuts shares
-plan_shared u ends table homes cuts vertices shares runs numbers homes_are cuts_are nothing all = record {
-  ends = ends;
-  table = table;
-  runs = runs;
-  numbers = numbers;
-  homes_are = homes_are;
+pub plan_shared : (u : Setup) (ends : List ℕ) (queues vertices : ℕ) (shares : List Share) → HoldNothing ends queues vertices shares → queues ≡ port_count u + length u.spots →
+    vertices ≡ length u.spots → AreShared u ends shares
+plan_shared u ends queues vertices shares nothing places all = record {
   long = nothing.long;
   from = nothing.from;
   to = nothing.to;
-  ends_long = λ k s at. ends_many ends (length homes) vertices shares k s nothing at ∙ homes_are.long;
-  unsent_long = λ k s at. unsent_many ends (length homes) vertices shares k s nothing at ∙ all;
-  cut = cuts_are.cut;
-  all_cut = cuts_are.all_cut;
-  apart = cuts_are.apart;
+  ends_long = λ k s at. ends_many ends queues vertices shares k s nothing at ∙ places;
+  unsent_long = λ k s at. unsent_many ends queues vertices shares k s nothing at ∙ all;
 }
 
 pub plan_fits : (m : State) (ends table : List ℕ) (homes : List Home) (shares : List Share) → IsMesh m → IsShareTable (2 * grid_size m.setup) ends table → AreHomesOf m.setup table homes →
@@ -64,10 +52,7 @@ cuts_inside homes cuts n are long = λ i d below.
     subst (λ (k : ℕ). (get_or cuts i d).queue < k) long (slice_get_within homes (get_or cuts i d).queue (record { sender = (get_or cuts i d).sender; receiver = (get_or cuts i d).receiver }) cut.0)
 
 pub fits_at : (cap : ℕ) (queues : List (List McCopy)) (i : ℕ) → All (FitsQueue cap) queues → length (get_or queues i []) ≤ cap
-fits_at cap queues i all = elim (cases_lt i (length queues)) [
-  | inl inside ↦ (all i [] inside).within
-  | inr past ↦ let none : length (get_or queues i []) ≡ 0 = ap length (get_or_past queues i [] past) in omega (arith, none)
-]
+fits_at cap queues i all = grind (arith, cases_lt i (length queues), get_or queues i, get_or_past queues i)
 
 pub cuts_fit : (m : State) (cuts : List Cut) → IsMesh m → All (λ q. length q ≤ m.setup.capacity) (cut_queues (m.inputs ++ m.cores) cuts)
 cuts_fit m cuts mesh = λ i d below.
@@ -81,30 +66,3 @@ pub few_homes : (m : State) (table : List ℕ) (homes : List Home) → IsMesh m 
 few_homes m table homes mesh are =
     let vertices = few_vertices m.setup.machine m.setup.spots mesh.different mesh.sites mesh.size in
     omega (arith, few_chips m.setup.machine mesh.size, vertices, are.long)
-
--- there are no more cuts than queues
-pub few_cuts : (u : Setup) (homes : List Home) (cuts : List Cut) (shares : List Share) → AreShared u homes cuts shares → length cuts ≤ length homes
-few_cuts u homes cuts shares shared =
-    subst (λ n. n ≤ length homes) (length-map cuts (λ (c : Cut). c.queue)) (length_le_from_apart (map (λ (c : Cut). c.queue) cuts) (length homes) apart below)
-  where
-    nothing : Cut
-    nothing = record { queue = 0; sender = 0; receiver = 0 }
-
-    in_cuts : (k : ℕ) → k < length (map (λ (c : Cut). c.queue) cuts) → k < length cuts
-    in_cuts k low = subst (λ n. k < n) (length-map cuts (λ (c : Cut). c.queue)) low
-
-    read : (k d : ℕ) → k < length (map (λ (c : Cut). c.queue) cuts) → get_or (map (λ (c : Cut). c.queue) cuts) k d ≡ (get_or cuts k nothing).queue
-    read k d low = get_or-map (λ (c : Cut). c.queue) cuts k nothing d (in_cuts k low)
-
-    below : (k d : ℕ) → k < length (map (λ (c : Cut). c.queue) cuts) → get_or (map (λ (c : Cut). c.queue) cuts) k d < length homes
-    below k d low =
-        let cut = get_or cuts k nothing in
-        let at = shared.cut k cut (slice_get-get_or cuts k nothing (in_cuts k low)) in
-        subst (λ n. n < length homes) (sym (read k d low)) (slice_get_within homes cut.queue (record { sender = cut.sender; receiver = cut.receiver }) at.0)
-
-    apart : (i j d : ℕ) → i < j → j < length (map (λ (c : Cut). c.queue) cuts) → get_or (map (λ (c : Cut). c.queue) cuts) i d ≢ get_or (map (λ (c : Cut). c.queue) cuts) j d
-    apart i j d before low e =
-        let low_i : i < length (map (λ (c : Cut). c.queue) cuts) = omega (arith, before, low) in
-        let same = shared.apart i j (get_or cuts i nothing) (get_or cuts j nothing) (slice_get-get_or cuts i nothing (in_cuts i low_i)) (slice_get-get_or cuts j nothing (in_cuts j low))
-        (sym (read i d low_i) ∙ (e ∙ read j d low)) in
-        omega (arith, before, same)

@@ -1,19 +1,17 @@
 -- A mesh that is split, and a split mesh with more room.
 use Rattle.std.proofs.Common.{◌≡◌, ℕ, ◌<◌, ◌≤◌, List, [], ◌++◌, map, length, get_or, Option, None, Some, refl, sym, ap, ◌∙◌, subst, arith, inl, inr}
-use Rattle.std.proofs.lemmas.{Bool.cases_lt, List.length-map, List.same_lists, List.get_or-map}
-use Rattle.std.proofs.lemmas.Option.{get_or_from_slice_get, none-some, same_Some, slice_get_within, slice_get-get_or}
+use Rattle.std.proofs.lemmas.{Bool.cases_lt, List.length-map, List.same_lists, List.get_or-map, Option.get_or_from_slice_get, Option.none-some, Option.same_Some, Option.slice_get_within}
+use Rattle.std.proofs.lemmas.Option.{slice_get-get_or}
 use Rattle.std.specs.List.{slice_get}
 use Rattle.spin_base.proofs.Places.{All-at, slice_get_there}
 use Rattle.spin_base.specs.declared.copies.McCopy.{McCopy}
 use Rattle.link_queue.specs.declared.links.LinkEnds.{LinkEnds}
 use Rattle.chip_node.specs.declared.ends.End.{End, TheVariants.Away, TheVariants.Own}
 use Rattle.mesh_core.specs.State.{IsMesh, Setup, State}
-use Rattle.mesh_run.specs.declared.{homes.Cut.Cut, homes.Home.Home, layout.Layout.Layout, raised.RaisedMesh.RaisedMesh, shares.Share.Share}
-use Rattle.mesh_run.specs.{Floors.IsFloorOf, Played.port_count, Queues.AreUp, Queues.StayUp, Queues.queue_of_link, Raised.IsRaisedFrom}
-use Rattle.mesh_run.specs.Rooms.{AreSameCopies, SameCopies, SameEnd}
-use Rattle.mesh_run.specs.Split.{AreShared, HaveNoLogs, HoldLanes, HoldUnsent, cut_queues, end_at, end_in, unsent_at, unsent_in}
-use Rattle.mesh_run.specs.Splitting.{AreSameRuns, HoldVertices, MovesIn}
-use Rattle.mesh_run.specs.Standing.{HoldsAll}
+use Rattle.mesh_run.specs.{declared.homes.Home.Home, declared.layout.Layout.Layout, declared.raised.RaisedMesh.RaisedMesh, declared.shares.Share.Share, Layouts.IsLayoutOf, Played.port_count}
+use Rattle.mesh_run.specs.{Queues.AreUp, Queues.StayUp, Queues.queue_of_link, Raised.IsRaisedFrom, Rooms.AreSameCopies, Rooms.SameCopies, Rooms.SameEnd, Split.AreShared, Split.HaveNoLogs}
+use Rattle.mesh_run.specs.{Split.HoldLanes, Split.HoldUnsent, Split.cut_queues, Split.end_at, Split.end_in, Split.unsent_at, Split.unsent_in, Splitting.AreSameRuns, Splitting.HoldVertices}
+use Rattle.mesh_run.specs.{Splitting.MovesIn, Standing.HoldsAll}
 use Rattle.mesh_run.proofs.{BringingUp.fewer_up, CrossingLaws.end_there, Going.GoneTo, RoomLaws.copies_same}
 
 -- ---- the same runs
@@ -22,21 +20,13 @@ was_there : (before after : List Share) (k : ℕ) (t : Share) → length after �
 was_there before after k t long at = let within = slice_get_within after k t at in slice_get_there before k (omega (arith, within, long))
 
 -- the shares have what they had of the runs
-pub shared_still : (u : Setup) (homes : List Home) (cuts : List Cut) (before after : List Share) → AreSameRuns before after → AreShared u homes cuts before → AreShared u homes cuts after
-shared_still u homes cuts before after same shared = record {
-  ends = shared.ends;
-  table = shared.table;
-  runs = shared.runs;
-  numbers = shared.numbers;
-  homes_are = shared.homes_are;
+pub shared_still : (u : Setup) (ends : List ℕ) (before after : List Share) → AreSameRuns before after → AreShared u ends before → AreShared u ends after
+shared_still u ends before after same shared = record {
   long = same.long ∙ shared.long;
   from = λ k t at. let s = was_there before after k t same.long at in same.from k s.0 t s.1 at ∙ shared.from k s.0 s.1;
   to = λ k t at. let s = was_there before after k t same.long at in same.to k s.0 t s.1 at ∙ shared.to k s.0 s.1;
   ends_long = λ k t at. let s = was_there before after k t same.long at in same.ends_long k s.0 t s.1 at ∙ shared.ends_long k s.0 s.1;
   unsent_long = λ k t at. let s = was_there before after k t same.long at in same.unsent_long k s.0 t s.1 at ∙ shared.unsent_long k s.0 s.1;
-  cut = shared.cut;
-  all_cut = shared.all_cut;
-  apart = shared.apart;
 }
 
 -- ---- a mesh moved in
@@ -48,20 +38,20 @@ unsent_held m homes shares long held =
     let here = subst (λ (n : ℕ). HoldVertices n m.unsent homes shares) long held in
     record { here = here.here; nowhere_else = here.nowhere_else }
 
-pub raised_in : (m left : State) (more : ℕ) (start : List Share) (ends : List LinkEnds) (r : RaisedMesh) → IsMesh m → IsFloorOf m.setup r.layout.now.floor →
-    AreShared m.setup r.layout.now.homes.items r.layout.now.cuts.items start → HoldsAll ends r.standing →
+pub raised_in : (m left : State) (more : ℕ) (start : List Share) (ends : List LinkEnds) (r : RaisedMesh) → IsMesh m → IsLayoutOf m.setup r.layout.now →
+    AreShared m.setup r.layout.now.runs.items start → HoldsAll ends r.standing →
     AreUp m.setup.capacity more (cut_queues (m.inputs ++ m.cores) r.layout.now.cuts.items) ends → length r.crossing.items ≡ length r.layout.now.cuts.items →
     MovesIn m r.layout.now.homes.items start left r.shares.items →
     r.parts.setup ≡ left.setup → r.parts.hands ≡ left.hands → r.parts.inputs ≡ left.inputs → r.parts.cores ≡ left.cores → r.parts.unsent ≡ left.unsent →
     r.logs.delivered.items ≡ left.delivered → r.logs.dumped.items ≡ left.dumped → IsRaisedFrom m 0 r
-raised_in m left more start ends r mesh floor shared holds up crossing moves setup hands inputs cores unsent delivered dumped = record {
+raised_in m left more start ends r mesh laid shared holds up crossing moves setup hands inputs cores unsent delivered dumped = record {
   setup = setup ∙ moves.same.setup;
   hands = hands ∙ moves.same.hands;
   inputs_long = ap length inputs ∙ moves.same.inputs_long;
   cores_long = ap length cores ∙ moves.same.cores_long;
   unsent_long = ap length unsent ∙ moves.same.unsent_long;
-  floor = floor;
-  shared = shared_still m.setup r.layout.now.homes.items r.layout.now.cuts.items start r.shares.items moves.runs shared;
+  laid = laid;
+  shared = shared_still m.setup r.layout.now.runs.items start r.shares.items moves.runs shared;
   lanes = moves.lanes;
   unsent = unsent_held m r.layout.now.homes.items r.shares.items mesh.input_lists moves.vertices;
   ends = ends;
@@ -76,13 +66,7 @@ raised_in m left more start ends r mesh floor shared holds up crossing moves set
 -- ---- shares with the same copies
 
 pub same_runs : (before after : List Share) → AreSameCopies before after → AreSameRuns before after
-same_runs before after same = record {
-  long = same.0;
-  from = λ k s t at also. (same.1 k s t at also).from;
-  to = λ k s t at also. (same.1 k s t at also).to;
-  ends_long = λ k s t at also. (same.1 k s t at also).ends_long;
-  unsent_long = λ k s t at also. ap (λ l. length l.items) (same.1 k s t at also).unsent;
-}
+same_runs before after same = grind arith
 
 -- an end stands where it stood, with the same copies
 same_end_at : (before after : List Share) (s q : ℕ) (a : End) → AreSameCopies before after → end_at before s q ≡ Some a → (b : End) × (end_at after s q ≡ Some b) × SameEnd a b
@@ -154,9 +138,9 @@ roomier m less more r s ends was same holds up copies = record {
   inputs_long = ap (λ (p : State). length p.inputs) same.parts ∙ was.inputs_long;
   cores_long = ap (λ (p : State). length p.cores) same.parts ∙ was.cores_long;
   unsent_long = ap (λ (p : State). length p.unsent) same.parts ∙ was.unsent_long;
-  floor = subst (λ (l : Layout). IsFloorOf m.setup l.floor) (sym same.layout) was.floor;
-  shared = subst (λ (l : Layout). AreShared m.setup l.homes.items l.cuts.items s.shares.items) (sym same.layout)
-      (shared_still m.setup r.layout.now.homes.items r.layout.now.cuts.items r.shares.items s.shares.items (same_runs r.shares.items s.shares.items copies) was.shared);
+  laid = subst (IsLayoutOf m.setup) (sym same.layout) was.laid;
+  shared = subst (λ (l : Layout). AreShared m.setup l.runs.items s.shares.items) (sym same.layout)
+      (shared_still m.setup r.layout.now.runs.items r.shares.items s.shares.items (same_runs r.shares.items s.shares.items copies) was.shared);
   lanes = subst (λ (l : Layout). HoldLanes (m.inputs ++ m.cores) l.homes.items s.shares.items) (sym same.layout)
       (lanes_still (m.inputs ++ m.cores) r.layout.now.homes.items r.shares.items s.shares.items copies was.lanes);
   unsent = subst (λ (l : Layout). HoldUnsent m.setup m.unsent l.homes.items s.shares.items) (sym same.layout)
@@ -185,10 +169,7 @@ still_for cap more less queues ends now was up = subst (λ (qs : List (List McCo
 
 -- the links of a split mesh are up for the queues that they know
 pub known_up : (m : State) (r : RaisedMesh) (cap : ℕ) → (raised : IsRaisedFrom m 0 r) → cap ≡ r.parts.setup.capacity → AreUp cap 0 (map queue_of_link raised.ends) raised.ends
-known_up m r cap raised is =
-    let queues : List (List McCopy) = cut_queues (m.inputs ++ m.cores) r.layout.now.cuts.items in
-    subst (λ (n : ℕ). AreUp n 0 (map queue_of_link raised.ends) raised.ends) (sym (is ∙ ap (λ (u : Setup). u.capacity) raised.setup))
-    (subst (λ (qs : List (List McCopy)). AreUp m.setup.capacity 0 qs raised.ends) (known_queues m.setup.capacity 0 queues raised.ends raised.up) raised.up)
+known_up m r cap raised is = grind (arith, known_queues m.setup.capacity 0 (cut_queues (m.inputs ++ m.cores) r.layout.now.cuts.items) raised.ends raised.up)
 
 -- a split mesh of which the links have places for more copies, and the shares the same ones
 pub with_links : (m : State) (more less : ℕ) (r s : RaisedMesh) (cap : ℕ) → (raised : IsRaisedFrom m 0 r) → less ≤ more → cap ≡ r.parts.setup.capacity →

@@ -1,19 +1,16 @@
 -- Links that rest or are widened, one after the other.
-use Rattle.std.proofs.Common.{◌≡◌, ℕ, ◌+◌, ◌-◌, ◌<◌, ◌≤◌, ◌&&◌, Bool, true, nat_eq, min, List, [], ◌++◌, length, map, take}
-use Rattle.std.proofs.Common.{get_or, set, Some, Result, Ok, Err, OnErr, refl, sym, ap, ap₂, ◌∙◌, subst, arith, inl, inr}
-use Rattle.std.proofs.lemmas.Bool.{cases_Bool, cases_eq, cases_lt, eqb-true, cond-false}
-use Rattle.std.proofs.lemmas.List.{append-nil, length-set, length-map, map-set, take-set-le, take_all, get_or-map, get_or-set_same, get_or-set_other}
-use Rattle.std.proofs.lemmas.List.Folds.{list_all_more}
-use Rattle.std.proofs.lemmas.Option.{get_or_from_slice_get, slice_get_within, same_Some}
+use Rattle.std.proofs.Common.{◌≡◌, ℕ, ◌+◌, ◌-◌, ◌<◌, ◌≤◌, ◌&&◌, Bool, true, nat_eq, min, List, [], ◌++◌, length, map, take, get_or, set, Some, Result, Ok, Err, OnErr, refl, sym, ap, ap₂, ◌∙◌, subst}
+use Rattle.std.proofs.Common.{arith, inl, inr}
+use Rattle.std.proofs.lemmas.{Bool.cases_Bool, Bool.cases_eq, Bool.cases_lt, Bool.eqb-true, Bool.cond-false, List.append-nil, List.length-set, List.length-map, List.map-set, List.take-set-le}
+use Rattle.std.proofs.lemmas.{List.take_all, List.get_or-map, List.get_or-set_same, List.get_or-set_other, List.Folds.list_all_more, Option.get_or_from_slice_get, Option.slice_get_within}
+use Rattle.std.proofs.lemmas.Option.{same_Some}
 use Rattle.std.specs.List.{All, list_all, slice_get}
 use Rattle.spin_base.proofs.Places.{All-at, slice_get_there, slice_get-set_same}
 use Rattle.spin_base.specs.declared.copies.McCopy.{McCopy}
-use Rattle.link_queue.specs.declared.{links.LinkEnds.LinkEnds, known.Known.Known, links.Link.Link, links.Tx.Tx, links.Rx.Rx}
-use Rattle.link_queue.specs.Ends.{IsTx, IsRx, cap_of, sending, taking}
-use Rattle.link_queue.specs.Ups.{NoNotes, Rests}
-use Rattle.mesh_run.specs.declared.{queues.Rested.Rested, standing.Standing.Standing}
-use Rattle.mesh_run.specs.Standing.{HoldsAll, LacksEnds}
-use Rattle.mesh_run.specs.Queues.{AreEnds, AreUp, HasPlaces, IsDown, IsUp, RestAll, RestsAt, StayUp, UpAt, WasUp, free_places_of, is_empty, places_for, queue_of_link}
+use Rattle.link_queue.specs.{declared.links.LinkEnds.LinkEnds, declared.known.Known.Known, declared.links.Link.Link, declared.links.Tx.Tx, declared.links.Rx.Rx, Ends.IsTx, Ends.IsRx, Ends.cap_of}
+use Rattle.link_queue.specs.{Ends.sending, Ends.taking, Ups.NoNotes, Ups.Rests}
+use Rattle.mesh_run.specs.{declared.queues.Rested.Rested, declared.standing.Standing.Standing, Standing.HoldsAll, Standing.LacksEnds, Queues.AreEnds, Queues.AreUp, Queues.HasPlaces, Queues.IsDown}
+use Rattle.mesh_run.specs.Queues.{IsUp, RestAll, RestsAt, StayUp, UpAt, WasUp, free_places_of, is_empty, places_for, queue_of_link}
 use Rattle.mesh_run.proofs.{BringingUp.fewer_fit, BringingUp.made_with, Holding.as_many, Holding.only_ends, Slots.in_links, Slots.set_again, Slots.slot_is}
 
 -- ---- links, of which the first ones are done
@@ -269,6 +266,15 @@ kept_queue v w a b cap count queue tx rx r =
     ap (λ (l : List McCopy). l ++ r.held) (sym rx.took) ∙ (sym r.all ∙ (ap₂ (λ (x y : List McCopy). x ++ y) tx.first tx.sent ∙ append-nil queue))
 
 -- the link at a place rests, by what its ends tell
+-- the link at a place, where its ends have left: they are its own
+pub lent_there : (ends : List LinkEnds) (place : ℕ) (old : LinkEnds) (mid : Standing) (link : Link) (tx : Tx) (rx : Rx) → slice_get ends place ≡ Some old → AreEnds old →
+    (tx ≡ old.tx) × (rx ≡ old.rx) → LacksEnds ends place mid → link ≡ get_or mid.links.items place link → IsTx link tx × IsRx link rx
+lent_there ends place old mid link tx rx at are taken lacks index =
+    let link_is : link ≡ old.link = index ∙ slot_is (λ (e : LinkEnds). e.link) ends mid.links.items place old link lacks.links at in (
+      subst (λ (l : Link). IsTx l tx) (sym link_is) (subst (IsTx old.link) (sym taken.0) are.tx),
+      subst (λ (l : Link). IsRx l rx) (sym link_is) (subst (IsRx old.link) (sym taken.1) are.rx),
+    )
+
 pub rests_there : (ends es : List LinkEnds) (place : ℕ) (old o : LinkEnds) (s mid t : Standing) (link : Link) (tx sender : Tx) (rx receiver : Rx) (held : ℕ) → HoldsAll ends s →
     slice_get ends place ≡ Some old →
     HoldsAll es s → slice_get es place ≡ Some o → AreEnds o → (tx ≡ old.tx) × (rx ≡ old.rx) → LacksEnds ends place mid → link ≡ get_or mid.links.items place link → IsTx link sender →
@@ -312,9 +318,6 @@ module _ {ends : List LinkEnds} {place : ℕ} {old : LinkEnds} {s : Standing} {h
   module _ {link : Link} {places : ℕ} (index : link ≡ get_or s.links.items place link) (are : places ≡ cap_of link) where
     pub rest_places : places ≡ cap_of r.now.link
     rest_places = are ∙ ap cap_of (index ∙ slot_is (λ (e : LinkEnds). e.link) (set ends place r.now) s.links.items place r.now link r.holds.links rest_stands)
-
-    pub rest_fits : held ≤ places
-    rest_fits = let fits = held_fits in let same = rest_places in omega (arith, fits, same)
 
   -- the same without its ends
   module _ {mid : Standing} (lacks : LacksEnds (set ends place r.now) place mid) where

@@ -1,12 +1,9 @@
 -- Shares with the same copies.
-use Rattle.std.proofs.Common.{◌≡◌, length, refl, sym, ap, ◌∙◌, subst, arith}
+use Rattle.std.proofs.Common.{◌≡◌, refl, ◌∙◌, subst, arith}
 use Rattle.std.proofs.lemmas.Option.{same_Some, slice_get_within}
-use Rattle.std.specs.List.{slice_get}
 use Rattle.spin_base.proofs.Places.{slice_get_there}
-use Rattle.chip_node.specs.declared.ends.End.{End}
-use Rattle.chip_node.specs.declared.ends.End.TheVariants.{Away, Own, Sends, Takes}
-use Rattle.mesh_run.specs.declared.shares.Share.{Share}
-use Rattle.mesh_run.specs.Rooms.{SameCopies, SameEnd}
+use Rattle.chip_node.specs.declared.ends.End.{End, TheVariants.Away, TheVariants.Own, TheVariants.Sends, TheVariants.Takes}
+use Rattle.mesh_run.specs.{declared.shares.Share.Share, Rooms.SameCopies, Rooms.SameEnd}
 
 pub end_same : (e : End) → SameEnd e e
 end_same Away = refl
@@ -21,15 +18,7 @@ end_on (Sends a) y z first second = subst (λ (e : End). SameEnd e z) first seco
 end_on (Takes a) y z first second = subst (λ (e : End). SameEnd e z) first second
 
 pub copies_same : (s : Share) → SameCopies s s
-copies_same s = record {
-  from = refl;
-  to = refl;
-  ends_long = refl;
-  ends = λ q a b at also. subst (SameEnd a) (same_Some a b (sym at ∙ also)) (end_same a);
-  unsent = refl;
-  dumps = refl;
-  deliveries = refl;
-}
+copies_same s = grind (arith, same_Some, end_same)
 
 pub copies_on : (a b c : Share) → SameCopies a b → SameCopies b c → SameCopies a c
 copies_on a b c first second = record {
@@ -47,12 +36,4 @@ copies_on a b c first second = record {
 -- room is made in logs, and nothing else changes that is seen
 pub logs_made : (a b c : Share) → SameCopies a b → c.from ≡ b.from → c.to ≡ b.to → c.hold.ends ≡ b.hold.ends → c.hold.unsent ≡ b.hold.unsent → c.hold.dumps.items ≡ b.hold.dumps.items →
     c.hold.deliveries.items ≡ b.hold.deliveries.items → SameCopies a c
-logs_made a b c first from to ends unsent dumps deliveries = copies_on a b c first (record {
-  from = from;
-  to = to;
-  ends_long = ap (λ v. length v.items) ends;
-  ends = λ q x y at also. subst (SameEnd x) (same_Some x y (sym at ∙ (ap (λ v. slice_get v.items q) (sym ends) ∙ also))) (end_same x);
-  unsent = unsent;
-  dumps = dumps;
-  deliveries = deliveries;
-})
+logs_made a b c first from to ends unsent dumps deliveries = grind (arith, copies_on, same_Some, end_same)

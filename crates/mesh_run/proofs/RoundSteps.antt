@@ -1,15 +1,16 @@
 -- The steps of a round, each as far as what its call promises: ends dealt, turns played, ends collected, links at rest, logs gathered.
-use Rattle.std.proofs.Common.{◌≡◌, ℕ, ◌+◌, ◌<◌, Bool, List, ◌++◌, length, get_or, refl, sym, ap, ◌∙◌, subst}
+use Rattle.std.proofs.Common.{arith, ◌≡◌, ℕ, ◌+◌, ◌<◌, Bool, List, ◌++◌, length, get_or, sym, subst}
+use Rattle.mesh_run.proofs.WholeRound.{Whole}
+use Rattle.std.proofs.Common.{◌∙◌}
+use Rattle.std.proofs.Common.{ap}
+use Rattle.std.proofs.Common.{refl}
 use Rattle.std.specs.{Global.Vec, List.All, List.flat_map}
 use Rattle.link_queue.specs.declared.links.{Link.Link, LinkEnds.LinkEnds}
 use Rattle.mesh_core.specs.State.{IsMesh, Setup, State}
 use Rattle.mesh_run.specs.declared.{gathering.MeshLogs.MeshLogs, homes.Cut.Cut, queues.Rested.Rested, raised.RaisedMesh.RaisedMesh, shares.Share.Share, standing.Standing.Standing}
-use Rattle.mesh_run.specs.Crossing.{AreCuts, AreLaid, Deals, HoldsCollected, HoldsNoEnds}
-use Rattle.mesh_run.specs.Gathering.{AreEmptied, FitsLogs, IsAnyMoved}
+use Rattle.mesh_run.specs.{Crossing.AreCuts, Crossing.AreLaid, Crossing.Deals, Crossing.HoldsCollected, Crossing.HoldsNoEnds, Gathering.AreEmptied, Gathering.FitsLogs, Gathering.IsAnyMoved}
 use Rattle.mesh_run.specs.{Queues.RestAll, Queues.WasUp, Raised.IsRoomyFrom, Raised.PlaysTo, Shares.IsShareOf, Shares.PlaysAndStays, Standing.HoldsAll}
-use Rattle.mesh_run.proofs.AfterDeal.{cuts_apart, dealt_shares, links_many}
-use Rattle.mesh_run.proofs.AfterPlay.{ends_laid, links_were_up, logs_fit}
-use Rattle.mesh_run.proofs.{AfterRound.whole_plays, WholeRound.Whole}
+use Rattle.mesh_run.proofs.{AfterDeal.cuts_apart, AfterDeal.dealt_shares, AfterDeal.links_many, AfterPlay.ends_laid, AfterPlay.links_were_up, AfterPlay.logs_fit, AfterRound.whole_plays}
 
 -- ends were dealt to the shares of a mesh with room for a round
 pub record IsDealt (m : State) (r : RaisedMesh) (lent : Standing) (dealt : List Share) : Type 0 where
@@ -49,19 +50,12 @@ module _ {m : State} {r : RaisedMesh} {lent : Standing} {dealt : List Share} whe
 
   -- all are shares of the mesh
   pub shares_of_mesh : IsDealt m r lent dealt → All (IsShareOf r.parts.setup lent.links.items) dealt
-  shares_of_mesh d =
-      subst (λ (u : Setup). All (IsShareOf u lent.links.items) dealt) (sym d.roomy.raised.setup)
-      (dealt_shares m d.is_mesh (r.pace.turns + 1) r d.roomy.raised dealt d.deals lent.links.items d.none_left.links)
+  shares_of_mesh d = grind (arith, dealt_shares m d.is_mesh (r.pace.turns + 1) r d.roomy.raised dealt d.deals lent.links.items d.none_left.links)
 
   module _ {played : List Share} where
     -- what the turns of all shares promise
     pub is_turned : IsDealt m r lent dealt → length played ≡ length dealt → PlayAndStay r lent.links.items dealt played → IsTurned m r lent dealt played
-    is_turned d long plays = record {
-      before = d;
-      long = long;
-      plays = λ k s below. subst (λ (u : Setup). PlaysAndStays u lent.links.items r.pace.patience r.pace.turns (get_or dealt k s) (get_or played k s))
-          d.roomy.raised.setup (plays k s below);
-    }
+    is_turned d long plays = grind (arith, get_or)
 
     -- each end of a link is where its cut says
     pub cuts_laid : IsTurned m r lent dealt played → AreLaid lent.links.items played r.layout.now.cuts.items
@@ -80,6 +74,7 @@ module _ {m : State} {r : RaisedMesh} {lent : Standing} {dealt : List Share} whe
           senders = λ l c at. (_, (laid l c at).sends);
           receivers = λ l c at. (_, (laid l c at).takes);
           apart = apart.apart;
+          few = apart.few;
         }
 
     -- no end stands with the links

@@ -1,22 +1,18 @@
 -- Links with all their ends, of which one is set.
-use Rattle.std.proofs.Common.{◌≡◌, ℕ, ◌<◌, List, length, map, get_or, set, Option, None, Some, refl, sym, ap, ◌∙◌, subst, arith}
-use Rattle.std.proofs.lemmas.List.{length-map, map-set, set-set}
-use Rattle.std.proofs.lemmas.Option.{get_or_from_slice_get, same_Some}
+use Rattle.std.proofs.Common.{◌≡◌, ℕ, ◌<◌, List, length, map, get_or, set, Option, None, Some, sym, ap, ◌∙◌, subst, arith}
+use Rattle.std.proofs.lemmas.{List.length-map, List.map-set, List.set-set, Option.get_or_from_slice_get, Option.same_Some}
 use Rattle.std.specs.List.{slice_get}
 use Rattle.spin_base.proofs.Places.{slice_get-mapped, set-slice_get}
 use Rattle.link_queue.specs.declared.links.{LinkEnds.LinkEnds, Tx.Tx, Rx.Rx}
-use Rattle.mesh_run.specs.declared.standing.Standing.{Standing}
-use Rattle.mesh_run.specs.Standing.{HoldsAll, LacksEnds}
+use Rattle.mesh_run.specs.{declared.standing.Standing.Standing, Standing.HoldsAll, Standing.LacksEnds}
 
 -- the place is one of a list that is a map
 pub within_map : {X : Type 0} (f : LinkEnds → X) (ends : List LinkEnds) (slots : List X) (place : ℕ) → slots ≡ map f ends → place < length ends → place < length slots
-within_map f ends slots place are below =
-    omega (arith, ap length are, length-map ends f, below)
+within_map f ends slots place are below = grind (arith, length-map ends f)
 
 pub slot_is : {X : Type 0} (f : LinkEnds → X) (ends : List LinkEnds) (slots : List X) (place : ℕ) (old : LinkEnds) (d : X) → slots ≡ map f ends → slice_get ends place ≡ Some old →
     get_or slots place d ≡ f old
-slot_is f ends slots place old d are at =
-    ap (λ l. get_or l place d) are ∙ get_or_from_slice_get (map f ends) place (f old) d (slice_get-mapped f ends place old at)
+slot_is f ends slots place old d are at = grind (arith, get_or_from_slice_get (map f ends) place (f old) d (slice_get-mapped f ends place old at), slice_get-mapped f ends place old at, get_or)
 
 pub slot_stands : {X : Type 0} (end : LinkEnds → X) (ends : List LinkEnds) (slots : List (Option X)) (place : ℕ) (old : LinkEnds) → slots ≡ map (λ (e : LinkEnds). Some (end e)) ends →
     slice_get ends place ≡ Some old → slice_get slots place ≡ Some (Some (end old))
@@ -31,25 +27,15 @@ end_taken end ends slots place old x are at is = same_Some x (end old) (same_Som
 same_slot : {X : Type 0} (f : LinkEnds → X) (ends : List LinkEnds) (slots : List X) (place : ℕ) (old new : LinkEnds) → slots ≡ map f ends → slice_get ends place ≡ Some old → f new ≡ f old →
     slots ≡ map f (set ends place new)
 same_slot f ends slots place old new are at same =
-    are
-    ∙ (sym (set-slice_get (map f ends) place (f old) (slice_get-mapped f ends place old at))
-    ∙ (ap (λ x. set (map f ends) place x) (sym same) ∙ sym (map-set f ends place new)))
+    grind (arith, set-slice_get (map f ends) place (f old) (slice_get-mapped f ends place old at), slice_get-mapped f ends place old at, map-set f ends place new)
 
 new_slot : {X : Type 0} (f : LinkEnds → X) (ends : List LinkEnds) (lacking slots : List X) (place : ℕ) (gone : X) (new : LinkEnds) → lacking ≡ set (map f ends) place gone →
     slots ≡ set lacking place (f new) → slots ≡ map f (set ends place new)
-new_slot f ends lacking slots place gone new lacks is =
-    is ∙ (ap (λ l. set l place (f new)) lacks ∙ (set-set (map f ends) place gone (f new) ∙ sym (map-set f ends place new)))
+new_slot f ends lacking slots place gone new lacks is = grind (arith, set-set (map f ends) place gone (f new), map-set f ends place new)
 
 pub ends_back : (ends : List LinkEnds) (place : ℕ) (old : LinkEnds) (tx : Tx) (rx : Rx) (s t : Standing) → LacksEnds ends place s → slice_get ends place ≡ Some old → t.links ≡ s.links →
     t.rooms ≡ s.rooms → t.txs.items ≡ set s.txs.items place (Some tx) → t.rxs.items ≡ set s.rxs.items place (Some rx) → HoldsAll (set ends place (record old { tx = tx; rx = rx })) t
-ends_back ends place old tx rx s t lacks at links rooms txs rxs =
-    let new : LinkEnds = record old { tx = tx; rx = rx } in
-    record {
-      links = same_slot (λ (e : LinkEnds). e.link) ends t.links.items place old new (ap (λ v. v.items) links ∙ lacks.links) at refl;
-      txs = new_slot (λ (e : LinkEnds). Some e.tx) ends s.txs.items t.txs.items place None new lacks.txs txs;
-      rxs = new_slot (λ (e : LinkEnds). Some e.rx) ends s.rxs.items t.rxs.items place None new lacks.rxs rxs;
-      rooms = same_slot (λ (e : LinkEnds). e.room) ends t.rooms.items place old new (ap (λ v. v.items) rooms ∙ lacks.rooms) at refl;
-    }
+ends_back ends place old tx rx s t lacks at links rooms txs rxs = grind (arith, same_slot, new_slot)
 
 pub set_there : (ends : List LinkEnds) (place : ℕ) (new : LinkEnds) (s t : Standing) → LacksEnds ends place s → t.links.items ≡ set s.links.items place new.link →
     t.txs.items ≡ set s.txs.items place (Some new.tx) → t.rxs.items ≡ set s.rxs.items place (Some new.rx) → t.rooms.items ≡ set s.rooms.items place new.room → HoldsAll (set ends place new) t
@@ -68,12 +54,7 @@ in_links ends place s lacks below = within_map (λ (e : LinkEnds). e.link) ends 
 -- the ends that are gone, and all that is left
 pub ends_gone : (ends : List LinkEnds) (place : ℕ) (s t : Standing) → HoldsAll ends s → t.links ≡ s.links → t.rooms ≡ s.rooms → t.txs.items ≡ set s.txs.items place None →
     t.rxs.items ≡ set s.rxs.items place None → LacksEnds ends place t
-ends_gone ends place s t holds links rooms txs rxs = record {
-  links = ap (λ v. v.items) links ∙ holds.links;
-  txs = txs ∙ ap (λ l. set l place None) holds.txs;
-  rxs = rxs ∙ ap (λ l. set l place None) holds.rxs;
-  rooms = ap (λ v. v.items) rooms ∙ holds.rooms;
-}
+ends_gone ends place s t holds links rooms txs rxs = grind arith
 
 -- an end that is there twice stands once
 pub set_again : (ends : List LinkEnds) (place : ℕ) (first second : LinkEnds) (s : Standing) → HoldsAll (set (set ends place first) place second) s → HoldsAll (set ends place second) s

@@ -1,22 +1,17 @@
 -- Queues and unsent copies that move between a mesh and shares.
 use Rattle.std.proofs.Common.{◌≡◌, ◌≢◌, ◌⊎◌, ℕ, ◌+◌, ◌-◌, ◌<◌, ◌≤◌, List, [], ◌∷◌, ◌++◌, length, replicate, get_or, set, Option, None, Some, refl, sym, ap, ◌∙◌, subst, arith, length-append, inl, inr}
-use Rattle.std.proofs.lemmas.Bool.{cases_eq, cases_lt}
-use Rattle.std.proofs.lemmas.Option.{get_or_from_slice_get, none-some, same_Some, slice_get_within, slice_get-get_or}
-use Rattle.std.proofs.lemmas.List.{get_or_append_left, get_or-append_right, get_or-replicate, get_or_past, get_or-set_other, get_or-set_same}
-use Rattle.std.proofs.lemmas.List.{length-set, length-replicate, length_push, same_lists, set-append_left, set-append_right}
-use Rattle.std.proofs.lemmas.List.Elements.{All-nil, All-push}
+use Rattle.std.proofs.lemmas.{Bool.cases_eq, Bool.cases_lt, Option.get_or_from_slice_get, Option.none-some, Option.same_Some, Option.slice_get_within, Option.slice_get-get_or, List.get_or_append_left}
+use Rattle.std.proofs.lemmas.List.{get_or-append_right, get_or-replicate, get_or_past, get_or-set_other, get_or-set_same, length-set, length-replicate, length_push, same_lists, set-append_left}
+use Rattle.std.proofs.lemmas.List.{set-append_right, Elements.All-nil, Elements.All-push}
 use Rattle.std.specs.List.{All, slice_get}
-use Rattle.spin_base.specs.WithRoom.{WithRoom}
-use Rattle.spin_base.specs.declared.copies.McCopy.{McCopy}
+use Rattle.spin_base.specs.{WithRoom.WithRoom, declared.copies.McCopy.McCopy}
 use Rattle.spin_base.proofs.Places.{All-at, slice_get_there, slice_get-push_cases, slice_get-set_same, slice_get-set_other}
 use Rattle.chip_node.specs.declared.ends.End.{End, TheVariants.Away, TheVariants.Own}
 use Rattle.mesh_core.specs.State.{State}
-use Rattle.mesh_run.specs.declared.{homes.Home.Home, shares.Share.Share}
-use Rattle.mesh_run.specs.{Crossing.AreSameButEnds, Crossing.PutsEnd, Homes.run_start, Split.end_at, Split.end_in, Split.unsent_at, Split.unsent_in}
-use Rattle.mesh_run.specs.Splitting.{AreSameButUnsent, AreSameHolds, FitHomes, HoldNothing, IsEmptyHand, MayPutLane, MayTakeLane}
-use Rattle.mesh_run.specs.Splitting.{MovesIn, MovesOut, PutsUnsent, SameButCopies, SameButUnsent, SetsQueue, SetsUnsent}
-use Rattle.mesh_run.proofs.CrossingLaws.{each_on, each_self, each_set, same_on, same_self}
-use Rattle.mesh_run.proofs.HomeLaws.{start_more}
+use Rattle.mesh_run.specs.{declared.homes.Home.Home, declared.shares.Share.Share, Crossing.AreSameButEnds, Crossing.PutsEnd, Homes.run_start, Split.end_at, Split.end_in, Split.unsent_at}
+use Rattle.mesh_run.specs.{Split.unsent_in, Splitting.AreSameButUnsent, Splitting.AreSameHolds, Splitting.FitHomes, Splitting.HoldNothing, Splitting.IsEmptyHand, Splitting.MayPutLane}
+use Rattle.mesh_run.specs.Splitting.{MayTakeLane, MovesIn, MovesOut, PutsUnsent, SameButCopies, SameButUnsent, SetsQueue, SetsUnsent}
+use Rattle.mesh_run.proofs.{CrossingLaws.each_on, CrossingLaws.each_self, CrossingLaws.each_set, CrossingLaws.same_on, CrossingLaws.same_self, HomeLaws.start_more}
 
 -- ---- one queue of a mesh
 
@@ -24,47 +19,16 @@ pub same_state : (m : State) → SameButCopies m m
 same_state m = record { setup = refl; hands = refl; inputs_long = refl; cores_long = refl; unsent_long = refl; delivered = refl; dumped = refl }
 
 pub state_on : (a b c : State) → SameButCopies a b → SameButCopies b c → SameButCopies a c
-state_on a b c p q = record {
-  setup = q.setup ∙ p.setup;
-  hands = q.hands ∙ p.hands;
-  inputs_long = q.inputs_long ∙ p.inputs_long;
-  cores_long = q.cores_long ∙ p.cores_long;
-  unsent_long = q.unsent_long ∙ p.unsent_long;
-  delivered = q.delivered ∙ p.delivered;
-  dumped = q.dumped ∙ p.dumped;
-}
+state_on a b c p q = grind arith
 
 pub sets_input : (m n : State) (place : ℕ) (q : List McCopy) → place < length m.inputs → n.inputs ≡ set m.inputs place q → n.cores ≡ m.cores → n.unsent ≡ m.unsent → n.setup ≡ m.setup →
     n.hands ≡ m.hands → n.delivered ≡ m.delivered → n.dumped ≡ m.dumped → SetsQueue place q m n
-sets_input m n place q below inputs cores unsent setup hands delivered dumped = record {
-  same = record {
-    setup = setup;
-    hands = hands;
-    inputs_long = ap length inputs ∙ length-set m.inputs place q;
-    cores_long = ap length cores;
-    unsent_long = ap length unsent;
-    delivered = delivered;
-    dumped = dumped;
-  };
-  unsent = unsent;
-  queues = ap (λ l. l ++ n.cores) inputs ∙ (ap (λ l. set m.inputs place q ++ l) cores ∙ sym (set-append_left m.inputs m.cores place q below));
-}
+sets_input m n place q below inputs cores unsent setup hands delivered dumped = grind (arith, length-set m.inputs place q, set-append_left m.inputs m.cores place q below)
 
 pub sets_core : (m n : State) (place : ℕ) (q : List McCopy) → length m.inputs ≤ place → n.cores ≡ set m.cores (place - length m.inputs) q → n.inputs ≡ m.inputs → n.unsent ≡ m.unsent →
     n.setup ≡ m.setup → n.hands ≡ m.hands → n.delivered ≡ m.delivered → n.dumped ≡ m.dumped → SetsQueue place q m n
-sets_core m n place q past cores inputs unsent setup hands delivered dumped = record {
-  same = record {
-    setup = setup;
-    hands = hands;
-    inputs_long = ap length inputs;
-    cores_long = ap length cores ∙ length-set m.cores (place - length m.inputs) q;
-    unsent_long = ap length unsent;
-    delivered = delivered;
-    dumped = dumped;
-  };
-  unsent = unsent;
-  queues = ap (λ l. l ++ n.cores) inputs ∙ (ap (λ l. m.inputs ++ l) cores ∙ sym (set-append_right m.inputs m.cores (length m.inputs) place q refl past));
-}
+sets_core m n place q past cores inputs unsent setup hands delivered dumped =
+    grind (arith, length-set m.cores (place - length m.inputs) q, set-append_right m.inputs m.cores (length m.inputs) place q refl past)
 
 pub read_input : (m : State) (place : ℕ) (q : List McCopy) → place < length m.inputs → q ≡ get_or m.inputs place [] → q ≡ get_or (m.inputs ++ m.cores) place []
 read_input m place q below read = read ∙ sym (get_or_append_left m.inputs m.cores [] place below)
@@ -74,20 +38,7 @@ read_core m place q past read = read ∙ sym (get_or-append_right m.inputs m.cor
 
 pub sets_unsent : (m n : State) (vertex : ℕ) (q : List McCopy) → n.unsent ≡ set m.unsent vertex q → n.inputs ≡ m.inputs → n.cores ≡ m.cores → n.setup ≡ m.setup → n.hands ≡ m.hands →
     n.delivered ≡ m.delivered → n.dumped ≡ m.dumped → SetsUnsent vertex q m n
-sets_unsent m n vertex q unsent inputs cores setup hands delivered dumped = record {
-  same = record {
-    setup = setup;
-    hands = hands;
-    inputs_long = ap length inputs;
-    cores_long = ap length cores;
-    unsent_long = ap length unsent ∙ length-set m.unsent vertex q;
-    delivered = delivered;
-    dumped = dumped;
-  };
-  inputs = inputs;
-  cores = cores;
-  unsent = unsent;
-}
+sets_unsent m n vertex q unsent inputs cores setup hands delivered dumped = grind (arith, length-set m.unsent vertex q)
 
 -- ---- unsent copies of one vertex in a share
 
@@ -95,8 +46,7 @@ vertices_self : (s : Share) → SameButUnsent s s
 vertices_self s = record { from = refl; to = refl; ends = refl; unsent_long = refl; dumps = refl; deliveries = refl }
 
 vertices_on : (x y z : Share) → SameButUnsent x y → SameButUnsent y z → SameButUnsent x z
-vertices_on x y z p q =
-    record { from = q.from ∙ p.from; to = q.to ∙ p.to; ends = q.ends ∙ p.ends; unsent_long = q.unsent_long ∙ p.unsent_long; dumps = q.dumps ∙ p.dumps; deliveries = q.deliveries ∙ p.deliveries }
+vertices_on x y z p q = grind arith
 
 pub unsent_set : (before after : List Share) (share vertex : ℕ) (s t : Share) (copies : List McCopy) → slice_get before share ≡ Some s → vertex < length s.hold.unsent.items →
     after ≡ set before share t → t.from ≡ s.from → t.to ≡ s.to → t.hold.ends ≡ s.hold.ends → t.hold.dumps ≡ s.hold.dumps → t.hold.deliveries ≡ s.hold.deliveries →
@@ -157,52 +107,16 @@ pub record LanesTo (m : State) (homes : List Home) (start : List Share) (n : ℕ
   pub others : (s q : ℕ) → ((h : Home) → q < n → slice_get homes q ≡ Some h → h.sender ≡ h.receiver → s ≡ h.sender → ⊥) → end_at shares s q ≡ end_at start s q
 
 pub lanes_none : (m : State) (homes : List Home) (start : List Share) → LanesTo m homes start 0 m start
-lanes_none m homes start = record {
-  same = same_state m;
-  unsent = refl;
-  left = λ q from. refl;
-  shares_same = same_self start;
-  lanes = λ q h less. absurd (omega (arith, less));
-  others = λ s q not. refl;
-}
+lanes_none m homes start = grind (arith, same_state m, same_self start)
 
 -- the queue at the next place
 pub lanes_more : (m : State) (homes : List Home) (start : List Share) (n : ℕ) (now next : State) (shares new : List Share) (home : Home) (copies gone : List McCopy) →
     LanesTo m homes start n now shares → slice_get homes n ≡ Some home →
     copies ≡ get_or (now.inputs ++ now.cores) n [] → SetsQueue n gone now next → MayPutLane home n copies shares new → LanesTo m homes start (n + 1) next new
-lanes_more m homes start n now next shares new home copies gone so_far at read sets (inl apart) = record {
-  same = state_on m now next so_far.same sets.same;
-  unsent = sets.unsent ∙ so_far.unsent;
-  left = λ q from. ap (λ l. get_or l q []) sets.queues ∙ (get_or-set_other (now.inputs ++ now.cores) n q gone [] (λ same. omega (arith, same, from)) ∙ so_far.left q (omega (arith, from)));
-  shares_same = subst (AreSameButEnds start) (sym apart.1) so_far.shares_same;
-  lanes = λ q h less at_q one. elim (cases_eq q n) [
-    | inl here ↦
-        let is : home ≡ h = same_Some home h (sym at ∙ (ap (slice_get homes) (sym here) ∙ at_q)) in
-        absurd (apart.0 (ap (λ (x : Home). x.sender) is ∙ (one ∙ ap (λ (x : Home). x.receiver) (sym is))))
-    | inr other ↦
-        let was = so_far.lanes q h (omega (arith, less, other)) at_q one in
-        (was.0, ap (λ (l : List Share). end_at l h.sender q) apart.1 ∙ was.1, was.2)
-  ];
-  others = λ s q not. ap (λ (l : List Share). end_at l s q) apart.1 ∙ so_far.others s q (λ h less. not h (omega (arith, less)));
-}
-lanes_more m homes start n now next shares new home copies gone so_far at read sets (inr put) = record {
-  same = state_on m now next so_far.same sets.same;
-  unsent = sets.unsent ∙ so_far.unsent;
-  left = λ q from. ap (λ l. get_or l q []) sets.queues ∙ (get_or-set_other (now.inputs ++ now.cores) n q gone [] (λ same. omega (arith, same, from)) ∙ so_far.left q (omega (arith, from)));
-  shares_same = same_on start shares new so_far.shares_same put.3.same;
-  lanes = λ q h less at_q one. elim (cases_eq q n) [
-    | inl here ↦
-        let is : home ≡ h = same_Some home h (sym at ∙ (ap (slice_get homes) (sym here) ∙ at_q)) in (
-          put.1,
-          ap (λ (j : ℕ). end_at new h.sender j) here ∙ (ap (λ (x : Home). end_at new x.sender n) (sym is) ∙ put.3.here),
-          put.2 ∙ (read ∙ (so_far.left n (omega arith) ∙ ap (λ (j : ℕ). get_or (m.inputs ++ m.cores) j []) (sym here))),
-        )
-    | inr other ↦
-        let was = so_far.lanes q h (omega (arith, less, other)) at_q one in
-        (was.0, put.3.others h.sender q (λ same. other same.1) ∙ was.1, was.2)
-  ];
-  others = λ s q not. put.3.others s q (λ same. not home (omega (arith, same.1)) (ap (slice_get homes) same.1 ∙ at) put.0 same.0) ∙ so_far.others s q (λ h less. not h (omega (arith, less)));
-}
+lanes_more m homes start n now next shares new home copies gone so_far at read sets (inl apart) =
+    grind (arith, state_on m now next so_far.same sets.same, get_or, get_or-set_other, cases_eq, same_Some)
+lanes_more m homes start n now next shares new home copies gone so_far at read sets (inr put) =
+    grind (arith, state_on m now next so_far.same sets.same, same_on start shares new so_far.shares_same put.3.same, get_or, get_or-set_other, cases_eq, same_Some)
 
 -- what the vertices before a place did not send moved in
 pub record VerticesTo (ports : ℕ) (m : State) (homes : List Home) (start : List Share) (n : ℕ) (now : State) (shares : List Share) : Type 0 where
@@ -213,31 +127,14 @@ pub record VerticesTo (ports : ℕ) (m : State) (homes : List Home) (start : Lis
   pub others : (s v : ℕ) → ((h : Home) → v < n → slice_get homes (ports + v) ≡ Some h → s ≡ h.receiver → ⊥) → unsent_at shares s v ≡ unsent_at start s v
 
 pub vertices_to_none : (ports : ℕ) (m now : State) (homes : List Home) (start : List Share) → SameButCopies m now → now.unsent ≡ m.unsent → VerticesTo ports m homes start 0 now start
-vertices_to_none ports m now homes start same unsent = record {
-  same = same;
-  left = λ v from. ap (λ l. get_or l v []) unsent;
-  shares_same = unsent_self start;
-  here = λ v h less. absurd (omega (arith, less));
-  others = λ s v not. refl;
-}
+vertices_to_none ports m now homes start same unsent = grind (arith, unsent_self start, get_or)
 
 pub vertices_to_more : (ports : ℕ) (m : State) (homes : List Home) (start : List Share) (n : ℕ) (now next : State) (shares new : List Share) (home : Home) (copies gone : List McCopy) →
     VerticesTo ports m homes start n now shares →
     slice_get homes (ports + n) ≡ Some home → copies ≡ get_or now.unsent n [] → SameButCopies now next → next.unsent ≡ set now.unsent n gone → PutsUnsent home.receiver n copies shares new →
     VerticesTo ports m homes start (n + 1) next new
-vertices_to_more ports m homes start n now next shares new home copies gone so_far at read same unsent put = record {
-  same = state_on m now next so_far.same same;
-  left = λ v from. ap (λ l. get_or l v []) unsent ∙ (get_or-set_other now.unsent n v gone [] (λ e. omega (arith, e, from)) ∙ so_far.left v (omega (arith, from)));
-  shares_same = unsent_on start shares new so_far.shares_same put.same;
-  here = λ v h less at_v. elim (cases_eq v n) [
-    | inl here ↦
-        let is : home ≡ h = same_Some home h (sym at ∙ (ap (λ (j : ℕ). slice_get homes (ports + j)) (sym here) ∙ at_v)) in
-        ap (λ (j : ℕ). unsent_at new h.receiver j) here
-        ∙ (ap (λ (x : Home). unsent_at new x.receiver n) (sym is) ∙ (put.here ∙ (read ∙ (so_far.left n (omega arith) ∙ ap (λ (j : ℕ). get_or m.unsent j []) (sym here)))))
-    | inr other ↦ put.others h.receiver v (λ e. other e.1) ∙ so_far.here v h (omega (arith, less, other)) at_v
-  ];
-  others = λ s v not. put.others s v (λ e. not home (omega (arith, e.1)) (ap (λ (j : ℕ). slice_get homes (ports + j)) e.1 ∙ at) e.0) ∙ so_far.others s v (λ h less. not h (omega (arith, less)));
-}
+vertices_to_more ports m homes start n now next shares new home copies gone so_far at read same unsent put =
+    grind (arith, state_on m now next so_far.same same, unsent_on start shares new so_far.shares_same put.same, get_or, get_or-set_other, cases_eq, same_Some)
 
 -- ---- a share that holds nothing
 
@@ -281,23 +178,18 @@ pub vertex_home : (m : State) (homes : List Home) (shares : List Share) (ports v
 vertex_home m homes shares ports v fits is below =
     ap (λ (p : ℕ). slice_get homes (p + v)) (sym is) ∙ slice_get-get_or homes (ports + v) (record { sender = 0; receiver = 0 }) (home_inside m homes shares ports v fits is below)
 
--- the share of its receiver is there
-pub receiver_there : (m : State) (homes : List Home) (start second now : List Share) (ports v : ℕ) → FitHomes m homes start → AreSameButEnds start second → AreSameButUnsent second now →
-    ports ≡ length m.inputs → v < length m.unsent → (get_or homes (ports + v) (record { sender = 0; receiver = 0 })).receiver < length now
-receiver_there m homes start second now ports v fits ends unsent is below =
-    subst (λ (k : ℕ). (get_or homes (ports + v) (record { sender = 0; receiver = 0 })).receiver < k) (sym (unsent.0 ∙ ends.0))
-    (fits.receivers (ports + v) (record { sender = 0; receiver = 0 }) (home_inside m homes start ports v fits is below))
-
--- a share has a place for each vertex
-pub unsent_wide : (m : State) (homes : List Home) (start second now : List Share) (k : ℕ) (t : Share) → FitHomes m homes start → AreSameButEnds start second → AreSameButUnsent second now →
-    slice_get now k ≡ Some t → length t.hold.unsent.items ≡ length m.unsent
-unsent_wide m homes start second now k t fits ends unsent at =
-    let within = slice_get_within now k t at in
-    let long_b = unsent.0 in
-    let s = slice_get_there start k (omega (arith, within, long_b, ends.0)) in
-    let x = slice_get_there second k (omega (arith, within, long_b)) in
-    (unsent.1 k x.0 t x.1 at).unsent_long ∙ (ap (λ e. length e.items) (ends.1 k s.0 x.0 s.1 x.1).unsent
-    ∙ All-at (λ (y : Share). length y.hold.unsent.items ≡ length m.unsent) start k s.0 fits.unsent_long s.1)
+-- the share of its receiver is there, with a place for the vertex
+pub vertex_there : (m : State) (homes : List Home) (start second now : List Share) (ports v : ℕ) → FitHomes m homes start → AreSameButEnds start second → AreSameButUnsent second now →
+    ports ≡ length m.inputs → v < length m.unsent →
+    (t : Share) × (slice_get now (get_or homes (ports + v) (record { sender = 0; receiver = 0 })).receiver ≡ Some t) × (v < length t.hold.unsent.items)
+vertex_there m homes start second now ports v fits ends unsent is below =
+    let k = (get_or homes (ports + v) (record { sender = 0; receiver = 0 })).receiver in
+    let s = slice_get_there start k (fits.receivers (ports + v) (record { sender = 0; receiver = 0 }) (home_inside m homes start ports v fits is below)) in
+    let x = slice_get_there second k (omega (arith, slice_get_within start k s.0 s.1, ends.0)) in
+    let t = slice_get_there now k (omega (arith, slice_get_within second k x.0 x.1, unsent.0)) in
+    let wide = (unsent.1 k x.0 t.0 x.1 t.1).unsent_long ∙ (ap (λ e. length e.items) (ends.1 k s.0 x.0 s.1 x.1).unsent
+    ∙ All-at (λ (y : Share). length y.hold.unsent.items ≡ length m.unsent) start k s.0 fits.unsent_long s.1) in
+    (t.0, t.1, omega (arith, below, wide))
 
 -- where the same is unsent in each share, it is at each place
 by_unsent : (a b : List Share) (s v : ℕ) → length b ≡ length a → ((k : ℕ) (x y : Share) → slice_get a k ≡ Some x → slice_get b k ≡ Some y → y.hold.unsent ≡ x.hold.unsent) →
@@ -441,31 +333,12 @@ pub record OutTo (left : State) (homes : List Home) (start : List Share) (n : �
   pub shares_same : AreSameButEnds start shares
 
 pub out_none : (left : State) (homes : List Home) (start : List Share) → OutTo left homes start 0 left start
-out_none left homes start = record {
-  same = same_state left;
-  unsent = refl;
-  lanes = λ q h a less. absurd (omega (arith, less));
-  others = λ q h at apart. refl;
-  ends = λ s q from. refl;
-  shares_same = same_self start;
-}
+out_none left homes start = grind (arith, same_state left, same_self start)
 
 -- a queue between two shares stays
 pub out_apart : (left : State) (homes : List Home) (start : List Share) (n : ℕ) (now : State) (shares : List Share) (home : Home) → OutTo left homes start n now shares →
     slice_get homes n ≡ Some home → home.sender ≢ home.receiver → OutTo left homes start (n + 1) now shares
-out_apart left homes start n now shares home so_far at apart = record {
-  same = so_far.same;
-  unsent = so_far.unsent;
-  lanes = λ q h a less at_q one stands. elim (cases_eq q n) [
-    | inl here ↦
-        let is : home ≡ h = same_Some home h (sym at ∙ (ap (slice_get homes) (sym here) ∙ at_q)) in
-        absurd (apart (ap (λ (x : Home). x.sender) is ∙ (one ∙ ap (λ (x : Home). x.receiver) (sym is))))
-    | inr other ↦ so_far.lanes q h a (omega (arith, less, other)) at_q one stands
-  ];
-  others = so_far.others;
-  ends = λ s q from. so_far.ends s q (omega (arith, from));
-  shares_same = so_far.shares_same;
-}
+out_apart left homes start n now shares home so_far at apart = grind (arith, cases_eq, same_Some)
 
 -- a lane moves out
 pub out_lane : (left : State) (homes : List Home) (start : List Share) (n : ℕ) (now next : State) (shares new : List Share) (home : Home) (end : End) (copies : List McCopy) →
@@ -494,9 +367,7 @@ out_lane left homes start n now next shares new home end copies so_far at togeth
 -- a queue stays, or moves out
 pub out_more : (left : State) (homes : List Home) (start : List Share) (n : ℕ) (now next : State) (shares new : List Share) (home : Home) → OutTo left homes start n now shares →
     slice_get homes n ≡ Some home → n < length now.inputs + length now.cores → MayTakeLane home n now shares next new → OutTo left homes start (n + 1) next new
-out_more left homes start n now next shares new home so_far at below (inl apart) =
-    subst (λ (m : State). OutTo left homes start (n + 1) m new) (sym apart.1)
-    (subst (λ (l : List Share). OutTo left homes start (n + 1) now l) (sym apart.2) (out_apart left homes start n now shares home so_far at apart.0))
+out_more left homes start n now next shares new home so_far at below (inl apart) = grind (arith, out_apart left homes start n now shares home so_far at apart.0)
 out_more left homes start n now next shares new home so_far at below (inr lane) =
     let long : length (now.inputs ++ now.cores) ≡ length now.inputs + length now.cores = length-append now.inputs now.cores in
     out_lane left homes start n now next shares new home lane.1 lane.2 so_far at lane.0 (omega (arith, below, long)) lane.3 lane.4 lane.5 lane.6
@@ -510,33 +381,14 @@ pub record UnsentOutTo (ports : ℕ) (mid : State) (homes : List Home) (start : 
   pub shares_same : AreSameButUnsent start shares
 
 pub unsent_out_none : (ports : ℕ) (mid : State) (homes : List Home) (start : List Share) → UnsentOutTo ports mid homes start 0 mid start
-unsent_out_none ports mid homes start = record {
-  same = same_state mid;
-  inputs = refl;
-  cores = refl;
-  done = λ v h less. absurd (omega (arith, less));
-  left = λ s v from. refl;
-  shares_same = unsent_self start;
-}
+unsent_out_none ports mid homes start = grind (arith, same_state mid, unsent_self start)
 
 pub unsent_out_more : (ports : ℕ) (mid : State) (homes : List Home) (start : List Share) (n : ℕ) (now next : State) (shares new : List Share) (home : Home) (copies gone : List McCopy) →
     UnsentOutTo ports mid homes start n now shares →
     slice_get homes (ports + n) ≡ Some home → n < length now.unsent → copies ≡ unsent_at shares home.receiver n → PutsUnsent home.receiver n gone shares new → SameButCopies now next →
     next.inputs ≡ now.inputs → next.cores ≡ now.cores → next.unsent ≡ set now.unsent n copies → UnsentOutTo ports mid homes start (n + 1) next new
-unsent_out_more ports mid homes start n now next shares new home copies gone so_far at below read put same inputs cores unsent = record {
-  same = state_on mid now next so_far.same same;
-  inputs = inputs ∙ so_far.inputs;
-  cores = cores ∙ so_far.cores;
-  done = λ v h less at_v. elim (cases_eq v n) [
-    | inl here ↦
-        let is : home ≡ h = same_Some home h (sym at ∙ (ap (λ (j : ℕ). slice_get homes (ports + j)) (sym here) ∙ at_v)) in
-        ap (λ l. get_or l v []) unsent ∙ (ap (λ (j : ℕ). get_or (set now.unsent n copies) j []) here ∙ (get_or-set_same now.unsent n copies [] below
-        ∙ (read ∙ (so_far.left home.receiver n (omega arith) ∙ (ap (λ (x : Home). unsent_at start x.receiver n) is ∙ ap (unsent_at start h.receiver) (sym here))))))
-    | inr other ↦ ap (λ l. get_or l v []) unsent ∙ (get_or-set_other now.unsent n v copies [] other ∙ so_far.done v h (omega (arith, less, other)) at_v)
-  ];
-  left = λ s v from. put.others s v (λ e. omega (arith, e.1, from)) ∙ so_far.left s v (omega (arith, from));
-  shares_same = unsent_on start shares new so_far.shares_same put.same;
-}
+unsent_out_more ports mid homes start n now next shares new home copies gone so_far at below read put same inputs cores unsent =
+    grind (arith, state_on mid now next so_far.same same, get_or-set_same now.unsent n copies, unsent_on start shares new so_far.shares_same put.same, cases_eq, same_Some, get_or, get_or-set_other)
 
 pub moved_out : (left mid m : State) (homes : List Home) (n k : ℕ) (start second third : List Share) → FitHomes left homes start → length homes ≤ n → length left.unsent ≤ k →
     OutTo left homes start n mid second → UnsentOutTo (length left.inputs) mid homes second k m third → MovesOut homes start left m
@@ -573,13 +425,7 @@ pub record NothingTo (runs : List ℕ) (queues vertices n from : ℕ) (shares : 
   pub hands : All (λ s. IsEmptyHand queues vertices s.hold) shares
 
 pub nothing_none : (runs : List ℕ) (queues vertices : ℕ) (shares : List Share) → shares ≡ [] → NothingTo runs queues vertices 0 0 shares
-nothing_none runs queues vertices shares none = subst (NothingTo runs queues vertices 0 0) (sym none) (record {
-  long = refl;
-  next = refl;
-  from_are = λ k s at. absurd (none-some s at);
-  to_are = λ k s at. absurd (none-some s at);
-  hands = All-nil (λ s. IsEmptyHand queues vertices s.hold);
-})
+nothing_none runs queues vertices shares none = grind (arith, none-some, All-nil)
 
 pub nothing_more : (runs : List ℕ) (queues vertices n from to : ℕ) (share : Share) (shares new : List Share) → NothingTo runs queues vertices n from shares → to ≡ get_or runs n 0 →
     share.from ≡ from → share.to ≡ to → IsEmptyHand queues vertices share.hold → new ≡ shares ++ share ∷ [] → NothingTo runs queues vertices (n + 1) to new

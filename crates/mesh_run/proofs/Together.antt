@@ -1,24 +1,16 @@
 -- What all shares did in a round, one share after the other.
-use Rattle.std.proofs.Common.{◌≡◌, ◌≢◌, ◌⊎◌, ℕ, zero, suc, ◌+◌, ◌<◌, ◌≤◌, Bool, true, false, ◌||◌, List, [], ◌∷◌, ◌++◌, length}
-use Rattle.std.proofs.Common.{take, get_or, Option, None, Some, refl, sym, ap, ◌∙◌, subst, arith, inl, inr, append-nil}
-use Rattle.std.proofs.lemmas.{Bool.cases_lt, List.get_or_default, List.take_all, List.take_more}
-use Rattle.std.proofs.lemmas.List.Elements.{All-append, All-nil, All-weaker}
-use Rattle.std.proofs.lemmas.Grind.{flat_map-append}
+use Rattle.std.proofs.Common.{◌≡◌, ◌≢◌, ◌⊎◌, ℕ, zero, suc, ◌+◌, ◌<◌, ◌≤◌, Bool, true, false, ◌||◌, List, [], ◌∷◌, ◌++◌, length, take, get_or, Option, None, Some, refl, sym, ap, ◌∙◌, subst, arith, inl}
+use Rattle.std.proofs.Common.{inr, append-nil}
+use Rattle.std.proofs.lemmas.{Bool.cases_lt, List.get_or_default, List.take_all, List.take_more, List.Elements.All-append, List.Elements.All-nil, List.Elements.All-weaker, Grind.flat_map-append}
 use Rattle.std.proofs.lemmas.Option.{get_or_from_slice_get, slice_get_within, slice_get-get_or}
 use Rattle.std.specs.List.{All, flat_map, list_any, slice_get, slice_index_or}
 use Rattle.spin_base.proofs.Places.{both_none}
-use Rattle.spin_base.specs.declared.copies.McCopy.{McCopy}
-use Rattle.spin_base.specs.WithRoom.{WithRoom}
-use Rattle.chip_node.specs.declared.ends.End.{End}
-use Rattle.chip_node.specs.declared.ends.End.TheVariants.{Away, Own, Sends, Takes}
-use Rattle.chip_node.specs.declared.ends.{InEnd.InEnd, OutEnd.OutEnd}
-use Rattle.chip_node.specs.Going.{EndGoes, Goes, LaneGoes, SenderGoes, TakerGoes}
-use Rattle.chip_node.specs.Items.{Item, entered, left, lost_at}
+use Rattle.spin_base.specs.{declared.copies.McCopy.McCopy, WithRoom.WithRoom}
+use Rattle.chip_node.specs.declared.ends.{End.End, End.TheVariants.Away, End.TheVariants.Own, End.TheVariants.Sends, End.TheVariants.Takes, InEnd.InEnd, OutEnd.OutEnd}
+use Rattle.chip_node.specs.{Going.EndGoes, Going.Goes, Going.LaneGoes, Going.SenderGoes, Going.TakerGoes, Items.Item, Items.entered, Items.left, Items.lost_at}
 use Rattle.chip_node.proofs.Stays.{end_before}
 use Rattle.mesh_core.specs.State.{Setup}
-use Rattle.mesh_run.specs.declared.shares.Share.{Share}
-use Rattle.mesh_run.specs.Homes.{run_start, AreShareRuns}
-use Rattle.mesh_run.specs.{Played.AreTurns, Shares.actor_of, Shares.AreOf, Shares.IsInRun, Shares.IsNoted, Split.end_at, Split.end_in}
+use Rattle.mesh_run.specs.{declared.shares.Share.Share, Homes.run_start, Homes.AreShareRuns, Played.AreTurns, Shares.actor_of, Shares.AreOf, Shares.IsInRun, Shares.IsNoted, Split.end_at, Split.end_in}
 use Rattle.mesh_run.proofs.Turns.{IsNotOf, flat_map_none, turns_beside, turns_none}
 
 -- ---- lists of all shares
@@ -91,20 +83,13 @@ module _ (u : Setup) (n count : ℕ) (ends : List ℕ) (parts : List (List Item)
 
   pub turns_joined : AreShareRuns count ends → length parts ≡ length ends → ((k : ℕ) (d : List Item) → k < length parts → AreTurns u n (get_or parts k d)) →
       ((k : ℕ) (d : List Item) → k < length parts → AreOf (run_start ends k) (slice_index_or ends k 0) (get_or parts k d)) → AreTurns u n (joined parts)
-  turns_joined runs long turns own =
-      subst (λ (l : List (List Item)). AreTurns u n (joined l)) (take_all (length parts) parts (omega arith)) (so_far runs long turns own (length parts) (omega arith)).turns
+  turns_joined runs long turns own = grind (arith, take_all (length parts) parts (omega arith), so_far runs long turns own (length parts) (omega arith))
 
 -- ---- what is noted
 
 noted_or : (xs ys : List Item) (y z : Bool) → IsNoted false xs y → IsNoted false ys z → IsNoted false (xs ++ ys) (y || z)
-noted_or xs ys true z h k = elim h [
-  | inl before ↦ inl before
-  | inr some ↦ inr (λ none. some (both_none xs ys none).0)
-]
-noted_or xs ys false true h k = elim k [
-  | inl before ↦ inl before
-  | inr some ↦ inr (λ none. some (both_none xs ys none).1)
-]
+noted_or xs ys true z h k = grind (arith, both_none)
+noted_or xs ys false true h k = grind (arith, both_none)
 noted_or xs ys false false h k = (refl, ap (λ l. l ++ ys) h.1 ∙ k.1)
 
 pub noted_joined : (shares : List Share) (parts : List (List Item)) → length parts ≡ length shares →

@@ -1,21 +1,18 @@
 -- Turns, as a list of what was done: one list after the other, of one actor or of several.
 use Rattle.std.proofs.Common.{◌≡◌, ◌≢◌, ◌⊎◌, ℕ, ◌+◌, ◌≤◌, ◌==◌, List, [], ◌∷◌, ◌++◌, length, map, Option, None, refl, sym, ap, ap₂, ◌∙◌, subst, arith, inl, inr, append-nil}
-use Rattle.std.proofs.lemmas.{Bool.cases_eq, Bool.cond_both, List.map-append, List.length-append}
-use Rattle.std.proofs.lemmas.List.Elements.{All-append, All-contains, All-cons, All-filter, All-head, All-map, All-nil, All-tail, All-weaker}
-use Rattle.std.proofs.lemmas.Grind.{flat_map-append}
+use Rattle.std.proofs.lemmas.{Bool.cases_eq, Bool.cond_both, List.map-append, List.length-append, List.Elements.All-append, List.Elements.All-contains, List.Elements.All-cons}
+use Rattle.std.proofs.lemmas.{List.Elements.All-filter, List.Elements.All-head, List.Elements.All-map, List.Elements.All-nil, List.Elements.All-tail, List.Elements.All-weaker, Grind.flat_map-append}
 use Rattle.std.specs.List.{All, flat_map, slice_index_or}
 use Rattle.spin_base.proofs.{Members.contains_among, Pairs.All-from_map, Places.All-each}
-use Rattle.spin_base.specs.declared.{chips.Chip.Chip, chips.Port.Port, routes.Out.Out, blocks.Entry.Entry, copies.McCopy.McCopy}
-use Rattle.spin_base.specs.{Hops.last_hop, Lookup.lookup}
+use Rattle.spin_base.specs.{declared.chips.Chip.Chip, declared.chips.Port.Port, declared.routes.Out.Out, declared.blocks.Entry.Entry, declared.copies.McCopy.McCopy, Hops.last_hop, Lookup.lookup}
 use Rattle.spin_base.specs.Outputs.{all_outs, has, outs_of, IsOutput}
 use Rattle.machine_desc.specs.Live.{chip_of, index_of}
-use Rattle.chip_node.specs.declared.{ends.Served.TheVariants.Dumped, nodes.CoreBank.CoreBank, nodes.RouterNode.RouterNode}
-use Rattle.chip_node.specs.Acting.{service_items, BankMoves, GetsOne, RoutesOne, SendsOne, place_at_router}
-use Rattle.chip_node.specs.Items.{Item, Service, took, served, sent, got, where_same, getting_of, gettings, sending_of, sendings, service_of, services, taking_of, takings}
-use Rattle.chip_node.specs.Routing.{outputs_at}
+use Rattle.chip_node.specs.{declared.ends.Served.TheVariants.Dumped, declared.nodes.CoreBank.CoreBank, declared.nodes.RouterNode.RouterNode, Acting.service_items, Acting.BankMoves, Acting.GetsOne}
+use Rattle.chip_node.specs.{Acting.RoutesOne, Acting.SendsOne, Acting.place_at_router, Items.Item, Items.Service, Items.took, Items.served, Items.sent, Items.got, Items.where_same, Items.getting_of}
+use Rattle.chip_node.specs.{Items.gettings, Items.sending_of, Items.sendings, Items.service_of, Items.services, Items.taking_of, Items.takings, Routing.outputs_at}
 use Rattle.mesh_core.specs.{State.Setup, Step.outputs}
-use Rattle.mesh_run.specs.Played.{owed_on, place_behind, AreTurns, IsDoneOn, IsLiveIndex, IsVertexOn}
-use Rattle.mesh_run.specs.{Floors.IsBankOf, Shares.actor_of, Shares.bank_place, Shares.router_place}
+use Rattle.mesh_run.specs.{Played.owed_on, Played.place_behind, Played.AreTurns, Played.IsDoneOn, Played.IsLiveIndex, Floors.IsBankOf, Floors.IsRouterOf, Shares.actor_of, Shares.bank_place}
+use Rattle.mesh_run.specs.Shares.{router_place}
 use Rattle.mesh_run.proofs.{Apart.elsewhere, Apart.here, OutputBits.has_bit}
 
 -- ---- lists
@@ -78,10 +75,7 @@ module _ (u : Setup) where
       ∙ ap (owed_on u (chip_of u.machine i)) (sym (flat_map-append (taking_of i) xs ys)))))
 
   length_on : {Y : Type 0} (f : Item → List Y) (xs ys : List Item) (m n : ℕ) → length (flat_map f xs) ≤ m → length (flat_map f ys) ≤ n → length (flat_map f (xs ++ ys)) ≤ m + n
-  length_on f xs ys m n h k =
-      let both = ap length (flat_map-append f xs ys) in
-      let long = length-append (flat_map f xs) (flat_map f ys) in
-      omega (arith, both, long, h, k)
+  length_on f xs ys m n h k = grind (arith, flat_map-append f xs ys, length-append (flat_map f xs) (flat_map f ys))
 
   pub counted_on : (t s g a b c : ℕ) (xs ys : List Item) → AreCounted u t s g xs → AreCounted u a b c ys → AreCounted u (t + a) (s + b) (g + c) (xs ++ ys)
   counted_on t s g a b c xs ys h k = record {
@@ -94,13 +88,7 @@ module _ (u : Setup) where
 
   -- no turns
   pub counted_none : AreCounted u 0 0 0 []
-  counted_none = record {
-    each = All-nil (IsDoneOn u);
-    each_once = λ i. refl;
-    takings_few = λ i. omega arith;
-    sendings_few = λ i. omega arith;
-    gettings_few = λ i. omega arith;
-  }
+  counted_none = grind (arith, All-nil (IsDoneOn u))
 
   pub turns_none : (n : ℕ) → AreTurns u n []
   turns_none n = turns_of 0 0 0 n [] (omega arith) (omega arith) (omega arith) counted_none
@@ -135,16 +123,8 @@ module _ (u : Setup) where
   -- where one of two lists has none of an actor, both have no more than one has
   length_beside : {Y : Type 0} (f : Item → List Y) (a n : ℕ) → ((x : Item) → actor_of x ≢ a → f x ≡ []) → (xs ys : List Item) → IsNotOf a xs ⊎ IsNotOf a ys →
       length (flat_map f xs) ≤ n → length (flat_map f ys) ≤ n → length (flat_map f (xs ++ ys)) ≤ n
-  length_beside f a n none xs ys (inl apart) h k =
-      let empty = ap length (flat_map_none f xs (All-weaker (λ x. actor_of x ≢ a) (λ x. f x ≡ []) none xs apart)) in
-      let both = ap length (flat_map-append f xs ys) in
-      let long = length-append (flat_map f xs) (flat_map f ys) in
-      omega (arith, both, long, empty, k)
-  length_beside f a n none xs ys (inr apart) h k =
-      let empty = ap length (flat_map_none f ys (All-weaker (λ x. actor_of x ≢ a) (λ x. f x ≡ []) none ys apart)) in
-      let both = ap length (flat_map-append f xs ys) in
-      let long = length-append (flat_map f xs) (flat_map f ys) in
-      omega (arith, both, long, empty, h)
+  length_beside f a n none xs ys (inl apart) h k = grind (arith, flat_map-append f xs ys, length-append (flat_map f xs) (flat_map f ys), flat_map_none, All-weaker)
+  length_beside f a n none xs ys (inr apart) h k = grind (arith, flat_map-append f xs ys, length-append (flat_map f xs) (flat_map f ys), flat_map_none, All-weaker)
 
   -- turns of other actors, beside turns
   pub turns_beside : (n : ℕ) (xs ys : List Item) → ((a : ℕ) → IsNotOf a xs ⊎ IsNotOf a ys) → AreTurns u n xs → AreTurns u n ys → AreTurns u n (xs ++ ys)
@@ -158,14 +138,6 @@ module _ (u : Setup) where
 
   -- ---- one turn of a router
 
-  -- a router with the chip, the table and the outputs of a live chip
-  pub record IsRouterOf (i : ℕ) (r : RouterNode) : Type 0 where
-    pub live : IsLiveIndex u i
-    pub index : r.index ≡ i
-    pub chip : r.chip ≡ chip_of u.machine i
-    pub table : r.table.now ≡ slice_index_or u.tables i []
-    pub behind : (o : Out) → IsOutput o → place_at_router r.behind.now o ≡ place_behind u (chip_of u.machine i) o
-
   services_here : (j i : ℕ) (c : Chip) (place : Service → Option ℕ) → j ≡ i → (done : List Service) → services i (map (λ s. served j c (place s) s) done) ≡ done
   services_here j i c place same [] = refl
   services_here j i c place same (s ∷ done) = ap₂ (λ (a b : List Service). a ++ b) (here j i (s ∷ []) same) (services_here j i c place same done)
@@ -173,7 +145,7 @@ module _ (u : Setup) where
   services_elsewhere : (j i : ℕ) (c : Chip) (place : Service → Option ℕ) → j ≢ i → (done : List Service) → services i (map (λ s. served j c (place s) s) done) ≡ []
   services_elsewhere j i c place other done = flat_map_map_none (service_of i) (λ s. served j c (place s) s) (λ s. elsewhere j i (s ∷ []) other) done
 
-  routed_each_once : (r : RouterNode) (a : ℕ) → IsRouterOf a r → (items : List Item) → (h : RoutesOne r.table.now r items) → (i : ℕ) → (r.index ≡ i) ⊎ (r.index ≢ i) →
+  routed_each_once : (r : RouterNode) (a : ℕ) → IsRouterOf u a r → (items : List Item) → (h : RoutesOne r.table.now r items) → (i : ℕ) → (r.index ≡ i) ⊎ (r.index ≢ i) →
       map told (services i items) ≡ owed_on u (chip_of u.machine i) (takings i items)
   routed_each_once r a of items h i (inl same) =
       let place : Service → Option ℕ = λ s. place_at_router r.behind.now s.out in
@@ -201,7 +173,7 @@ module _ (u : Setup) where
       (subst (All (λ (p : Out × McCopy). IsOutput p.0)) (sym h.each_once)
       (All-map (λ (p : Out × McCopy). IsOutput p.0) (λ o. (o, h.copy)) (outputs_at r.table.now h.port h.copy) (outputs_have_bits r.table.now h.port h.copy)))
 
-  routed_each : (r : RouterNode) (a : ℕ) → IsRouterOf a r → (items : List Item) → RoutesOne r.table.now r items → All (IsDoneOn u) items
+  routed_each : (r : RouterNode) (a : ℕ) → IsRouterOf u a r → (items : List Item) → RoutesOne r.table.now r items → All (IsDoneOn u) items
   routed_each r a of items h =
       let live : IsLiveIndex u r.index = subst (IsLiveIndex u) (sym of.index) of.live in
       subst (All (IsDoneOn u)) (sym h.are)
@@ -216,7 +188,7 @@ module _ (u : Setup) where
         All-contains (λ (t : Service). place_at_router r.behind.now t.out ≡ None → t.fate ≡ Dumped) h.done s h.nowhere in_done,
       )))))
 
-  pub routed_turns : (r : RouterNode) (a : ℕ) → IsRouterOf a r → (items : List Item) → RoutesOne r.table.now r items → AreTurns u 1 items
+  pub routed_turns : (r : RouterNode) (a : ℕ) → IsRouterOf u a r → (items : List Item) → RoutesOne r.table.now r items → AreTurns u 1 items
   routed_turns r a of items h = record {
     each = routed_each r a of items h;
     each_once = λ i. routed_each_once r a of items h i (same_or_not r.index i);
@@ -251,27 +223,10 @@ module _ (u : Setup) where
   -- ---- one turn of a bank
 
   sends_counted : (i : ℕ) (b : CoreBank) (items : List Item) → IsLiveIndex u i → IsBankOf u i b → SendsOne b items → AreCounted u 0 1 0 items
-  sends_counted i b items live of h = subst (AreCounted u 0 1 0) (sym h.are) (record {
-    each = All-cons (IsDoneOn u) (sent b.index h.vertex h.copy) []
-        (subst (IsLiveIndex u) (sym of.index) live, subst (λ n. IsVertexOn u n h.vertex) (sym of.index) (of.vertices h.vertex h.has)) (All-nil (IsDoneOn u));
-    each_once = λ j. refl;
-    takings_few = λ j. omega arith;
-    sendings_few = λ j. few_more b.index j h.copy;
-    gettings_few = λ j. omega arith;
-  })
+  sends_counted i b items live of h = grind (arith, All-cons (IsDoneOn u) (sent b.index h.vertex h.copy), All-nil (IsDoneOn u), few_more)
 
   gets_counted : (i : ℕ) (b : CoreBank) (items : List Item) → IsLiveIndex u i → IsBankOf u i b → GetsOne b items → AreCounted u 0 0 1 items
-  gets_counted i b items live of h = subst (AreCounted u 0 0 1) (sym h.are) (record {
-    each = All-cons (IsDoneOn u) (got b.index h.vertex (b.cores + h.vertex) h.copy) [] (
-      subst (IsLiveIndex u) (sym of.index) live,
-      subst (λ n. IsVertexOn u n h.vertex) (sym of.index) (of.vertices h.vertex h.has),
-      ap (λ n. n + h.vertex) of.cores,
-    ) (All-nil (IsDoneOn u));
-    each_once = λ j. refl;
-    takings_few = λ j. omega arith;
-    sendings_few = λ j. omega arith;
-    gettings_few = λ j. few_more b.index j h.copy;
-  })
+  gets_counted i b items live of h = grind (arith, All-cons (IsDoneOn u) (got b.index h.vertex (b.cores + h.vertex) h.copy), All-nil (IsDoneOn u), few_more)
 
   more_counted : (s g a b : ℕ) (items : List Item) → s ≤ a → g ≤ b → AreCounted u 0 s g items → AreCounted u 0 a b items
   more_counted s g a b items few less h = record {
@@ -283,16 +238,7 @@ module _ (u : Setup) where
   }
 
   pub bank_turns : (i : ℕ) (b : CoreBank) (items : List Item) → IsLiveIndex u i → IsBankOf u i b → BankMoves b items → AreTurns u 1 items
-  bank_turns i b items live of h = subst (AreTurns u 1) (sym h.are) (
-      let first : AreCounted u 0 1 0 h.first = elim h.sends [
-        | inl none ↦ subst (AreCounted u 0 1 0) (sym none) (more_counted 0 0 1 0 [] (omega arith) (omega arith) counted_none)
-        | inr sends ↦ sends_counted i b h.first live of sends
-      ] in
-      let second : AreCounted u 0 0 1 h.second = elim h.gets [
-        | inl none ↦ subst (AreCounted u 0 0 1) (sym none) (more_counted 0 0 0 1 [] (omega arith) (omega arith) counted_none)
-        | inr gets ↦ gets_counted i b h.second live of gets
-      ] in
-      turns_of 0 1 1 1 (h.first ++ h.second) (omega arith) (omega arith) (omega arith) (counted_on 0 1 0 0 0 1 h.first h.second first second))
+  bank_turns i b items live of h = grind (arith, more_counted 0 0 1 0, counted_none, more_counted 0 0 0 1, sends_counted, gets_counted, turns_of, counted_on)
 
   pub bank_by : (b : CoreBank) (items : List Item) → BankMoves b items → All (λ x. actor_of x ≡ bank_place b.index) items
   bank_by b items h = subst (All Is) (sym h.are) (All-append Is h.first h.second

@@ -1,17 +1,14 @@
 -- A whole round of all shares: the ends of links dealt, turns played, ends collected, links at rest and logs gathered.
-use Rattle.std.proofs.Common.{◌≡◌, ℕ, ◌+◌, ◌*◌, ◌<◌, false, List, [], length, get_or, Some, ◌∙◌, subst, arith}
+use Rattle.std.proofs.Common.{◌≡◌, ℕ, ◌+◌, ◌*◌, ◌<◌, false, List, length, get_or, Some, ◌∙◌, subst, arith}
 use Rattle.std.proofs.lemmas.{List.get_or_default, Option.slice_get-get_or}
 use Rattle.std.specs.List.{list_any, slice_get, slice_index_or}
 use Rattle.spin_base.proofs.Places.{slice_get_there}
 use Rattle.chip_node.specs.Items.{Item}
 use Rattle.mesh_core.specs.State.{Setup, State, IsMesh}
 use Rattle.mesh_run.specs.declared.{homes.Home.Home, queues.Rested.Rested, raised.RaisedMesh.RaisedMesh, shares.Share.Share, standing.Standing.Standing}
-use Rattle.mesh_run.specs.Crossing.{Deals, HoldsCollected, IsUncut}
-use Rattle.mesh_run.specs.{Gathering.AreEmptied, Homes.run_start, Played.AreTurns, Queues.RestAll, Raised.IsRoomyFrom}
-use Rattle.mesh_run.specs.Shares.{AreOf, IsNoted, PlaysRound, SharePlays}
-use Rattle.mesh_run.specs.Split.{end_at}
-use Rattle.mesh_run.proofs.AfterDeal.{lane_uncut}
-use Rattle.mesh_run.proofs.Together.{PlayedParts, joined, listed, noted_joined, turns_joined}
+use Rattle.mesh_run.specs.{Crossing.Deals, Crossing.HoldsCollected, Crossing.IsUncut, Gathering.AreEmptied, Homes.run_start, Played.AreTurns, Queues.RestAll, Raised.IsRoomyFrom, Shares.AreOf}
+use Rattle.mesh_run.specs.{Shares.IsNoted, Shares.PlaysRound, Shares.SharePlays, Split.end_at}
+use Rattle.mesh_run.proofs.{AfterDeal.lane_uncut, Together.PlayedParts, Together.joined, Together.listed, Together.noted_joined, Together.turns_joined}
 
 -- a round, with all that its calls promise
 pub record Whole : Type 0 where
@@ -45,18 +42,7 @@ module _ (w : Whole) where
     pub noted : (s : Share) → IsNoted false items (get_or w.played k s).moved
 
   part_at : (k : ℕ) → k < length w.dealt → (items : List Item) × Part k items
-  part_at k below =
-      let s = (slice_get_there w.dealt k below).0 in
-      let one = w.plays k s below in
-      let here : (d : Share) → get_or w.dealt k s ≡ get_or w.dealt k d = λ d. get_or_default w.dealt k s d below in
-      let there : (d : Share) → get_or w.played k s ≡ get_or w.played k d = λ d. get_or_default w.played k s d (let long = w.played_long in omega (arith, long, below)) in (
-        one.items,
-        record {
-          plays = λ d. subst (λ (x : Share). SharePlays u w.patience w.turns x one.items (get_or w.played k d)) (here d)
-              (subst (λ (x : Share). SharePlays u w.patience w.turns (get_or w.dealt k s) one.items x) (there d) one.plays);
-          noted = λ d. subst (λ (x : Share). IsNoted false one.items x.moved) (there d) one.noted;
-        },
-      )
+  part_at k below = grind (arith, slice_get_there w.dealt k below, get_or w.dealt k ((slice_get_there w.dealt k below).0), get_or_default)
 
   -- what all shares did
   pub all_parts : (parts : List (List Item)) × (length parts ≡ length w.dealt) × ((k : ℕ) (d : List Item) → k < length w.dealt → Part k (get_or parts k d))
@@ -66,11 +52,7 @@ module _ (w : Whole) where
   parts = all_parts.0
 
   pub played_parts : PlayedParts u.capacity w.patience w.dealt w.played parts
-  played_parts = record {
-    long = w.played_long;
-    parts_long = all_parts.1;
-    goes = λ k s below. ((all_parts.2 k [] below).plays s).goes;
-  }
+  played_parts = grind arith
 
   pub dealt_long : length w.dealt ≡ length w.r.shares.items
   dealt_long = w.deals.same.0
@@ -80,28 +62,25 @@ module _ (w : Whole) where
   whole_turns =
       let shared = w.roomy.raised.shared in
       let listed_long = all_parts.1 in
-      turns_joined u w.turns (2 * (u.machine.width * u.machine.height)) shared.ends parts shared.runs (omega (arith, shared.long, dealt_long, listed_long))
+      turns_joined u w.turns (2 * (u.machine.width * u.machine.height)) w.r.layout.now.runs.items parts w.roomy.raised.laid.runs (omega (arith, shared.long, dealt_long, listed_long))
       (λ k d below. ((all_parts.2 k d (omega (arith, below, listed_long))).plays (first_share k (omega (arith, below, listed_long)))).turns_are)
       (λ k d below. own k d (omega (arith, below, listed_long)))
     where
       first_share : (k : ℕ) → k < length w.dealt → Share
       first_share k below = (slice_get_there w.dealt k below).0
 
-      own : (k : ℕ) (d : List Item) → k < length w.dealt → AreOf (run_start w.roomy.raised.shared.ends k) (slice_index_or w.roomy.raised.shared.ends k 0) (get_or parts k d)
+      own : (k : ℕ) (d : List Item) → k < length w.dealt → AreOf (run_start w.r.layout.now.runs.items k) (slice_index_or w.r.layout.now.runs.items k 0) (get_or parts k d)
       own k d below =
           let was = slice_get_there w.r.shares.items k (let as_dealt = dealt_long in omega (arith, as_dealt, below)) in
           let s = first_share k below in
           let same = w.deals.same.1 k was.0 (get_or w.dealt k s) was.1 (slice_get-get_or w.dealt k s below) in
           let mine = ((all_parts.2 k d below).plays s).own in
-          subst (λ n. AreOf n (slice_index_or w.roomy.raised.shared.ends k 0) (get_or parts k d)) (same.from ∙ w.roomy.raised.shared.from k was.0 was.1)
+          subst (λ n. AreOf n (slice_index_or w.r.layout.now.runs.items k 0) (get_or parts k d)) (same.from ∙ w.roomy.raised.shared.from k was.0 was.1)
           (subst (λ n. AreOf (get_or w.dealt k s).from n (get_or parts k d)) (same.to ∙ w.roomy.raised.shared.to k was.0 was.1) mine)
 
   -- whether a copy moved is noted
   pub whole_noted : IsNoted false (joined parts) (list_any (λ s. s.moved) w.played)
-  whole_noted =
-      let many = w.played_long in
-      noted_joined w.played parts (let listed_long = all_parts.1 in omega (arith, many, listed_long))
-      (λ k s p below. (all_parts.2 k p (omega (arith, below, many))).noted s)
+  whole_noted = grind (arith, noted_joined)
 
   -- ---- a queue that is a lane of one share
 

@@ -1,5 +1,5 @@
 -- The ends of the links between shares, dealt to the shares before a round and collected after it (this project's own).
-use Rattle.std.specs.Prelude.{◌≡◌, ◌≢◌, ◌⊎◌, ℕ, List, map, length, Some, slice_get}
+use Rattle.std.specs.Prelude.{◌≡◌, ◌≢◌, ◌⊎◌, ℕ, ◌<◌, ◌^◌, List, map, length, Some, slice_get}
 use Rattle.link_queue.specs.declared.links.Link.{Link}
 use Rattle.link_queue.specs.declared.links.Tx.{Tx}
 use Rattle.link_queue.specs.declared.links.Rx.{Rx}
@@ -70,12 +70,13 @@ pub record IsLaid (links : List Link) (shares : List Share) (l : ℕ) (c : Cut) 
 abbrev pub AreLaid : List Link → List Share → List Cut → Type 0
 AreLaid links shares cuts = (l : ℕ) (c : Cut) → slice_get cuts l ≡ Some c → IsLaid links shares l c
 
--- the cuts are of different queues, each between two shares that are there
+-- the cuts are few, and of different queues, each between two shares that are there
 pub record AreCuts (cuts : List Cut) (shares : List Share) : Type 0 where
   pub two : (l : ℕ) (c : Cut) → slice_get cuts l ≡ Some c → c.sender ≢ c.receiver
   pub senders : (l : ℕ) (c : Cut) → slice_get cuts l ≡ Some c → (e : End) × (end_at shares c.sender c.queue ≡ Some e)
   pub receivers : (l : ℕ) (c : Cut) → slice_get cuts l ≡ Some c → (e : End) × (end_at shares c.receiver c.queue ≡ Some e)
   pub apart : (k l : ℕ) (a b : Cut) → slice_get cuts k ≡ Some a → slice_get cuts l ≡ Some b → a.queue ≡ b.queue → k ≡ l
+  pub few : length cuts < 2 ^ 32
 
 -- All ends are collected: each link stands with both of them, with the same link and room.
 pub record HoldsCollected (old : List LinkEnds) (cuts : List Cut) (before : List Share) (s : Standing) (after : List Share) : Type 0 where

@@ -1,5 +1,5 @@
 -- What actors stand on, for a mesh's setup (this project's own).
-use Rattle.std.specs.Prelude.{◌≡◌, ℕ, ◌+◌, ◌*◌, ◌<◌, Bool, true, false, List, ◌++◌, length, Option, Some, None, Contains, slice_get}
+use Rattle.std.specs.Prelude.{◌≡◌, ℕ, ◌+◌, ◌*◌, ◌<◌, Bool, true, false, List, [], ◌++◌, length, Option, Some, None, Contains, slice_get, slice_index_or}
 use Rattle.spin_base.specs.declared.chips.Chip.{Chip}
 use Rattle.spin_base.specs.declared.chips.Spot.{Spot}
 use Rattle.spin_base.specs.declared.routes.Out.{Out}
@@ -7,10 +7,10 @@ use Rattle.spin_base.specs.Outputs.{out_number, IsOutput}
 use Rattle.machine_desc.specs.Live.{chip_of, is_live_chip}
 use Rattle.mesh_core.specs.State.{Setup}
 use Rattle.chip_node.specs.declared.nodes.Behind.{Behind}
-use Rattle.chip_node.specs.declared.nodes.CoreBank.{CoreBank}
-use Rattle.chip_node.specs.Acting.{place_in}
+use Rattle.chip_node.specs.declared.nodes.{CoreBank.CoreBank, RouterNode.RouterNode}
+use Rattle.chip_node.specs.Acting.{place_at_router, place_in}
 use Rattle.mesh_run.specs.declared.floors.Floor.{Floor}
-use Rattle.mesh_run.specs.Played.{port_count, place_behind, IsVertexOn}
+use Rattle.mesh_run.specs.Played.{port_count, place_behind, IsLiveIndex, IsVertexOn}
 
 -- how many chips the grid has
 abbrev pub grid_size : Setup → ℕ
@@ -29,7 +29,15 @@ pub record IsBankOf (u : Setup) (i : ℕ) (b : CoreBank) : Type 0 where
   pub index : b.index ≡ i
   pub cores : b.cores ≡ port_count u
   pub vertices : (v : ℕ) → Contains b.vertices.items v → IsVertexOn u i v
-  pub all : is_live_chip u.machine (chip_of u.machine i) ≡ true → (v : ℕ) → IsVertexOn u i v → Contains b.vertices.items v
+  pub all : is_live_chip u.machine (chip_of u.machine i) ≡ true → (v : ℕ) → IsVertexOn u i v → ∥ Contains b.vertices.items v ∥₁
+
+-- A router with the chip, the table and the outputs of a live chip.
+pub record IsRouterOf (u : Setup) (i : ℕ) (r : RouterNode) : Type 0 where
+  pub live : IsLiveIndex u i
+  pub index : r.index ≡ i
+  pub chip : r.chip ≡ chip_of u.machine i
+  pub table : r.table.now ≡ slice_index_or u.tables i []
+  pub behind : (o : Out) → IsOutput o → place_at_router r.behind.now o ≡ place_behind u (chip_of u.machine i) o
 
 -- For each chip index the chip where it is live, the place of the queue behind each output of a live chip, and the bank. The setup has a
 -- table for each.

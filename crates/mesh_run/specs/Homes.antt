@@ -1,6 +1,6 @@
 -- In which shares the two ends of each queue stand (this project's own).
 use Rattle.std.proofs.Common.{zero, suc}
-use Rattle.std.specs.Prelude.{◌≡◌, ◌≢◌, ◌⊎◌, ℕ, ◌+◌, ◌*◌, ◌<◌, ◌≤◌, List, [], ◌∷◌, ◌++◌, replicate, length, Option, Some, All, slice_get, slice_index_or}
+use Rattle.std.specs.Prelude.{◌≡◌, ◌≢◌, ◌⊎◌, ℕ, ◌+◌, ◌*◌, ◌^◌, ◌<◌, ◌≤◌, List, [], ◌∷◌, ◌++◌, replicate, length, Option, Some, All, slice_get, slice_index_or}
 use Rattle.spin_base.specs.declared.routes.Out.{Out}
 use Rattle.spin_base.specs.Outputs.{out_number, IsOutput}
 use Rattle.machine_desc.specs.Live.{chip_of}
@@ -17,6 +17,7 @@ pub record AreShareRuns (count : ℕ) (ends : List ℕ) : Type 0 where
   pub rising : (a b : ℕ) → a < b → b < length ends → slice_index_or ends a 0 ≤ slice_index_or ends b 0
   pub last : (n : ℕ) → length ends ≡ n + 1 → slice_index_or ends n 0 ≡ count
   pub some : 0 < length ends
+  pub few : length ends ≤ count + 1
 
 -- where the run of a number begins
 abbrev pub run_start : List ℕ → ℕ → ℕ
@@ -88,3 +89,4 @@ pub record AreCutsOf (homes : List Home) (cuts : List Cut) : Type 0 where
   pub cut : (l : ℕ) (c : Cut) → slice_get cuts l ≡ Some c → (slice_get homes c.queue ≡ Some (record { sender = c.sender; receiver = c.receiver })) × (c.sender ≢ c.receiver)
   pub all_cut : (q : ℕ) (h : Home) → slice_get homes q ≡ Some h → h.sender ≢ h.receiver → (l : ℕ) × (c : Cut) × (slice_get cuts l ≡ Some c) × (c.queue ≡ q)
   pub apart : (k l : ℕ) (a b : Cut) → slice_get cuts k ≡ Some a → slice_get cuts l ≡ Some b → a.queue ≡ b.queue → k ≡ l
+  pub few : length cuts < 2 ^ 32

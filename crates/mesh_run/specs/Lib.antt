@@ -1,4 +1,5 @@
 pub mod Crossing
+pub mod FloorProps
 pub mod Floors
 pub mod Gathering
 pub mod Homes

@@ -1,5 +1,5 @@
 -- A queue brought up as a link, at rest between rounds, and brought down.
-use Rattle.std.specs.Prelude.{◌≡◌, ℕ, ◌+◌, ◌*◌, ◌-◌, ◌==◌, ◌<◌, ◌≤◌, Bool, min, List, [], ◌∷◌, ◌++◌, map, length, All, if◌then◌else◌, slice_index_or, slice_set}
+use Rattle.std.specs.Prelude.{◌≡◌, ℕ, ◌+◌, ◌*◌, ◌-◌, ◌==◌, ◌<◌, ◌≤◌, Bool, min, List, [], ◌++◌, map, length, All, if◌then◌else◌, slice_index_or, slice_set}
 use Rattle.std.specs.List.{list_all}
 use Rattle.spin_base.specs.declared.copies.McCopy.{McCopy}
 use Rattle.link_queue.specs.declared.links.LinkEnds.{LinkEnds}
@@ -7,9 +7,8 @@ use Rattle.link_queue.specs.Ends.{IsTx, IsRx, cap_of, sending, taking}
 use Rattle.link_queue.specs.TheRule.{put_of, IsFullNote}
 use Rattle.link_queue.specs.Ups.{NoNotes, Rests}
 use Rattle.mesh_run.specs.declared.queues.Rested.{Rested}
-use Rattle.mesh_run.specs.declared.standing.Rising.{Rising}
 use Rattle.mesh_run.specs.declared.standing.Standing.{Standing}
-use Rattle.mesh_run.specs.Standing.{HoldsAll, RisenTo}
+use Rattle.mesh_run.specs.Standing.{HoldsAll}
 
 -- both are ends of the link, and there is room for all that it can hold
 pub record AreEnds (e : LinkEnds) : Type 0 where
@@ -47,11 +46,6 @@ pub record IsUp (cap more : ℕ) (queue : List McCopy) (e : LinkEnds) : Type 0 w
 pub record AreUp (cap more : ℕ) (queues : List (List McCopy)) (ends : List LinkEnds) : Type 0 where
   pub long : length ends ≡ length queues
   pub each : (i : ℕ) (q : List McCopy) (e : LinkEnds) → i < length queues → IsUp cap more (slice_index_or queues i q) (slice_index_or ends i e)
-
--- a link more is up, for a queue
-abbrev pub RaisesLink : ℕ → ℕ → List McCopy → Rising → Rising → Type 0
-RaisesLink cap more queue before after =
-    (ends : List LinkEnds) (spare : ℕ) → RisenTo ends (spare + 1) before → (e : LinkEnds) × IsUp cap more queue e × RisenTo (ends ++ e ∷ []) spare after
 
 -- ---- after a round
 

@@ -4,8 +4,8 @@ use Rattle.link_queue.specs.declared.links.LinkEnds.{LinkEnds}
 use Rattle.mesh_core.specs.State.{State}
 use Rattle.chip_node.specs.Items.{Item}
 use Rattle.mesh_run.specs.declared.raised.RaisedMesh.{RaisedMesh}
-use Rattle.mesh_run.specs.Floors.{IsFloorOf}
 use Rattle.mesh_run.specs.Gathering.{HasRoomForLogs}
+use Rattle.mesh_run.specs.Layouts.{IsLayoutOf}
 use Rattle.mesh_run.specs.Played.{IsPlayedBy}
 use Rattle.mesh_run.specs.Queues.{AreUp}
 use Rattle.mesh_run.specs.Shares.{IsNoted}
@@ -19,8 +19,8 @@ pub record IsRaisedFrom (m : State) (more : ℕ) (r : RaisedMesh) : Type 0 where
   pub inputs_long : length r.parts.inputs ≡ length m.inputs
   pub cores_long : length r.parts.cores ≡ length m.cores
   pub unsent_long : length r.parts.unsent ≡ length m.unsent
-  pub floor : IsFloorOf m.setup r.layout.now.floor
-  pub shared : AreShared m.setup r.layout.now.homes.items r.layout.now.cuts.items r.shares.items
+  pub laid : IsLayoutOf m.setup r.layout.now
+  pub shared : AreShared m.setup r.layout.now.runs.items r.shares.items
   pub lanes : HoldLanes (m.inputs ++ m.cores) r.layout.now.homes.items r.shares.items
   pub unsent : HoldUnsent m.setup m.unsent r.layout.now.homes.items r.shares.items
   pub ends : List LinkEnds

@@ -1,5 +1,5 @@
 -- A mesh that is split into shares, with links between them (this project's own).
-use Rattle.std.specs.Prelude.{◌≡◌, ◌≢◌, ◌⊎◌, ℕ, ◌+◌, ◌*◌, ◌<◌, List, [], map, length, Option, Some, None, All, slice_get, slice_index_or}
+use Rattle.std.specs.Prelude.{◌≡◌, ◌≢◌, ◌⊎◌, ℕ, ◌+◌, ◌<◌, List, [], map, length, Option, Some, None, All, slice_get, slice_index_or}
 use Rattle.spin_base.specs.declared.copies.McCopy.{McCopy}
 use Rattle.spin_base.specs.WithRoom.{WithRoom}
 use Rattle.mesh_core.specs.State.{Setup}
@@ -8,8 +8,7 @@ use Rattle.chip_node.specs.declared.ends.End.TheVariants.{Away, Own}
 use Rattle.mesh_run.specs.declared.homes.Cut.{Cut}
 use Rattle.mesh_run.specs.declared.homes.Home.{Home}
 use Rattle.mesh_run.specs.declared.shares.Share.{Share}
-use Rattle.mesh_run.specs.Floors.{grid_size}
-use Rattle.mesh_run.specs.Homes.{AreHomesOf, AreShareRuns, IsShareTable, run_start}
+use Rattle.mesh_run.specs.Homes.{run_start}
 use Rattle.mesh_run.specs.Played.{port_count, vertex_place}
 
 -- what the share of a number holds of the queue at a place
@@ -30,21 +29,13 @@ unsent_at shares s v = unsent_in (slice_get shares s) v
 
 -- ---- which share has what
 
--- The shares have the runs of actors, and each queue has its homes in them. The cuts are the queues between two shares, once each.
-pub record AreShared (u : Setup) (homes : List Home) (cuts : List Cut) (shares : List Share) : Type 0 where
-  pub ends : List ℕ
-  pub table : List ℕ
-  pub runs : AreShareRuns (2 * grid_size u) ends
-  pub numbers : IsShareTable (2 * grid_size u) ends table
-  pub homes_are : AreHomesOf u table homes
+-- The shares have the runs of actors, which end at these places, and a place for each queue and each vertex.
+pub record AreShared (u : Setup) (ends : List ℕ) (shares : List Share) : Type 0 where
   pub long : length shares ≡ length ends
   pub from : (k : ℕ) (s : Share) → slice_get shares k ≡ Some s → s.from ≡ run_start ends k
   pub to : (k : ℕ) (s : Share) → slice_get shares k ≡ Some s → s.to ≡ slice_index_or ends k 0
   pub ends_long : (k : ℕ) (s : Share) → slice_get shares k ≡ Some s → length s.hold.ends.items ≡ port_count u + length u.spots
   pub unsent_long : (k : ℕ) (s : Share) → slice_get shares k ≡ Some s → length s.hold.unsent.items ≡ length u.spots
-  pub cut : (l : ℕ) (c : Cut) → slice_get cuts l ≡ Some c → (slice_get homes c.queue ≡ Some (record { sender = c.sender; receiver = c.receiver })) × (c.sender ≢ c.receiver)
-  pub all_cut : (q : ℕ) (h : Home) → slice_get homes q ≡ Some h → h.sender ≢ h.receiver → (l : ℕ) × (c : Cut) × (slice_get cuts l ≡ Some c) × (c.queue ≡ q)
-  pub apart : (k l : ℕ) (a b : Cut) → slice_get cuts k ≡ Some a → slice_get cuts l ≡ Some b → a.queue ≡ b.queue → k ≡ l
 
 -- ---- between rounds
 

@@ -47,7 +47,7 @@ pub record FitHomes (s : State) (homes : List Home) (shares : List Share) : Type
 
 -- How a mesh is split on a layout: with a link for each queue between two shares, and shares that hold nothing yet.
 pub record IsSplitPlanOf (m : State) (l : Layout) (more : ℕ) (p : SplitPlan) : Type 0 where
-  pub shared : AreShared m.setup l.homes.items l.cuts.items p.shares.items
+  pub shared : AreShared m.setup l.runs.items p.shares.items
   pub nothing : HoldNothing l.runs.items (length l.homes.items) (length m.unsent) p.shares.items
   pub ends : List LinkEnds
   pub holds : HoldsAll ends p.standing

@@ -21,7 +21,6 @@ pub(crate) fn deal(shares: &mut Vec<Share>, standing: &mut Standing, cuts: &[Cut
     requires cuts { AreCuts cuts.now shares.old.items }
     requires ends { (ends : List LinkEnds) × HoldsAll ends standing.old
         × (length ends ≡ length cuts.now) }
-    requires few { length cuts.now < 2 ^ 32 }
     ensures deals { (ends : List LinkEnds) → HoldsAll ends standing.old
         → Deals ends cuts.now shares.old.items shares.new.items }
     ensures none_left { (ends : List LinkEnds) → HoldsAll ends standing.old

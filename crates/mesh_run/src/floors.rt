@@ -1,5 +1,6 @@
 // What actors stand on, made once for a run: who is behind each output, and which vertices are on each chip.
-ghost use Rattle.std.specs.Prelude.{◌≡◌, ◌+◌, ◌*◌, ◌<◌, ◌≤◌, ◌++◌, IfOk, IfSome, OnOk, IsNone, ◌↔◌, ℕ, Some, false, length, option_to_list, slice_get, take, drop, slice_index_or, []};
+ghost use Rattle.std.specs.Prelude.{◌≡◌, ◌+◌, ◌*◌, ◌<◌, ◌≤◌, ◌++◌, IfOk, OnOk, length, option_to_list};
+ghost use Rattle.spin_base.specs.declared.routes.Out.{Out as AnOut};
 ghost use Rattle.spin_base.specs.Outputs.{IsOutput, out_number};
 ghost use Rattle.machine_desc.specs.Live.{chip_of, is_live_chip, IsInside};
 ghost use Rattle.machine_desc.specs.NetsOn.{vertex_at};
@@ -7,7 +8,7 @@ ghost use Rattle.mesh_core.specs.State.{Setup};
 ghost use Rattle.mesh_run.specs.Floors.{AddsBehind, AreVerticesOf, IsFloorOf, IsFloorSoFar, grid_size, live_if, place_of_slot};
 ghost use Rattle.mesh_run.specs.Played.{place_behind, IsLiveIndex};
 
-use chip_node::{Behind, CoreBank, RouterNode};
+use chip_node::{Behind, CoreBank};
 use mesh_core::laws::every_setup_has_sites;
 use mesh_core::{MeshSetup, Queue};
 use spin_base::{Chip, Dir, Memory, Out, Port, Shared, Spot};
@@ -19,9 +20,9 @@ pub(crate) const OUT_COUNT: usize = 24;
 /// For each chip index: whether the chip is live, the queue behind each of its outputs, and the bank of its vertices.
 #[derive(Drop)]
 pub(crate) struct Floor {
-    chips: Vec<Option<Chip>>,
-    behind: Vec<Option<Behind>>,
-    banks: Vec<CoreBank>,
+    pub chips: Vec<Option<Chip>>,
+    pub behind: Vec<Option<Behind>>,
+    pub banks: Vec<CoreBank>,
 }
 
 impl Shared for Floor {}
@@ -49,9 +50,9 @@ impl Floor {
 
     // One chip more.
     fn add(&mut self, alloc: Global, setup: &MeshSetup, index: u32) -> Result<(), Memory>
-        requires below { index < grid_size setup.now }
-        requires before { IsFloorSoFar setup.now index self.old }
-        ensures { OnOk result (IsFloorSoFar setup.now (index + 1) self.new) }
+        requires { index < grid_size setup.now }
+        ensures { OnOk result (IsFloorSoFar setup.now index self.old
+            → IsFloorSoFar setup.now (index + 1) self.new) }
     {
         let chip = setup.machine().chip_at(index);
         let cores = Port::COUNT * setup.machine().chips() as u32;
@@ -66,93 +67,26 @@ impl Floor {
         Ok(())
     }
 
-    /// How many actors there are: two for each chip index.
-    pub fn actors(&self) -> usize
-        requires { length self.now.chips.items ≤ 4096 }
-        ensures { result ≡ 2 * length self.now.chips.items }
+    /// The place of the queue behind an output of the chip of an index, by the output's bit number, where both are there.
+    pub fn place_behind(&self, index: usize, number: usize) -> Option<u32>
+        ensures { (u : Setup) (out : AnOut) → IsFloorOf u self.now → IsLiveIndex u index → IsOutput out
+            → out_number out ≡ number → result ≡ place_behind u (chip_of u.machine index) out }
     {
-        2 * self.chips.len()
-    }
-
-    /// How many of them are of live chips. It is a hint, and no promise rests on it.
-    pub fn live_actors(&self) -> usize
-        requires { length self.now.chips.items ≤ 4096 }
-    {
-        2 * self.chips.iter().filter(|chip| chip.is_some()).count()
-    }
-
-    /// Whether the chip of an index is live.
-    pub fn is_live(&self, index: usize) -> bool
-        requires { index < length self.now.chips.items }
-        ensures { (u : Setup) → IsFloorOf u self.now
-            → result ≡ is_live_chip u.machine (chip_of u.machine index) }
-    {
-        self.chips[index].is_some()
-    }
-
-    /// The queues behind the outputs of a chip.
-    pub fn behind(&self, index: usize) -> &[Option<Behind>]
-        requires { 24 * index + 24 ≤ length self.now.behind.items }
-        ensures { result.now ≡ take 24 (drop (24 * index) self.now.behind.items) }
-    {
-        &self.behind[OUT_COUNT * index..OUT_COUNT * index + OUT_COUNT]
-    }
-
-    /// The place of the queue behind an output of a live chip, by the chip's index.
-    pub fn behind_output(&self, setup: &MeshSetup, index: usize, out: Out) -> Option<u32>
-        requires floor { IsFloorOf setup.now self.now }
-        requires below { index < grid_size setup.now }
-        requires live { IsLiveIndex setup.now index }
-        requires output { IsOutput out }
-        ensures { result ≡ place_behind setup.now (chip_of setup.now.machine index) out }
-    {
-        let number = number_of(out);
-        let _chips = setup.machine().chips();
-        match self.behind[OUT_COUNT * index + number] {
-            Some(behind) => Some(behind.place),
+        let place = index.saturating_mul(OUT_COUNT).saturating_add(number);
+        match self.behind.get(place) {
+            Some(slot) => place_of(*slot),
             None => None,
         }
     }
+}
 
-    /// The place of the queue behind an output of the chip of an index, where both are there. It is a hint, and no promise rests on it.
-    pub fn place_behind(&self, index: usize, number: usize) -> Option<u32> {
-        match self
-            .behind
-            .get(index.saturating_mul(OUT_COUNT).saturating_add(number))
-        {
-            Some(Some(behind)) => Some(behind.place),
-            _ => None,
-        }
-    }
-
-    /// The router of the chip of an index, where it is live.
-    pub fn router<'a>(&'a self, setup: &'a MeshSetup, index: usize) -> Option<RouterNode<'a>>
-        requires floor { IsFloorOf setup.now self.now }
-        requires below { index < grid_size setup.now }
-        ensures none { IsNone result
-            ↔ (is_live_chip setup.now.machine (chip_of setup.now.machine index) ≡ false) }
-        ensures some { IfSome result (λ r. (r.chip ≡ chip_of setup.now.machine index)
-            × (r.index ≡ index) × (r.table.now ≡ slice_index_or setup.now.tables index [])
-            × (r.behind.now ≡ take 24 (drop (24 * index) self.now.behind.items))) }
-    {
-        few_vertices(setup);
-        match self.chips[index] {
-            Some(chip) => Some(RouterNode {
-                chip,
-                index: index as u32,
-                table: &setup.tables()[index],
-                behind: self.behind(index),
-            }),
-            None => None,
-        }
-    }
-
-    /// The bank of the chip of an index.
-    pub fn bank(&self, index: usize) -> &CoreBank
-        requires { index < length self.now.banks.items }
-        ensures { slice_get self.now.banks.items index ≡ Some result.now }
-    {
-        &self.banks[index]
+// The place of a queue that is there.
+fn place_of(slot: Option<Behind>) -> Option<u32>
+    ensures { result ≡ place_of_slot slot }
+{
+    match slot {
+        Some(behind) => Some(behind.place),
+        None => None,
     }
 }
 
@@ -223,22 +157,9 @@ fn push_behind(list: &mut Vec<Option<Behind>>, setup: &MeshSetup, chip: Chip) ->
     Ok(())
 }
 
-// The bit number of an output.
-fn number_of(out: Out) -> usize
-    requires { IsOutput out }
-    ensures number { result ≡ out_number out }
-    ensures below { result < 24 }
-{
-    match out {
-        Out::Link(link) => usize::from(link.number()),
-        Out::Core(core) => 6 + usize::from(core),
-    }
-}
-
-/// The output of a bit number.
-pub(crate) fn out_at(number: u8) -> Out
-    requires { number < 24 }
-    ensures output { IsOutput result }
+// The output of a bit number.
+fn out_at(number: u8) -> Out
+    ensures output { number < 24 → IsOutput result }
     ensures number { out_number result ≡ number }
 {
     match Dir::from_number(number) {

@@ -1,5 +1,5 @@
 // What the shares logged in a round, put at the ends of the mesh's lists.
-ghost use Rattle.std.specs.Prelude.{◌≡◌, ◌≤◌, ◌+◌, ◌++◌, ◌||◌, IfOk, OnOk, length};
+ghost use Rattle.std.specs.Prelude.{◌≡◌, ◌≤◌, ◌+◌, ◌++◌, ◌||◌, ◌∷◌, [], IfOk, OnOk, length};
 ghost use Rattle.std.specs.List.{flat_map};
 ghost use Rattle.mesh_run.specs.Gathering.{AreEmptied, FitsLogs, HasRoomForLogs, IsAnyMoved, IsEmptied};
 
@@ -51,8 +51,7 @@ impl MeshLogs {
 
     // Takes what a share logged.
     fn take(&mut self, share: &mut Share)
-        requires delivered { length share.old.hold.deliveries.items ≤ self.old.delivered.spare }
-        requires dumped { length share.old.hold.dumps.items ≤ self.old.dumped.spare }
+        requires { FitsLogs (share.old ∷ []) self.old }
         ensures delivered { self.new.delivered.items
             ≡ self.old.delivered.items ++ share.old.hold.deliveries.items }
         ensures delivered_room { self.new.delivered.spare + length share.old.hold.deliveries.items

@@ -1,10 +1,11 @@
 // In which shares the two ends of each queue stand.
-ghost use Rattle.std.specs.Prelude.{◌≡◌, ◌+◌, ◌*◌, ◌<◌, ◌≤◌, ◌^◌, ◌++◌, ℕ, IfOk, OnOk, Some, length};
-ghost use Rattle.mesh_run.specs.Floors.{IsFloorOf, grid_size};
-ghost use Rattle.mesh_run.specs.Played.{IsLiveIndex};
+ghost use Rattle.std.specs.Prelude.{◌≡◌, ◌+◌, ◌*◌, ◌<◌, ◌≤◌, ◌^◌, ◌++◌, ℕ, List, IfOk, OnOk, Some, length, slice_get};
+ghost use Rattle.mesh_run.specs.Floors.{grid_size};
 ghost use Rattle.mesh_run.specs.Homes.{AreCutsOf, AreHomesOf, AreShareRuns, HaveSenders, IsShareTable, MayCut, MayGrow, SetsSender, homes_of_ports};
+ghost use Rattle.mesh_run.specs.Shares.{router_place};
 
-use crate::floors::{Floor, OUT_COUNT, out_at};
+use crate::floors::OUT_COUNT;
+use crate::footing::Footing;
 use mesh_core::MeshSetup;
 use mesh_core::laws::every_setup_has_sites;
 use spin_base::{Memory, Port};
@@ -20,20 +21,19 @@ pub(crate) struct Home {
 /// Where the runs of actors end, one behind the other: meant as runs of equal length, one for each worker, the last shorter, where the
 /// actors of live chips count. No clause says how many they are, nor how long.
 #[tactic(auto, using(crate::proofs::HomeLaws::rise_none, crate::proofs::HomeLaws::rise_more))]
-pub(crate) fn runs_of(alloc: Global, floor: &Floor, workers: u32) -> Result<Vec<usize>, Memory>
-    requires staffed { 1 ≤ workers }
-    requires few { length floor.now.chips.items ≤ 4096 }
-    ensures runs { IfOk result (λ ends. AreShareRuns (2 * length floor.now.chips.items) ends.items) }
-    ensures few { IfOk result (λ ends. length ends.items
-        ≤ 2 * length floor.now.chips.items + 1) }
+pub(crate) fn runs_of(alloc: Global, footing: Footing, workers: u32) -> Result<Vec<usize>, Memory>
+    ensures { IfOk result (λ ends. AreShareRuns (2 * grid_size footing.entry.setup.now) ends.items) }
 {
-    let count = floor.actors();
-    let size = floor.live_actors().div_ceil(workers as usize).max(1);
+    let count = footing.actors() as usize;
+    let size = footing
+        .live_actors()
+        .div_ceil(workers.max(1) as usize)
+        .max(1);
     let mut ends = Vec::new(alloc);
     let mut here: usize = 0;
     for place in 0..count {
         here = end_run(&mut ends, place, here, size)?;
-        if floor.is_live(place / 2) {
+        if footing.is_live(place / 2) {
             here += 1;
         }
     }
@@ -43,10 +43,8 @@ pub(crate) fn runs_of(alloc: Global, floor: &Floor, workers: u32) -> Result<Vec<
 
 // A run ends before a place where it has as many actors as it is to have. How many the run at hand has.
 fn end_run(ends: &mut Vec<usize>, place: usize, here: usize, size: usize) -> Result<usize, Memory>
-    requires some { 1 ≤ size }
-    requires within { here ≤ size }
     ensures ends { OnOk result (MayGrow place ends.old.items ends.new.items) }
-    ensures within { IfOk result (λ here. here + 1 ≤ size) }
+    ensures fewer { IfOk result (λ now. now ≤ here) }
 {
     if here < size {
         return Ok(here);
@@ -56,9 +54,8 @@ fn end_run(ends: &mut Vec<usize>, place: usize, here: usize, size: usize) -> Res
 }
 
 /// The number of the run of each actor.
-pub(crate) fn share_table(alloc: Global, ends: &[usize], count: usize) -> Result<Vec<u32>, Memory>
-    requires runs { AreShareRuns count ends.now }
-    requires few { length ends.now < 2 ^ 32 }
+pub(crate) fn share_table(alloc: Global, ends: &[usize], count: u32) -> Result<Vec<u32>, Memory>
+    requires { AreShareRuns count ends.now }
     ensures { IfOk result (λ table. IsShareTable count ends.now table.items) }
 {
     let mut table = Vec::new(alloc);
@@ -72,16 +69,11 @@ pub(crate) fn share_table(alloc: Global, ends: &[usize], count: usize) -> Result
 
 /// The homes of all queues: an output's router sends to the queue behind it, and a bank to its chip's injection queue; a router takes from
 /// its ports' queues, and a bank from those of its vertices.
-pub(crate) fn homes_of(
-    alloc: Global,
-    setup: &MeshSetup,
-    floor: &Floor,
-    table: &[u32],
-) -> Result<Vec<Home>, Memory>
-    requires floor { IsFloorOf setup.now floor.now }
-    requires long { length table.now ≡ 2 * grid_size setup.now }
-    ensures { IfOk result (λ homes. AreHomesOf setup.now table.now homes.items) }
+pub(crate) fn homes_of(alloc: Global, footing: Footing, table: &[u32]) -> Result<Vec<Home>, Memory>
+    requires { length table.now ≡ 2 * grid_size footing.setup.now }
+    ensures { IfOk result (λ homes. AreHomesOf footing.entry.setup.now table.now homes.items) }
 {
+    let setup = footing.setup;
     let chips = chips_of(setup);
     let mut homes = Vec::new(alloc);
     for index in 0..chips {
@@ -95,7 +87,7 @@ pub(crate) fn homes_of(
         })?;
     }
     for at in 0..chips {
-        set_senders(&mut homes, setup, floor, table, at);
+        set_senders(&mut homes, footing, at, table[2 * at]);
     }
     Ok(homes)
 }
@@ -135,48 +127,29 @@ fn push_ports(homes: &mut Vec<Home>, router: u32, bank: u32) -> Result<(), Memor
     Ok(())
 }
 
-// The router of the chip of an index, where that is live, sends to the queues behind its outputs.
-fn set_senders(homes: &mut Vec<Home>, setup: &MeshSetup, floor: &Floor, table: &[u32], index: usize)
-    requires floor { IsFloorOf setup.now floor.now }
-    requires long { length table.now ≡ 2 * grid_size setup.now }
-    requires below { index < grid_size setup.now }
-    requires before { HaveSenders setup.now table.now index 0 homes.old.items }
-    ensures { HaveSenders setup.now table.now (index + 1) 0 homes.new.items }
+// The router of the chip of an index, where that is live, stands in a share and sends to the queues behind its outputs.
+fn set_senders(homes: &mut Vec<Home>, footing: Footing, index: usize, router: u32)
+    ensures { (table : List ℕ) → slice_get table (router_place index) ≡ Some router
+        → HaveSenders footing.entry.setup.now table index 0 homes.old.items
+        → HaveSenders footing.entry.setup.now table (index + 1) 0 homes.new.items }
 {
-    if floor.is_live(index) {
-        return set_live_senders(homes, setup, floor, table, index);
+    if !footing.is_live(index) {
+        return;
     }
-}
-
-// The router of a live chip sends to the queues behind its outputs.
-fn set_live_senders(
-    homes: &mut Vec<Home>,
-    setup: &MeshSetup,
-    floor: &Floor,
-    table: &[u32],
-    index: usize,
-)
-    requires floor { IsFloorOf setup.now floor.now }
-    requires long { length table.now ≡ 2 * grid_size setup.now }
-    requires live { IsLiveIndex setup.now index }
-    requires below { index < grid_size setup.now }
-    requires before { HaveSenders setup.now table.now index 0 homes.old.items }
-    ensures { HaveSenders setup.now table.now index 24 homes.new.items }
-{
-    for number in 0..OUT_COUNT as u8 {
-        let behind = floor.behind_output(setup, index, out_at(number));
-        set_sender(homes, behind, table[2 * index]);
+    for number in 0..OUT_COUNT {
+        set_sender(homes, footing.floor.place_behind(index, number), router);
     }
 }
 
 // The queue at a place, where there is one, has another sender.
-#[tactic(auto, using(crate::proofs::HomeLaws::sets_none, crate::proofs::HomeLaws::sets_one))]
+#[tactic(auto, using(crate::proofs::HomeLaws::sets_none, crate::proofs::HomeLaws::sets_one, crate::proofs::HomeLaws::sets_past))]
 fn set_sender(homes: &mut Vec<Home>, place: Option<u32>, sender: u32)
-    requires { (q : ℕ) → place ≡ Some q → q < length homes.old.items }
     ensures { SetsSender place sender homes.old.items homes.new.items }
 {
     if let Some(place) = place {
-        homes[place as usize].sender = sender;
+        if (place as usize) < homes.len() {
+            homes[place as usize].sender = sender;
+        }
     }
 }
 

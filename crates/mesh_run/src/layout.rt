@@ -1,9 +1,10 @@
 // How a mesh of a setup is shared between workers, whatever copies it holds.
-ghost use Rattle.std.specs.Prelude.{◌≤◌, IfOk};
+ghost use Rattle.std.specs.Prelude.{IfOk};
 ghost use Rattle.mesh_core.specs.State.{IsMesh};
 ghost use Rattle.mesh_run.specs.Layouts.{IsLayoutOf};
 
 use crate::floors::Floor;
+use crate::footing::Footing;
 use crate::homes::{Cut, Home, cuts_of, homes_of, runs_of, share_table};
 use mesh_core::MeshParts;
 use spin_base::Memory;
@@ -20,20 +21,23 @@ pub struct Layout {
 }
 
 impl Layout {
-    /// How a mesh is shared, for so many workers. How many runs there are, and of how many actors, no clause says.
+    /// How a mesh is shared, for so many workers, where none counts as one. How many runs there are, and of how many actors, no clause says.
     ///
     /// # Errors
     ///
     /// `Memory` where memory runs out.
     pub fn of(alloc: Global, parts: &MeshParts, workers: u32) -> Result<Layout, Memory>
-        requires mesh { IsMesh parts.now }
-        requires staffed { 1 ≤ workers }
+        requires { IsMesh parts.now }
         ensures { IfOk result (IsLayoutOf parts.now.setup) }
     {
         let floor = Floor::of(alloc, &parts.setup)?;
-        let runs = runs_of(alloc, &floor, workers)?;
-        let table = share_table(alloc, &runs, floor.actors())?;
-        let homes = homes_of(alloc, &parts.setup, &floor, &table)?;
+        let footing = Footing {
+            setup: &parts.setup,
+            floor: &floor,
+        };
+        let runs = runs_of(alloc, footing, workers)?;
+        let table = share_table(alloc, &runs, footing.actors())?;
+        let homes = homes_of(alloc, footing, &table)?;
         let cuts = cuts_of(alloc, &homes)?;
         Ok(Layout {
             floor,

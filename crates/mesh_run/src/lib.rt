@@ -9,6 +9,7 @@
 
 mod crossing;
 mod floors;
+mod footing;
 mod gathering;
 mod homes;
 mod layout;

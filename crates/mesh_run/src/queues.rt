@@ -4,11 +4,11 @@
 // a round leaves with fewer gets twice as many. So between rounds no copy moves, and a round costs what it moves.
 ghost use Rattle.std.specs.Prelude.{◌≡◌, ℕ, ◌+◌, ◌<◌, ◌≤◌, List, All, OnErr, OnOk, IfOk, Some, length, map, slice_get};
 ghost use Rattle.link_queue.specs.declared.links.LinkEnds.{LinkEnds};
-ghost use Rattle.mesh_run.specs.Standing.{HoldsAll, RisenTo};
-ghost use Rattle.mesh_run.specs.Queues.{AreUp, AreEnds, DownTo, IsDown, IsUp, RaisesLink, RestAll, RestsAt, StayUp, UpAt, WasUp, free_places_of, places_for, queue_of_link};
+ghost use Rattle.mesh_run.specs.Standing.{HoldsAll};
+ghost use Rattle.mesh_run.specs.Queues.{AreUp, AreEnds, DownTo, IsDown, IsUp, RestAll, RestsAt, StayUp, UpAt, WasUp, free_places_of, places_for, queue_of_link};
 
 use crate::standing::{Rising, Standing};
-use link_queue::{AtRest, LinkEnds, link_down, link_up, rest};
+use link_queue::{AtRest, FirstList, LentLink, LinkEnds, WholeLink, link_down, link_up, rest};
 use spin_base::{Fifo, McCopy, Memory, Seq};
 use std::alloc::Global;
 use std::sync::Wait;
@@ -33,10 +33,10 @@ impl Places {
     // place more than that it is full exactly when its queue is: never, or where it has as many places. Twice as many, so that a
     // queue that grows seldom asks for another link. All places are made with a link, used or not.
     fn for_held(self, held: usize) -> u32
-        requires { held ≤ self.cap }
         ensures { result ≡ places_for self.cap self.turns held }
     {
-        u64::from(self.cap).min(2 * (held as u64 + u64::from(self.turns) + 1)) as u32
+        let filled = (held as u64).saturating_add(u64::from(self.turns) + 1);
+        u64::from(self.cap).min(filled.saturating_mul(2)) as u32
     }
 }
 
@@ -53,30 +53,26 @@ pub(crate) fn bring_up<R: Wait>(
 {
     let mut rising = Rising::over(alloc, queues.len())?;
     for place in 0..queues.len() {
-        raise_link(rt, alloc, &mut rising, queues[place].as_slice(), places)?;
+        let ends = link_for(rt, alloc, queues[place].as_slice(), places)?;
+        rising.put(ends);
     }
     Ok(rising.into_standing())
 }
 
-// One link more, for a queue.
-fn raise_link<R: Wait>(
+// A link for a queue.
+fn link_for<R: Wait>(
     rt: &R,
     alloc: Global,
-    rising: &mut Rising,
     queue: &[McCopy],
     places: Places,
-) -> Result<(), Memory>
-    requires fits { length queue.now ≤ places.cap }
-    requires room { (before : List LinkEnds) × (spare : ℕ) × RisenTo before (spare + 1) rising.old }
-    ensures { OnOk result (RaisesLink places.cap (places.turns + 1) queue.now rising.old rising.new) }
+) -> Result<LinkEnds, Memory>
+    requires { length queue.now ≤ places.cap }
+    ensures { IfOk result (IsUp places.cap (places.turns + 1) queue.now) }
 {
     let list = copied(alloc, queue)?;
     let cap = places.for_held(list.len());
-    match link_up(rt, alloc, list, cap) {
-        Ok(ends) => {
-            rising.put(ends);
-            Ok(())
-        }
+    match link_up(rt, alloc, FirstList { list, cap }) {
+        Ok(ends) => Ok(ends),
         Err(_) => Err(Memory),
     }
 }
@@ -112,20 +108,24 @@ fn rest_at<R: Wait>(rt: &R, standing: &mut Standing, place: usize) -> usize
         → slice_get ends place ≡ Some old → RestsAt ends place old standing.new result }
 {
     let (tx, rx) = standing.take_ends(place);
-    let AtRest { tx, rx, held, .. } = rest(rt, &standing.links[place], tx, rx);
+    let lent = LentLink {
+        link: &standing.links[place],
+        tx,
+        rx,
+    };
+    let AtRest { tx, rx, held, .. } = rest(rt, lent);
     standing.put_ends(place, tx, rx);
     held
 }
 
 // How many places are left in a link, or the greatest number where it has as many as its queue.
 fn free_places(places: usize, held: usize, cap: u32) -> usize
-    requires { held ≤ places }
     ensures { result ≡ free_places_of cap places held }
 {
     if places == cap as usize {
         usize::MAX
     } else {
-        places - held
+        places.saturating_sub(held)
     }
 }
 
@@ -212,5 +212,6 @@ fn down<R: Wait>(rt: &R, ends: LinkEnds) -> Fifo<McCopy>
     ensures { IsDown ends result }
 {
     let LinkEnds { link, tx, rx, room } = ends;
-    Fifo::from_seq(link_down(rt, link, tx, rx, room))
+    let whole = WholeLink { link, tx, rx, room };
+    Fifo::from_seq(link_down(rt, whole))
 }

@@ -5,6 +5,7 @@ ghost use Rattle.mesh_run.specs.Layouts.{IsLayoutOf};
 ghost use Rattle.mesh_run.specs.Raised.{IsRaisedFrom, IsRoomyFrom, PlaysTo};
 
 use crate::crossing::{collect, deal};
+use crate::footing::Footing;
 use crate::gathering::MeshLogs;
 use crate::layout::Layout;
 use crate::paces::{Pace, Round};
@@ -118,9 +119,12 @@ impl<'l> RaisedMesh<'l> {
             capacity: self.parts.setup.capacity(),
             patience: self.pace.patience,
         };
-        let ground = Ground {
+        let footing = Footing {
             setup: &self.parts.setup,
             floor: &self.layout.floor,
+        };
+        let ground = Ground {
+            footing,
             around,
             turns: self.pace.turns,
         };

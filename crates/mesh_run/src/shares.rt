@@ -1,12 +1,10 @@
 // One worker's share of a mesh, and its turns of a round.
-ghost use Rattle.std.specs.Prelude.{◌≡◌, ◌<◌, ◌≤◌, ℕ, All, length, slice_index_or};
-ghost use Rattle.mesh_run.specs.Floors.{IsFloorOf};
-ghost use Rattle.mesh_run.specs.Shares.{ActsAt, IsShareOf, PlaysAndStays, PlaysOne, PlaysRound, PlaysTurns};
+ghost use Rattle.std.specs.Prelude.{◌≡◌, ◌<◌, ℕ, All, length, slice_index_or};
+ghost use Rattle.mesh_run.specs.Shares.{ActsAt, IsInRun, IsShareOf, PlaysAndStays, PlaysOne, PlaysRound, PlaysTurns};
 
-use crate::floors::Floor;
+use crate::footing::Footing;
 use crate::paces::Round;
 use chip_node::{Around, Flags, Holdings, Turn};
-use mesh_core::MeshSetup;
 use spin_base::{Gate, Shared};
 use std::sync::Wait;
 use std::thread;
@@ -39,21 +37,19 @@ impl Shared for Share {}
 /// What all shares of a round stand on.
 #[derive(Clone, Copy)]
 pub(crate) struct Ground<'a, 'l> {
-    pub setup: &'a MeshSetup,
-    pub floor: &'l Floor,
+    pub footing: Footing<'a, 'l>,
     pub around: Around<'a>,
     pub turns: u32,
-    ghost capacity: { around.capacity ≡ setup.now.capacity },
+    ghost capacity: { around.capacity ≡ footing.setup.now.capacity },
 }
 
 impl Share {
     /// The share's turns of a round. Its worker enters the gate before each turn, and once more after the last.
     pub(crate) fn play<R: Wait, G: Gate>(&mut self, rt: &R, ground: Ground, round: &Round<G>)
-        requires floor { IsFloorOf ground.setup.now ground.floor.now }
-        requires share { IsShareOf ground.setup.now ground.around.links.now self.old }
-        ensures plays { PlaysRound ground.entry.setup.now ground.entry.around.patience
+        requires { IsShareOf ground.footing.setup.now ground.around.links.now self.old }
+        ensures plays { PlaysRound ground.entry.footing.setup.now ground.entry.around.patience
             ground.entry.turns self.old self.new }
-        ensures share { IsShareOf ground.entry.setup.now ground.entry.around.links.now self.new }
+        ensures share { IsShareOf ground.entry.footing.setup.now ground.entry.around.links.now self.new }
     {
         self.moved = false;
         for step in 0..ground.turns {
@@ -65,11 +61,10 @@ impl Share {
 
     // One turn of each actor that is awake, or of all.
     fn turn_each<R: Wait>(&mut self, rt: &R, ground: Ground, number: u32, all: bool)
-        requires floor { IsFloorOf ground.setup.now ground.floor.now }
-        requires share { IsShareOf ground.setup.now ground.around.links.now self.old }
-        ensures plays { PlaysTurns ground.entry.setup.now ground.entry.around.patience 1 self.old
+        requires { IsShareOf ground.footing.setup.now ground.around.links.now self.old }
+        ensures plays { PlaysTurns ground.entry.footing.setup.now ground.entry.around.patience 1 self.old
             self.new }
-        ensures share { IsShareOf ground.entry.setup.now ground.entry.around.links.now self.new }
+        ensures share { IsShareOf ground.entry.footing.setup.now ground.entry.around.links.now self.new }
     {
         let mut at = self.from;
         'actors: while at < self.to {
@@ -80,46 +75,31 @@ impl Share {
                 }
             }
             if at < self.to {
-                self.turn_one(rt, ground, number, at, all);
+                match self.act(rt, ground, number, at, all) {
+                    Turn::Moved => self.moved = true,
+                    Turn::Waits => self.short.set(at),
+                    Turn::Nothing => {
+                        if !self.polled.has(at) {
+                            self.awake.clear(at);
+                        }
+                    }
+                }
             }
             at += 1;
         }
     }
 
-    // One turn of the actor at a place.
-    fn turn_one<R: Wait>(&mut self, rt: &R, ground: Ground, number: u32, at: usize, all: bool)
-        requires floor { IsFloorOf ground.setup.now ground.floor.now }
-        requires share { IsShareOf ground.setup.now ground.around.links.now self.old }
-        requires above { self.old.from ≤ at }
-        requires below { at < self.old.to }
-        ensures plays { PlaysOne ground.entry.setup.now ground.entry.around.patience at self.old
-            self.new }
-        ensures share { IsShareOf ground.entry.setup.now ground.entry.around.links.now self.new }
-    {
-        match self.act(rt, ground, number, at, all) {
-            Turn::Moved => self.moved = true,
-            Turn::Waits => self.short.set(at),
-            Turn::Nothing => {
-                if !self.polled.has(at) {
-                    self.awake.clear(at);
-                }
-            }
-        }
-    }
-
     // What the actor at a place does in a turn. On a chip that isn't live there is none.
     fn act<R: Wait>(&mut self, rt: &R, ground: Ground, number: u32, at: usize, all: bool) -> Turn
-        requires floor { IsFloorOf ground.setup.now ground.floor.now }
-        requires share { IsShareOf ground.setup.now ground.around.links.now self.old }
-        requires above { self.old.from ≤ at }
-        requires below { at < self.old.to }
-        ensures acts { ActsAt ground.entry.setup.now ground.entry.around.patience at self.old result
+        requires share { IsShareOf ground.footing.setup.now ground.around.links.now self.old }
+        requires within { IsInRun self.old.from self.old.to at }
+        ensures acts { ActsAt ground.entry.footing.setup.now ground.entry.around.patience at self.old result
             self.new }
-        ensures share { IsShareOf ground.entry.setup.now ground.entry.around.links.now self.new }
+        ensures share { IsShareOf ground.entry.footing.setup.now ground.entry.around.links.now self.new }
     {
         let index = at / 2;
         if at % 2 == 0 {
-            match ground.floor.router(ground.setup, index) {
+            match ground.footing.router(index) {
                 Some(router) => {
                     router.turn(
                         rt,
@@ -132,18 +112,20 @@ impl Share {
                 }
                 None => Turn::Nothing,
             }
-        } else if ground.floor.is_live(index) {
-            let bank = ground.floor.bank(index);
-            bank.turn(
-                rt,
-                ground.around,
-                &mut self.hold,
-                &mut self.awake,
-                number,
-                all,
-            )
         } else {
-            Turn::Nothing
+            match ground.footing.bank(index) {
+                Some(bank) => {
+                    bank.turn(
+                        rt,
+                        ground.around,
+                        &mut self.hold,
+                        &mut self.awake,
+                        number,
+                        all,
+                    )
+                }
+                None => Turn::Nothing,
+            }
         }
     }
 }
@@ -155,39 +137,22 @@ pub(crate) fn play_all<R: Threads + Wait + Sync, G: Gate>(
     shares: &mut Vec<Share>,
     round: &Round<G>,
 )
-    requires floor { IsFloorOf ground.setup.now ground.floor.now }
-    requires shares { All (IsShareOf ground.setup.now ground.around.links.now) shares.old.items }
+    requires { All (IsShareOf ground.footing.setup.now ground.around.links.now) shares.old.items }
     ensures long { length shares.new.items ≡ length shares.old.items }
     ensures each { (i : ℕ) (d : Share) → i < length shares.old.items
-        → PlaysAndStays ground.entry.setup.now ground.entry.around.links.now
+        → PlaysAndStays ground.entry.footing.setup.now ground.entry.around.links.now
         ground.entry.around.patience ground.entry.turns (slice_index_or shares.old.items i d)
         (slice_index_or shares.new.items i d) }
 {
-    thread::for_each_chunk_mut(
+    let workers = shares.len().max(1);
+    thread::for_each_mut(
         rt,
         shares.as_mut_slice(),
-        1,
-        &|_, part: &mut [Share]|
-            requires floor { IsFloorOf ground.setup.now ground.floor.now }
-            requires shares { All (IsShareOf ground.setup.now ground.around.links.now) part.now }
-            ensures { (k : ℕ) (d : Share) → k < length part.entry.now
-                → PlaysAndStays ground.entry.setup.now ground.entry.around.links.now
-                ground.entry.around.patience ground.entry.turns
-                (slice_index_or part.entry.now k d) (slice_index_or part.exit.now k d) }
-        { play_chunk(rt, ground, part, round) },
+        workers,
+        &|_, share: &mut Share|
+            requires { IsShareOf ground.footing.setup.now ground.around.links.now share.now }
+            ensures { PlaysAndStays ground.entry.footing.setup.now ground.entry.around.links.now
+                ground.entry.around.patience ground.entry.turns share.entry.now share.exit.now }
+        { share.play(rt, ground, round) },
     );
-}
-
-// One worker's turns.
-fn play_chunk<R: Wait, G: Gate>(rt: &R, ground: Ground, part: &mut [Share], round: &Round<G>)
-    requires floor { IsFloorOf ground.setup.now ground.floor.now }
-    requires shares { All (IsShareOf ground.setup.now ground.around.links.now) part.old }
-    ensures { (k : ℕ) (d : Share) → k < length part.old
-        → PlaysAndStays ground.entry.setup.now ground.entry.around.links.now
-        ground.entry.around.patience ground.entry.turns (slice_index_or part.old k d)
-        (slice_index_or part.new k d) }
-{
-    for k in 0..part.len() {
-        part[k].play(rt, ground, round);
-    }
 }

@@ -184,9 +184,8 @@ fn swap_unsent(
     vertex: usize,
     copies: Fifo<McCopy>,
 ) -> Fifo<McCopy>
-    requires share { share < length shares.old.items }
-    requires vertex { (s : Share) → slice_get shares.old.items share ≡ Some s
-        → vertex < length s.hold.unsent.items }
+    requires { (s : Share) × (slice_get shares.old.items share ≡ Some s)
+        × (vertex < length s.hold.unsent.items) }
     ensures stood { result ≡ unsent_at shares.old.items share vertex }
     ensures put { PutsUnsent share vertex copies shares.old.items shares.new.items }
 {

@@ -1,33 +1,17 @@
 -- Displacements along one axis: which way they lead, how far, and what a step does.
-use Rattle.std.proofs.Common.{◌≡◌, ℕ, ◌+◌, ◌-◌, ◌%◌, ◌<◌, ◌≤◌, Bool, true, false, not, cond, ltb, eqb, Some, None, refl, ap, ◌∙◌, arith, inl, inr, ◌⊎◌}
-use Rattle.std.proofs.lemmas.Bool.{cases_lt, cases_eq, lt-ltb, ne_eqb, cond-true, cond-false, true≢false}
-use Rattle.std.proofs.Math.Nat.{mod-eq_of_lt, mod_self, add-mod_right}
+use Rattle.std.proofs.Common.{◌≡◌, ℕ, ◌+◌, ◌-◌, ◌%◌, ◌<◌, ◌≤◌, Bool, true, false, not, cond, ltb, Some, None, refl, ap, ◌∙◌, arith, inl, inr, ◌⊎◌}
+use Rattle.std.proofs.{lemmas.Bool.cases_lt, lemmas.Bool.cases_eq, lemmas.Bool.lt-ltb, lemmas.Bool.ne_eqb, lemmas.Bool.cond-true, lemmas.Bool.cond-false, lemmas.Bool.true≢false, Math.Nat.mod-eq_of_lt}
+use Rattle.std.proofs.Math.Nat.{mod_self, add-mod_right}
 use Rattle.std.specs.Prelude.{ℤ, pos, negsuc}
-use Rattle.machine_desc.specs.declared.steps.Step.{Step}
-use Rattle.machine_desc.specs.declared.steps.Step.TheVariants.{Back, Stay, Ahead}
-use Rattle.machine_desc.specs.Live.{stepped}
-use Rattle.ner_trees.specs.Geometry.{forth, back, ahead_by}
-use Rattle.ner_trees.specs.LongestFirst.{is_ahead, is_back}
+use Rattle.machine_desc.specs.{declared.steps.Step.Step, declared.steps.Step.TheVariants.Back, declared.steps.Step.TheVariants.Stay, declared.steps.Step.TheVariants.Ahead, Live.stepped}
+use Rattle.ner_trees.specs.{Geometry.forth, Geometry.back, Geometry.ahead_by, LongestFirst.is_ahead, LongestFirst.is_back}
 
 -- the number of places ahead, by cases
 pub ahead_cases : (w p q : ℕ) → p < w → q < w → ((p ≤ q) × (ahead_by w p q + p ≡ q)) ⊎ ((q < p) × (ahead_by w p q + p ≡ q + w))
-ahead_cases w p q pw qw = elim (cases_lt q p) [
-  | inl past ↦
-      let small : q + (w - p) < w = omega arith in
-      let is : ahead_by w p q ≡ q + (w - p) = mod-eq_of_lt small in
-      inr (past, omega arith)
-  | inr within ↦
-      let same : q + (w - p) ≡ (q - p) + w = omega arith in
-      let small : q - p < w = omega arith in
-      let is : ahead_by w p q ≡ q - p = ap (λ k. k % w) same ∙ (add-mod_right (q - p) w ∙ mod-eq_of_lt small) in
-      inl (within, omega arith)
-]
+ahead_cases w p q pw qw = grind (arith, cases_lt q p, add-mod_right (q - p) w, mod-eq_of_lt)
 
 pub ahead_below : (w p q : ℕ) → p < w → q < w → ahead_by w p q < w
-ahead_below w p q pw qw = elim (ahead_cases w p q pw qw) [
-  | inl case ↦ let is : ahead_by w p q + p ≡ q = case.1 in omega arith
-  | inr case ↦ let less : q < p = case.0 in let is : ahead_by w p q + p ≡ q + w = case.1 in omega arith
-]
+ahead_below w p q pw qw = grind (arith, ahead_cases w p q pw qw)
 
 -- which way a number leads, and whether a step leads that way
 abbrev pub way : ℤ → Bool
@@ -54,10 +38,6 @@ pub record Reaches (wrap : Bool) (w p q : ℕ) (z : ℤ) : Type 0 where
   pub to_inside : q < w
   pub far : gap (way z) w p q ≡ forth z + back z
   pub straight : wrap ≡ false → IsStraight (way z) p q
-
-pub gap_below : (b : Bool) (w p q : ℕ) → p < w → q < w → gap b w p q < w
-gap_below true w p q pw qw = ahead_below w p q pw qw
-gap_below false w p q pw qw = ahead_below w q p qw pw
 
 pub gap_start : (b : Bool) (w p : ℕ) → p < w → gap b w p p ≡ 0
 gap_start true w p pw = omega (arith, ahead_cases w p p pw pw)
@@ -122,14 +102,7 @@ ring_back w p q n pw qw nw less = elim (cases_eq n 0) [
 
 -- a step back, on the open axis
 line_back : (w p q n : ℕ) → p < w → q < w → n < w → q ≤ p → ahead_by w n p < ahead_by w q p → StepsOn false false w p n Back
-line_back w p q n pw qw nw straight less =
-    let some : 0 < n = omega (arith, ahead_cases w q p qw pw, ahead_cases w n p nw pw) in
-    let inside : n - 1 < w = omega arith in (
-      n - 1,
-      cond-false (eqb n 0) None (Some (n - 1)) (ne_eqb n 0 (λ e. omega arith)),
-      inside,
-      omega (arith, ahead_cases w q p qw pw, ahead_cases w n p nw pw, ahead_cases w (n - 1) p inside pw),
-    )
+line_back w p q n pw qw nw straight less = grind (arith, ahead_cases w q p qw pw, ahead_cases w n p nw pw, ahead_cases w (n - 1) p (omega arith) pw, cond-false, ne_eqb)
 
 -- What a step does that does not lead against the way: it leads on by one, or not at all.
 pub moves_on : (wrap b : Bool) (w p q n : ℕ) (s : Step) → p < w → q < w → n < w → (wrap ≡ false → IsStraight b p q) → goes (not b) s ≡ false →

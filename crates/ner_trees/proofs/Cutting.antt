@@ -1,17 +1,12 @@
 -- Walks cut at the last chip that a table has, and tables that note where links lead.
 use Rattle.std.proofs.Common.{◌≡◌, ℕ, ◌+◌, ◌*◌, ◌<◌, Bool, true, false, List, [], ◌∷◌, ◌++◌, length, get_or, take, set, Some, None, refl, sym, ap, ◌∙◌, subst, arith, inl, inr, ◌⊎◌}
 use Rattle.std.specs.List.{Contains, Any}
-use Rattle.std.proofs.lemmas.Bool.{cases_eq}
-use Rattle.std.proofs.lemmas.List.{append-nil, append_assoc, take_more, get_or-set_same, get_or-set_other}
-use Rattle.std.proofs.lemmas.List.Elements.{All-push, All-nil, Contains-append_left, Contains-push, Contains-push_cases}
-use Rattle.std.proofs.lemmas.Option.{none-some, same_Some}
-use Rattle.spin_base.specs.{declared.chips.Chip.Chip, declared.chips.Dir.Dir}
-use Rattle.machine_desc.specs.{declared.trees.Edge.Edge, Description.Description}
-use Rattle.machine_desc.specs.Live.{index_of, IsInside}
-use Rattle.machine_desc.specs.RoutingTree.{end_of}
+use Rattle.std.proofs.lemmas.{Bool.cases_eq, List.append-nil, List.append_assoc, List.take_more, List.get_or-set_same, List.get_or-set_other, List.Elements.All-push, List.Elements.All-nil}
+use Rattle.std.proofs.lemmas.{List.Elements.Contains-append_left, List.Elements.Contains-push, List.Elements.Contains-push_cases, Option.none-some, Option.same_Some}
+use Rattle.spin_base.specs.declared.chips.{Chip.Chip, Dir.Dir}
+use Rattle.machine_desc.specs.{declared.trees.Edge.Edge, Description.Description, Live.index_of, Live.IsInside, RoutingTree.end_of}
 use Rattle.machine_desc.proofs.Far.{same_index, index_below, far_inside}
-use Rattle.ner_trees.specs.Growth.{next_of, end_of_walk, links_of}
-use Rattle.ner_trees.specs.Search.{is_on, IsCutAt, IsMarkedBy}
+use Rattle.ner_trees.specs.{Growth.next_of, Growth.end_of_walk, Growth.links_of, Search.is_on, Search.IsCutAt, Search.IsMarkedBy}
 use Rattle.ner_trees.proofs.Trees.{link, walk_end}
 
 -- one step more at the end of a walk
@@ -19,41 +14,16 @@ pub links_push : (m : Description) (c : Chip) (ds : List Dir) (d : Dir) → link
 links_push m c [] d = refl
 links_push m c (e ∷ ds) d = ap (λ es. link c e ∷ es) (links_push m (next_of m c e) ds d)
 
--- at the start nothing is passed
-pub cut_start : (m : Description) (on : List Bool) (near : Chip) → IsInside m near → is_on m on near ≡ true → IsCutAt m on near [] near []
-cut_start m on near inside is = record {
-  passed = [];
-  rest = [];
-  walk_is = refl;
-  start_is = refl;
-  start_inside = inside;
-  start_on = is;
-  added_is = refl;
-  added_inside = All-nil (λ e. IsInside m e.chip);
-  added_off = All-nil (λ e. is_on m on (next_of m e.chip e.dir) ≡ false);
-}
-
 -- where a walk is after one step more
 pub at_more : (m : Description) (near : Chip) (walk : List Dir) (i : ℕ) (d : Dir) (at next : Chip) → i < length walk → at ≡ end_of_walk m near (take i walk) →
     next ≡ next_of m at (get_or walk i d) → next ≡ end_of_walk m near (take (i + 1) walk)
-at_more m near walk i d at next within ends is =
-    is ∙ (ap (λ (c : Chip). next_of m c (get_or walk i d)) ends ∙ (sym (walk_end m near (take i walk) (get_or walk i d ∷ [])) ∙ ap (end_of_walk m near) (sym (take_more walk i d within))))
+at_more m near walk i d at next within ends is = grind (arith, get_or walk i d, walk_end m near (take i walk) (get_or walk i d ∷ []), take_more walk i d within)
 
 -- a step to a chip of the table is where the branch starts anew
 pub cut_again_at : (m : Description) (on : List Bool) (near : Chip) (walk : List Dir) (i : ℕ) (d : Dir) (at next : Chip) (links : List Edge) → i < length walk →
     at ≡ end_of_walk m near (take i walk) → next ≡ next_of m at (get_or walk i d) → IsInside m next → is_on m on next ≡ true → links ≡ [] →
     IsCutAt m on near (take (i + 1) walk) next links
-cut_again_at m on near walk i d at next links within ends is inside has none = subst (λ es. IsCutAt m on near (take (i + 1) walk) next es) (sym none) (record {
-  passed = take (i + 1) walk;
-  rest = [];
-  walk_is = sym (append-nil (take (i + 1) walk));
-  start_is = sym (at_more m near walk i d at next within ends is);
-  start_inside = inside;
-  start_on = has;
-  added_is = refl;
-  added_inside = All-nil (λ e. IsInside m e.chip);
-  added_off = All-nil (λ e. is_on m on (next_of m e.chip e.dir) ≡ false);
-})
+cut_again_at m on near walk i d at next links within ends is inside has none = grind (arith, append-nil (take (i + 1) walk), at_more m near walk i d at next within ends is, All-nil)
 
 -- another step is added
 pub cut_more_at : (m : Description) (on : List Bool) (near : Chip) (walk : List Dir) (i : ℕ) (d : Dir) (at next start : Chip) (added links : List Edge) → i < length walk →
@@ -80,22 +50,10 @@ leads_in : (m : Description) (links : List Edge) (e : Edge) (c : Chip) → Conta
 leads_in m links e c has leads = (has.0, e, has.1, has.2, leads)
 
 any_push : (m : Description) (links : List Edge) (e : Edge) (c : Chip) → Any (λ f. end_of m f ≡ Some c) (links ++ e ∷ []) → Any (λ f. end_of m f ≡ Some c) links ⊎ (end_of m e ≡ Some c)
-any_push m links e c any = elim (Contains-push_cases links e any.1 (any.0, any.2, any.3)) [
-  | inl old ↦ inl (leads_in m links any.1 c old any.4)
-  | inr new ↦ inr (ap (end_of m) new ∙ any.4)
-]
+any_push m links e c any = grind (arith, Contains-push_cases links e any.1 (any.0, any.2, any.3), leads_in)
 
 push_any : (m : Description) (links : List Edge) (e : Edge) (c : Chip) → Any (λ f. end_of m f ≡ Some c) links → Any (λ f. end_of m f ≡ Some c) (links ++ e ∷ [])
 push_any m links e c any = leads_in m (links ++ e ∷ []) any.1 c (Contains-append_left links (e ∷ []) any.1 (any.0, any.2, any.3)) any.4
-
-pub marked_start : (m : Description) (on : List Bool) → IsMarkedBy m on on []
-marked_start m on c inside = (
-  λ is. inl is,
-  λ or. elim or [
-    | inl is ↦ is
-    | inr any ↦ absurd (let none : any.0 < 0 = any.2 in omega arith)
-  ],
-)
 
 pub marked_more : (m : Description) (old new : List Bool) (links : List Edge) (i : ℕ) (d : Edge) (far : Chip) → i < length links → length new ≡ m.width * m.height →
     IsInside m (get_or links i d).chip → end_of m (get_or links i d) ≡ Some far → IsMarkedBy m old new (take i links) → IsMarkedBy m old (set new (index_of m far) true) (take (i + 1) links)

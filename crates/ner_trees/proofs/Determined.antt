@@ -2,16 +2,12 @@
 use Rattle.std.proofs.Common.{◌≡◌, List, [], ◌∷◌, ◌++◌, map, refl, sym, ap, ◌∙◌, subst, arith, inl, inr}
 use Rattle.std.specs.List.{All, Contains}
 use Rattle.std.proofs.lemmas.List.Elements.{All-nil, All-cons, All-head, All-tail, All-append}
-use Rattle.spin_base.specs.{declared.chips.Chip.Chip, declared.chips.Dir.Dir}
-use Rattle.machine_desc.specs.{declared.trees.Edge.Edge, Description.Description}
-use Rattle.machine_desc.specs.Live.{index_of, IsInside}
-use Rattle.machine_desc.specs.RoutingTree.{IsTreeChip}
+use Rattle.spin_base.specs.declared.chips.{Chip.Chip, Dir.Dir}
+use Rattle.machine_desc.specs.{declared.trees.Edge.Edge, Description.Description, Live.index_of, Live.IsInside, RoutingTree.IsTreeChip, EdgeOrder.IsEdgeBefore}
 use Rattle.machine_desc.proofs.Far.{same_index}
-use Rattle.ner_trees.specs.{declared.growths.Join.Join, Geometry.displacement_of, LongestFirst.ldf_of}
-use Rattle.ner_trees.specs.Growth.{next_of, end_of_walk, links_of, IsNotFarther, IsNear, IsAdded, Grows, IsGrown}
-use Rattle.machine_desc.specs.EdgeOrder.{IsEdgeBefore}
-use Rattle.ner_trees.proofs.Growing.{on_inside, next_inside}
-use Rattle.ner_trees.proofs.{Ordered.same_list, Trees.link}
+use Rattle.ner_trees.specs.{declared.growths.Join.Join, Geometry.displacement_of, LongestFirst.ldf_of, Growth.next_of, Growth.end_of_walk, Growth.links_of, Growth.IsNotFarther, Growth.IsNear}
+use Rattle.ner_trees.specs.Growth.{IsAdded, Grows, IsGrown}
+use Rattle.ner_trees.proofs.{Growing.on_inside, Growing.next_inside, Ordered.same_list, Trees.link}
 
 -- the first numbers of two chips that are each not farther than the other
 neither_farther : (m : Description) (t a b : Chip) → IsNotFarther m t a b → IsNotFarther m t b a → index_of m a ≡ index_of m b
@@ -55,8 +51,7 @@ module _ (m : Description) (P : Chip → Type 0) where
 
 links_inside : (m : Description) (c : Chip) (ds : List Dir) → IsInside m c → All (λ e. IsInside m e.chip) (links_of m c ds)
 links_inside m c [] c_in = All-nil (λ (e : Edge). IsInside m e.chip)
-links_inside m c (d ∷ ds) c_in =
-    All-cons (λ (e : Edge). IsInside m e.chip) (link c d) (links_of m (next_of m c d) ds) c_in (links_inside m (next_of m c d) ds (next_inside m c d c_in))
+links_inside m c (d ∷ ds) c_in = grind (arith, link c d, links_inside m (next_of m c d) ds (next_inside m c d c_in), next_inside m c d c_in, All-cons)
 
 same_join : (j k : Join) → j.target ≡ k.target → j.near ≡ k.near → j.start ≡ k.start → j ≡ k
 same_join j k t n s = λ i. record { target = t i; near = n i; start = s i }

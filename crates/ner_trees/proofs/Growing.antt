@@ -1,39 +1,24 @@
 -- The tree so far: what its table says, and what comes of growing when it is done.
-use Rattle.std.proofs.Common.{◌≡◌, ◌≢◌, ℕ, ◌+◌, ◌*◌, ◌<◌, ◌≤◌, Bool, true, false, List, [], ◌∷◌, ◌++◌, length, map, get_or, take, set, replicate, Option, Some, None, refl, sym, ap, ◌∙◌, subst, arith, inl, inr, ◌⊎◌}
-use Rattle.std.specs.Prelude.{if◌then◌else◌}
-use Rattle.std.specs.List.{Contains, All, AllPairs, Any, sum_by}
-use Rattle.std.specs.List.Sorted.{IsPermutation}
-use Rattle.std.proofs.Math.Logic.{∥∥₁_map}
-use Rattle.std.proofs.lemmas.Bool.{cases_eq, cases_order, true≢false, and_from, eq-eqb}
-use Rattle.std.proofs.lemmas.List.{append-nil, append_assoc, take_more, take_all, map_push, get_or-set_same, get_or-set_other, get_or-replicate, length-replicate}
-use Rattle.std.proofs.lemmas.List.Elements.{All-contains, Contains-get_or, Contains-append_cases, Contains-append_left, Contains-append_right, Contains-push, All-append, All-push}
+use Rattle.std.proofs.Common.{◌≡◌, ◌≢◌, ℕ, ◌+◌, ◌*◌, ◌<◌, ◌≤◌, Bool, true, false, List, [], ◌∷◌, ◌++◌, length, map, get_or, take, set, replicate, Option, Some, None, refl, sym, ap, ◌∙◌, subst, arith}
+use Rattle.std.proofs.Common.{inl, inr, ◌⊎◌}
+use Rattle.std.specs.{Prelude.if◌then◌else◌, List.Contains, List.All, List.AllPairs, List.Any, List.sum_by, List.Sorted.IsPermutation}
+use Rattle.std.proofs.{Math.Logic.∥∥₁_map, lemmas.Bool.cases_eq, lemmas.Bool.cases_order, lemmas.Bool.true≢false, lemmas.Bool.and_from, lemmas.Bool.eq-eqb, lemmas.List.append-nil}
+use Rattle.std.proofs.lemmas.List.{append_assoc, take_more, take_all, map_push, get_or-set_same, get_or-set_other, get_or-replicate, length-replicate, Elements.All-contains, Elements.Contains-get_or}
+use Rattle.std.proofs.lemmas.List.Elements.{Contains-append_cases, Contains-append_left, Contains-append_right, Contains-push, All-append, All-push}
 use Rattle.std.proofs.lemmas.List.Sorted.{IsPermutation-sym, Contains-permutation, length_permutation}
 use Rattle.spin_base.specs.{declared.chips.Chip.Chip, declared.chips.Dir.Dir, Links.dir_number}
-use Rattle.spin_base.proofs.Equality.{dir_eq_true}
-use Rattle.machine_desc.proofs.Same.{same_edge, same_chip}
-use Rattle.machine_desc.specs.declared.trees.Edge.{Edge}
-use Rattle.machine_desc.specs.Description.{Description, HasSize}
-use Rattle.machine_desc.specs.Live.{far_of, index_of, is_live_between, IsInside, IsLiveLink}
-use Rattle.machine_desc.specs.RoutingTree.{end_of, IsTreeChip, IsPath, IsTreeTo}
-use Rattle.machine_desc.proofs.Far.{same_index, index_below, far_inside}
-use Rattle.ner_trees.specs.declared.growths.Join.{Join}
-use Rattle.ner_trees.specs.Geometry.{displacement_of, distance_of}
-use Rattle.ner_trees.specs.LongestFirst.{ldf_of}
-use Rattle.ner_trees.specs.Growth.{or_stay, next_of, IsNear, IsAdded, IsJoinedBy, Grows, IsGrown, IsWithoutDead, distance_sum}
-use Rattle.machine_desc.specs.EdgeOrder.{IsEdgeBefore}
-use Rattle.ner_trees.specs.Search.{AreAllOn, AreOn, is_on, IsNearestOn, IsCutAt, IsMarkedBy, TellsTree}
-use Rattle.machine_desc.proofs.TreeLemmas.{tree_end, tree_cases, more_chips}
-use Rattle.spin_base.proofs.Pairs.{AllPairs-permutation}
-use Rattle.ner_trees.proofs.Searching.{IsNoneOn}
-use Rattle.ner_trees.proofs.Trees.{spanning_root, Outcome, grown}
-use Rattle.ner_trees.proofs.Walking.{ldf_walks}
+use Rattle.spin_base.proofs.{Equality.dir_eq_true, Pairs.AllPairs-permutation}
+use Rattle.machine_desc.proofs.{Same.same_edge, Same.same_chip, Far.same_index, Far.index_below, Far.far_inside, TreeLemmas.tree_end, TreeLemmas.tree_cases, TreeLemmas.more_chips}
+use Rattle.machine_desc.specs.{declared.trees.Edge.Edge, Description.Description, Description.HasSize, Live.far_of, Live.index_of, Live.IsInside, Live.IsLiveLink, RoutingTree.end_of}
+use Rattle.machine_desc.specs.{RoutingTree.IsTreeChip, RoutingTree.IsPath, RoutingTree.IsTreeTo, EdgeOrder.IsEdgeBefore}
+use Rattle.ner_trees.specs.{declared.growths.Join.Join, Geometry.displacement_of, Geometry.distance_of, LongestFirst.ldf_of, Growth.or_stay, Growth.next_of, Growth.IsNear, Growth.IsAdded}
+use Rattle.ner_trees.specs.{Growth.IsJoinedBy, Growth.Grows, Growth.IsGrown, Growth.IsWithoutDead, Growth.distance_sum, Search.AreAllOn, Search.AreOn, Search.is_on, Search.IsNearestOn, Search.IsCutAt}
+use Rattle.ner_trees.specs.Search.{IsMarkedBy, TellsTree}
+use Rattle.ner_trees.proofs.{Searching.IsNoneOn, Trees.spanning_root, Trees.Outcome, Trees.grown, Walking.ldf_walks}
 
 -- chips of a tree whose edges begin inside the grid are inside
 pub on_inside : (m : Description) (root : Chip) (tree : List Edge) → IsInside m root → All (λ e. IsInside m e.chip) tree → (c : Chip) → IsTreeChip m root tree c → IsInside m c
-on_inside m root tree root_in inside c on = elim (tree_cases m root tree c on) [
-  | inl at ↦ subst (λ (x : Chip). IsInside m x) (sym at) root_in
-  | inr into ↦ far_inside m into.0.chip c into.0.dir (All-contains (λ e. IsInside m e.chip) tree into.0 inside into.1) into.2
-]
+on_inside m root tree root_in inside c on = grind (arith, tree_cases m root tree c on, far_inside, All-contains)
 
 pub near_is : (m : Description) (root : Chip) (on : List Bool) (tree : List Edge) (t near : Chip) → IsInside m root → All (λ e. IsInside m e.chip) tree → TellsTree m root on tree →
     IsNearestOn m on t 20 near ⊎ (IsNoneOn m on t 20 × (near ≡ root)) → IsNear m root tree t near
@@ -55,10 +40,8 @@ near_is m root on tree t near root_in inside tells (inr none) =
 -- the chip to which a target is joined is one that the table has
 pub near_on_table : (m : Description) (root : Chip) (on : List Bool) (tree : List Edge) (t near : Chip) → IsInside m root → All (λ e. IsInside m e.chip) tree → TellsTree m root on tree →
     IsNear m root tree t near → IsInside m near × (is_on m on near ≡ true)
-near_on_table m root on tree t near root_in inside tells (inl found) =
-    let near_in = on_inside m root tree root_in inside near found.0.0 in (near_in, (tells near near_in).1 found.0.0)
-near_on_table m root on tree t near root_in inside tells (inr none) =
-    subst (λ (c : Chip). IsInside m c × (is_on m on c ≡ true)) (sym none.1) (root_in, (tells root root_in).1 (inl refl))
+near_on_table m root on tree t near root_in inside tells (inl found) = grind (arith, on_inside m root tree root_in inside near found.0.0)
+near_on_table m root on tree t near root_in inside tells (inr none) = grind arith
 
 pub next_inside : (m : Description) (c : Chip) (d : Dir) → IsInside m c → IsInside m (next_of m c d)
 next_inside m c d c_in = go (far_of m c d) refl
@@ -101,13 +84,6 @@ tells_more m root old new tree links whole is tells marked = subst (λ es. Tells
   where
     lists_right : (e : Edge) → Contains links e → Contains (tree ++ links) e
     lists_right e has = Contains-append_right tree links e has
-
--- where no chip is marked, all are in any list
-pub none_listed : (m : Description) (on : List Bool) (chips : List Chip) → on ≡ replicate (m.width * m.height) false → AreAllOn m on chips
-none_listed m on chips blank c c_in is =
-    let below : index_of m c < m.width * m.height = index_below m c c_in in
-    let off : is_on m on c ≡ false = ap (λ l. get_or l (index_of m c) false) blank ∙ get_or-replicate (m.width * m.height) (index_of m c) false false below in
-    absurd (true≢false (sym is ∙ off))
 
 -- one chip more is marked, and listed
 module _ (m : Description) (on : List Bool) (chips : List Chip) (d : Chip) (d_in : IsInside m d) where
@@ -165,47 +141,20 @@ pub record GrownSoFar (m : Description) (root : Chip) (on : List Bool) (edges : 
 
 pub so_far_start : (m : Description) (root : Chip) (on : List Bool) (edges : List Edge) (joins : List Join) → TellsTree m root on [] → edges ≡ [] → joins ≡ [] →
     GrownSoFar m root on edges joins []
-so_far_start m root on edges joins tells no_edge no_join =
-    subst (λ es. GrownSoFar m root on es joins []) (sym no_edge) (subst (λ js. GrownSoFar m root on [] js []) (sym no_join) (record {
-      on_is = tells;
-      targets = refl;
-      grows = λ js whole g. g;
-    }))
+so_far_start m root on edges joins tells no_edge no_join = grind arith
 
 pub so_far_more : (m : Description) (root : Chip) (on after : List Bool) (edges whole : List Edge) (joins more : List Join) (targets : List Chip) (i : ℕ) (d : Chip) (j : Join) →
     i < length targets → TellsTree m root after whole → j.target ≡ get_or targets i d → IsJoinedBy m root edges j whole → more ≡ joins ++ j ∷ [] →
     GrownSoFar m root on edges joins (take i targets) → GrownSoFar m root after whole more (take (i + 1) targets)
-so_far_more m root on after edges whole joins more targets i d j within tells target joined is so_far =
-    subst (λ js. GrownSoFar m root after whole js (take (i + 1) targets)) (sym is) (record {
-      on_is = tells;
-      targets = map_push (λ (k : Join). k.target) joins j ∙ (ap (λ ts. ts ++ j.target ∷ []) so_far.targets ∙ (ap (λ (t : Chip). take i targets ++ t ∷ []) target ∙ sym (take_more targets i d within)));
-      grows = λ js end g.
-          let added = joined.1 in
-          subst (λ ks. Grows m root [] ks end) (sym (append_assoc joins (j ∷ []) js))
-          (so_far.grows (j ∷ js) end (joined.0, (added.0, added.1, subst (λ es. Grows m root es js end) added.2 g)));
-    })
+so_far_more m root on after edges whole joins more targets i d j within tells target joined is so_far = grind (arith, take_more targets i d within, map_push, append_assoc)
 
 -- of two different edges the one that does not come later comes before
 before_is : (e f : Edge) → (IsEdgeBefore f e → ⊥) → (e ≡ f → ⊥) → IsEdgeBefore e f
-before_is e f never apart = elim (cases_order e.chip.x f.chip.x) [
-  | inr (inl less) ↦ inl less
-  | inr (inr more) ↦ absurd (never (inl more))
-  | inl same ↦ elim (cases_order e.chip.y f.chip.y) [
-    | inr (inl less) ↦ inr (same, inl less)
-    | inr (inr more) ↦ absurd (never (inr (sym same, inl more)))
-    | inl too ↦ elim (cases_order (dir_number e.dir) (dir_number f.dir)) [
-      | inr (inl less) ↦ inr (same, inr (too, less))
-      | inr (inr more) ↦ absurd (never (inr (sym same, inr (sym too, more))))
-      | inl all ↦ absurd (apart (same_edge e f (same_chip e.chip f.chip same too) (dir_eq_true e.dir f.dir (eq-eqb _ _ all))))
-    ]
-  ]
-]
+before_is e f never apart = grind (arith, cases_order e.chip.x f.chip.x, cases_order e.chip.y f.chip.y, cases_order (dir_number e.dir) (dir_number f.dir), same_edge, same_chip, dir_eq_true, eq-eqb)
 
 -- on a machine without dead parts each link that leads somewhere is live
 live_link : (m : Description) (c e : Chip) (d : Dir) → IsWithoutDead m → IsInside m c → IsInside m e → far_of m c d ≡ Some e → IsLiveLink m c d
-live_link m c e d dead c_in e_in far =
-    subst (λ (o : Option Chip). is_live_between m c d o ≡ true) (sym far)
-    (rw (dead.no_chip, dead.no_link) (and_from _ _ (and_from _ _ (and_from _ _ c_in refl) (and_from _ _ e_in refl)) refl))
+live_link m c e d dead c_in e_in far = grind (arith, and_from _ _ (and_from _ _ (and_from _ _ c_in refl) (and_from _ _ e_in refl)) refl, and_from _ _ (and_from _ _ c_in refl) (and_from _ _ e_in refl))
 
 -- What the whole tree is, once its edges are put in order.
 pub record Finished (m : Description) (root : Chip) (targets : List Chip) (joins : List Join) (edges : List Edge) : Type 0 where

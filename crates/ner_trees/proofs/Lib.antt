@@ -8,7 +8,6 @@ pub mod Numbering
 pub mod Ordered
 mod Searching
 mod Signed
-pub mod Sorting
 mod Torus
 mod Trees
 mod Walking

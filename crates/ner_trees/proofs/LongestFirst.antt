@@ -1,18 +1,12 @@
 -- What the steps of a displacement add up to.
-use Rattle.std.proofs.Common.{◌≡◌, ℕ, suc, ◌+◌, ◌-◌, ◌*◌, max, min, cond, leb, List, [], ◌∷◌, length, refl, sym, ap, ◌∙◌, arith, inl, inr, ◌⊎◌}
-use Rattle.std.proofs.lemmas.Bool.{cases_Bool, cond-true, cond-false}
-use Rattle.std.proofs.lemmas.Int.{ints}
-use Rattle.std.proofs.lemmas.List.Folds.{sum_by-replicate}
-use Rattle.std.proofs.lemmas.List.Sums.{sum_by-append, sum_by-cons}
-use Rattle.std.specs.List.{flat_map, sum_by, count_by}
-use Rattle.std.specs.Prelude.{ℤ, pos, negsuc, ◌-ℤ◌, neg_ℤ}
-use Rattle.spin_base.specs.declared.chips.Dir.{Dir}
-use Rattle.spin_base.specs.declared.chips.Dir.TheVariants.{East, NorthEast, North, West, SouthWest, South}
+use Rattle.std.proofs.Common.{◌≡◌, ℕ, suc, ◌+◌, ◌-◌, ◌*◌, max, min, cond, leb, List, [], ◌∷◌, length, refl, ap, ◌∙◌, arith, inl, inr, ◌⊎◌}
+use Rattle.std.proofs.lemmas.{Bool.cases_Bool, Bool.cond-true, Bool.cond-false, Int.ints, List.Folds.sum_by-replicate, List.Sums.sum_by-append, List.Sums.sum_by-cons}
+use Rattle.std.specs.{List.flat_map, List.sum_by, List.count_by, Prelude.ℤ, Prelude.pos, Prelude.negsuc, Prelude.◌-ℤ◌, Prelude.neg_ℤ}
+use Rattle.spin_base.specs.declared.chips.Dir.{Dir, TheVariants.East, TheVariants.NorthEast, TheVariants.North, TheVariants.West, TheVariants.SouthWest, TheVariants.South}
 use Rattle.spin_base.specs.Links.{opposite_of}
 use Rattle.machine_desc.specs.Live.{x_step, y_step}
-use Rattle.ner_trees.specs.{declared.displacements.Disp.Disp, declared.walks.Run.Run}
-use Rattle.ner_trees.specs.Geometry.{length_of, forth, back, disp}
-use Rattle.ner_trees.specs.LongestFirst.{median, link_run_of, put_run, longest_first, run_links, ldf_of, is_ahead, is_back, sum_of}
+use Rattle.ner_trees.specs.{declared.displacements.Disp.Disp, declared.walks.Run.Run, Geometry.length_of, Geometry.forth, Geometry.back, LongestFirst.median, LongestFirst.link_run_of}
+use Rattle.ner_trees.specs.LongestFirst.{put_run, longest_first, run_links, ldf_of, is_ahead, is_back, sum_of}
 use Rattle.ner_trees.proofs.Signed.{length_is, less_median, less_median_second, minus_median}
 
 -- a run weighs the same wherever it is put
@@ -32,8 +26,7 @@ sum-put w r (s ∷ rs) = elim (cases_Bool (leb s.count r.count)) [
 
 pub sum-longest_first : (w : Dir → ℕ) (rs : List Run) → sum_by w (flat_map run_links (longest_first rs)) ≡ sum_by w (flat_map run_links rs)
 sum-longest_first w [] = refl
-sum-longest_first w (r ∷ rs) =
-    sum-put w r (longest_first rs) ∙ (ap (λ k. sum_by w (run_links r) + k) (sum-longest_first w rs) ∙ sym (sum_by-append w (run_links r) (flat_map run_links rs)))
+sum-longest_first w (r ∷ rs) = grind (arith, sum-put w r (longest_first rs), sum-longest_first w rs, sum_by-append w (run_links r) (flat_map run_links rs))
 
 -- how much the steps along one dimension weigh, of which the forward or the backward ones are none
 run_weighs : (w : Dir → ℕ) (d : Dir) (z : ℤ) → sum_by w (run_links (link_run_of d z)) ≡ forth z * w d + back z * w (opposite_of d)
@@ -124,10 +117,7 @@ counts d =
 
 length-put_run : (r : Run) (rs : List Run) → length (put_run r rs) ≡ suc (length rs)
 length-put_run r [] = refl
-length-put_run r (s ∷ rs) = elim (cases_Bool (leb s.count r.count)) [
-  | inl fits ↦ ap length (cond-true (leb s.count r.count) (r ∷ s ∷ rs) (s ∷ put_run r rs) fits)
-  | inr past ↦ ap length (cond-false (leb s.count r.count) (r ∷ s ∷ rs) (s ∷ put_run r rs) past) ∙ ap suc (length-put_run r rs)
-]
+length-put_run r (s ∷ rs) = grind (arith, cases_Bool (leb s.count r.count), length-put_run r rs, cond-true, cond-false)
 
 pub length-longest_first : (rs : List Run) → length (longest_first rs) ≡ length rs
 length-longest_first [] = refl
@@ -138,12 +128,7 @@ sum_of_ones [] = refl
 sum_of_ones (d ∷ ds) = sum_by-cons (λ _. 1) d ds ∙ (ap (λ k. 1 + k) (sum_of_ones ds) ∙ omega arith)
 
 pub ldf_length : (d : Disp) → length (ldf_of d) ≡ length_of d
-ldf_length d =
-    let all = (counts d).all in
-    let weighs : sum_by (λ _. 1) (ldf_of d) ≡
-    (forth (x_of d) * 1 + back (x_of d) * 1) + ((forth (y_of d) * 1 + back (y_of d) * 1) + (forth (z_of d) * 1 + back (z_of d) * 1)) = ldf_weighs (λ _. 1) d in
-    let long : length_of d ≡ max (forth d.a) (forth d.b) + max (back d.a) (back d.b) = length_is d in
-    sym (sum_of_ones (ldf_of d)) ∙ omega (arith, weighs, all, long)
+ldf_length d = grind (arith, counts d, length_is d, sum_of_ones (ldf_of d), ldf_weighs)
 
 -- so many steps lead ahead and back along each axis
 pub ldf_ahead : (d : Disp) → count_by (λ e. is_ahead (x_step e)) (ldf_of d) ≡ forth d.a
@@ -163,9 +148,4 @@ signed_is (pos n) = omega (arith, ints)
 signed_is (negsuc n) = omega (arith, ints)
 
 pub ldf_sum : (d : Disp) → sum_of (ldf_of d) ≡ d
-ldf_sum d =
-    let across : pos (count_by (λ e. is_ahead (x_step e)) (ldf_of d)) -ℤ pos (count_by (λ e. is_back (x_step e)) (ldf_of d)) ≡ d.a =
-    ap (λ k. pos k -ℤ pos (count_by (λ e. is_back (x_step e)) (ldf_of d))) (ldf_ahead d) ∙ (ap (λ k. pos (forth d.a) -ℤ pos k) (ldf_behind d) ∙ signed_is d.a) in
-    let up : pos (count_by (λ e. is_ahead (y_step e)) (ldf_of d)) -ℤ pos (count_by (λ e. is_back (y_step e)) (ldf_of d)) ≡ d.b =
-    ap (λ k. pos k -ℤ pos (count_by (λ e. is_back (y_step e)) (ldf_of d))) (ldf_above d) ∙ (ap (λ k. pos (forth d.b) -ℤ pos k) (ldf_below d) ∙ signed_is d.b) in
-    ap (λ k. disp k (sum_of (ldf_of d)).b) across ∙ ap (λ k. disp d.a k) up
+ldf_sum d = grind (arith, ldf_ahead d, ldf_behind d, signed_is d.a, ldf_above d, ldf_below d, signed_is d.b)

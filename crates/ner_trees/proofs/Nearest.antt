@@ -1,20 +1,13 @@
 -- The nearest chip of a tree, found by going over its chips.
-use Rattle.std.proofs.Common.{◌≡◌, ℕ, ◌+◌, ◌*◌, ◌%◌, ◌<◌, ◌≤◌, ◌⊎◌, List, [], ◌∷◌, ◌++◌, Bool, true, length, get_or, take, min, refl, sym, ◌∙◌, subst, inl, inr, arith}
-use Rattle.std.proofs.{Math.Logic.∥∥₁_elim, Props.props}
+use Rattle.std.proofs.Common.{◌≡◌, ℕ, ◌+◌, ◌*◌, ◌%◌, ◌<◌, ◌≤◌, ◌⊎◌, List, [], ◌∷◌, ◌++◌, Bool, true, length, get_or, take, min, sym, ◌∙◌, subst, inl, inr, arith}
+use Rattle.std.proofs.{Math.Logic.∥∥₁_elim, Props.props, lemmas.Bool.cases_eq, lemmas.Bool.cases_lt, lemmas.List.take_more, lemmas.List.Elements.All-contains}
+use Rattle.std.proofs.lemmas.{List.Elements.Contains-append_left, List.Elements.Contains-push, List.Elements.Contains-push_cases, Nat.mul-le}
 use Rattle.std.specs.List.{All, Contains}
-use Rattle.std.proofs.lemmas.Bool.{cases_eq, cases_lt}
-use Rattle.std.proofs.lemmas.List.{take_more}
-use Rattle.std.proofs.lemmas.List.Elements.{All-contains, Contains-append_left, Contains-push, Contains-push_cases}
-use Rattle.std.proofs.lemmas.Nat.{mul-le}
 use Rattle.spin_base.specs.declared.chips.Chip.{Chip}
-use Rattle.machine_desc.specs.declared.trees.Edge.{Edge}
-use Rattle.machine_desc.specs.Description.{Description, HasSize}
-use Rattle.machine_desc.specs.Live.{IsInside, index_of}
-use Rattle.machine_desc.specs.RoutingTree.{IsTreeChip}
+use Rattle.machine_desc.specs.{declared.trees.Edge.Edge, Description.Description, Description.HasSize, Live.IsInside, Live.index_of, RoutingTree.IsTreeChip}
 use Rattle.machine_desc.proofs.Far.{index_below, same_index}
 use Rattle.spin_base.proofs.Members.{Contains-none, Contains-first, Contains-later, Contains-cases}
-use Rattle.ner_trees.specs.{Geometry.distance_of, Growth.IsNear}
-use Rattle.ner_trees.specs.Search.{AreAllOn, AreOn, IsLeastNearness, TellsTree, is_on, nearness}
+use Rattle.ner_trees.specs.{Geometry.distance_of, Growth.IsNear, Search.AreAllOn, Search.AreOn, Search.IsLeastNearness, Search.TellsTree, Search.is_on, Search.nearness}
 use Rattle.ner_trees.proofs.Growing.{on_inside}
 
 one_is : (a b n : ℕ) → n ≡ min a b → (n ≡ a) ⊎ (n ≡ b)
@@ -28,10 +21,7 @@ not_above_second a b n e = omega (arith, e)
 
 -- of numbers of two digits the order of the first digits decides, then that of the second
 digits_ordered : (d i e j : ℕ) → i < 4096 → j < 4096 → d * 4096 + i ≤ e * 4096 + j → (d < e) ⊎ ((d ≡ e) × (i ≤ j))
-digits_ordered d i e j p q low = elim (cases_lt d e) [
-  | inl less ↦ inl less
-  | inr other ↦ inr (omega (arith, p, q, low, other), omega (arith, p, q, low, other))
-]
+digits_ordered d i e j p q low = grind (arith, cases_lt d e)
 
 first_digit : (d i n : ℕ) → n ≡ d * 4096 + i → n < 21 * 4096 → d ≤ 20
 first_digit d i n e low = omega (arith, e, low)
@@ -52,15 +42,7 @@ pub record IsLeastOf (m : Description) (t : Chip) (chips : List Chip) (least : �
 module _ (m : Description) (root t : Chip) where
   -- the root alone
   pub least_start : (least : ℕ) → least ≡ nearness m t root → IsLeastOf m t (root ∷ []) least
-  least_start least is = record {
-    chip = root;
-    among = Contains-first root [];
-    is = is;
-    first = λ e has. elim (Contains-cases root [] e has) [
-      | inl here ↦ subst (λ (c : Chip). least ≤ nearness m t c) here (subst (λ n. least ≤ n) is (omega arith))
-      | inr none ↦ absurd (Contains-none e none)
-    ];
-  }
+  least_start least is = grind (arith, Contains-first root, Contains-cases root, Contains-none)
 
   -- one chip more
   least_with : (chips : List Chip) (c : Chip) (old new : ℕ) → IsLeastOf m t chips old → new ≡ min old (nearness m t c) → IsLeastOf m t (chips ++ c ∷ []) new
@@ -77,8 +59,7 @@ module _ (m : Description) (root t : Chip) where
 
   pub least_more : (chips : List Chip) (i : ℕ) (d : Chip) (old new : ℕ) → i < length chips → IsLeastOf m t (root ∷ take i chips) old → new ≡ min old (nearness m t (get_or chips i d)) →
       IsLeastOf m t (root ∷ take (i + 1) chips) new
-  least_more chips i d old new within known is =
-      subst (λ (cs : List Chip). IsLeastOf m t (root ∷ cs) new) (sym (take_more chips i d within)) (least_with (root ∷ take i chips) (get_or chips i d) old new known is)
+  least_more chips i d old new within known is = grind (arith, take_more chips i d within, least_with (root ∷ take i chips) (get_or chips i d) old new known is, get_or chips i d)
 
   -- of the chips that a table has, this is the least number of the tree
   pub least_of_tree : (tree : List Edge) (on : List Bool) (chips : List Chip) (least : ℕ) → IsInside m root → All (λ e. IsInside m e.chip) tree → TellsTree m root on tree → AreOn m on chips →
@@ -121,9 +102,4 @@ module _ (m : Description) (root t : Chip) where
         ))
 
     pub near_root_is : 21 * 4096 ≤ least → IsNear m root tree t root
-    near_root_is high = inr (
-      λ e w.
-          let low : least < 21 * 4096 = too_great (distance_of m e t) (index_of m e) least (known.first e w.0) (index_few e w.0) w.1 in
-          omega (arith, low, high),
-      refl,
-    )
+    near_root_is high = grind (arith, too_great, index_few)

@@ -1,12 +1,8 @@
 -- Edges in the order of their numbers are in their order.
 use Rattle.std.proofs.Common.{◌≡◌, ℕ, ◌+◌, ◌*◌, ◌/◌, ◌%◌, ◌<◌, ◌≤◌, List, map, length, sym, ap, ◌∙◌, subst, arith, Result, Ok, Err, IfOk}
-use Rattle.std.specs.List.{All, AllPairs, slice_index_or}
-use Rattle.std.specs.List.Sorted.{IsNonDecreasing}
-use Rattle.std.proofs.lemmas.List.{get_or-map, length-map}
-use Rattle.std.proofs.Math.ListN.{get_or-eq_default}
-use Rattle.std.proofs.lemmas.List.Elements.{All-get_or}
-use Rattle.spin_base.specs.declared.chips.Dir.TheVariants.{East}
-use Rattle.spin_base.specs.Links.{all_dirs, dir_at, dir_number}
+use Rattle.std.specs.List.{All, AllPairs, slice_index_or, Sorted.IsNonDecreasing}
+use Rattle.std.proofs.{lemmas.List.get_or-map, lemmas.List.length-map, Math.ListN.get_or-eq_default, lemmas.List.Elements.All-get_or}
+use Rattle.spin_base.specs.{declared.chips.Dir.TheVariants.East, Links.all_dirs, Links.dir_at, Links.dir_number}
 use Rattle.spin_base.proofs.Spots.{dir_at-dir_number}
 use Rattle.machine_desc.specs.{declared.trees.Edge.Edge, EdgeOrder.IsEdgeBefore}
 use Rattle.machine_desc.proofs.Same.{below_six}

@@ -1,9 +1,8 @@
 -- Lists in an order in which no two items are each before the other.
-use Rattle.std.proofs.Common.{◌≡◌, List, [], ◌∷◌, refl, sym, subst, inl, inr}
+use Rattle.std.proofs.Common.{arith, ◌≡◌, List, [], ◌∷◌, refl, sym, inl, inr}
 use Rattle.std.specs.List.{Contains, AllPairs}
 use Rattle.std.proofs.lemmas.List.Elements.{All-contains}
-use Rattle.spin_base.proofs.Members.{Contains-none, Contains-first, Contains-later, Contains-cases}
-use Rattle.spin_base.proofs.Pairs.{AllPairs-head, AllPairs-tail}
+use Rattle.spin_base.proofs.{Members.Contains-none, Members.Contains-first, Members.Contains-later, Members.Contains-cases, Pairs.AllPairs-head, Pairs.AllPairs-tail}
 
 module _ {X : Type 0} (R : X → X → Type 0) (apart : (a b : X) → R a b → R b a → ⊥) where
   -- the first of a list in order is before all others
@@ -22,13 +21,7 @@ module _ {X : Type 0} (R : X → X → Type 0) (apart : (a b : X) → R a b → 
 
   -- and the same others
   has_after : (x y : X) (xs ys : List X) → x ≡ y → AllPairs R (x ∷ xs) → ((z : X) → Contains (x ∷ xs) z → Contains (y ∷ ys) z) → (z : X) → Contains xs z → Contains ys z
-  has_after x y xs ys same up into z has = elim (Contains-cases y ys z (into z (Contains-later x xs z has))) [
-    | inl here ↦
-        let first : R x z = before_later x xs up z has in
-        let itself : R z z = subst (λ (w : X). R w z) here (subst (λ (w : X). R w z) same first) in
-        absurd (apart z z itself itself)
-    | inr later ↦ later
-  ]
+  has_after x y xs ys same up into z has = grind (arith, Contains-cases y ys z (into z (Contains-later x xs z has)), Contains-later x xs z has, before_later x xs up z has)
 
   -- Two lists in such an order with the same items are the same list.
   pub same_list : (xs ys : List X) → AllPairs R xs → AllPairs R ys → ((x : X) → Contains xs x → Contains ys x) → ((x : X) → Contains ys x → Contains xs x) → xs ≡ ys

@@ -1,26 +1,12 @@
 -- The search of a ring: what it has seen, and that it sees enough.
 use Rattle.std.proofs.Common.{◌≡◌, ℕ, suc, ◌+◌, ◌-◌, ◌*◌, ◌%◌, ◌<◌, ◌≤◌, max, Bool, true, false, ◌||◌, cond, ltb, List, Option, Some, None, refl, sym, ap, ◌∙◌, subst, arith, inl, inr, ◌⊎◌}
-use Rattle.std.proofs.lemmas.Bool.{cases_lt, cases_eq, cond-true, cond-false, lt-ltb, le-ltb, or_left, or_right}
-use Rattle.std.proofs.lemmas.Nat.{mod-mul-add}
-use Rattle.std.specs.Option.{IfSome, IfNone}
-use Rattle.std.specs.Prelude.{ℤ, pos, negsuc}
-use Rattle.std.proofs.lemmas.Option.{same_Some}
+use Rattle.std.proofs.lemmas.{Bool.cases_lt, Bool.cases_eq, Bool.cond-true, Bool.cond-false, Bool.lt-ltb, Bool.le-ltb, Bool.or_left, Bool.or_right, Nat.mod-mul-add}
+use Rattle.std.specs.{Option.IfSome, Option.IfNone, Prelude.ℤ, Prelude.pos, Prelude.negsuc}
 use Rattle.spin_base.specs.declared.chips.Chip.{Chip}
-use Rattle.machine_desc.specs.Description.{Description, HasSize}
-use Rattle.machine_desc.specs.Live.{chip_at, index_of, IsInside}
-use Rattle.machine_desc.proofs.Far.{inside_from}
-use Rattle.ner_trees.specs.declared.displacements.Disp.{Disp}
-use Rattle.ner_trees.specs.Geometry.{forth, back, ahead_by, displacement_of, distance_of}
-use Rattle.ner_trees.specs.Growth.{IsNotFarther}
-use Rattle.ner_trees.specs.Search.{is_on, is_there, place_at, offset_chip, AtOffsets, AtStep, IsOnWithin, IsNearestOn, IsNoneNearer, IsBetter}
-use Rattle.ner_trees.proofs.Axis.{ahead_cases, Reaches}
-use Rattle.ner_trees.proofs.{LongestFirst.one_sided, Signed.length_is, Walking.reaches}
-
--- a chip of two coordinates is inside where they are
-pub chip_inside : (m : Description) (x y : Option ℕ) → IfSome x (λ n. n < m.width) → IfSome y (λ n. n < m.height) → IfSome (chip_at x y) (IsInside m)
-chip_inside m None y px py = px
-chip_inside m (Some x) None px py = py
-chip_inside m (Some x) (Some y) px py = inside_from m (record { x = x; y = y }) px py
+use Rattle.machine_desc.specs.{Description.Description, Description.HasSize, Live.chip_at, Live.IsInside}
+use Rattle.ner_trees.specs.{declared.displacements.Disp.Disp, Geometry.forth, Geometry.back, Geometry.ahead_by, Geometry.displacement_of, Geometry.distance_of, Search.is_on, Search.is_there}
+use Rattle.ner_trees.specs.Search.{place_at, offset_chip, AtOffsets, AtStep, IsOnWithin, IsNearestOn, IsNoneNearer, IsBetter}
+use Rattle.ner_trees.proofs.{Axis.ahead_cases, Axis.Reaches, LongestFirst.one_sided, Signed.length_is, Walking.reaches}
 
 offset_is : (m : Description) (t : Chip) (r column row : ℕ) (x y : Option ℕ) → x ≡ place_at m.wrap m.width t.x r column → y ≡ place_at m.wrap m.height t.y r row →
     chip_at x y ≡ offset_chip m t r column row
@@ -146,67 +132,13 @@ ring_covers m t e r size t_in e_in is = sides (one_sided d.a) (one_sided d.b)
           | inr far ↦ (back d.a, omega (arith, length_at, a, b), inr (inr (inr (inr (inl (at (r + back d.a) (2 * r) (omega (arith, ix, a)) (omega (arith, iy, b, far))))))))
         ]
 
--- the order of nearness
-pub not_farther_same : (m : Description) (t c e : Chip) → c ≡ e → IsNotFarther m t c e
-not_farther_same m t c e same =
-    let i : index_of m c ≡ index_of m e = ap (index_of m) same in
-    inr (ap (λ (x : Chip). distance_of m x t) same, omega arith)
-
-pub not_farther_trans : (m : Description) (t b c e : Chip) → IsNotFarther m t b c → IsNotFarther m t c e → IsNotFarther m t b e
-not_farther_trans m t b c e (inl p) (inl q) = inl (omega arith)
-not_farther_trans m t b c e (inl p) (inr q) = let x : distance_of m c t ≡ distance_of m e t = q.0 in inl (omega arith)
-not_farther_trans m t b c e (inr p) (inl q) = let x : distance_of m b t ≡ distance_of m c t = p.0 in inl (omega arith)
-not_farther_trans m t b c e (inr p) (inr q) =
-    let i : index_of m b ≤ index_of m c = p.1 in let j : index_of m c ≤ index_of m e = q.1 in inr (p.0 ∙ q.0, omega arith)
-
-pub inside_of : (m : Description) (on : List Bool) (t : Chip) (r : ℕ) (best : Option Chip) → IfSome best (IsOnWithin m on t r) → IfSome best (IsInside m)
-inside_of m on t r None is = tt
-inside_of m on t r (Some c) is = is.inside
-
 -- what the search has found, one chip on
 module _ (m : Description) (on : List Bool) (t : Chip) (r : ℕ) where
   pub better_past : (At : Chip → Type 0) (best : Option Chip) → ((e : Chip) → At e → IsOnWithin m on t r e → ⊥) → IsBetter m on t r At best best
   better_past At best none = record { keeps = λ e before. before; has = λ e at is. absurd (none e at is) }
 
-  -- two chips on the ring are as far from its centre
-  pub as_far : (best : Option Chip) (c : Chip) → IsNoneNearer m on t r → IfSome best (IsOnWithin m on t r) → IsInside m c → is_on m on c ≡ true → distance_of m c t ≤ r →
-      IfSome best (λ b. distance_of m b t ≡ distance_of m c t)
-  as_far None c none is c_in c_on near = tt
-  as_far (Some b) c none is c_in c_on near =
-      let low : r ≤ distance_of m b t = none b is.inside is.on_it in
-      let high : distance_of m b t ≤ r = is.near in
-      let also : r ≤ distance_of m c t = none c c_in c_on in
-      omega (arith, low, high, also, near)
-
-  pub found_more : (best : Option Chip) (c n : Chip) → IsOnWithin m on t r c → IfNone best (n ≡ c) →
-      IfSome best (λ b. ((n ≡ b) × IsNotFarther m t b c) ⊎ ((n ≡ c) × IsNotFarther m t c b)) → IfSome best (IsOnWithin m on t r) → IsOnWithin m on t r n
-  found_more None c n is first later known = subst (λ (x : Chip). IsOnWithin m on t r x) (sym first) is
-  found_more (Some b) c n is first (inl old) known = subst (λ (x : Chip). IsOnWithin m on t r x) (sym old.0) known
-  found_more (Some b) c n is first (inr new) known = subst (λ (x : Chip). IsOnWithin m on t r x) (sym new.0) is
-
-  pub better_more : (o : Option Chip) (best : Option Chip) (c n : Chip) → o ≡ Some c → IfNone best (n ≡ c) →
-      IfSome best (λ b. ((n ≡ b) × IsNotFarther m t b c) ⊎ ((n ≡ c) × IsNotFarther m t c b)) → IsBetter m on t r (λ e. o ≡ Some e) best (Some n)
-  better_more o None c n at first later = record {
-    keeps = λ e before. absurd before;
-    has = λ e there is. not_farther_same m t n e (first ∙ same_Some c e (sym at ∙ there));
-  }
-  better_more o (Some b) c n at first (inl old) = record {
-    keeps = λ e before. subst (λ (x : Chip). IsNotFarther m t x e) (sym old.0) before;
-    has = λ e there is. subst (λ (x : Chip). IsNotFarther m t x e) (sym old.0) (subst (λ (x : Chip). IsNotFarther m t b x) (same_Some c e (sym at ∙ there)) old.1);
-  }
-  better_more o (Some b) c n at first (inr new) = record {
-    keeps = λ e before. subst (λ (x : Chip). IsNotFarther m t x e) (sym new.0) (not_farther_trans m t c b e new.1 before);
-    has = λ e there is. not_farther_same m t n e (new.0 ∙ same_Some c e (sym at ∙ there));
-  }
-
   pub both : (A B : Chip → Type 0) (best mid result : Option Chip) → IsBetter m on t r A best mid → IsBetter m on t r B mid result → IsBetter m on t r (λ e. A e ⊎ B e) best result
-  both A B best mid result one two = record {
-    keeps = λ e before. two.keeps e (one.keeps e before);
-    has = λ e at is. elim at [
-      | inl a ↦ two.keeps e (one.has e a is)
-      | inr b ↦ two.has e b is
-    ];
-  }
+  both A B best mid result one two = grind arith
 
   -- the chip of two coordinates is the one at their offsets
   pub at_offsets : (column row : ℕ) (x y : Option ℕ) (best result : Option Chip) → x ≡ place_at m.wrap m.width t.x r column → y ≡ place_at m.wrap m.height t.y r row →
@@ -224,20 +156,7 @@ module _ (m : Description) (on : List Bool) (t : Chip) (r : ℕ) where
   -- such tests of one chip on each side of the ring tell whether the table has any of them
   pub sees_any : (s : ℕ) (a b c d e f : Bool) → Sees 0 s a → Sees s 0 b → Sees s (r + s) c → Sees (r + s) s d → Sees (r + s) (2 * r) e → Sees (2 * r) (r + s) f →
       (chip : Chip) → AtStep m t r s chip → is_on m on chip ≡ true → (((((a || b) || c) || d) || e) || f) ≡ true
-  sees_any s a b c d e f at_a at_b at_c at_d at_e at_f chip at has =
-      let any : Bool = (((((a || b) || c) || d) || e) || f) in
-      let five : ((((a || b) || c) || d) || e) ≡ true → any ≡ true = λ is. or_left ((((a || b) || c) || d) || e) f is in
-      let four : (((a || b) || c) || d) ≡ true → any ≡ true = λ is. five (or_left (((a || b) || c) || d) e is) in
-      let three : ((a || b) || c) ≡ true → any ≡ true = λ is. four (or_left ((a || b) || c) d is) in
-      let two : (a || b) ≡ true → any ≡ true = λ is. three (or_left (a || b) c is) in
-      elim at [
-        | inl i ↦ two (or_left a b (at_a chip i has))
-        | inr (inl i) ↦ two (or_right a b (at_b chip i has))
-        | inr (inr (inl i)) ↦ three (or_right (a || b) c (at_c chip i has))
-        | inr (inr (inr (inl i))) ↦ four (or_right ((a || b) || c) d (at_d chip i has))
-        | inr (inr (inr (inr (inl i)))) ↦ five (or_right (((a || b) || c) || d) e (at_e chip i has))
-        | inr (inr (inr (inr (inr i)))) ↦ or_right ((((a || b) || c) || d) || e) f (at_f chip i has)
-      ]
+  sees_any s a b c d e f at_a at_b at_c at_d at_e at_f chip at has = grind (arith, or_left, or_right)
 
   -- one chip on each side of the ring
   pub all_sides : (s : ℕ) (best one two three four five six : Option Chip) → IsBetter m on t r (AtOffsets m t r 0 s) best one → IsBetter m on t r (AtOffsets m t r s 0) one two →
@@ -252,9 +171,6 @@ module _ (m : Description) (on : List Bool) (t : Chip) (r : ℕ) where
   -- what the search of a ring has found after so many steps
   abbrev pub Stepped : ℕ → Chip → Type 0
   Stepped i e = (s : ℕ) × (s < i) × AtStep m t r s e
-
-  pub steps_start : IsBetter m on t r (Stepped 0) None None
-  steps_start = record { keeps = λ e before. before; has = λ e at is. let less : at.0 < 0 = at.1 in absurd (omega arith) }
 
   pub steps_more : (i : ℕ) (best result : Option Chip) → IsBetter m on t r (Stepped i) None best → IsBetter m on t r (AtStep m t r i) best result → IsBetter m on t r (Stepped (i + 1)) None result
   steps_more i best result so_far next = record {
@@ -302,7 +218,4 @@ pub none_at_start : (m : Description) (on : List Bool) (t : Chip) → IsNoneNear
 none_at_start m on t e e_in on_it = omega arith
 
 pub none_nearer_none : (m : Description) (on : List Bool) (t : Chip) (k : ℕ) → 21 ≤ k → IsNoneNearer m on t k → IsNoneOn m on t 20
-none_nearer_none m on t k past none e is =
-    let least : k ≤ distance_of m e t = none e is.inside is.on_it in
-    let near : distance_of m e t ≤ 20 = is.near in
-    absurd (omega arith)
+none_nearer_none m on t k past none e is = grind arith

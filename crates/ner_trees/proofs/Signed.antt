@@ -1,15 +1,11 @@
 -- Signed numbers as what is above 0 and what is below.
 use Rattle.std.proofs.Common.{◌≡◌, ℕ, ◌+◌, max, min, [], ◌∷◌, true, false, refl, sym, ap, ◌∙◌, arith}
-use Rattle.std.proofs.lemmas.Bool.{cond-true, cond-false}
-use Rattle.std.proofs.lemmas.Int.{ints}
-use Rattle.std.specs.Prelude.{ℤ, pos, negsuc, ◌-ℤ◌, neg_ℤ, unsigned_abs}
-use Rattle.std.specs.Int.{int_max, int_min}
-use Rattle.spin_base.specs.declared.chips.Chip.{Chip}
-use Rattle.spin_base.specs.declared.chips.Dir.TheVariants.{East, North, SouthWest}
+use Rattle.std.proofs.lemmas.{Bool.cond-true, Bool.cond-false, Int.ints}
+use Rattle.std.specs.{Prelude.ℤ, Prelude.pos, Prelude.negsuc, Prelude.◌-ℤ◌, Prelude.neg_ℤ, Prelude.unsigned_abs, Int.int_max, Int.int_min}
+use Rattle.spin_base.specs.declared.chips.{Chip.Chip, Dir.TheVariants.East, Dir.TheVariants.North, Dir.TheVariants.SouthWest}
 use Rattle.machine_desc.specs.Description.{Description}
-use Rattle.ner_trees.specs.{declared.displacements.Disp.Disp, declared.walks.Run.Run}
-use Rattle.ner_trees.specs.Geometry.{length_of, forth, back, disp, lesser_disp, ahead_by, on_torus, displacement_of, distance_of}
-use Rattle.ner_trees.specs.LongestFirst.{median, link_run_of, runs_of, longest_first}
+use Rattle.ner_trees.specs.{declared.displacements.Disp.Disp, declared.walks.Run.Run, Geometry.length_of, Geometry.forth, Geometry.back, Geometry.disp, Geometry.lesser_disp, Geometry.ahead_by}
+use Rattle.ner_trees.specs.{Geometry.on_torus, Geometry.displacement_of, Geometry.distance_of, LongestFirst.median, LongestFirst.link_run_of, LongestFirst.runs_of, LongestFirst.longest_first}
 
 pub length_is : (d : Disp) → length_of d ≡ max (forth d.a) (forth d.b) + max (back d.a) (back d.b)
 length_is d = parts d.a d.b
@@ -53,15 +49,11 @@ pub displaced_on_torus : (m : Description) (p q : Chip) (w h x y : ℕ) (r : Dis
     y ≡ ahead_by h p.y q.y → r ≡ on_torus w h x y → r ≡ displacement_of m p q
 unfolding displacement_of
 displaced_on_torus m p q w h x y r wraps ew eh ex ey er =
-    let fx : x ≡ ahead_by m.width p.x q.x = ex ∙ ap (λ k. ahead_by k p.x q.x) ew in
-    let fy : y ≡ ahead_by m.height p.y q.y = ey ∙ ap (λ k. ahead_by k p.y q.y) eh in
-    er ∙ (ap (λ k. on_torus k h x y) ew ∙ (ap (λ k. on_torus m.width k x y) eh ∙ (ap (λ k. on_torus m.width m.height k y) fx ∙ (ap (λ k. on_torus m.width m.height (ahead_by m.width p.x q.x) k) fy
-    ∙ sym (cond-true m.wrap (on_torus m.width m.height (ahead_by m.width p.x q.x) (ahead_by m.height p.y q.y)) (disp (pos q.x -ℤ pos p.x) (pos q.y -ℤ pos p.y)) wraps)))))
+    grind (arith, cond-true m.wrap (on_torus m.width m.height (ahead_by m.width p.x q.x) (ahead_by m.height p.y q.y)) (disp (pos q.x -ℤ pos p.x) (pos q.y -ℤ pos p.y)) wraps)
 
 pub distant_on_torus : (m : Description) (p q : Chip) (w h x y r : ℕ) → m.wrap ≡ true → w ≡ m.width → h ≡ m.height → x ≡ ahead_by w p.x q.x →
     y ≡ ahead_by h p.y q.y → r ≡ length_of (on_torus w h x y) → r ≡ distance_of m p q
-distant_on_torus m p q w h x y r wraps ew eh ex ey er =
-    er ∙ ap length_of (displaced_on_torus m p q w h x y (on_torus w h x y) wraps ew eh ex ey refl)
+distant_on_torus m p q w h x y r wraps ew eh ex ey er = grind (arith, displaced_on_torus m p q w h x y (on_torus w h x y) wraps ew eh ex ey refl)
 
 pub displaced_on_grid : (m : Description) (p q : Chip) (a b : ℤ) → m.wrap ≡ false → a ≡ pos q.x -ℤ pos p.x → b ≡ pos q.y -ℤ pos p.y →
     disp a b ≡ displacement_of m p q
@@ -76,9 +68,4 @@ pub runs_steps : (d : Disp) (a b : ℤ) (x y z : Run) (east west north south nor
     north_east ≡ min east north → south_west ≡ min west south → x ≡ link_run_of East (pos (east + south_west) -ℤ pos (west + north_east)) →
     y ≡ link_run_of North (pos (north + south_west) -ℤ pos (south + north_east)) → z ≡ link_run_of SouthWest (pos south_west -ℤ pos north_east) →
     longest_first (x ∷ y ∷ z ∷ []) ≡ longest_first (runs_of d)
-runs_steps d a b x y z east west north south north_east south_west ea eb e1 e2 e3 e4 e5 e6 ex ey ez =
-    let fx : x ≡ link_run_of East (d.a -ℤ median d.a d.b (pos 0)) = rw (ex, e5, e6, e1, e2, e3, e4, ea, eb) (ap (link_run_of East) (sym (less_median d.a d.b))) in
-    let fy : y ≡ link_run_of North (d.b -ℤ median d.a d.b (pos 0)) = rw (ey, e5, e6, e1, e2, e3, e4, ea, eb) (ap (link_run_of North) (sym (less_median_second d.a d.b))) in
-    let fz : z ≡ link_run_of SouthWest (neg_ℤ (median d.a d.b (pos 0))) = rw (ez, e5, e6, e1, e2, e3, e4, ea, eb) (ap (link_run_of SouthWest) (sym (minus_median d.a d.b))) in
-    let rest : x ∷ y ∷ z ∷ [] ≡ runs_of d = rw (fx, fy, fz) in
-    ap longest_first rest
+runs_steps d a b x y z east west north south north_east south_west ea eb e1 e2 e3 e4 e5 e6 ex ey ez = grind (arith, less_median d.a d.b, less_median_second d.a d.b, minus_median d.a d.b)

@@ -1,10 +1,9 @@
 -- The displacement on a torus never leads all the way round.
-use Rattle.std.proofs.Common.{◌≡◌, ℕ, ◌+◌, ◌-◌, ◌*◌, ◌<◌, ◌≤◌, max, min, Bool, true, false, ltb, eqb, refl, sym, ap, ◌∙◌, subst, arith, inl, inr, ◌⊎◌}
-use Rattle.std.proofs.lemmas.Bool.{cases_eq, cases_Bool, ltb-true, ltb-false, eqb-true, eqb-false, cond-true, cond-false}
-use Rattle.std.proofs.lemmas.Int.{ints}
+use Rattle.std.proofs.Common.{◌≡◌, ℕ, ◌+◌, ◌-◌, ◌*◌, ◌<◌, ◌≤◌, max, min, Bool, true, false, eqb, refl, sym, ap, ◌∙◌, subst, arith, inl, inr, ◌⊎◌}
+use Rattle.std.proofs.lemmas.{Bool.cases_eq, Bool.cases_Bool, Bool.ltb-true, Bool.ltb-false, Bool.eqb-true, Bool.eqb-false, Bool.cond-true, Bool.cond-false, Int.ints}
 use Rattle.std.specs.Prelude.{ℤ, pos, negsuc, ◌-ℤ◌, unsigned_abs}
-use Rattle.ner_trees.specs.declared.displacements.Disp.{Disp}
-use Rattle.ner_trees.specs.Geometry.{length_of, forth, back, disp, first_differs, is_before, lesser_disp, on_torus, IsSmall}
+use Rattle.ner_trees.specs.{declared.displacements.Disp.Disp, Geometry.length_of, Geometry.forth, Geometry.back, Geometry.disp, Geometry.first_differs, Geometry.is_before, Geometry.lesser_disp}
+use Rattle.ner_trees.specs.Geometry.{on_torus, IsSmall}
 use Rattle.ner_trees.proofs.Signed.{length_is, abs_is}
 
 -- the first three of the numbers by which displacements are put in order, as one
@@ -13,19 +12,10 @@ weight d = length_of d * 65536 + unsigned_abs d.a * 256 + unsigned_abs d.b
 
 -- a displacement that comes before another is not heavier
 differs_true : (m n : ℕ) (rest : Bool) → first_differs m n rest ≡ true → (m < n) ⊎ ((m ≡ n) × (rest ≡ true))
-differs_true m n rest is = elim (cases_Bool (eqb m n)) [
-  | inl same ↦ inr (eqb-true m n same, sym (cond-true (eqb m n) rest (ltb m n) same) ∙ is)
-  | inr other ↦ inl (ltb-true m n (sym (cond-false (eqb m n) rest (ltb m n) other) ∙ is))
-]
+differs_true m n rest is = grind (arith, cases_Bool (eqb m n), eqb-true, cond-true, ltb-true, cond-false)
 
 differs_false : (m n : ℕ) (rest : Bool) → first_differs m n rest ≡ false → (n < m) ⊎ ((m ≡ n) × (rest ≡ false))
-differs_false m n rest is = elim (cases_Bool (eqb m n)) [
-  | inl same ↦ inr (eqb-true m n same, sym (cond-true (eqb m n) rest (ltb m n) same) ∙ is)
-  | inr other ↦
-      let most : n ≤ m = ltb-false m n (sym (cond-false (eqb m n) rest (ltb m n) other) ∙ is) in
-      let apart : m ≡ n → ⊥ = eqb-false m n other in
-      inl (elim (cases_eq m n) [ inl same ↦ absurd (apart same) | inr differ ↦ omega arith ])
-]
+differs_false m n rest is = grind (arith, cases_Bool (eqb m n), cases_eq m n, eqb-true, cond-true, ltb-false, cond-false, eqb-false)
 
 heavier : (l k a b c d : ℕ) → a ≤ 64 → b ≤ 64 → c ≤ 64 → d ≤ 64 → (l < k) ⊎ ((l ≡ k) × ((a < c) ⊎ ((a ≡ c) × ((b < d) ⊎ (b ≡ d))))) →
     l * 65536 + a * 256 + b ≤ k * 65536 + c * 256 + d
@@ -67,36 +57,14 @@ pub record Least (d e r : Disp) : Type 0 where
   pub other : weight r ≤ weight e
 
 pub least : (d e : Disp) → IsSmall d → IsSmall e → Least d e (lesser_disp d e)
-least d e sd se = elim (cases_Bool (is_before e d)) [
-  | inl before ↦
-      let at : lesser_disp d e ≡ e = cond-true (is_before e d) e d before in
-      subst (λ (r : Disp). Least d e r) (sym at) (record { which = inr refl; small = se; one = before_true e d se sd before; other = (let l : weight e ≤ weight e = omega arith in l) })
-  | inr after ↦
-      let at : lesser_disp d e ≡ d = cond-false (is_before e d) e d after in
-      subst (λ (r : Disp). Least d e r) (sym at) (record { which = inl refl; small = sd; one = (let l : weight d ≤ weight d = omega arith in l); other = before_false e d se sd after })
-]
+least d e sd se = grind (arith, cases_Bool (is_before e d), cond-true, before_true, cond-false, before_false)
 
 weight_is : (d : Disp) → weight d ≡ (max (forth d.a) (forth d.b) + max (back d.a) (back d.b)) * 65536 + (forth d.a + back d.a) * 256 + (forth d.b + back d.b)
-weight_is d =
-    let l : length_of d ≡ max (forth d.a) (forth d.b) + max (back d.a) (back d.b) = length_is d in
-    let a : unsigned_abs d.a ≡ forth d.a + back d.a = abs_is d.a in
-    let b : unsigned_abs d.b ≡ forth d.b + back d.b = abs_is d.b in
-    rw (l, a, b) refl
+weight_is d = grind (arith, length_is d, abs_is d.a, abs_is d.b)
 
 -- the first of two in order is the shorter
 shorter : (d e : Disp) → length_of (lesser_disp d e) ≡ min (length_of d) (length_of e)
-shorter d e = elim (cases_Bool (is_before e d)) [
-  | inl before ↦
-      ap length_of (cond-true (is_before e d) e d before) ∙ elim (differs_true (length_of e) (length_of d) _ before) [
-        | inl less ↦ omega arith
-        | inr same ↦ (let one : length_of e ≡ length_of d = same.0 in omega arith)
-      ]
-  | inr after ↦
-      ap length_of (cond-false (is_before e d) e d after) ∙ elim (differs_false (length_of e) (length_of d) _ after) [
-        | inl less ↦ omega arith
-        | inr same ↦ (let one : length_of e ≡ length_of d = same.0 in omega arith)
-      ]
-]
+shorter d e = grind (arith, cases_Bool (is_before e d), cond-true, differs_true, cond-false, differs_false)
 
 -- to lead back all the way is heavier than to stay
 round_a : (w : ℕ) (z y : ℤ) → 0 < w → forth z ≡ 0 → back z ≡ w → weight (disp (pos 0) y) < weight (disp z y)

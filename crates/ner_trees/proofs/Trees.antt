@@ -1,22 +1,15 @@
 -- Trees that grow by branches: each of their chips is reached from the root, in one way.
 use Rattle.std.proofs.Common.{◌≡◌, ◌≢◌, ℕ, suc, ◌+◌, ◌<◌, ◌≤◌, List, [], ◌∷◌, ◌++◌, length, map, Some, get_or, refl, sym, ap, ◌∙◌, subst, arith, inl, inr, ◌⊎◌}
 use Rattle.std.specs.List.{Contains, All, AllPairs, sum_by}
-use Rattle.std.proofs.lemmas.Bool.{cases_lt}
-use Rattle.std.proofs.lemmas.List.{append-nil, append_assoc, length-append}
-use Rattle.std.proofs.lemmas.List.Elements.{All-contains, Contains-append_left, Contains-append_right, Contains-append_cases, Contains-push, Contains-push_cases, Contains-get_or}
-use Rattle.std.proofs.lemmas.{List.Quantifiers.all_pairs_push, List.Sums.sum_by-cons}
-use Rattle.spin_base.specs.{declared.chips.Chip.Chip, declared.chips.Dir.Dir}
-use Rattle.machine_desc.specs.{declared.trees.Edge.Edge, Description.Description}
-use Rattle.machine_desc.specs.Live.{far_of, IsInside}
-use Rattle.machine_desc.specs.RoutingTree.{end_of, IsTreeChip, IsPath}
-use Rattle.machine_desc.proofs.Far.{far_inside}
-use Rattle.machine_desc.proofs.TreeLemmas.{tree_end, tree_cases, more_chips, more_path, path_more}
+use Rattle.std.proofs.lemmas.{Bool.cases_lt, List.append-nil, List.append_assoc, List.length-append, List.Elements.All-contains, List.Elements.Contains-append_left}
+use Rattle.std.proofs.lemmas.List.Elements.{Contains-append_right, Contains-append_cases, Contains-push, Contains-push_cases, Contains-get_or}
+use Rattle.std.proofs.lemmas.{List.Quantifiers.all_pairs_push, List.Sums.sum_by-cons, Option.same_Some}
+use Rattle.spin_base.specs.declared.chips.{Chip.Chip, Dir.Dir}
+use Rattle.machine_desc.specs.{declared.trees.Edge.Edge, Description.Description, Live.far_of, Live.IsInside, RoutingTree.end_of, RoutingTree.IsTreeChip, RoutingTree.IsPath}
+use Rattle.machine_desc.proofs.{Far.far_inside, TreeLemmas.tree_end, TreeLemmas.tree_cases, TreeLemmas.more_chips, TreeLemmas.more_path, TreeLemmas.path_more}
 use Rattle.spin_base.proofs.Members.{Contains-none, Contains-first, Contains-later, Contains-cases}
-use Rattle.std.proofs.lemmas.Option.{same_Some}
-use Rattle.ner_trees.specs.declared.growths.Join.{Join}
-use Rattle.ner_trees.specs.Geometry.{displacement_of, distance_of}
-use Rattle.ner_trees.specs.LongestFirst.{ldf_of}
-use Rattle.ner_trees.specs.Growth.{next_of, end_of_walk, links_of, IsNear, IsAdded, Grows}
+use Rattle.ner_trees.specs.{declared.growths.Join.Join, Geometry.displacement_of, Geometry.distance_of, LongestFirst.ldf_of, Growth.next_of, Growth.end_of_walk, Growth.links_of, Growth.IsNear}
+use Rattle.ner_trees.specs.Growth.{IsAdded, Grows}
 use Rattle.ner_trees.proofs.LongestFirst.{ldf_length}
 
 -- the link of a step
@@ -33,24 +26,11 @@ pub record IsSpanning (m : Description) (root : Chip) (tree : List Edge) : Type 
   pub reached : (c : Chip) → IsTreeChip m root tree c → (path : List Edge) × IsPath m tree root path c
 
 pub spanning_root : (m : Description) (root : Chip) → IsSpanning m root []
-spanning_root m root = record {
-  inside = λ e has. absurd (Contains-none e has);
-  leads = λ e has. absurd (Contains-none e has);
-  begins = λ e has. absurd (Contains-none e has);
-  none_into_root = λ e has. absurd (Contains-none e has);
-  apart = λ i j d less short. absurd (omega arith);
-  reached = λ c on. elim (tree_cases m root [] c on) [
-    | inl at ↦ ([], sym at)
-    | inr into ↦ absurd (Contains-none into.0 into.1)
-  ];
-}
+spanning_root m root = grind (arith, tree_cases m root, Contains-none)
 
 -- the chips of a spanning tree are inside the grid
 pub tree_inside : (m : Description) (root : Chip) (tree : List Edge) → IsInside m root → IsSpanning m root tree → (c : Chip) → IsTreeChip m root tree c → IsInside m c
-tree_inside m root tree root_inside is c on = elim (tree_cases m root tree c on) [
-  | inl at ↦ subst (λ (x : Chip). IsInside m x) (sym at) root_inside
-  | inr into ↦ far_inside m into.0.chip c into.0.dir (is.inside into.0 into.1) into.2
-]
+tree_inside m root tree root_inside is c on = grind (arith, tree_cases m root tree c on, far_inside)
 
 -- an edge that leads from the tree to a chip that is not in it
 pub spanning_more : (m : Description) (root : Chip) (tree : List Edge) (e : Edge) (c : Chip) → IsSpanning m root tree → IsInside m e.chip →
@@ -153,10 +133,7 @@ spanning_branch m root rank tree c (d ∷ ds) is inside on rise off =
 branch_on : (m : Description) (c : Chip) (ds : List Dir) (f : Edge) → Contains (links_of m c ds) f →
     (next_of m f.chip f.dir ≡ end_of_walk m c ds) ⊎ ((g : Edge) × Contains (links_of m c ds) g × (g.chip ≡ next_of m f.chip f.dir))
 branch_on m c [] f has = absurd (Contains-none f has)
-branch_on m c (d ∷ []) f has = elim (Contains-cases (link c d) [] f has) [
-  | inl same ↦ inl (ap (λ (g : Edge). next_of m g.chip g.dir) (sym same))
-  | inr past ↦ absurd (Contains-none f past)
-]
+branch_on m c (d ∷ []) f has = grind (arith, Contains-cases (link c d), Contains-none)
 branch_on m c (d ∷ (e ∷ ds)) f has = elim (Contains-cases (link c d) (links_of m (next_of m c d) (e ∷ ds)) f has) [
   | inl same ↦
       inr (
@@ -216,13 +193,7 @@ near_on m root tree t near (inr none) = inl none.1
 
 near_low : (m : Description) (root : Chip) (tree : List Edge) (t near : Chip) → IsNear m root tree t near → distance_of m near t ≤ distance_of m root t
 near_low m root tree t near (inr none) = let e : distance_of m near t ≡ distance_of m root t = ap (λ (c : Chip). distance_of m c t) none.1 in omega arith
-near_low m root tree t near (inl found) = elim (cases_lt 20 (distance_of m root t)) [
-  | inl beyond ↦ let most : distance_of m near t ≤ 20 = found.0.1 in omega arith
-  | inr within ↦ elim (found.1 root (inl refl, within)) [
-    | inl less ↦ omega arith
-    | inr same ↦ let e : distance_of m near t ≡ distance_of m root t = same.0 in omega arith
-  ]
-]
+near_low m root tree t near (inl found) = grind (arith, cases_lt 20 (distance_of m root t))
 
 -- What comes of growing: the tree spans its targets, has edges out of all other chips, and few edges.
 pub record Outcome (m : Description) (root : Chip) (targets : List Chip) (tree whole : List Edge) (joins : List Join) : Type 0 where

@@ -1,69 +1,27 @@
 -- The walk between two chips goes one way along each axis, and arrives.
-use Rattle.std.proofs.Common.{◌≡◌, ℕ, suc, ◌+◌, ◌<◌, Bool, true, false, not, cond, List, [], ◌∷◌, Some, refl, sym, ap, ◌∙◌, subst, arith, inl, inr, ◌⊎◌}
-use Rattle.std.proofs.lemmas.Bool.{cases_Bool, cond-true, cond-false, true≢false}
-use Rattle.std.proofs.lemmas.{Int.ints, List.Sums.sum_by-cons}
-use Rattle.std.specs.List.{count_by}
-use Rattle.std.specs.Prelude.{ℤ, pos, negsuc, ◌-ℤ◌}
-use Rattle.spin_base.specs.{declared.chips.Chip.Chip, declared.chips.Dir.Dir}
-use Rattle.spin_base.specs.declared.chips.Dir.TheVariants.{East, NorthEast, North, West, SouthWest, South}
-use Rattle.spin_base.specs.Equality.{chip_eq}
+use Rattle.std.proofs.Common.{◌≡◌, ℕ, ◌+◌, ◌<◌, Bool, true, false, not, cond, List, [], ◌∷◌, Some, refl, sym, ap, ◌∙◌, subst, arith, inl, inr, ◌⊎◌}
+use Rattle.std.proofs.lemmas.{Bool.cases_Bool, Bool.cond-true, Bool.cond-false, Bool.true≢false, Int.ints, List.Sums.sum_by-cons}
+use Rattle.std.specs.{List.count_by, Prelude.ℤ, Prelude.pos, Prelude.negsuc, Prelude.◌-ℤ◌}
+use Rattle.spin_base.specs.declared.chips.{Chip.Chip, Dir.Dir, Dir.TheVariants.East, Dir.TheVariants.NorthEast, Dir.TheVariants.North, Dir.TheVariants.West, Dir.TheVariants.SouthWest}
+use Rattle.spin_base.specs.{declared.chips.Dir.TheVariants.South, Equality.chip_eq}
 use Rattle.spin_base.proofs.Equality.{chip_eq_true}
-use Rattle.machine_desc.specs.declared.steps.Step.{Step}
-use Rattle.machine_desc.specs.declared.steps.Step.TheVariants.{Back, Stay, Ahead}
-use Rattle.machine_desc.specs.Description.{Description, HasSize}
-use Rattle.machine_desc.specs.Live.{far_of, x_step, y_step, IsInside}
-use Rattle.machine_desc.proofs.Far.{far_from, inside_parts, inside_from}
-use Rattle.machine_desc.proofs.Same.{same_chip}
-use Rattle.ner_trees.specs.declared.displacements.Disp.{Disp}
-use Rattle.ner_trees.specs.Geometry.{forth, back, ahead_by, disp, on_torus, displacement_of}
-use Rattle.ner_trees.specs.LongestFirst.{is_ahead, is_back, ldf_of}
-use Rattle.ner_trees.specs.Growth.{or_stay, next_of, end_of_walk}
-use Rattle.ner_trees.proofs.Axis.{ahead_cases, ahead_below, way, goes, gap, IsStraight, Reaches, gap_start, gap_same, moves_on}
-use Rattle.ner_trees.proofs.LongestFirst.{ldf_ahead, ldf_behind, ldf_above, ldf_below}
-use Rattle.ner_trees.proofs.Torus.{AheadOrBack, torus_ways}
-use Rattle.ner_trees.proofs.Trees.{Rises, Walks}
+use Rattle.machine_desc.specs.{declared.steps.Step.Step, declared.steps.Step.TheVariants.Back, declared.steps.Step.TheVariants.Stay, declared.steps.Step.TheVariants.Ahead, Description.Description}
+use Rattle.machine_desc.specs.{Description.HasSize, Live.far_of, Live.x_step, Live.y_step, Live.IsInside}
+use Rattle.machine_desc.proofs.{Far.far_from, Far.inside_parts, Far.inside_from, Same.same_chip}
+use Rattle.ner_trees.specs.{declared.displacements.Disp.Disp, Geometry.forth, Geometry.back, Geometry.ahead_by, Geometry.disp, Geometry.on_torus, Geometry.displacement_of, LongestFirst.is_ahead}
+use Rattle.ner_trees.specs.{LongestFirst.is_back, LongestFirst.ldf_of, Growth.or_stay, Growth.next_of, Growth.end_of_walk}
+use Rattle.ner_trees.proofs.{Axis.ahead_cases, Axis.ahead_below, Axis.way, Axis.goes, Axis.gap, Axis.IsStraight, Axis.Reaches, Axis.gap_start, Axis.gap_same, Axis.moves_on, LongestFirst.ldf_ahead}
+use Rattle.ner_trees.proofs.{LongestFirst.ldf_behind, LongestFirst.ldf_above, LongestFirst.ldf_below, Torus.AheadOrBack, Torus.torus_ways, Trees.Rises, Trees.Walks}
 
 -- what a displacement on a ring, or on an open axis, says of the places
 reach_ring : (w p q : ℕ) (z : ℤ) → p < w → q < w → AheadOrBack w (ahead_by w p q) z → Reaches true w p q z
-reach_ring w p q z pw qw (inl ahead) = subst (λ (y : ℤ). Reaches true w p q y) (sym ahead) (record {
-  from_inside = pw;
-  to_inside = qw;
-  far = omega arith;
-  straight = λ e. absurd (true≢false e);
-})
-reach_ring w p q (pos k) pw qw (inr behind) =
-    let below : ahead_by w p q < w = ahead_below w p q pw qw in
-    let is : pos k ≡ pos (ahead_by w p q) -ℤ pos w = behind.0 in
-    absurd (omega (arith, ints, is, below))
-reach_ring w p q (negsuc k) pw qw (inr behind) =
-    let below : ahead_by w p q < w = ahead_below w p q pw qw in
-    let is : negsuc k ≡ pos (ahead_by w p q) -ℤ pos w = behind.0 in
-    let less : suc k + ahead_by w p q ≡ w = omega (arith, ints, is, below) in
-    let some : 0 < ahead_by w p q = behind.1 in
-    record {
-      from_inside = pw;
-      to_inside = qw;
-      far = omega (arith, ahead_cases w p q pw qw, ahead_cases w q p qw pw);
-      straight = λ e. absurd (true≢false e);
-    }
+reach_ring w p q z pw qw (inl ahead) = grind (arith, Reaches, true≢false)
+reach_ring w p q (pos k) pw qw (inr behind) = grind (arith, ahead_below w p q pw qw, ints)
+reach_ring w p q (negsuc k) pw qw (inr behind) = grind (arith, ahead_below w p q pw qw, ints, ahead_cases w p q pw qw, ahead_cases w q p qw pw, true≢false)
 
 reach_line : (w p q : ℕ) (z : ℤ) → p < w → q < w → z ≡ pos q -ℤ pos p → Reaches false w p q z
-reach_line w p q (pos k) pw qw is =
-    let sum : k + p ≡ q = omega (arith, ints, is) in
-    record {
-      from_inside = pw;
-      to_inside = qw;
-      far = omega (arith, ahead_cases w p q pw qw);
-      straight = λ _. (omega arith);
-    }
-reach_line w p q (negsuc k) pw qw is =
-    let sum : suc k + q ≡ p = omega (arith, ints, is) in
-    record {
-      from_inside = pw;
-      to_inside = qw;
-      far = omega (arith, ahead_cases w q p qw pw);
-      straight = λ _. (omega arith);
-    }
+reach_line w p q (pos k) pw qw is = grind (arith, ints, ahead_cases w p q pw qw)
+reach_line w p q (negsuc k) pw qw is = grind (arith, ints, ahead_cases w q p qw pw)
 
 -- The displacement between two chips of a machine leads from one to the other along each axis.
 pub reaches : (m : Description) (p q : Chip) → HasSize m → IsInside m p → IsInside m q →
@@ -114,13 +72,7 @@ step_goes false Back against = inr refl
 
 one_goes : (bx by : Bool) (d : Dir) → goes (not bx) (x_step d) ≡ false → goes (not by) (y_step d) ≡ false →
     0 < one_if (goes bx (x_step d)) + one_if (goes by (y_step d))
-one_goes bx by d x y = elim (step_goes bx (x_step d) x) [
-  | inr goes_x ↦ let one : one_if (goes bx (x_step d)) ≡ 1 = one_if_true (goes bx (x_step d)) goes_x in omega arith
-  | inl stays ↦ elim (step_goes by (y_step d) y) [
-    | inr goes_y ↦ let one : one_if (goes by (y_step d)) ≡ 1 = one_if_true (goes by (y_step d)) goes_y in omega arith
-    | inl too ↦ absurd (some_step d stays too)
-  ]
-]
+one_goes bx by d x y = grind (arith, step_goes bx (x_step d) x, goes bx (x_step d), step_goes by (y_step d) y, goes by (y_step d), one_if_true, some_step)
 
 -- the first of steps none of which passes a test, and the rest
 none_first : (p : Dir → Bool) (d : Dir) (ds : List Dir) → count_by p (d ∷ ds) ≡ 0 → (p d ≡ false) × (count_by p ds ≡ 0)

@@ -1,10 +1,10 @@
 // Walks from a tree to a target, and what of them is added.
-ghost use Rattle.std.specs.Prelude.{◌≡◌, true, IfOk, OnOk, All};
+ghost use Rattle.std.specs.Prelude.{◌≡◌, IfOk, OnOk, All};
 ghost use Rattle.machine_desc.specs.Live.{IsInside};
 ghost use Rattle.ner_trees.specs.Growth.{next_of};
-ghost use Rattle.ner_trees.specs.Search.{is_on, IsCutAt, IsMarkedBy};
+ghost use Rattle.ner_trees.specs.Search.{IsCutAt, IsMarkedBy};
 
-use crate::marks::Marks;
+use crate::marks::{MarkedChip, Marks};
 use machine_desc::{Edge, Machine};
 use spin_base::{Chip, Dir, Memory};
 
@@ -20,22 +20,20 @@ fn next(machine: &Machine, at: Chip, dir: Dir) -> Chip
     }
 }
 
-// The part of a walk after the last of its chips that is in the tree: its links are put in place of those of a list, and the chip
-// where it starts is the result.
+// The part of a walk from a chip of the tree after the last of its chips that is in the tree: its links are put in place of those of
+// a list, and the chip where it starts is the result.
 pub(crate) fn new_branch(
-    on: &Marks,
-    near: Chip,
+    near: MarkedChip<'_, '_>,
     walk: &[Dir],
     links: &mut Vec<Edge>,
 ) -> Result<Chip, Memory>
-    requires inside { IsInside on.now.machine.now near }
-    requires on_tree { is_on on.now.machine.now on.now.items.items near ≡ true }
-    ensures { IfOk result (λ start.
-        IsCutAt on.now.machine.now on.now.items.items near walk.now start links.new.items) }
+    ensures { IfOk result (λ start. IsCutAt near.entry.on.now.machine.now
+        near.entry.on.now.items.items near.entry.chip walk.now start links.new.items) }
 {
+    let on = near.on;
     let machine = on.machine();
-    let mut at = near;
-    let mut start = near;
+    let mut at = near.chip;
+    let mut start = near.chip;
     links.clear();
     for dir in walk {
         links.push(Edge {

@@ -142,15 +142,25 @@ fn length_on_torus(across: OnAxis, up: OnAxis) -> u32
         .min(behind.max(below))
 }
 
-/// The displacement from `p` to `q`. On an open grid it is the difference of their coordinates. On a torus it is, of
+/// From one chip of a machine to another.
+#[derive(Clone, Copy)]
+pub struct ChipPair<'a> {
+    pub machine: &'a Machine,
+    pub from: Chip,
+    pub to: Chip,
+    pub ghost from_inside: { IsInside machine.now from },
+    pub ghost to_inside: { IsInside machine.now to },
+}
+
+/// The displacement from the first chip to the second. On an open grid it is the difference of their coordinates. On a torus it is, of
 /// the differences modulo width and height and those that are less by width or height, the first in the order of
 /// (length, |a|, |b|, a, b), where the length is the greatest of a, b and 0 less the least of them.
-pub fn displacement(machine: &Machine, p: Chip, q: Chip) -> Disp
-    requires from_inside { IsInside machine.now p }
-    requires to_inside { IsInside machine.now q }
-    ensures value { result ≡ displacement_of machine.now p q }
+pub fn displacement(pair: ChipPair<'_>) -> Disp
+    ensures value { result
+        ≡ displacement_of pair.entry.machine.now pair.entry.from pair.entry.to }
     ensures small { IsSmall result }
 {
+    let (machine, p, q) = (pair.machine, pair.from, pair.to);
     let x = OnAxis {
         places: machine.width(),
         place: p.x,
@@ -169,14 +179,14 @@ pub fn displacement(machine: &Machine, p: Chip, q: Chip) -> Disp
     }
 }
 
-/// The number of links from `p` to `q` where none is dead: the length of the displacement, 0 to 128.
+/// The number of links from the first chip to the second where none is dead: the length of the displacement, 0 to 128.
 #[inline(always)]
-pub fn distance(machine: &Machine, p: Chip, q: Chip) -> u32
-    requires from_inside { IsInside machine.now p }
-    requires to_inside { IsInside machine.now q }
-    ensures value { result ≡ distance_of machine.now p q }
+pub fn distance(pair: ChipPair<'_>) -> u32
+    ensures value { result
+        ≡ distance_of pair.entry.machine.now pair.entry.from pair.entry.to }
     ensures few { result ≤ 128 }
 {
+    let (machine, p, q) = (pair.machine, pair.from, pair.to);
     if machine.wrap() {
         let x = OnAxis {
             places: machine.width(),
@@ -188,6 +198,6 @@ pub fn distance(machine: &Machine, p: Chip, q: Chip) -> u32
         };
         length_on_torus(ahead_by(x, q.x), ahead_by(y, q.y))
     } else {
-        displacement(machine, p, q).length()
+        displacement(pair).length()
     }
 }

@@ -11,8 +11,8 @@ ghost use Rattle.spin_base.specs.Links.{dir_at, dir_number};
 ghost use Rattle.spin_base.specs.declared.chips.Chip.{Chip};
 
 use crate::cuts::{mark, new_branch};
-use crate::displacements::displacement;
-use crate::marks::Marks;
+use crate::displacements::{ChipPair, displacement};
+use crate::marks::{MarkedChip, Marks};
 use crate::partial_trees::GrowingTree;
 use crate::searches::near_chip;
 use crate::walks::walk_anew;
@@ -124,8 +124,17 @@ fn add_target(
         tree.new.edges.items) }
 {
     let near = near_chip(tree, target);
-    walk_anew(walk, displacement(tree.on.machine(), near, target))?;
-    let start = new_branch(&tree.on, near, walk, links)?;
+    let begin = MarkedChip {
+        on: &tree.on,
+        chip: near,
+    };
+    let pair = ChipPair {
+        machine: tree.on.machine(),
+        from: near,
+        to: target,
+    };
+    walk_anew(walk, displacement(pair))?;
+    let start = new_branch(begin, walk, links)?;
     mark(&mut tree.on, links)?;
     tree.edges.extend_from_slice(links)?;
     Ok(Join {
@@ -136,60 +145,67 @@ fn add_target(
 }
 
 // The tree that has its root and no edge.
-fn tree_of_root(alloc: Global, machine: &Machine, root: Chip) -> Result<GrowingTree, Memory>
-    requires { IsInside machine.now root }
-    ensures machine { IfOk result (λ t. t.on.machine.now ≡ machine.now) }
-    ensures root { IfOk result (λ t. t.root ≡ root) }
+fn tree_of_root(alloc: Global, ends: Ends) -> Result<GrowingTree, Memory>
+    ensures machine { IfOk result (λ t. t.on.machine.now ≡ ends.entry.machine.now) }
+    ensures root { IfOk result (λ t. t.root ≡ ends.entry.root) }
     ensures edges { IfOk result (λ t. t.edges.items ≡ []) }
-    ensures on_is { IfOk result (λ t. TellsTree machine.now root t.on.items.items []) }
+    ensures on_is { IfOk result (λ t.
+        TellsTree ends.entry.machine.now ends.entry.root t.on.items.items []) }
 {
-    let mut on = Marks::none(alloc, machine)?;
-    on.set(root)?;
+    let mut on = Marks::none(alloc, ends.machine)?;
+    on.set(ends.root)?;
     Ok(GrowingTree {
-        root,
+        root: ends.root,
         edges: Vec::with_capacity(alloc, 128)?,
         on,
     })
 }
 
-/// The tree that grows from `root` by the targets in the order of their list, whatever is dead. Each is joined to the
+/// The root of a tree that is to grow over a machine, and its targets in order.
+#[derive(Clone, Copy)]
+pub struct Ends<'a> {
+    pub machine: &'a Machine,
+    pub root: Chip,
+    pub targets: &'a Seq<Chip>,
+    pub ghost root_inside: { IsInside machine.now root },
+    pub ghost targets_inside: { All (IsInside machine.now) targets.now },
+}
+
+/// The tree that grows from the root by the targets in the order of their list, whatever is dead. Each is joined to the
 /// nearest chip of the tree within 20 links, by distance to the target, then x, then y, or to the root where there is
 /// none (neighbour-exploring routing: Navaridas and others, 2015; radius and ties are this project's own). The branch is
 /// the walk of `ldf` from that chip, after the last of its chips that is in the tree. Edges are in order of (x, y, link).
-pub fn ner(
-    alloc: Global,
-    machine: &Machine,
-    root: Chip,
-    targets: &Seq<Chip>,
-) -> Result<Grown, Memory>
-    requires root_inside { IsInside machine.now root }
-    requires targets_inside { All (IsInside machine.now) targets.now }
-    ensures root { IfOk result (λ g. g.tree.root ≡ root) }
-    ensures grown { IfOk result (λ g. IsGrown machine.now root targets.now g.joins g.tree.edges) }
+pub fn ner(alloc: Global, ends: Ends) -> Result<Grown, Memory>
+    ensures root { IfOk result (λ g. g.tree.root ≡ ends.entry.root) }
+    ensures grown { IfOk result (λ g. IsGrown ends.entry.machine.now ends.entry.root
+        ends.entry.targets.now g.joins g.tree.edges) }
     ensures edges_inside { IfOk result (λ g.
-        All (λ e. IsInside machine.now e.chip) g.tree.edges) }
+        All (λ e. IsInside ends.entry.machine.now e.chip) g.tree.edges) }
     ensures none_into_root { IfOk result (λ g.
-        All (λ e. end_of machine.now e ≢ Some root) g.tree.edges) }
-    ensures one_into_each { IfOk result (λ g.
-        AllPairs (λ e f. (c : Chip) → end_of machine.now e ≡ Some c → end_of machine.now f ≢ Some c)
+        All (λ e. end_of ends.entry.machine.now e ≢ Some ends.entry.root) g.tree.edges) }
+    ensures one_into_each { IfOk result (λ g. AllPairs (λ e f. (c : Chip)
+        → end_of ends.entry.machine.now e ≡ Some c → end_of ends.entry.machine.now f ≢ Some c)
         g.tree.edges) }
-    ensures few_edges { IfOk result (λ g.
-        length g.tree.edges ≤ distance_sum machine.now root targets.now) }
-    ensures whole { IfOk result (λ g. All (λ e. IsLiveLink machine.now e.chip e.dir) g.tree.edges →
-        0 < length targets.now → IsTreeTo machine.now root g.tree.edges targets.now) }
-    ensures routing { IfOk result (λ g. IsWithoutDead machine.now → 0 < length targets.now →
-        IsTreeTo machine.now root g.tree.edges targets.now) }
+    ensures few_edges { IfOk result (λ g. length g.tree.edges
+        ≤ distance_sum ends.entry.machine.now ends.entry.root ends.entry.targets.now) }
+    ensures whole { IfOk result (λ g.
+        All (λ e. IsLiveLink ends.entry.machine.now e.chip e.dir) g.tree.edges
+        → 0 < length ends.entry.targets.now
+        → IsTreeTo ends.entry.machine.now ends.entry.root g.tree.edges ends.entry.targets.now) }
+    ensures routing { IfOk result (λ g.
+        IsWithoutDead ends.entry.machine.now → 0 < length ends.entry.targets.now
+        → IsTreeTo ends.entry.machine.now ends.entry.root g.tree.edges ends.entry.targets.now) }
 {
-    let mut tree = tree_of_root(alloc, machine, root)?;
-    let mut joins = Seq::from_vec(Vec::with_capacity(alloc, targets.len())?);
+    let mut tree = tree_of_root(alloc, ends)?;
+    let mut joins = Seq::from_vec(Vec::with_capacity(alloc, ends.targets.len())?);
     let mut walk = Vec::with_capacity(alloc, 64)?;
     let mut links = Vec::with_capacity(alloc, 64)?;
-    for target in targets.as_slice() {
+    for target in ends.targets.as_slice() {
         joins.push(add_target(&mut tree, &mut walk, &mut links, *target)?)?;
     }
     Ok(Grown {
         tree: Tree {
-            root,
+            root: ends.root,
             edges: Seq::from_vec(in_order(alloc, tree.edges)?),
         },
         joins,

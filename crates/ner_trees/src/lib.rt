@@ -15,7 +15,7 @@ mod partial_trees;
 mod searches;
 mod walks;
 
-pub use displacements::{Disp, displacement, distance};
-pub use growths::{Grown, Join, ner};
+pub use displacements::{ChipPair, Disp, displacement, distance};
+pub use growths::{Ends, Grown, Join, ner};
 pub use laws::grown_trees_are_determined;
 pub use walks::ldf;

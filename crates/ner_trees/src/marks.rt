@@ -1,7 +1,8 @@
 // The chips of a machine that a tree has.
-ghost use Rattle.std.specs.Prelude.{◌≡◌, ◌*◌, length};
+ghost use Rattle.std.specs.Prelude.{◌≡◌, ◌*◌, length, true};
 ghost use Rattle.machine_desc.specs.Description.{HasSize};
-ghost use Rattle.ner_trees.specs.Search.{AreAllOn, AreOn};
+ghost use Rattle.machine_desc.specs.Live.{IsInside};
+ghost use Rattle.ner_trees.specs.Search.{AreAllOn, AreOn, is_on};
 
 use machine_desc::Machine;
 use spin_base::{Chip, Memory};
@@ -20,9 +21,18 @@ pub struct Marks<'m> {
     pub ghost all_listed: { AreAllOn machine.now items.items chips.items },
 }
 
+// A chip that is marked.
+#[derive(Clone, Copy)]
+pub struct MarkedChip<'t, 'm> {
+    pub on: &'t Marks<'m>,
+    pub chip: Chip,
+    ghost inside: { IsInside on.now.machine.now chip },
+    ghost marked: { is_on on.now.machine.now on.now.items.items chip ≡ true },
+}
+
 impl<'m> Marks<'m> {
-    ghost use Rattle.std.specs.Prelude.{Bool, IfOk, OnOk, replicate, slice_index_or, slice_set, false, true};
-    ghost use Rattle.machine_desc.specs.Live.{IsInside, index_of};
+    ghost use Rattle.std.specs.Prelude.{Bool, IfOk, OnOk, replicate, slice_index_or, slice_set, false};
+    ghost use Rattle.machine_desc.specs.Live.{index_of};
 
     // No chip is marked.
     pub(crate) fn none(alloc: Global, machine: &'m Machine) -> Result<Marks<'m>, Memory>

@@ -6,10 +6,9 @@ ghost use Rattle.ner_trees.specs.Growth.{IsNotFarther, IsNear};
 ghost use Rattle.ner_trees.specs.Search.{place_at, AreSixPlaces, AtStep, IsOnWithin, IsNearestOn, IsNoneNearer, IsBetter, IsLeastNearness, CanSearch, is_on, is_there, nearness};
 ghost use Rattle.spin_base.specs.declared.chips.Chip.{Chip};
 
-use crate::displacements::{OnAxis, distance};
+use crate::displacements::{ChipPair, OnAxis, distance};
 use crate::marks::Marks;
 use crate::partial_trees::{GrowingTree, Radius};
-use machine_desc::Machine;
 use spin_base::Chip;
 
 // A place in a window: so many places past the one that lies `radius` places before the centre.
@@ -182,31 +181,8 @@ fn rows(six: RingStep<'_, '_>) -> SixPlaces
     six_places(machine.wrap(), OnAxis { places, place }, six)
 }
 
-// Of two chips from which the target is as far, the one that comes first in the order of x, then y.
-fn nearer(search: Search<'_, '_>, best: Option<Chip>, chip: Chip) -> Chip
-    requires best_inside { IfSome best (IsInside search.on.now.machine.now) }
-    requires inside { IsInside search.on.now.machine.now chip }
-    requires as_far { IfSome best (λ b. distance_of search.on.now.machine.now b search.target
-        ≡ distance_of search.on.now.machine.now chip search.target) }
-    ensures first { IfNone best (result ≡ chip) }
-    ensures nearer { IfSome best (λ b.
-        ((result ≡ b)
-        × IsNotFarther search.entry.on.now.machine.now search.entry.target b chip)
-        ⊎ ((result ≡ chip)
-        × IsNotFarther search.entry.on.now.machine.now search.entry.target chip b)) }
-{
-    let machine = search.on.machine();
-    match best {
-        None => chip,
-        Some(other) => if machine.index(chip) < machine.index(other) {
-            chip
-        } else {
-            other
-        },
-    }
-}
-
-// The nearest of the best so far and a chip of the tree, where this one is on the ring.
+// The nearest of the best so far and a chip of the tree, where this one is on the ring. All that are on the ring are as far from the
+// target, and the first of them is that of least x, then y.
 #[inline(never)]
 fn better_with(ring: Ring<'_, '_>, best: Option<Chip>, chip: Chip) -> Option<Chip>
     requires inside { IsInside ring.search.on.now.machine.now chip }
@@ -220,12 +196,18 @@ fn better_with(ring: Ring<'_, '_>, best: Option<Chip>, chip: Chip) -> Option<Chi
         ring.entry.search.on.now.items.items ring.entry.search.target ring.entry.radius.chips
         (λ e. e ≡ chip) best result }
 {
-    let search = ring.search;
-    let machine = search.on.machine();
-    if distance(machine, chip, search.target) <= u32::from(ring.radius.chips) {
-        Some(nearer(search, best, chip))
-    } else {
-        best
+    let machine = ring.search.on.machine();
+    let pair = ChipPair {
+        machine,
+        from: chip,
+        to: ring.search.target,
+    };
+    if u32::from(ring.radius.chips) < distance(pair) {
+        return best;
+    }
+    match best {
+        Some(other) if machine.index(other) <= machine.index(chip) => best,
+        _ => Some(chip),
     }
 }
 
@@ -332,12 +314,10 @@ fn nearest_on_ring(ring: Ring<'_, '_>) -> Option<Chip>
 
 // A number that orders chips by how near they are to a target: the links from there to the target, then the index.
 #[inline(always)]
-fn nearness(machine: &Machine, target: Chip, chip: Chip) -> u32
-    requires target_inside { IsInside machine.now target }
-    requires inside { IsInside machine.now chip }
-    ensures { result ≡ nearness machine.now target chip }
+fn nearness(pair: ChipPair<'_>) -> u32
+    ensures { result ≡ nearness pair.entry.machine.now pair.entry.to pair.entry.from }
 {
-    distance(machine, chip, target) * 4096 + machine.index(chip)
+    distance(pair) * 4096 + pair.machine.index(pair.from)
 }
 
 // The least of these numbers, of the chips of a tree.
@@ -349,9 +329,19 @@ fn least_nearness(tree: &GrowingTree, target: Chip) -> u32
 {
     let machine = tree.on.machine();
     let chips = tree.on.chips();
-    let mut least = nearness(machine, target, tree.root);
+    let root = ChipPair {
+        machine,
+        from: tree.root,
+        to: target,
+    };
+    let mut least = nearness(root);
     for chip in chips {
-        least = least.min(nearness(machine, target, *chip));
+        let pair = ChipPair {
+            machine,
+            from: *chip,
+            to: target,
+        };
+        least = least.min(nearness(pair));
     }
     least
 }

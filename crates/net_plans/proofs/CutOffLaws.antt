@@ -1,25 +1,18 @@
 -- Where a net has a plan, none of its targets is cut off; and at most one net and target are the first that are.
-use Rattle.std.proofs.Common.{◌≡◌, ℕ, ◌<◌, List, [], ◌∷◌, map, length, refl, sym, ap, ◌∙◌, subst, inl, inr, Some, Result, Ok, Err, IfOk, IfErr}
+use Rattle.std.proofs.Common.{arith, ◌≡◌, ℕ, ◌<◌, List, [], ◌∷◌, map, length, refl, sym, ap, ◌∙◌, subst, inl, inr, Some, Result, Ok, Err, IfOk, IfErr}
 use Rattle.std.specs.List.{All, Contains, slice_get, slice_index_or}
-use Rattle.std.proofs.lemmas.{Bool.cases_order, List.Elements.All-contains}
-use Rattle.std.proofs.lemmas.Option.{slice_get_within, get_or_from_slice_get, slice_get-get_or}
-use Rattle.spin_base.specs.{declared.chips.Chip.Chip, declared.chips.Spot.Spot}
-use Rattle.machine_desc.specs.{declared.trees.Edge.Edge, Description.Description}
-use Rattle.machine_desc.specs.Live.{far_of, IsLiveLink}
-use Rattle.machine_desc.specs.RoutingTree.{IsPath, IsTreeChip, IsRoutingTree}
+use Rattle.std.proofs.lemmas.{Bool.cases_order, List.Elements.All-contains, Option.slice_get_within, Option.get_or_from_slice_get, Option.slice_get-get_or}
+use Rattle.spin_base.specs.declared.chips.{Chip.Chip, Spot.Spot}
+use Rattle.machine_desc.specs.{declared.trees.Edge.Edge, Description.Description, Live.far_of, Live.IsLiveLink, RoutingTree.IsPath, RoutingTree.IsTreeChip, RoutingTree.IsRoutingTree}
 use Rattle.app_graph.specs.declared.graphs.Net.{Net}
-use Rattle.link_detours.specs.Repair.{IsWalkTo, IsFirstTargetCutOff as IsFirstOfList}
-use Rattle.link_detours.specs.{Cause.IsRepairCause, declared.repairs.RepairErr.RepairErr}
+use Rattle.link_detours.specs.{Repair.IsWalkTo, Cause.IsRepairCause, declared.repairs.RepairErr.RepairErr}
+use Rattle.link_detours.specs.Repair.{IsFirstTargetCutOff as IsFirstOfList}
 use Rattle.link_detours.specs.declared.repairs.RepairErr.TheVariants as repairs
 use Rattle.spin_base.proofs.{Members.Contains-map, Places.All-at}
-use Rattle.net_plans.specs.declared.nets.NetErr.{NetErr}
+use Rattle.net_plans.specs.{declared.nets.NetErr.NetErr, Cause.IsNetCause, Cause.IsCauseOne, Cause.IsRefusedBy, CutOffTargets.IsCutOffIn, CutOffTargets.HasNoneCutOff, CutOffTargets.IsFirstCutOffIn}
+use Rattle.net_plans.specs.{CutOffTargets.IsFirstNetCutOff, Order.IsBelow, Targets.chip_key, Targets.AreTargets, Targets.AreTargetChips}
 use Rattle.net_plans.specs.declared.nets.NetErr.TheVariants as nets
-use Rattle.net_plans.specs.Cause.{IsNetCause, IsCauseOne, IsRefusedBy}
-use Rattle.net_plans.specs.CutOffTargets.{IsCutOffIn, HasNoneCutOff, IsFirstCutOffIn, IsFirstNetCutOff}
-use Rattle.net_plans.specs.Order.{IsBelow}
-use Rattle.net_plans.specs.Targets.{chip_key, AreTargets, AreTargetChips}
-use Rattle.net_plans.proofs.Determined.{same_source}
-use Rattle.net_plans.proofs.Ordering.{same_from_neither, not_both}
+use Rattle.net_plans.proofs.{Determined.same_source, Ordering.same_from_neither, Ordering.not_both}
 
 -- a path of live edges is a walk of live links
 path_walk : (m : Description) (edges : List Edge) → All (λ (e : Edge). IsLiveLink m e.chip e.dir) edges → (path : List Edge) (from to : Chip) → IsPath m edges from path to →
@@ -123,7 +116,5 @@ module _ (m : Description) (spots : List Spot) (ns : List Net) where
   pub refused_first : {X : Type 0} (result : Result X NetErr) → IfOk result (λ _. All (HasNoneCutOff m spots) ns) → IfErr result (IsNetCause m spots ns) →
       (i : ℕ) (target : Chip) → IsFirstNetCutOff m spots ns i target → IsRefusedBy result (nets.CutOff i target) nets.Memory
   refused_first (Ok x) none cause i target first = absurd (All-at (HasNoneCutOff m spots) ns i first.net none first.is first.target.source target first.target.is)
-  refused_first (Err (nets.CutOff j other)) none cause i target first =
-      let one = one_first_net j i other target cause first in
-      inl (λ k. Err (nets.CutOff (one.0 k) (one.1 k)))
+  refused_first (Err (nets.CutOff j other)) none cause i target first = grind (arith, one_first_net j i other target cause first)
   refused_first (Err nets.Memory) none cause i target first = inr refl

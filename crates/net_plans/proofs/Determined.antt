@@ -1,20 +1,15 @@
 -- A net has one list of targets, one of target chips, and one plan, where spots are sites.
 use Rattle.std.proofs.Common.{◌≡◌, ℕ, ◌<◌, List, [], ◌∷◌, length, get_or, refl, sym, ap, ◌∙◌, subst, Some}
 use Rattle.std.specs.List.{All, Contains, slice_get}
-use Rattle.std.proofs.lemmas.List.{ext_get_or}
-use Rattle.std.proofs.lemmas.Option.{slice_get_within, slice_get-get_or}
-use Rattle.spin_base.specs.{declared.chips.Chip.Chip, declared.chips.Spot.Spot, declared.blocks.Block.Block}
-use Rattle.machine_desc.specs.Description.{Description}
-use Rattle.machine_desc.specs.Live.{IsInside, IsSite}
+use Rattle.std.proofs.lemmas.{List.ext_get_or, Option.slice_get_within, Option.slice_get-get_or}
+use Rattle.spin_base.specs.declared.{chips.Chip.Chip, chips.Spot.Spot, blocks.Block.Block}
+use Rattle.machine_desc.specs.{Description.Description, Live.IsInside, Live.IsSite, declared.nets.NetPlan.NetPlan}
 use Rattle.app_graph.specs.declared.graphs.Net.{Net}
-use Rattle.machine_desc.specs.declared.nets.NetPlan.{NetPlan}
 use Rattle.ner_trees.specs.{declared.growths.Grown.Grown, Growth.IsGrown}
 use Rattle.ner_trees.proofs.{Determined.one_tree, Ordered.same_list}
 use Rattle.link_detours.specs.Repair.{IsRepaired}
 use Rattle.spin_base.proofs.Places.{All-at, slice_get_there}
-use Rattle.net_plans.specs.NetPlans.{joined_chips, IsPlannedNet, ArePlanned}
-use Rattle.net_plans.specs.Order.{IsBelow}
-use Rattle.net_plans.specs.Targets.{spot_key, chip_key, AreTargets, AreTargetChips}
+use Rattle.net_plans.specs.{NetPlans.joined_chips, NetPlans.IsPlannedNet, NetPlans.ArePlanned, Order.IsBelow, Targets.spot_key, Targets.chip_key, Targets.AreTargets, Targets.AreTargetChips}
 use Rattle.net_plans.proofs.{Ordering.not_both, Planning.all_inside, Repairs.one_repair}
 
 pub one_targets : (spots : List Spot) (vertices : List ℕ) (xs ys : List Spot) → AreTargets spots vertices xs → AreTargets spots vertices ys → xs ≡ ys

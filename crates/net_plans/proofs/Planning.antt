@@ -1,23 +1,15 @@
 -- What one net's plan gives, and what all plans give.
-use Rattle.std.proofs.Common.{◌≡◌, ℕ, ◌+◌, ◌<◌, ◌≤◌, List, [], ◌∷◌, ◌++◌, map, length, refl, sym, ap, ◌∙◌, subst, arith, inl, inr, Some}
+use Rattle.std.proofs.Common.{◌≡◌, ℕ, ◌+◌, ◌<◌, ◌≤◌, List, [], ◌∷◌, ◌++◌, map, length, ap, ◌∙◌, subst, arith, inl, inr, Some}
 use Rattle.std.specs.List.{All, Contains, slice_get, slice_index_or}
-use Rattle.std.proofs.lemmas.List.{length-append}
-use Rattle.std.proofs.lemmas.List.Elements.{All-contains, All-contains_itself}
-use Rattle.std.proofs.lemmas.Option.{slice_get-get_or}
-use Rattle.spin_base.specs.{declared.chips.Chip.Chip, declared.chips.Spot.Spot, declared.blocks.Block.Block}
-use Rattle.machine_desc.specs.{declared.trees.Edge.Edge, declared.trees.Tree.Tree, Description.Description}
-use Rattle.machine_desc.specs.Live.{IsInside, IsLiveChip, IsSite}
-use Rattle.machine_desc.specs.RoutingTree.{IsTreeChip, IsTreeTo}
+use Rattle.std.proofs.lemmas.{List.length-append, List.Elements.All-contains, List.Elements.All-contains_itself, Option.slice_get-get_or}
+use Rattle.spin_base.specs.declared.{chips.Chip.Chip, chips.Spot.Spot, blocks.Block.Block}
+use Rattle.machine_desc.specs.{declared.trees.Edge.Edge, declared.trees.Tree.Tree, Description.Description, Live.IsInside, Live.IsLiveChip, Live.IsSite, RoutingTree.IsTreeChip, RoutingTree.IsTreeTo}
 use Rattle.machine_desc.proofs.{Far.live_inside, Sites.site_parts}
 use Rattle.app_graph.specs.declared.graphs.Net.{Net}
-use Rattle.ner_trees.specs.declared.growths.Grown.{Grown}
-use Rattle.ner_trees.specs.Growth.{IsGrown, distance_sum}
+use Rattle.ner_trees.specs.{declared.growths.Grown.Grown, Growth.IsGrown, Growth.distance_sum}
 use Rattle.link_detours.specs.Repair.{IsRepaired}
-use Rattle.spin_base.proofs.Members.{Contains-map, Contains-unmap}
-use Rattle.spin_base.proofs.Places.{All-at, All-each}
-use Rattle.net_plans.specs.Keys.{nowhere}
-use Rattle.net_plans.specs.NetPlans.{joined_chips, IsPlannedNet}
-use Rattle.net_plans.specs.Targets.{AreTargets, AreTargetChips}
+use Rattle.spin_base.proofs.{Members.Contains-map, Members.Contains-unmap, Places.All-at, Places.All-each}
+use Rattle.net_plans.specs.{Keys.nowhere, NetPlans.IsPlannedNet, Targets.AreTargets, Targets.AreTargetChips}
 
 -- sites are on chips of the grid
 pub all_inside : (m : Description) (spots : List Spot) → All (IsSite m) spots → All (λ s. IsInside m s.chip) spots
@@ -82,20 +74,7 @@ pub plan_is : (m : Description) (spots : List Spot) (net : Net) (keys : Block) (
     slice_get spots net.source ≡ Some source → AreTargets spots net.targets targets → AreTargetChips m source.chip targets chips → growth.tree.root ≡ source.chip →
     IsGrown m source.chip chips growth.joins growth.tree.edges → length growth.tree.edges ≤ distance_sum m source.chip chips → tree.root ≡ growth.tree.root →
     IsRepaired m growth.tree.root growth.tree.edges chips tree.edges → IsPlannedNet m spots net keys (record { block = keys; source = source; targets = targets; tree = tree })
-plan_is m spots net keys source targets chips growth tree at are are_chips from grown few root repaired =
-    let joined : chips ≡ joined_chips growth = sym grown.each_joined in
-    record {
-      growth = growth;
-      block = refl;
-      source = at;
-      targets = are;
-      chips = subst (AreTargetChips m source.chip targets) joined are_chips;
-      grows_from = from;
-      grown = subst (λ cs. IsGrown m source.chip cs growth.joins growth.tree.edges) joined grown;
-      few_edges = subst (λ cs. length growth.tree.edges ≤ distance_sum m source.chip cs) joined few;
-      root = root ∙ from;
-      repaired = subst (λ cs. IsRepaired m source.chip growth.tree.edges cs tree.edges) joined (subst (λ r. IsRepaired m r growth.tree.edges chips tree.edges) from repaired);
-    }
+plan_is m spots net keys source targets chips growth tree at are are_chips from grown few root repaired = grind arith
 
 -- ---- nets one after the other
 

@@ -1,17 +1,11 @@
 -- A tree and a list of targets have one repaired tree.
 use Rattle.std.proofs.Common.{◌≡◌, ℕ, zero, suc, ◌≤◌, List, [], ◌∷◌, ◌++◌, Some, refl, sym, ◌∙◌, subst, arith, inl, inr}
 use Rattle.std.specs.List.{Contains}
-use Rattle.std.proofs.lemmas.List.Elements.{Contains-append_left, Contains-append_right, Contains-append_cases}
-use Rattle.std.proofs.lemmas.Option.{same_Some}
-use Rattle.spin_base.specs.{declared.chips.Chip.Chip, declared.chips.Dir.Dir}
-use Rattle.spin_base.specs.Links.{dir_number, opposite_of}
-use Rattle.machine_desc.specs.{declared.trees.Edge.Edge, Description.Description, Live.far_of, RoutingTree.IsTreeChip}
-use Rattle.machine_desc.proofs.Far.{far_back, live_ends, live_inside}
-use Rattle.machine_desc.proofs.Same.{same_dir, same_edge}
-use Rattle.machine_desc.proofs.TreeLemmas.{tree_end, tree_cases}
-use Rattle.link_detours.specs.Steps.{Steps}
-use Rattle.machine_desc.specs.Flags.{link_place}
-use Rattle.link_detours.specs.Repair.{EdgeStep, IsTreeLevel, IsLastLink, IsDetour, Joins, LeadsToTarget, IsRepaired}
+use Rattle.std.proofs.lemmas.{List.Elements.Contains-append_left, List.Elements.Contains-append_right, List.Elements.Contains-append_cases, Option.same_Some}
+use Rattle.spin_base.specs.{declared.chips.Chip.Chip, declared.chips.Dir.Dir, Links.dir_number, Links.opposite_of}
+use Rattle.machine_desc.specs.{declared.trees.Edge.Edge, Description.Description, Live.far_of, RoutingTree.IsTreeChip, Flags.link_place}
+use Rattle.machine_desc.proofs.{Far.far_back, Far.live_ends, Far.live_inside, Same.same_dir, Same.same_edge, TreeLemmas.tree_end, TreeLemmas.tree_cases}
+use Rattle.link_detours.specs.{Steps.Steps, Repair.EdgeStep, Repair.IsTreeLevel, Repair.IsLastLink, Repair.IsDetour, Repair.Joins, Repair.LeadsToTarget, Repair.IsRepaired}
 use Rattle.spin_base.proofs.Ascending.{same_in_order}
 
 -- all edges of the first list are in the second
@@ -65,10 +59,7 @@ module _ (m : Description) (root : Chip) where
       λ i. first i ∷ rest i
 
   has_more : (tree other walk also : List Edge) → Has other tree → walk ≡ also → Has (other ++ also) (tree ++ walk)
-  has_more tree other walk also to same e has = elim (Contains-append_cases tree walk e has) [
-    | inl old ↦ Contains-append_left other also e (to e old)
-    | inr new ↦ Contains-append_right other also e (subst (λ (es : List Edge). Contains es e) same new)
-  ]
+  has_more tree other walk also to same e has = grind (arith, Contains-append_cases tree walk e has, Contains-append_left, Contains-append_right)
 
   -- joining targets to trees with the same edges gives trees with the same edges
   one_whole : (tree other : List Edge) (targets : List Chip) (whole also : List Edge) → Has other tree → Has tree other → Joins m root tree targets whole → Joins m root other targets also →

@@ -1,23 +1,17 @@
 -- Nets that were routed side by side, and what is found of them in order.
-use Rattle.std.proofs.Common.{◌≡◌, ℕ, zero, suc, ◌+◌, ◌<◌, ◌≤◌, List, [], ◌∷◌, ◌++◌, drop, get_or, length, refl, sym, ap, ◌∙◌, subst, arith, Some, Result, Ok, Err, IfOk, IfErr, inl, inr}
+use Rattle.std.proofs.Common.{◌≡◌, ℕ, zero, suc, ◌+◌, ◌<◌, ◌≤◌, List, [], ◌∷◌, ◌++◌, drop, get_or, length, refl, sym, ap, ◌∙◌, subst, arith, Some, Result, Ok, Err, IfOk, IfErr}
 use Rattle.std.specs.List.{All, AllZip, slice_get, range_with_len}
-use Rattle.std.proofs.lemmas.List.FromFn.{get_or-range_with_len, length-range_with_len}
-use Rattle.std.proofs.lemmas.Option.{get_or_from_slice_get, slice_get_within, slice_get-get_or}
-use Rattle.spin_base.specs.{declared.chips.Chip.Chip, declared.chips.Spot.Spot, declared.blocks.Block.Block}
-use Rattle.machine_desc.specs.{Description.Description, RoutingTree.IsRoutingTree}
+use Rattle.std.proofs.lemmas.{List.FromFn.get_or-range_with_len, List.FromFn.length-range_with_len, Option.get_or_from_slice_get, Option.slice_get_within, Option.slice_get-get_or}
+use Rattle.spin_base.specs.declared.{chips.Chip.Chip, chips.Spot.Spot, blocks.Block.Block}
+use Rattle.machine_desc.specs.{Description.Description, RoutingTree.IsRoutingTree, declared.nets.NetPlan.NetPlan}
 use Rattle.app_graph.specs.declared.graphs.Net.{Net}
-use Rattle.machine_desc.specs.declared.nets.NetPlan.{NetPlan}
 use Rattle.link_detours.specs.declared.repairs.RepairErr.{RepairErr}
 use Rattle.link_detours.specs.declared.repairs.RepairErr.TheVariants as repairs
 use Rattle.spin_base.proofs.Places.{AllZip-at_second, slice_get_there, slice_get-push_cases}
-use Rattle.net_plans.specs.declared.nets.NetErr.{NetErr}
-use Rattle.net_plans.specs.declared.nets.NetErr.TheVariants.{CutOff, Memory}
-use Rattle.net_plans.specs.declared.nets.RoutedNet.{RoutedNet}
-use Rattle.net_plans.specs.Cause.{IsNetCause, IsCauseOne}
-use Rattle.net_plans.specs.CutOffTargets.{HasNoneCutOff, IsFirstNetCutOff}
-use Rattle.net_plans.specs.NetPlans.{ArePlanned, IsPlannedNet}
+use Rattle.net_plans.specs.{declared.nets.NetErr.NetErr, declared.nets.NetErr.TheVariants.CutOff, declared.nets.NetErr.TheVariants.Memory, declared.nets.RoutedNet.RoutedNet, Cause.IsNetCause}
+use Rattle.net_plans.specs.{Cause.IsCauseOne, CutOffTargets.HasNoneCutOff, CutOffTargets.IsFirstNetCutOff, NetPlans.ArePlanned, NetPlans.IsPlannedNet, Ways.AreRoutedNets, Ways.HaveWays}
+use Rattle.net_plans.specs.Ways.{IsFirstCut, IsFirstWithout, HasTreeAndPlan, IsRoutedNet, IsRoutingAnswer}
 use Rattle.net_plans.proofs.Planning.{long_more}
-use Rattle.net_plans.specs.Ways.{AreRoutedNets, HaveWays, IsFirstCut, IsFirstWithout, HasTreeAndPlan, IsRoutedNet, IsRoutingAnswer}
 
 -- ---- the items that are left
 
@@ -26,10 +20,7 @@ pub dropped_head : {X : Type 0} (xs : List X) (k : ℕ) (x : X) (rest : List X) 
 dropped_head [] zero x rest is = cc
 dropped_head [] (suc k) x rest is = cc
 dropped_head (y ∷ ys) zero x rest is = let head : y ≡ x = cc in let tail : ys ≡ rest = cc in (ap Some head, tail)
-dropped_head (y ∷ ys) (suc k) x rest is =
-    let deeper = dropped_head ys k x rest is in
-    let up : suc k + 1 ≡ suc (k + 1) = omega arith in
-    (deeper.0, ap (λ n. drop n (y ∷ ys)) up ∙ deeper.1)
+dropped_head (y ∷ ys) (suc k) x rest is = grind (arith, dropped_head ys k x rest is)
 
 -- where none is left, all places were read
 pub dropped_none : {X : Type 0} (xs : List X) (k : ℕ) → drop k xs ≡ [] → length xs ≤ k
@@ -48,25 +39,10 @@ no_ways items = record { within = omega arith; plans_long = refl; each = λ i it
 
 pub one_way_more : (items : List RoutedNet) (plans more : List NetPlan) (k : ℕ) (item : RoutedNet) (plan : NetPlan) → HaveWaysTo items plans k →
     slice_get items k ≡ Some item → item.way ≡ Ok plan → more ≡ plans ++ plan ∷ [] → HaveWaysTo items more (k + 1)
-one_way_more items plans more k item plan so_far at way are = record {
-  within = let below = slice_get_within items k item at in omega (arith, below);
-  plans_long = long_more plans more plan k so_far.plans_long are;
-  each = λ i other p other_at p_at.
-      elim (slice_get-push_cases plans plan p i (subst (λ l. slice_get l i ≡ Some p) are p_at)) [
-        | inl old ↦ so_far.each i other p other_at old.1
-        | inr last ↦
-            let here : i ≡ k = last.0 ∙ so_far.plans_long in
-            let there : slice_get items k ≡ Some other = subst (λ n. slice_get items n ≡ Some other) here other_at in
-            let same : item ≡ other = cc in
-            ap (λ (x : RoutedNet). x.way) (sym same) ∙ (way ∙ ap Ok last.1)
-      ];
-}
+one_way_more items plans more k item plan so_far at way are = grind (arith, slice_get_within items k item at, long_more plans more plan k so_far.plans_long are, slice_get-push_cases)
 
 pub all_ways : (items : List RoutedNet) (plans : List NetPlan) (k : ℕ) → HaveWaysTo items plans k → length items ≤ k → HaveWays items plans
-all_ways items plans k have past =
-    let within = have.within in
-    let plans_long = have.plans_long in
-    record { plans_long = omega (arith, past, within, plans_long); each = have.each }
+all_ways items plans k have past = grind arith
 
 -- each of the first items has a plan
 pub ways_before : (items : List RoutedNet) (plans : List NetPlan) (k : ℕ) → HaveWaysTo items plans k → (j : ℕ) (other : RoutedNet) → j < k → slice_get items j ≡ Some other →
@@ -117,13 +93,7 @@ module _ (m : Description) (spots : List Spot) (nets : List Net) (blocks : List 
     -- the net at a place where an item has a plan
     routed_at : (i : ℕ) (item : RoutedNet) (p : NetPlan) (net : Net) (block : Block) → slice_get items i ≡ Some item → item.way ≡ Ok p → slice_get nets i ≡ Some net → slice_get blocks i ≡ Some block →
         HasTreeAndPlan m spots net block p
-    routed_at i item p net block at way net_at block_at =
-        let one = are.each i item at in
-        let here = one.at in
-        let keyed = one.keyed in
-        let same_net : one.net ≡ net = cc in
-        let same_block : one.block ≡ block = cc in
-        subst (λ n. HasTreeAndPlan m spots n block p) same_net (subst (λ b. HasTreeAndPlan m spots one.net b p) same_block (way_is one.net one.block item.way p way one.way))
+    routed_at i item p net block at way net_at block_at = grind (arith, way_is (are.each i item at).net (are.each i item at).block item.way p way (are.each i item at).way)
 
     -- no target of a net is cut off where its item has a plan
     reached_at : (i : ℕ) (item : RoutedNet) (p : NetPlan) (net : Net) → slice_get items i ≡ Some item → item.way ≡ Ok p → slice_get nets i ≡ Some net → HasNoneCutOff m spots net

@@ -1,26 +1,30 @@
 -- What threads find when they route nets side by side.
-use Rattle.std.specs.Prelude.{◌≡◌, ℕ, ◌<◌, List, length, All, Some, Result, Ok, Err, slice_get}
+use Rattle.std.specs.Prelude.{◌≡◌, ℕ, ◌<◌, ◌≤◌, List, length, All, Some, Result, Ok, Err, slice_get}
 use Rattle.spin_base.specs.{declared.chips.Chip.Chip, declared.chips.Spot.Spot, declared.blocks.Block.Block}
 use Rattle.machine_desc.specs.{Description.Description, declared.trees.Tree.Tree, declared.nets.NetPlan.NetPlan}
 use Rattle.machine_desc.specs.{Live.IsInside, Live.IsLiveLink, Live.IsSite, RoutingTree.IsRoutingTree, RoutingTree.IsTreeTo}
-use Rattle.app_graph.specs.{declared.graphs.Graph.Graph, declared.graphs.Net.Net, ValidGraph.IsValidGraph}
-use Rattle.link_detours.specs.{declared.repairs.RepairErr.RepairErr, declared.repairs.RepairErr.TheVariants.CutOff, declared.roads.Roads.Roads}
-use Rattle.link_detours.specs.{LiveRoads.AreRoadsOf, Repair.IsTreeWithDeadLinks, Repair.AreInPlaceOrder}
+use Rattle.app_graph.specs.{declared.graphs.Graph.Graph, declared.graphs.Net.Net}
+use Rattle.link_detours.specs.{declared.repairs.RepairErr.RepairErr, declared.repairs.RepairErr.TheVariants.CutOff}
+use Rattle.link_detours.specs.Repair.{IsTreeWithDeadLinks, AreInPlaceOrder}
 use Rattle.net_plans.specs.{declared.nets.RoutedNet.RoutedNet, declared.nets.NetErr.NetErr, Cause.IsCauseOne, CutOffTargets.HasNoneCutOff, NetPlans.IsPlannedNet}
 use Rattle.net_plans.specs.declared.nets.NetErr.TheVariants as errors
 
--- what threads are lent to route nets: a machine with its live links, a graph, and a core or site for each vertex and a block
--- for each net
-pub record CanRoute (m : Description) (roads : Roads) (graph : Graph) (spots : List Spot) (blocks : List Block) : Type 0 where
-  pub roads_are : AreRoadsOf m roads
-  pub valid : IsValidGraph graph
-  pub a_spot_each : length spots ≡ length graph.vertices
+-- a net whose source and targets, one at least, are among so many vertices
+pub record HasEndsAmong (n : ℕ) (net : Net) : Type 0 where
+  pub source : net.source < n
+  pub some_target : 0 < length net.targets
+  pub targets : All (λ t. t < n) net.targets
+
+-- what threads are lent to route nets: a graph, a site for each vertex and a block for each net
+pub record CanRoute (m : Description) (graph : Graph) (spots : List Spot) (blocks : List Block) : Type 0 where
+  pub few : length graph.nets ≤ 4096
+  pub ends : All (HasEndsAmong (length spots)) graph.nets
   pub sites : All (IsSite m) spots
   pub a_block_each : length blocks ≡ length graph.nets
 
 -- and one of the nets
-pub record CanRouteAt (m : Description) (roads : Roads) (graph : Graph) (spots : List Spot) (blocks : List Block) (i : ℕ) : Type 0 where
-  pub can : CanRoute m roads graph spots blocks
+pub record CanRouteAt (m : Description) (graph : Graph) (spots : List Spot) (blocks : List Block) (i : ℕ) : Type 0 where
+  pub can : CanRoute m graph spots blocks
   pub is_net : i < length graph.nets
 
 -- What is known of a tree that grew, of which links may be dead: there are targets, all on the machine, edges are in order, and

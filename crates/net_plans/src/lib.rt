@@ -11,6 +11,7 @@ mod nets;
 mod orders;
 mod targets;
 
+pub use boards::TargetVertices;
 pub use laws::{plans_are_determined, targets_are_determined};
-pub use nets::{NetErr, net_plan, net_plans};
-pub use targets::{target_chips, targets_of};
+pub use nets::{NetErr, PlacedGraph, PlacedNet, net_plan, net_plans};
+pub use targets::{NetEnds, target_chips, targets_of};

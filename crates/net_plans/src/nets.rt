@@ -1,26 +1,49 @@
 // The plan of each net.
-ghost use Rattle.std.specs.Prelude.{◌≡◌, ℕ, ◌<◌, All, length, IfOk, IfErr};
+ghost use Rattle.std.specs.Prelude.{◌≡◌, ℕ, ◌<◌, ◌≤◌, All, length, IfOk, IfErr};
 ghost use Rattle.spin_base.specs.declared.chips.Chip.{Chip};
 ghost use Rattle.machine_desc.specs.Live.{IsSite};
 ghost use Rattle.machine_desc.specs.RoutingTree.{IsRoutingTree, IsTreeTo};
-ghost use Rattle.app_graph.specs.ValidGraph.{IsValidGraph, IsValidNet};
 ghost use Rattle.link_detours.specs.Cause.{IsRepairCause};
-ghost use Rattle.link_detours.specs.LiveRoads.{AreRoadsOf};
 ghost use Rattle.link_detours.specs.Repair.{IsRepaired};
 ghost use Rattle.net_plans.specs.Cause.{IsNetCause, IsCauseOne, IsRefusedBy};
 ghost use Rattle.net_plans.specs.CutOffTargets.{HasNoneCutOff, IsFirstCutOffIn, IsFirstNetCutOff};
 ghost use Rattle.net_plans.specs.NetPlans.{IsPlannedNet, ArePlanned};
-ghost use Rattle.net_plans.specs.Ways.{AreRoutedNets, CanRoute, CanRouteAt, HaveWays, IsFirstWithout, IsGrownTree, IsRoutedNet};
+ghost use Rattle.net_plans.specs.Ways.{AreRoutedNets, CanRoute, CanRouteAt, HasEndsAmong, HaveWays, IsFirstWithout, IsGrownTree, IsRoutedNet};
 
-use crate::targets::{target_chips, targets_of};
+use crate::boards::TargetVertices;
+use crate::targets::{NetEnds, target_chips, targets_of};
 use app_graph::{Graph, Net};
-use link_detours::{Ground, RepairErr, Roads, repair};
+use link_detours::{BrokenTree, Ground, RepairErr, Roads, repair};
 use machine_desc::{Machine, NetPlan, Tree};
-use ner_trees::{Grown, ner};
+use ner_trees::{Ends, Grown, ner};
 use rayon::prelude::*;
 use spin_base::{Block, Chip, Memory, Seq, Shared, Spot};
 use std::alloc::{AllocError, Global};
 use std::thread::Threads;
+
+/// A graph on a machine, with a core for each vertex and the keys of each net.
+#[derive(Clone, Copy)]
+pub struct PlacedGraph<'a> {
+    pub machine: &'a Machine,
+    pub graph: &'a Graph,
+    pub spots: &'a Seq<Spot>,
+    pub blocks: &'a Seq<Block>,
+    pub ghost few: { length graph.now.nets ≤ 4096 },
+    pub ghost ends: { All (HasEndsAmong (length spots.now)) graph.now.nets },
+    pub ghost sites: { All (IsSite machine.now) spots.now },
+    pub ghost a_block_each: { length blocks.now ≡ length graph.now.nets },
+}
+
+/// A net whose keys are this block, and the core of each vertex on a machine.
+#[derive(Clone, Copy)]
+pub struct PlacedNet<'a> {
+    pub ground: Ground<'a>,
+    pub spots: &'a Seq<Spot>,
+    pub net: &'a Net,
+    pub block: Block,
+    pub ghost ends: { HasEndsAmong (length spots.now) net.now },
+    pub ghost sites: { All (IsSite ground.machine.now) spots.now },
+}
 
 // What came of routing a net: the net's place in the list of nets, and its plan, or why it has none.
 #[derive(Drop)]
@@ -52,8 +75,7 @@ impl From<Memory> for NetErr {
 }
 
 /// The plan of each net of a graph: its block, the core of its source, its targets, and the tree that grows from the
-/// source's chip to the target chips, with detours round what is dead. `spots` has the core of each vertex, and `blocks`
-/// the keys of each net. Threads route the nets side by side. What came of each net is collected whole, in the order of
+/// source's chip to the target chips, with detours round what is dead. Threads route the nets side by side. What came of each net is collected whole, in the order of
 /// the nets, before it is looked through: so the answer does not depend on which net was done first.
 ///
 /// # Errors
@@ -63,25 +85,27 @@ impl From<Memory> for NetErr {
 pub fn net_plans<R: Threads + Sync>(
     rt: &R,
     alloc: Global,
-    machine: &Machine,
-    graph: &Graph,
-    spots: &Seq<Spot>,
-    blocks: &Seq<Block>,
+    placed: PlacedGraph,
 ) -> Result<Seq<NetPlan>, NetErr>
-    requires valid { IsValidGraph graph.now }
-    requires a_spot_each { length spots.now ≡ length graph.now.vertices }
-    requires sites { All (IsSite machine.now) spots.now }
-    requires a_block_each { length blocks.now ≡ length graph.now.nets }
-    ensures planned { IfOk result (λ plans.
-        ArePlanned machine.now spots.now graph.now.nets blocks.now plans) }
-    ensures routing { IfOk result (λ plans.
-        All (λ p. IsRoutingTree machine.now p.tree.root p.tree.edges p.targets) plans) }
-    ensures reached { IfOk result (λ _. All (HasNoneCutOff machine.now spots.now) graph.now.nets) }
-    ensures cause { IfErr result (IsNetCause machine.now spots.now graph.now.nets) }
+    ensures planned { IfOk result (ArePlanned placed.entry.machine.now placed.entry.spots.now
+        placed.entry.graph.now.nets placed.entry.blocks.now) }
+    ensures routing { IfOk result (λ plans. All (λ p.
+        IsRoutingTree placed.entry.machine.now p.tree.root p.tree.edges p.targets) plans) }
+    ensures reached { IfOk result (λ _. All (HasNoneCutOff placed.entry.machine.now
+        placed.entry.spots.now) placed.entry.graph.now.nets) }
+    ensures cause { IfErr result (IsNetCause placed.entry.machine.now placed.entry.spots.now
+        placed.entry.graph.now.nets) }
     ensures cut_off { (i : ℕ) (target : Chip) →
-        IsFirstNetCutOff machine.now spots.now graph.now.nets i target →
+        IsFirstNetCutOff placed.entry.machine.now placed.entry.spots.now
+        placed.entry.graph.now.nets i target →
         IsRefusedBy result (NetErr.CutOff i target) NetErr.Memory }
 {
+    let PlacedGraph {
+        machine,
+        graph,
+        spots,
+        blocks,
+    } = placed;
     let roads = Roads::of(alloc, machine)?;
     let ground = Ground {
         machine,
@@ -120,8 +144,7 @@ fn routed_nets<R: Threads + Sync>(
     spots: &Seq<Spot>,
     blocks: &Seq<Block>,
 ) -> Result<Vec<RoutedNet>, AllocError>
-    requires { CanRoute ground.now.machine.now ground.now.roads.now graph.now
-        spots.now blocks.now }
+    requires { CanRoute ground.now.machine.now graph.now spots.now blocks.now }
     ensures { IfOk result (λ routed. AreRoutedNets ground.now.machine.now spots.now
         graph.now.nets blocks.now routed.items) }
 {
@@ -129,8 +152,8 @@ fn routed_nets<R: Threads + Sync>(
         .into_par_iter()
         .map(
             |i: usize| -> RoutedNet
-                requires { CanRouteAt ground.now.machine.now ground.now.roads.now
-                    graph.now spots.now blocks.now i }
+                requires { CanRouteAt ground.now.machine.now graph.now
+                    spots.now blocks.now i }
                 ensures { IsRoutedNet ground.entry.now.machine.now spots.entry.now
                     graph.entry.now.nets blocks.entry.now i result }
             { routed_net(alloc, ground, graph, spots, blocks, i) },
@@ -147,57 +170,68 @@ fn routed_net(
     blocks: &Seq<Block>,
     i: usize,
 ) -> RoutedNet
-    requires { CanRouteAt ground.now.machine.now ground.now.roads.now graph.now
-        spots.now blocks.now i }
+    requires { CanRouteAt ground.now.machine.now graph.now spots.now blocks.now i }
     ensures { IsRoutedNet ground.now.machine.now spots.now graph.now.nets
         blocks.now i result }
 {
     let block = *blocks.get(i);
-    let way = net_plan(
-        alloc,
-        ground.machine,
-        ground.roads,
+    let net = PlacedNet {
+        ground: *ground,
         spots,
-        graph.nets.get(i),
+        net: graph.nets.get(i),
         block,
-    );
+    };
+    let way = net_plan(alloc, net);
     RoutedNet { net: i as u32, way }
 }
 
-/// The plan of one net, which has these keys. `roads` are the machine's live links. All that it is lent it only reads, so
-/// nets may be planned side by side.
+/// The plan of one net. All that it is lent it only reads, so nets may be planned side by side.
 ///
 /// # Errors
 ///
 /// `CutOff` exactly where some target is not reached by a walk of live links: it names the first such target chip.
 /// `Memory` where memory runs out.
-pub fn net_plan(
-    alloc: Global,
-    machine: &Machine,
-    roads: &Roads,
-    spots: &Seq<Spot>,
-    net: &Net,
-    block: Block,
-) -> Result<NetPlan, RepairErr>
-    requires roads_are { AreRoadsOf machine.now roads.now }
-    requires valid { IsValidNet (length spots.now) net.now }
-    requires sites { All (IsSite machine.now) spots.now }
-    ensures planned { IfOk result (IsPlannedNet machine.now spots.now net.now block) }
-    ensures routing { IfOk result (λ plan.
-        IsRoutingTree machine.now plan.tree.root plan.tree.edges plan.targets) }
-    ensures reached { IfOk result (λ _. HasNoneCutOff machine.now spots.now net.now) }
-    ensures cause { IfErr result (IsCauseOne machine.now spots.now net.now) }
-    ensures cut_off { (target : Chip) → IsFirstCutOffIn machine.now spots.now net.now target →
+pub fn net_plan(alloc: Global, placed: PlacedNet) -> Result<NetPlan, RepairErr>
+    ensures planned { IfOk result (IsPlannedNet placed.entry.ground.machine.now
+        placed.entry.spots.now placed.entry.net.now placed.entry.block) }
+    ensures routing { IfOk result (λ plan. IsRoutingTree placed.entry.ground.machine.now
+        plan.tree.root plan.tree.edges plan.targets) }
+    ensures reached { IfOk result (λ _. HasNoneCutOff placed.entry.ground.machine.now
+        placed.entry.spots.now placed.entry.net.now) }
+    ensures cause { IfErr result (IsCauseOne placed.entry.ground.machine.now
+        placed.entry.spots.now placed.entry.net.now) }
+    ensures cut_off { (target : Chip) → IsFirstCutOffIn placed.entry.ground.machine.now
+        placed.entry.spots.now placed.entry.net.now target →
         IsRefusedBy result (RepairErr.CutOff target) RepairErr.Memory }
 {
+    let PlacedNet {
+        ground,
+        spots,
+        net,
+        block,
+    } = placed;
+    let machine = ground.machine;
     let source = *spots.get(net.source as usize);
-    let targets = targets_of(alloc, spots, &net.targets)?;
-    let chips = target_chips(alloc, machine, source.chip, &targets)?;
+    let wanted = TargetVertices {
+        spots,
+        vertices: &net.targets,
+    };
+    let targets = targets_of(alloc, wanted)?;
+    let ends = NetEnds {
+        machine,
+        root: source.chip,
+        targets: &targets,
+    };
+    let chips = target_chips(alloc, ends)?;
+    let growth = Ends {
+        machine,
+        root: source.chip,
+        targets: &chips,
+    };
     let Grown {
         tree: grown,
         joins: _,
-    } = ner(alloc, machine, source.chip, &chips)?;
-    let ground = Ground { machine, roads };
+    } = ner(alloc, growth)?;
     let tree = with_detours(alloc, ground, grown, &chips)?;
     Ok(NetPlan {
         block,
@@ -222,8 +256,15 @@ fn with_detours(
         chips.now) }
     ensures cut_off { IfErr result (IsRepairCause ground.entry.machine.now tree.root chips.now) }
 {
-    if ground.roads.carry(ground.machine, tree.edges.as_slice()) {
+    let edges = tree.edges.as_slice();
+    if ground.carry(edges) {
         return Ok(tree);
     }
-    repair(alloc, ground, &tree, chips)
+    let broken = BrokenTree {
+        ground,
+        root: tree.root,
+        edges,
+        targets: chips.as_slice(),
+    };
+    repair(alloc, broken)
 }

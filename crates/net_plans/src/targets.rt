@@ -5,67 +5,46 @@ ghost use Rattle.machine_desc.specs.Live.{IsInside};
 ghost use Rattle.net_plans.specs.Targets.{AreTargets, AreTargetChips};
 ghost use Rattle.net_plans.specs.Keys.{nowhere, spot_numbered, chip_of_key, AreNumbersOf, AreChipKeys, IsChipOfOne};
 
-use crate::boards::{board_of, cores_on};
+use crate::boards::{CoreBoard, TargetVertices, board_of, cores_on};
 use crate::orders::each_once;
 use machine_desc::Machine;
-use ner_trees::distance;
+use ner_trees::{ChipPair, distance};
 use spin_base::{Chip, Memory, Seq, Spot};
 use std::alloc::Global;
 
-/// The cores of a net's target vertices, each once, in the order of x, then y, then core. `spots` has the core of each
-/// vertex, and `vertices` the numbers of the targets.
+/// The cores of a net's target vertices, each once, in the order of x, then y, then core.
 ///
 /// # Errors
 ///
 /// `Memory` where memory runs out.
-pub fn targets_of(
-    alloc: Global,
-    spots: &Seq<Spot>,
-    vertices: &Seq<u32>,
-) -> Result<Seq<Spot>, Memory>
-    requires { All (λ v. v < length spots.now) vertices.now }
-    ensures { IfOk result (λ targets. AreTargets spots.now vertices.now targets) }
+pub fn targets_of(alloc: Global, targets: TargetVertices) -> Result<Seq<Spot>, Memory>
+    ensures { IfOk result (AreTargets targets.entry.spots.now targets.entry.vertices.now) }
 {
-    match board_of(alloc, spots, vertices)? {
-        Some(board) => cores_on(alloc, &board),
-        None => sorted_targets(alloc, spots, vertices),
+    match board_of(alloc, targets)? {
+        Some(board) => cores_on(alloc, CoreBoard { words: &board }),
+        None => sorted_targets(alloc, targets),
     }
 }
 
 // The same by a sort, which takes less where targets are few.
-fn sorted_targets(
-    alloc: Global,
-    spots: &Seq<Spot>,
-    vertices: &Seq<u32>,
-) -> Result<Seq<Spot>, Memory>
-    requires { All (λ v. v < length spots.now) vertices.now }
-    ensures { IfOk result (λ targets. AreTargets spots.now vertices.now targets) }
+fn sorted_targets(alloc: Global, targets: TargetVertices) -> Result<Seq<Spot>, Memory>
+    ensures { IfOk result (AreTargets targets.entry.spots.now targets.entry.vertices.now) }
 {
-    let mut numbers = spot_numbers(alloc, spots, vertices)?;
+    let mut numbers = spot_numbers(alloc, targets)?;
     each_once(&mut numbers);
     spots_of(alloc, &numbers)
 }
 
-/// The chips of these targets, each once, in the order of their distance from the root, then x, then y.
+/// The chips of a net's targets, each once, in the order of their distance from the root, then x, then y.
 ///
 /// # Errors
 ///
 /// `Memory` where memory runs out.
-pub fn target_chips(
-    alloc: Global,
-    machine: &Machine,
-    root: Chip,
-    targets: &Seq<Spot>,
-) -> Result<Seq<Chip>, Memory>
-    requires root_inside { IsInside machine.now root }
-    requires targets_inside { All (λ s. IsInside machine.now s.chip) targets.now }
-    ensures { IfOk result (λ chips. AreTargetChips machine.now root targets.now chips) }
+pub fn target_chips(alloc: Global, ends: NetEnds) -> Result<Seq<Chip>, Memory>
+    ensures { IfOk result
+        (AreTargetChips ends.entry.machine.now ends.entry.root ends.entry.targets.now) }
 {
-    let root = Root {
-        machine,
-        chip: root,
-    };
-    let mut keys = chip_keys(alloc, root, targets)?;
+    let mut keys = chip_keys(alloc, ends)?;
     each_once(&mut keys);
     chips_at(alloc, &keys)
 }
@@ -93,15 +72,15 @@ fn spot_numbered(number: u32) -> Spot
 }
 
 // The numbers of the target vertices' cores.
-fn spot_numbers(alloc: Global, spots: &Seq<Spot>, vertices: &Seq<u32>) -> Result<Vec<u32>, Memory>
-    requires { All (λ v. v < length spots.now) vertices.now }
-    ensures { IfOk result (λ numbers. AreNumbersOf (map (λ v. slice_index_or spots.now v nowhere)
-        vertices.now) numbers.items) }
+fn spot_numbers(alloc: Global, targets: TargetVertices) -> Result<Vec<u32>, Memory>
+    ensures { IfOk result (λ numbers.
+        AreNumbersOf (map (λ v. slice_index_or targets.entry.spots.now v nowhere)
+        targets.entry.vertices.now) numbers.items) }
 {
-    let mut numbers = Vec::with_capacity(alloc, vertices.len())?;
-    for i in 0..vertices.len() {
-        let vertex = *vertices.get(i);
-        let Spot { chip, core } = *spots.get(vertex as usize);
+    let mut numbers = Vec::with_capacity(alloc, targets.vertices.len())?;
+    for i in 0..targets.vertices.len() {
+        let vertex = *targets.vertices.get(i);
+        let Spot { chip, core } = *targets.spots.get(vertex as usize);
         numbers.push(spot_number(chip.x, chip.y, core))?;
     }
     Ok(numbers)
@@ -117,26 +96,32 @@ fn spots_of(alloc: Global, numbers: &[u32]) -> Result<Seq<Spot>, Memory>
     Ok(Seq::from_vec(spots))
 }
 
-// The chip of a net's source, on the machine.
+/// The chip of a net's source and the net's targets, all on the machine.
 #[derive(Clone, Copy)]
-pub struct Root<'a> {
+pub struct NetEnds<'a> {
     pub machine: &'a Machine,
-    pub chip: Chip,
-    pub ghost inside: { IsInside machine.now chip },
+    pub root: Chip,
+    pub targets: &'a Seq<Spot>,
+    pub ghost root_inside: { IsInside machine.now root },
+    pub ghost targets_inside: { All (λ s. IsInside machine.now s.chip) targets.now },
 }
 
 // The keys of the targets' chips: the distance from the root, x and y. Targets in order have the cores of one chip side by side,
 // so each chip is measured once, and most keys stand once before they are put in order.
-fn chip_keys(alloc: Global, root: Root, targets: &Seq<Spot>) -> Result<Vec<(u32, u8, u8)>, Memory>
-    requires { All (λ s. IsInside root.machine.now s.chip) targets.now }
-    ensures { IfOk result (λ keys.
-        AreChipKeys root.entry.machine.now root.entry.chip targets.now keys.items) }
+fn chip_keys(alloc: Global, ends: NetEnds) -> Result<Vec<(u32, u8, u8)>, Memory>
+    ensures { IfOk result (λ keys. AreChipKeys ends.entry.machine.now ends.entry.root
+        ends.entry.targets.now keys.items) }
 {
-    let mut keys = Vec::with_capacity(alloc, targets.len())?;
-    for i in 0..targets.len() {
-        let chip = targets.get(i).chip;
+    let mut keys = Vec::with_capacity(alloc, ends.targets.len())?;
+    for i in 0..ends.targets.len() {
+        let chip = ends.targets.get(i).chip;
         if !ends_at(&keys, chip) {
-            keys.push((distance(root.machine, root.chip, chip), chip.x, chip.y))?;
+            let pair = ChipPair {
+                machine: ends.machine,
+                from: ends.root,
+                to: chip,
+            };
+            keys.push((distance(pair), chip.x, chip.y))?;
         }
     }
     Ok(keys)

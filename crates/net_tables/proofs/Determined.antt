@@ -1,58 +1,25 @@
 -- Nets have one plain table at a chip, and each of its rows has an output.
-use Rattle.std.proofs.Common.{◌≡◌, ℕ, ◌+◌, ◌-◌, ◌*◌, ◌^◌, ◌<◌, ◌==◌, true, bit_and, List, [], ◌∷◌, length, get_or, map, Some, sym, ap, ◌∙◌, subst, arith, inl, inr}
-use Rattle.std.specs.Int.{bit_at}
-use Rattle.std.specs.List.{All, AllPairs, Contains}
-use Rattle.std.specs.List.Sorted.{IsPermutation}
-use Rattle.std.proofs.lemmas.Bool.{cases_eq, cases_lt, eqb-true, false≢true}
-use Rattle.std.proofs.lemmas.Bool.Decides.{eqb_tells}
-use Rattle.std.proofs.lemmas.List.Elements.{All-contains, All-head, All-tail}
-use Rattle.std.proofs.lemmas.List.Sorted.{IsPermutation-sym, Contains-permutation}
-use Rattle.std.proofs.lemmas.Nat.Bits.{bit_at-lt, bit_at-zero, same_from_bits_below}
-use Rattle.spin_base.proofs.Ascending.{same_in_order}
-use Rattle.spin_base.proofs.Members.{Contains-unmap}
-use Rattle.spin_base.proofs.Pairs.{AllPairs-map, AllPairs-permutation}
-use Rattle.spin_base.proofs.Places.{All-each}
-use Rattle.spin_base.specs.declared.blocks.Block.{Block}
-use Rattle.spin_base.specs.declared.chips.Chip.{Chip}
-use Rattle.spin_base.specs.declared.chips.Port.{Port}
-use Rattle.spin_base.specs.declared.chips.Port.TheVariants.{Link as ByLink}
-use Rattle.spin_base.specs.declared.chips.Spot.{Spot}
-use Rattle.spin_base.specs.declared.routes.Out.{Out}
-use Rattle.spin_base.specs.declared.routes.Out.TheVariants.{Link, Core}
-use Rattle.spin_base.specs.declared.routes.Route.{Route}
-use Rattle.spin_base.specs.Links.{dir_at, opposite_of}
-use Rattle.spin_base.specs.Outputs.{has, IsOutput, out_number, out_of}
-use Rattle.spin_base.proofs.Spots.{dir_number-dir_at, out_of-has_bit}
-use Rattle.machine_desc.specs.declared.trees.Edge.{Edge}
-use Rattle.machine_desc.specs.Description.{Description}
-use Rattle.machine_desc.specs.RoutingTree.{IsRoutingTree, end_of}
-use Rattle.machine_desc.proofs.TreeLemmas.{one_edge_into}
-use Rattle.machine_desc.specs.declared.nets.NetPlan.{NetPlan}
-use Rattle.machine_desc.specs.Outputs.{ComesIn, is_wanted}
-use Rattle.machine_desc.proofs.Wanted.{edge_wanted, end_wanted}
-use Rattle.tern_word.specs.declared.tables.Row.{Row}
-use Rattle.tern_word.specs.SoundTable.{Original}
-use Rattle.tern_word.specs.Ternary.{Intersects, generality}
-use Rattle.tern_word.proofs.BlockLaws.{Intersects-sym, key_small}
+use Rattle.std.proofs.Common.{◌≡◌, ℕ, ◌+◌, ◌-◌, ◌*◌, ◌<◌, ◌==◌, true, bit_and, List, [], ◌∷◌, length, get_or, map, sym, ap, ◌∙◌, subst, arith, inl, inr}
+use Rattle.std.specs.{Int.bit_at, List.All, List.AllPairs, List.Contains, List.Sorted.IsPermutation}
+use Rattle.std.proofs.lemmas.{Bool.cases_eq, Bool.cases_lt, Bool.eqb-true, Bool.false≢true, Bool.Decides.eqb_tells, List.Elements.All-contains, List.Elements.All-head, List.Elements.All-tail}
+use Rattle.std.proofs.lemmas.{List.Sorted.IsPermutation-sym, List.Sorted.Contains-permutation, Nat.Bits.bit_at-lt, Nat.Bits.bit_at-zero, Nat.Bits.same_from_bits_below}
+use Rattle.spin_base.proofs.{Ascending.same_in_order, Members.Contains-unmap, Pairs.AllPairs-map, Pairs.AllPairs-permutation, Places.All-each, Spots.dir_number-dir_at, Spots.out_of-has_bit}
 use Rattle.spin_base.proofs.RouteBits.{same_route, zero_of}
+use Rattle.spin_base.specs.declared.{chips.Chip.Chip, chips.Port.Port, chips.Spot.Spot, routes.Out.Out, routes.Out.TheVariants.Link, routes.Out.TheVariants.Core, routes.Route.Route}
+use Rattle.spin_base.specs.{Links.dir_at, Links.opposite_of, Outputs.has, Outputs.IsOutput, Outputs.out_number, Outputs.out_of}
+use Rattle.spin_base.specs.declared.chips.Port.TheVariants.{Link as ByLink}
+use Rattle.machine_desc.specs.{declared.trees.Edge.Edge, Description.Description, RoutingTree.IsRoutingTree, declared.nets.NetPlan.NetPlan, Outputs.ComesIn, Outputs.is_wanted}
+use Rattle.machine_desc.proofs.{TreeLemmas.one_edge_into, Wanted.edge_wanted, Wanted.end_wanted}
+use Rattle.tern_word.specs.{declared.tables.Row.Row, SoundTable.Original, Ternary.Intersects, Ternary.generality}
+use Rattle.tern_word.proofs.BlockLaws.{Intersects-sym, key_small}
 use Rattle.net_tables.specs.PlainTable.{HasChip, IsOriginalOf, AreOriginals, IsRowNotAfter, IsPlainTable, AreRoutedApart, row_of}
-use Rattle.net_tables.proofs.Trees.{comes_in_tree}
-use Rattle.net_tables.proofs.Whole.{originals_apart, from_net}
+use Rattle.net_tables.proofs.{Trees.comes_in_tree, Whole.originals_apart, Whole.from_net}
 
 -- ---- routes
 
 -- two bits that are 1 alike are the same
 same_bit : (x y : ℕ) → x < 2 → y < 2 → (x == 1) ≡ (y == 1) → x ≡ y
-same_bit x y first second alike = elim (eqb_tells x 1) [
-  | inl one ↦ one.1 ∙ sym (eqb-true y 1 (sym alike ∙ one.0))
-  | inr none ↦ elim (eqb_tells y 1) [
-    | inl one ↦ absurd (none.1 (eqb-true x 1 (alike ∙ one.0)))
-    | inr also ↦
-        let x_none : x ≡ 0 = zero_of x first none.1 in
-        let y_none : y ≡ 0 = zero_of y second also.1 in
-        x_none ∙ sym y_none
-  ]
-]
+same_bit x y first second alike = grind (arith, eqb_tells x 1, eqb_tells y 1, eqb-true, zero_of)
 
 same_bit_at : (a b : Route) → ((o : Out) → IsOutput o → has a o ≡ has b o) → (i : ℕ) → i < 24 → bit_at a.bits i ≡ bit_at b.bits i
 same_bit_at a b alike i below = elim (cases_lt i 6) [
@@ -74,10 +41,7 @@ same_outputs a b alike = same_route a b (same_from_bits_below 24 a.bits b.bits a
 
 -- a route with an output is not 0
 not_zero : (r : Route) (o : Out) → has r o ≡ true → 0 < r.bits
-not_zero r o hit = elim (cases_eq r.bits 0) [
-  | inl none ↦ absurd (false≢true (sym (ap (λ n. bit_at n (out_number o) == 1) none ∙ ap (λ n. n == 1) (bit_at-zero (out_number o))) ∙ hit))
-  | inr some ↦ omega (arith, some)
-]
+not_zero r o hit = grind (arith, cases_eq r.bits 0, bit_at-zero (out_number o), false≢true)
 
 -- ---- original blocks
 
@@ -85,25 +49,18 @@ not_zero r o hit = elim (cases_eq r.bits 0) [
 pub one_port : (m : Description) (root : Chip) (edges : List Edge) (targets : List Spot) → IsRoutingTree m root edges targets → (c : Chip) (p q : Port) →
     ComesIn m root edges c p → ComesIn m root edges c q → p ≡ q
 one_port m root edges targets tree c p q (inl a) (inl b) = a.1 ∙ sym b.1
-one_port m root edges targets tree c p q (inl a) (inr b) =
-    absurd (All-contains (λ (e : Edge). end_of m e ≡ Some root → ⊥) edges b.0 tree.none_into_root b.1 (b.2 ∙ ap Some a.0))
-one_port m root edges targets tree c p q (inr a) (inl b) =
-    absurd (All-contains (λ (e : Edge). end_of m e ≡ Some root → ⊥) edges a.0 tree.none_into_root a.1 (a.2 ∙ ap Some b.0))
+one_port m root edges targets tree c p q (inl a) (inr b) = grind (arith, All-contains)
+one_port m root edges targets tree c p q (inr a) (inl b) = grind (arith, All-contains)
 one_port m root edges targets tree c p q (inr a) (inr b) =
     let same : a.0 ≡ b.0 = one_edge_into m root edges (map (λ (s : Spot). s.chip) targets) tree a.0 b.0 c a.1 b.1 a.2 b.2 in
     a.3 ∙ (ap (λ (e : Edge). ByLink (opposite_of e.dir)) same ∙ sym b.3)
 
 same_original : (o p : Original) → o.block ≡ p.block → o.port ≡ p.port → o.route ≡ p.route → o ≡ p
-same_original o p blocks ports routes =
-    ap (λ (x : Block). let y : Original = record { block = x; port = o.port; route = o.route } in y) blocks
-    ∙ (ap (λ (x : Port). let y : Original = record { block = p.block; port = x; route = o.route } in y) ports
-    ∙ ap (λ (x : Route). let y : Original = record { block = p.block; port = p.port; route = x } in y) routes)
+same_original o p blocks ports routes = grind arith
 
 one_original : (m : Description) (net : NetPlan) (c : Chip) → IsRoutingTree m net.tree.root net.tree.edges net.targets → (o p : Original) →
     IsOriginalOf m net c o → IsOriginalOf m net c p → o ≡ p
-one_original m net c tree o p a b =
-    same_original o p (a.keys ∙ sym b.keys) (one_port m net.tree.root net.tree.edges net.targets tree c o.port p.port a.port b.port)
-    (same_outputs o.route p.route (λ out valid. a.outputs out valid ∙ sym (b.outputs out valid)))
+one_original m net c tree o p a b = grind (arith, one_port m net.tree.root net.tree.edges net.targets tree c o.port p.port a.port b.port, same_original, same_outputs)
 
 abbrev Routing : Description → NetPlan → Type 0
 Routing m net = IsRoutingTree m net.tree.root net.tree.edges net.targets
@@ -127,21 +84,11 @@ number r = generality r.block * 4294967296 + r.block.key
 
 -- rows of equal generality and key meet at that key
 meet : (r s : Row) → r.block.key ≡ s.block.key → Intersects r.block s.block
-meet r s keys = record {
-  key = r.block.key;
-  small = key_small r.block;
-  first = r.block.within;
-  second = ap (λ k. bit_and k s.block.mask) keys ∙ s.block.within;
-}
+meet r s keys = grind (arith, key_small r.block, bit_and)
 
 rises : (r s : Row) → IsRowNotAfter r s → ¬ (Intersects r.block s.block) → number r < number s
-rises r s (inl less) apart =
-    let small : r.block.key < 2 ^ 32 = key_small r.block in
-    omega (arith, less, small)
-rises r s (inr same) apart = elim (cases_eq r.block.key s.block.key) [
-  | inl keys ↦ absurd (apart (meet r s keys))
-  | inr other ↦ omega (arith, same.0, same.1, other)
-]
+rises r s (inl less) apart = grind (arith, key_small r.block)
+rises r s (inr same) apart = grind (arith, cases_eq r.block.key s.block.key, meet)
 
 module _ (m : Description) (nets : List NetPlan) (routed : AreRoutedApart m nets) (c : Chip) where
   rows_apart : (os : List Original) (rows : List Row) → AreOriginals m c nets os → IsPermutation (map row_of os) rows →

@@ -1,13 +1,10 @@
 -- Lists of original blocks, as they grow net by net.
-use Rattle.std.proofs.Common.{◌≡◌, ℕ, ◌+◌, ◌<◌, List, [], ◌∷◌, ◌++◌, length, get_or, take, map, refl, sym, ap, ◌∙◌, subst, inl, inr}
+use Rattle.std.proofs.Common.{arith, ◌≡◌, ℕ, ◌+◌, ◌<◌, List, [], ◌∷◌, ◌++◌, length, get_or, take, map, refl, ap, inl, inr}
 use Rattle.std.proofs.lemmas.List.{map_push, take_more}
 use Rattle.spin_base.specs.declared.chips.Chip.{Chip}
-use Rattle.machine_desc.specs.Description.{Description}
-use Rattle.machine_desc.specs.declared.nets.NetPlan.{NetPlan}
+use Rattle.machine_desc.specs.{Description.Description, declared.nets.NetPlan.NetPlan}
 use Rattle.tern_word.specs.SoundTable.{Original}
-use Rattle.net_tables.specs.declared.marks.Mark.{Mark}
-use Rattle.net_tables.specs.PlainTable.{HasChip, IsOriginalOf, AreOriginals}
-use Rattle.net_tables.specs.Marks.{GainsMark, original_of}
+use Rattle.net_tables.specs.{declared.marks.Mark.Mark, PlainTable.HasChip, PlainTable.IsOriginalOf, PlainTable.AreOriginals, Marks.GainsMark, Marks.original_of}
 
 originals_push : (m : Description) (c : Chip) (nets : List NetPlan) (net : NetPlan) (os : List Original) (o : Original) → HasChip m net c → IsOriginalOf m net c o →
     AreOriginals m c nets os → AreOriginals m c (nets ++ net ∷ []) (os ++ o ∷ [])
@@ -25,16 +22,10 @@ originals_skip m c (n ∷ nets) net os off (inr none) = inr (none.0, originals_s
 
 originals_grown : (m : Description) (c : Chip) (nets : List NetPlan) (net : NetPlan) (before after : List Mark) →
     GainsMark m net c before after → AreOriginals m c nets (map original_of before) → AreOriginals m c (nets ++ net ∷ []) (map original_of after)
-originals_grown m c nets net before after (inl on) so_far =
-    subst (AreOriginals m c (nets ++ net ∷ [])) (sym (ap (map original_of) on.3 ∙ map_push original_of before on.1))
-    (originals_push m c nets net (map original_of before) (original_of on.1) on.0 on.2 so_far)
-originals_grown m c nets net before after (inr off) so_far =
-    subst (AreOriginals m c (nets ++ net ∷ [])) (sym (ap (map original_of) off.1))
-    (originals_skip m c nets net (map original_of before) off.0 so_far)
+originals_grown m c nets net before after (inl on) so_far = grind (arith, map_push original_of before on.1, originals_push m c nets net (map original_of before) (original_of on.1) on.0 on.2 so_far)
+originals_grown m c nets net before after (inr off) so_far = grind (arith, originals_skip m c nets net (map original_of before) off.0 so_far)
 
 pub originals_more : (m : Description) (c : Chip) (nets : List NetPlan) (i : ℕ) (net : NetPlan) (before after : List Mark) → i < length nets → net ≡ get_or nets i net →
     GainsMark m net c before after → AreOriginals m c (take i nets) (map original_of before) →
     AreOriginals m c (take (i + 1) nets) (map original_of after)
-originals_more m c nets i net before after within is grows so_far =
-    subst (λ ns. AreOriginals m c ns (map original_of after)) (sym (take_more nets i net within ∙ ap (λ n. take i nets ++ n ∷ []) (sym is)))
-    (originals_grown m c (take i nets) net before after grows so_far)
+originals_more m c nets i net before after within is grows so_far = grind (arith, take_more nets i net within, originals_grown m c (take i nets) net before after grows so_far)

@@ -1,28 +1,14 @@
 -- Rows in the order of their blocks' generality and key.
-use Rattle.std.proofs.Common.{◌≡◌, ℕ, zero, suc, ◌+◌, ◌-◌, ◌<◌, ◌≤◌, false, List, length, get_or, map, sym, ap, ◌∙◌, subst, arith, inl, inr, ◌⊎◌, Less, Equal, Ordering, nat_cmp, is_lt}
-use Rattle.std.specs.Ordering.{ordering_then}
-use Rattle.std.specs.Cmp.{nat_cmp_is}
-use Rattle.std.specs.List.{AllPairs}
-use Rattle.std.specs.List.Sorted.{IsPermutation, IsSortedByKey}
-use Rattle.std.proofs.lemmas.Bool.{cases_order, false≢true}
-use Rattle.std.proofs.lemmas.Map.Keys.{ge_from_not_lt}
+use Rattle.std.proofs.Common.{◌≡◌, ℕ, zero, suc, ◌+◌, ◌-◌, ◌<◌, ◌≤◌, false, List, length, get_or, map, sym, ◌∙◌, subst, arith, inl, inr, ◌⊎◌, Ordering, nat_cmp, is_lt}
+use Rattle.std.specs.{Ordering.ordering_then, List.AllPairs, List.Sorted.IsPermutation, List.Sorted.IsSortedByKey}
+use Rattle.std.proofs.lemmas.{Bool.cases_order, Bool.false≢true, Map.Keys.ge_from_not_lt}
 use Rattle.spin_base.proofs.Pairs.{AllPairs-map}
 use Rattle.tern_word.specs.declared.tables.Row.{Row}
-use Rattle.net_tables.specs.declared.marks.Mark.{Mark}
-use Rattle.net_tables.specs.PlainTable.{IsRowNotAfter}
-use Rattle.net_tables.specs.Marks.{row_of_mark, mark_numbers, IsTableOf}
+use Rattle.net_tables.specs.{declared.marks.Mark.Mark, PlainTable.IsRowNotAfter, Marks.row_of_mark, Marks.mark_numbers, Marks.IsTableOf}
 
 -- of two pairs of numbers, the second is not less
 not_less : (g k h l : ℕ) → is_lt (ordering_then (nat_cmp h g) (nat_cmp l k)) ≡ false → (g < h) ⊎ ((g ≡ h) × (k ≤ l))
-not_less g k h l e = elim (cases_order g h) [
-  | inl same ↦
-      let equal : nat_cmp h g ≡ Equal = sym (nat_cmp_is h g Equal (sym same)) in
-      inr (same, ge_from_not_lt l k (ap (λ (o : Ordering). is_lt (ordering_then o (nat_cmp l k))) (sym equal) ∙ e))
-  | inr (inl less) ↦ inl less
-  | inr (inr more) ↦
-      let before : nat_cmp h g ≡ Less = sym (nat_cmp_is h g Less more) in
-      absurd (false≢true (sym e ∙ ap (λ (o : Ordering). is_lt (ordering_then o (nat_cmp l k))) before))
-]
+not_less g k h l e = grind (arith, cases_order g h, nat_cmp h g, nat_cmp l k, ge_from_not_lt, is_lt, false≢true)
 
 after_both : (r s t : Row) → IsRowNotAfter r s → IsRowNotAfter s t → IsRowNotAfter r t
 after_both r s t (inl a) (inl b) = inl (omega (arith, a, b))

@@ -1,26 +1,13 @@
 -- What stands on the boards is moved to the lists, place by place.
 use Rattle.std.proofs.Common.{◌≡◌, ◌≢◌, ℕ, ◌+◌, ◌*◌, ◌<◌, ◌≤◌, List, [], ◌∷◌, ◌++◌, length, get_or, take, set, Option, Some, None, refl, sym, ap, ◌∙◌, subst, inl, inr, ◌⊎◌}
-use Rattle.std.proofs.lemmas.Bool.{cases_eq}
-use Rattle.std.proofs.lemmas.List.{get_or-set_same, get_or-set_other, take_all}
-use Rattle.std.proofs.lemmas.List.Elements.{Contains-push_cases}
-use Rattle.std.proofs.Math.ListN.{length-set}
+use Rattle.std.proofs.{lemmas.Bool.cases_eq, lemmas.List.get_or-set_same, lemmas.List.get_or-set_other, lemmas.List.take_all, lemmas.List.Elements.Contains-push_cases, Math.ListN.length-set}
 use Rattle.std.proofs.lemmas.Option.{none-some, same_Some}
 use Rattle.spin_base.proofs.Members.{Contains-none}
-use Rattle.spin_base.specs.declared.chips.Chip.{Chip}
-use Rattle.spin_base.specs.declared.chips.Port.{Port}
-use Rattle.spin_base.specs.declared.blocks.Block.{Block}
-use Rattle.spin_base.specs.declared.routes.Route.{Route}
-use Rattle.spin_base.specs.Outputs.{nothing}
-use Rattle.machine_desc.specs.declared.trees.Edge.{Edge}
-use Rattle.machine_desc.specs.Description.{Description}
-use Rattle.machine_desc.specs.Live.{IsInside, index_of}
-use Rattle.machine_desc.specs.RoutingTree.{IsTreeChip, end_of}
-use Rattle.machine_desc.specs.declared.nets.NetPlan.{NetPlan}
-use Rattle.net_tables.specs.declared.marks.Mark.{Mark}
-use Rattle.net_tables.specs.Marks.{IsBlank, IsClearOff, TellsPort, TellsPorts, TellsRoutes, GainsMark, with_mark}
+use Rattle.spin_base.specs.{declared.chips.Chip.Chip, declared.chips.Port.Port, declared.blocks.Block.Block, declared.routes.Route.Route, Outputs.nothing}
+use Rattle.machine_desc.specs.{declared.trees.Edge.Edge, Description.Description, Live.IsInside, Live.index_of, RoutingTree.IsTreeChip, RoutingTree.end_of, declared.nets.NetPlan.NetPlan}
+use Rattle.net_tables.specs.{declared.marks.Mark.Mark, Marks.IsBlank, Marks.IsClearOff, Marks.TellsPort, Marks.TellsPorts, Marks.TellsRoutes, Marks.GainsMark, Marks.with_mark}
 use Rattle.machine_desc.proofs.TreeLemmas.{tree_cases}
-use Rattle.net_tables.proofs.Telling.{reads}
-use Rattle.net_tables.proofs.Trees.{comes_in_tree, grows}
+use Rattle.net_tables.proofs.{Telling.reads, Trees.comes_in_tree, Trees.grows}
 
 -- the boards and the lists at one moment
 pub record Stand : Type 0 where

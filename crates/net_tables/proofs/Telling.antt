@@ -1,54 +1,26 @@
 -- What ports and routes tell, as a tree's edges and targets are read one by one.
-use Rattle.std.proofs.Common.{◌≡◌, ◌≢◌, ℕ, ◌+◌, ◌*◌, ◌<◌, ◌≤◌, ◌==◌, Bool, true, false, ◌||◌, List, [], ◌∷◌, ◌++◌, length, get_or, take, set, Option, Some, None, refl, sym, ap, ◌∙◌, subst, inl, inr}
+use Rattle.std.proofs.Common.{arith, ◌≡◌, ◌≢◌, ℕ, ◌+◌, ◌*◌, ◌<◌, ◌≤◌, ◌==◌, Bool, true, false, ◌||◌, List, [], ◌∷◌, ◌++◌, length, get_or, take, set, Option, Some, None, refl, sym, ap, ◌∙◌, subst, inl}
+use Rattle.std.proofs.Common.{inr}
 use Rattle.std.specs.List.{list_any}
-use Rattle.std.proofs.lemmas.Bool.{cases_eq, cases_Bool, or_right, false_from_ne_true, false≢true}
-use Rattle.std.proofs.Math.Bool.{or-false, or_assoc}
-use Rattle.std.proofs.lemmas.Nat.Bits.{bit_at-zero}
-use Rattle.std.proofs.lemmas.List.{get_or-set_same, get_or-set_other, get_or_default, take_all, take_more}
-use Rattle.std.proofs.Math.ListN.{length-set}
-use Rattle.std.proofs.lemmas.List.Elements.{Contains-append_left, Contains-push, Contains-push_cases}
-use Rattle.std.proofs.lemmas.List.Folds.{list_any_more}
+use Rattle.std.proofs.{lemmas.Bool.cases_eq, lemmas.Bool.cases_Bool, lemmas.Bool.or_right, lemmas.Bool.false_from_ne_true, lemmas.Bool.false≢true, Math.Bool.or-false, Math.Bool.or_assoc}
+use Rattle.std.proofs.lemmas.{Nat.Bits.bit_at-zero, List.get_or-set_same, List.get_or-set_other, List.get_or_default, List.take_all, List.take_more}
+use Rattle.std.proofs.{Math.ListN.length-set, lemmas.List.Elements.Contains-append_left, lemmas.List.Elements.Contains-push, lemmas.List.Elements.Contains-push_cases, lemmas.List.Folds.list_any_more}
 use Rattle.std.proofs.lemmas.Option.{none-some, same_Some}
 use Rattle.spin_base.proofs.Members.{Contains-none}
-use Rattle.spin_base.specs.declared.chips.Chip.{Chip}
-use Rattle.spin_base.specs.declared.chips.Spot.{Spot}
-use Rattle.spin_base.specs.declared.chips.Port.{Port}
-use Rattle.spin_base.specs.declared.chips.Port.TheVariants.{Link as ByLink, Local}
-use Rattle.spin_base.specs.declared.routes.Out.{Out}
-use Rattle.spin_base.specs.declared.routes.Out.TheVariants.{Link, Core}
-use Rattle.spin_base.specs.declared.routes.Route.{Route}
-use Rattle.spin_base.specs.Links.{opposite_of}
-use Rattle.spin_base.specs.Outputs.{has, IsOutput, nothing, WithOut, out_number, out_of}
-use Rattle.machine_desc.specs.declared.trees.Edge.{Edge}
-use Rattle.machine_desc.specs.Description.{Description}
-use Rattle.machine_desc.specs.Live.{IsInside, index_of}
-use Rattle.machine_desc.specs.RoutingTree.{end_of}
-use Rattle.machine_desc.specs.Equality.{edge_eq}
-use Rattle.machine_desc.proofs.Far.{same_index, far_inside}
-use Rattle.machine_desc.proofs.Same.{edge_eq-true, edge_eq_self}
-use Rattle.machine_desc.proofs.TreeLemmas.{tree_cases}
-use Rattle.machine_desc.specs.Outputs.{is_wanted, is_edge_out, leads_to_spot}
-use Rattle.machine_desc.proofs.Wanted.{spot_of_out, leads_to_own}
-use Rattle.machine_desc.specs.declared.nets.NetPlan.{NetPlan}
-use Rattle.net_tables.specs.PlainTable.{HasChip}
-use Rattle.net_tables.specs.Marks.{IsBlank, IsClearOff, TellsPort, TellsPorts, TellsRoutes}
+use Rattle.spin_base.specs.declared.{chips.Chip.Chip, chips.Spot.Spot, chips.Port.Port, chips.Port.TheVariants.Local, routes.Out.Out, routes.Out.TheVariants.Link, routes.Out.TheVariants.Core}
+use Rattle.spin_base.specs.{declared.routes.Route.Route, Links.opposite_of, Outputs.has, Outputs.IsOutput, Outputs.nothing, Outputs.WithOut, Outputs.out_number, Outputs.out_of}
+use Rattle.spin_base.specs.declared.chips.Port.TheVariants.{Link as ByLink}
+use Rattle.machine_desc.specs.{declared.trees.Edge.Edge, Description.Description, Live.IsInside, Live.index_of, RoutingTree.end_of, Equality.edge_eq, Outputs.is_wanted, Outputs.is_edge_out}
+use Rattle.machine_desc.specs.{Outputs.leads_to_spot, declared.nets.NetPlan.NetPlan}
+use Rattle.machine_desc.proofs.{Far.same_index, Far.far_inside, Same.edge_eq-true, Same.edge_eq_self, TreeLemmas.tree_cases, Wanted.spot_of_out, Wanted.leads_to_own}
+use Rattle.net_tables.specs.{PlainTable.HasChip, Marks.IsBlank, Marks.IsClearOff, Marks.TellsPort, Marks.TellsPorts, Marks.TellsRoutes}
 
 -- ---- ports
 
 ports_start : (m : Description) (root : Chip) (edges : List Edge) (p : ℕ) (ports : List (Option Port)) → IsBlank m None ports → IsInside m root → p ≡ index_of m root →
     p < length ports → TellsPorts m root (take 0 edges) (set ports p (Some Local))
-ports_start m root edges p ports clear root_in at below c inside = elim (cases_eq (index_of m c) p) [
-  | inl here ↦
-      let is : c ≡ root = same_index m c root inside root_in (here ∙ at) in
-      subst (TellsPort m root [] c) (sym (ap (λ j. get_or (set ports p (Some Local)) j None) here ∙ get_or-set_same ports p (Some Local) None below))
-      (inl (is, refl))
-  | inr other ↦
-      subst (TellsPort m root [] c) (sym (get_or-set_other ports p (index_of m c) (Some Local) None other ∙ clear.clear c inside))
-      (λ on. elim (tree_cases m root [] c on) [
-        | inl is ↦ other (ap (index_of m) is ∙ sym at)
-        | inr into ↦ Contains-none into.0 into.1
-      ])
-]
+ports_start m root edges p ports clear root_in at below c inside =
+    grind (arith, cases_eq (index_of m c) p, get_or-set_same ports p (Some Local) None below, tree_cases m root, same_index, get_or, get_or-set_other, Contains-none)
 
 pub ports_first : (m : Description) (root : Chip) (edges : List Edge) (p : ℕ) (ports : List (Option Port)) → IsBlank m None ports →
     IsInside m root → p ≡ index_of m root → p < m.width * m.height →
@@ -59,10 +31,7 @@ ports_first m root edges p ports clear root_in at below =
 -- an edge that leads elsewhere changes nothing at a chip
 kept : (m : Description) (root : Chip) (es : List Edge) (e : Edge) (c : Chip) (o : Option Port) → (end_of m e ≢ Some c) →
     TellsPort m root es c o → TellsPort m root (es ++ e ∷ []) c o
-kept m root es e c (Some port) other told = elim told [
-  | inl at ↦ inl at
-  | inr by ↦ inr (by.0, Contains-append_left es (e ∷ []) by.0 by.1, by.2, by.3)
-]
+kept m root es e c (Some port) other told = grind (arith, Contains-append_left)
 kept m root es e c None other told = λ on. elim (tree_cases m root (es ++ e ∷ []) c on) [
   | inl is ↦ told (inl is)
   | inr into ↦ elim (Contains-push_cases es e into.0 into.1) [
@@ -87,8 +56,7 @@ ports_push m root es e far p ports leads far_in at below told c inside = elim (c
 
 ports_nowhere : (m : Description) (root : Chip) (es : List Edge) (e : Edge) (ports : List (Option Port)) → end_of m e ≡ None →
     TellsPorts m root es ports → TellsPorts m root (es ++ e ∷ []) ports
-ports_nowhere m root es e ports none told c inside =
-    kept m root es e c (get_or ports (index_of m c) None) (λ same. none-some c (sym none ∙ same)) (told c inside)
+ports_nowhere m root es e ports none told c inside = grind (arith, get_or ports (index_of m c) None, kept, none-some)
 
 -- one more thing of a list is read, which is the same as another
 pub reads : {X : Type 0} (items xs : List X) (i : ℕ) (d : X) → items ≡ xs → i < length items → take (i + 1) xs ≡ take i xs ++ get_or items i d ∷ []
@@ -110,8 +78,7 @@ ports_same m root items edges i d ports same within none told =
 -- the edges were read to the end
 pub ports_all : (m : Description) (root : Chip) (items edges : List Edge) (i : ℕ) (ports : List (Option Port)) → items ≡ edges → length items ≤ i →
     TellsPorts m root (take i edges) ports → TellsPorts m root edges ports
-ports_all m root items edges i ports same past =
-    subst (λ es. TellsPorts m root es ports) (take_all i edges (subst (λ (es : List Edge). length es ≤ i) same past))
+ports_all m root items edges i ports same past = grind (arith, take_all)
 
 -- ---- routes
 
@@ -128,8 +95,7 @@ routes_start m edges routes clear c o inside valid = ap (λ r. has r o) (clear.c
 -- where the route of a chip of the tree is written, chips off the tree have none as before
 pub off_kept : (m : Description) (net : NetPlan) (k : Chip) (p : ℕ) (r : Route) (routes : List Route) → IsInside m k → HasChip m net k → p ≡ index_of m k →
     IsClearOff m net routes → IsClearOff m net (set routes p r)
-off_kept m net k p r routes k_in on at none c inside off =
-    get_or-set_other routes p (index_of m c) r nothing (λ here. off (subst (HasChip m net) (sym (same_index m c k inside k_in (here ∙ at))) on)) ∙ none c inside off
+off_kept m net k p r routes k_in on at none c inside off = grind (arith, get_or-set_other, same_index)
 
 -- one output more at one chip
 module _ (m : Description) (k : Chip) (x : Out) (added : Chip → Out → Bool) (is : added k x ≡ true)
@@ -164,9 +130,7 @@ edge_adds e c (Core p) = false
 
 edge_only : (e : Edge) (c : Chip) (o : Out) → edge_adds e c o ≡ true → (c ≡ e.chip) × (o ≡ Link e.dir)
 unfolding edge_adds
-edge_only e c (Link d) hit =
-    let same : record { chip = c; dir = d } ≡ e = edge_eq-true (record { chip = c; dir = d }) e hit in
-    (ap (λ (f : Edge). f.chip) same, ap (λ (f : Edge). Link f.dir) same)
+edge_only e c (Link d) hit = grind (arith, edge_eq-true (record { chip = c; dir = d }) e hit)
 edge_only e c (Core p) hit = absurd (false≢true hit)
 
 end_only : (s : Spot) (c : Chip) (o : Out) → leads_to_spot c o s ≡ true → (c ≡ s.chip) × (o ≡ out_of s.core)
@@ -205,9 +169,7 @@ pub links_more : (m : Description) (items edges : List Edge) (i : ℕ) (d : Edge
     IsInside m (get_or items i d).chip → p ≡ index_of m (get_or items i d).chip → p < length routes → old ≡ get_or routes p old →
     WithOut old (Link (get_or items i d).dir) r → TellsRoutes m (take i edges) [] routes →
     TellsRoutes m (take (i + 1) edges) [] (set routes p r)
-links_more m items edges i d p routes old r same within inside at below is withs =
-    subst (λ es. TellsRoutes m (take i es) [] routes → TellsRoutes m (take (i + 1) es) [] (set routes p r)) same
-    (links_read m items i d p routes old r within inside at below is withs)
+links_more m items edges i d p routes old r same within inside at below is withs = grind (arith, links_read m items i d p routes old r within inside at below is withs)
 
 ends_read : (m : Description) (edges : List Edge) (targets : List Spot) (i : ℕ) (d : Spot) (p : ℕ) (routes : List Route) (old r : Route) → i < length targets →
     IsInside m (get_or targets i d).chip → p ≡ index_of m (get_or targets i d).chip → p < length routes → old ≡ get_or routes p old →
@@ -225,6 +187,4 @@ pub ends_more : (m : Description) (edges : List Edge) (items targets : List Spot
     IsInside m (get_or items i d).chip → p ≡ index_of m (get_or items i d).chip → p < length routes → old ≡ get_or routes p old →
     WithOut old (out_of (get_or items i d).core) r → TellsRoutes m edges (take i targets) routes →
     TellsRoutes m edges (take (i + 1) targets) (set routes p r)
-ends_more m edges items targets i d p routes old r same within inside at below is withs =
-    subst (λ ts. TellsRoutes m edges (take i ts) routes → TellsRoutes m edges (take (i + 1) ts) (set routes p r)) same
-    (ends_read m edges items i d p routes old r within inside at below is withs)
+ends_more m edges items targets i d p routes old r same within inside at below is withs = grind (arith, ends_read m edges items i d p routes old r within inside at below is withs)

@@ -1,25 +1,12 @@
 -- A routing tree is inside the grid, and what is told of its chips is what their lists get.
-use Rattle.std.proofs.Common.{◌≡◌, ℕ, ◌<◌, List, length, get_or, Option, Some, None, refl, sym, subst, inl, inr}
+use Rattle.std.proofs.Common.{arith, ◌≡◌, ℕ, ◌<◌, List, length, get_or, Option, Some, None, refl, sym, subst, inl, inr}
 use Rattle.std.specs.List.{All}
-use Rattle.std.proofs.Math.ListN.{get_or-map}
-use Rattle.std.proofs.lemmas.List.{length-map}
-use Rattle.std.proofs.lemmas.List.Elements.{All-contains}
-use Rattle.spin_base.specs.declared.chips.Chip.{Chip}
-use Rattle.spin_base.specs.declared.chips.Spot.{Spot}
-use Rattle.spin_base.specs.declared.chips.Port.{Port}
-use Rattle.spin_base.specs.declared.routes.Out.{Out}
-use Rattle.spin_base.specs.declared.routes.Route.{Route}
-use Rattle.spin_base.specs.Outputs.{has, IsOutput}
-use Rattle.machine_desc.specs.declared.trees.Edge.{Edge}
-use Rattle.machine_desc.specs.Description.{Description}
-use Rattle.machine_desc.specs.Live.{IsInside}
-use Rattle.machine_desc.specs.RoutingTree.{IsTreeChip, IsRoutingTree}
-use Rattle.machine_desc.proofs.Far.{far_inside, live_inside, live_ends}
-use Rattle.machine_desc.proofs.TreeLemmas.{tree_cases}
-use Rattle.machine_desc.specs.declared.nets.NetPlan.{NetPlan}
-use Rattle.machine_desc.specs.Outputs.{is_wanted, ComesIn}
-use Rattle.net_tables.specs.declared.marks.Mark.{Mark}
-use Rattle.net_tables.specs.Marks.{TellsPort, GainsMark, with_mark}
+use Rattle.std.proofs.{Math.ListN.get_or-map, lemmas.List.length-map, lemmas.List.Elements.All-contains}
+use Rattle.spin_base.specs.{declared.chips.Chip.Chip, declared.chips.Spot.Spot, declared.chips.Port.Port, declared.routes.Out.Out, declared.routes.Route.Route, Outputs.has, Outputs.IsOutput}
+use Rattle.machine_desc.specs.{declared.trees.Edge.Edge, Description.Description, Live.IsInside, RoutingTree.IsTreeChip, RoutingTree.IsRoutingTree, declared.nets.NetPlan.NetPlan, Outputs.is_wanted}
+use Rattle.machine_desc.specs.Outputs.{ComesIn}
+use Rattle.machine_desc.proofs.{Far.far_inside, Far.live_inside, Far.live_ends, TreeLemmas.tree_cases}
+use Rattle.net_tables.specs.{declared.marks.Mark.Mark, Marks.TellsPort, Marks.GainsMark, Marks.with_mark}
 
 module _ (m : Description) (root : Chip) (edges : List Edge) (targets : List Spot) (tree : IsRoutingTree m root edges targets) where
   pub edges_inside : All (λ (e : Edge). IsInside m e.chip) edges
@@ -28,10 +15,7 @@ module _ (m : Description) (root : Chip) (edges : List Edge) (targets : List Spo
       live_inside m (get_or edges k d).chip ends.2
 
   pub chips_inside : IsInside m root → (c : Chip) → IsTreeChip m root edges c → IsInside m c
-  chips_inside root_in c on = elim (tree_cases m root edges c on) [
-    | inl at ↦ subst (IsInside m) (sym at) root_in
-    | inr into ↦ far_inside m into.0.chip c into.0.dir (All-contains (λ (e : Edge). IsInside m e.chip) edges into.0 edges_inside into.1) into.2
-  ]
+  chips_inside root_in c on = grind (arith, tree_cases m root edges c on, far_inside, All-contains, edges_inside)
 
   targets_on : All (λ (s : Spot). IsTreeChip m root edges s.chip) targets
   targets_on k d below =

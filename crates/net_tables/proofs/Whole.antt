@@ -1,39 +1,21 @@
 -- What tables are, once each has a row for each original block of its chip.
-use Rattle.std.proofs.Common.{◌≡◌, ℕ, zero, suc, ◌+◌, ◌*◌, ◌<◌, ◌≤◌, true, Bool, not, cond, bit_and, List, [], ◌∷◌, ◌++◌, length, get_or, map, filter, find, Some, refl, sym, ap, ◌∙◌, subst, arith, inl, inr}
-use Rattle.std.specs.Option.{option_map_or}
-use Rattle.std.specs.List.{All, AllPairs, AllZip, Contains, slice_get}
-use Rattle.std.specs.List.Sorted.{IsPermutation}
-use Rattle.std.proofs.lemmas.Bool.{cases_Bool, cases_eq, cases_lt, eqb-true, eq-eqb, false≢true}
-use Rattle.std.proofs.lemmas.List.{append-nil, get_or_default, length-map}
-use Rattle.std.proofs.lemmas.List.Elements.{All-nil, All-cons, All-head, All-tail}
-use Rattle.std.proofs.lemmas.List.Kept.{AllPairs-cons, AllPairs-filter}
-use Rattle.std.proofs.lemmas.List.Filters.{length-filter_both}
-use Rattle.std.proofs.lemmas.List.Sorted.{IsPermutation-map, length_permutation, IsPermutation-sym, Contains-permutation}
-use Rattle.spin_base.proofs.Members.{Contains-none, Contains-first, Contains-later, Contains-cases, Contains-map, Contains-unmap}
-use Rattle.spin_base.proofs.Pairs.{AllPairs-head, AllPairs-tail, AllPairs-map, AllPairs-from_map, AllPairs-permutation}
-use Rattle.spin_base.specs.declared.chips.Chip.{Chip}
-use Rattle.spin_base.specs.declared.chips.Port.{Port}
-use Rattle.spin_base.specs.declared.routes.Out.{Out}
-use Rattle.spin_base.specs.declared.routes.Route.{Route}
-use Rattle.spin_base.specs.declared.blocks.Block.{Block}
-use Rattle.spin_base.specs.declared.blocks.Entry.{Entry}
-use Rattle.spin_base.specs.Lookup.{lookup, matches, default_route}
-use Rattle.spin_base.specs.Outputs.{has, IsOutput}
-use Rattle.machine_desc.specs.Description.{Description}
-use Rattle.machine_desc.specs.Live.{IsInside, chip_of, index_of}
-use Rattle.machine_desc.proofs.Far.{index_below}
-use Rattle.machine_desc.proofs.Live.{chip_of-inside, index_of-chip_of}
-use Rattle.machine_desc.specs.declared.nets.NetPlan.{NetPlan}
-use Rattle.machine_desc.specs.Outputs.{is_wanted}
-use Rattle.machine_desc.specs.RightTables.{IsKeyOf, AreRight}
-use Rattle.tern_word.specs.declared.tables.Alias.{Alias}
-use Rattle.tern_word.specs.declared.tables.Row.{Row}
-use Rattle.tern_word.specs.declared.tables.Table.{Table}
-use Rattle.tern_word.specs.Ternary.{Intersects, LiesIn, generality}
-use Rattle.tern_word.specs.SoundTable.{Original, Misses, HoldsItsAliases, IsSound, Serves, served}
+use Rattle.std.proofs.Common.{◌≡◌, ℕ, zero, suc, ◌+◌, ◌*◌, ◌<◌, ◌≤◌, true, Bool, not, cond, bit_and, List, [], ◌∷◌, ◌++◌, length, get_or, map, filter, find, Some, refl, sym, ap, ◌∙◌, subst, arith}
+use Rattle.std.proofs.Common.{inl, inr}
+use Rattle.std.specs.{Option.option_map_or, List.All, List.AllPairs, List.AllZip, List.Contains, List.slice_get}
+use Rattle.std.proofs.lemmas.{Bool.cases_Bool, Bool.cases_eq, Bool.cases_lt, Bool.eqb-true, Bool.eq-eqb, Bool.false≢true, List.append-nil, List.get_or_default, List.length-map, List.Elements.All-nil}
+use Rattle.std.proofs.lemmas.List.{Elements.All-cons, Elements.All-head, Elements.All-tail, Kept.AllPairs-cons, Kept.AllPairs-filter, Filters.length-filter_both, Sorted.IsPermutation-map}
+use Rattle.std.proofs.lemmas.List.Sorted.{length_permutation, IsPermutation-sym, Contains-permutation}
+use Rattle.spin_base.proofs.{Members.Contains-none, Members.Contains-first, Members.Contains-later, Members.Contains-cases, Members.Contains-map, Members.Contains-unmap, Pairs.AllPairs-head}
+use Rattle.spin_base.proofs.Pairs.{AllPairs-tail, AllPairs-map, AllPairs-from_map, AllPairs-permutation}
+use Rattle.spin_base.specs.declared.{chips.Chip.Chip, chips.Port.Port, routes.Out.Out, routes.Route.Route, blocks.Block.Block, blocks.Entry.Entry}
+use Rattle.spin_base.specs.{Lookup.lookup, Lookup.matches, Lookup.default_route, Outputs.has, Outputs.IsOutput}
+use Rattle.machine_desc.specs.{Description.Description, Live.IsInside, Live.chip_of, Live.index_of, declared.nets.NetPlan.NetPlan, Outputs.is_wanted, RightTables.IsKeyOf, RightTables.AreRight}
+use Rattle.machine_desc.proofs.{Far.index_below, Live.chip_of-inside, Live.index_of-chip_of}
+use Rattle.tern_word.specs.{declared.tables.Alias.Alias, declared.tables.Row.Row, declared.tables.Table.Table, Ternary.Intersects, Ternary.LiesIn, Ternary.generality, SoundTable.Original}
+use Rattle.tern_word.specs.SoundTable.{Misses, HoldsItsAliases, IsSound, served}
 use Rattle.tern_word.proofs.BlockLaws.{Intersects-sym}
-use Rattle.net_tables.specs.declared.marks.Mark.{Mark}
-use Rattle.net_tables.specs.PlainTable.{HasChip, IsOriginalOf, AreOriginals, IsRowNotAfter, IsPlainTable, ServesOriginals, AtEach, AreRoutedApart, ArePlainTables, row_of, entry_of, entries}
+use Rattle.net_tables.specs.{declared.marks.Mark.Mark, PlainTable.HasChip, PlainTable.IsOriginalOf, PlainTable.AreOriginals, PlainTable.IsRowNotAfter, PlainTable.IsPlainTable}
+use Rattle.net_tables.specs.PlainTable.{ServesOriginals, AtEach, AreRoutedApart, ArePlainTables, row_of, entry_of, entries}
 use Rattle.net_tables.specs.Marks.{AreApart, AreBlocksOf, AreTurningBlocksOf, original_of, row_of_mark, turns, IsTableOf}
 use Rattle.net_tables.proofs.Trees.{chips_inside, comes_in_tree}
 
@@ -135,10 +117,7 @@ each_holds (k ∷ ks) = All-cons HoldsItsAliases (row_of_mark k) (map row_of_mar
 
 pub few_originals : (m : Description) (c : Chip) (nets : List NetPlan) (os : List Original) → AreOriginals m c nets os → length os ≤ length nets
 few_originals m c [] os are = let none : length os ≡ 0 = ap length are in omega (arith, none)
-few_originals m c (n ∷ nets) os (inl on) =
-    let rest : length on.3 ≤ length nets = few_originals m c nets on.3 on.5 in
-    let long : length os ≡ suc (length on.3) = ap length on.4 in
-    omega (arith, rest, long)
+few_originals m c (n ∷ nets) os (inl on) = grind (arith, few_originals m c nets on.3 on.5)
 few_originals m c (n ∷ nets) os (inr off) = let rest : length os ≤ length nets = few_originals m c nets os off.1 in omega (arith, rest)
 
 -- the original blocks of a chip are no more than the nets, and no key is in two of them
@@ -171,21 +150,10 @@ module _ (m : Description) (nets : List NetPlan) (c : Chip) (marks : List Mark) 
   few_rows = subst (λ n. n ≤ length nets) (sym (as_many_rows marks t is)) (few_marks m nets c marks are)
 
   pub is_plain : IsPlainTable m nets c t.rows
-  is_plain = record {
-    originals = map original_of marks;
-    originals_are = are;
-    one_row_each = subst (IsPermutation (map row_of (map original_of marks))) (sym is.rows_are)
-        (subst (λ (l : List Row). IsPermutation l (map row_of_mark is.sorted)) (sym (map_twice marks)) (IsPermutation-map row_of_mark marks is.sorted is.same));
-    in_order = is.in_order;
-  }
+  is_plain = grind (arith, map_twice marks, IsPermutation-map row_of_mark marks is.sorted is.same)
 
   pub serves_them : ServesOriginals m nets c t.rows
-  serves_them = record {
-    originals = map original_of marks;
-    originals_are = are;
-    served = subst (λ (l : List Row). Serves l (map original_of marks)) (sym is.rows_are)
-        (subst (IsPermutation (map original_of marks)) (sym (served_each is.sorted)) (IsPermutation-map original_of marks is.sorted is.same));
-  }
+  serves_them = grind (arith, served_each is.sorted, IsPermutation-map original_of marks is.sorted is.same)
 
   pub is_sound : AllPairs (λ (a b : NetPlan). ¬ (Intersects a.block b.block)) nets → IsSound t.rows
   is_sound apart = sound_table marks t is (marks_apart m nets c marks are apart)

@@ -1,21 +1,19 @@
 -- The image of final tables is valid, has the entries of each chip, and loads them.
-use Rattle.std.proofs.Common.{◌≡◌, ℕ, zero, suc, ◌+◌, ◌*◌, ◌/◌, ◌%◌, ◌<◌, ◌≤◌, ◌==◌, false, List, [], ◌∷◌, ◌++◌, length, get_or, take, map, Some, Result, Ok, refl, sym}
-use Rattle.std.proofs.Common.{ap, ◌∙◌, subst, arith, inl, inr}
-use Rattle.std.proofs.lemmas.Bool.{cases_order, eqb-true, eq-eqb, false_from_ne_true, cond-true, cond-false}
-use Rattle.std.proofs.lemmas.List.{append-nil, length-append, length-map, take_all}
-use Rattle.std.proofs.lemmas.List.Elements.{All-nil, All-cons, All-append, All-head, All-tail}
-use Rattle.std.proofs.lemmas.{List.Kept.AllPairs-cons, Nat.mul-le, Nat.mod_below, Option.slice_get_within, Option.slice_get-get_or}
+use Rattle.std.proofs.Common.{◌≡◌, ℕ, zero, suc, ◌+◌, ◌*◌, ◌/◌, ◌%◌, ◌<◌, ◌≤◌, ◌==◌, false, List, [], ◌∷◌, ◌++◌, length, get_or, take, map, Some, Result, Ok, refl, sym, ap, ◌∙◌, subst, arith, inl}
+use Rattle.std.proofs.Common.{inr}
+use Rattle.std.proofs.lemmas.{Bool.cases_order, Bool.eqb-true, Bool.eq-eqb, Bool.false_from_ne_true, Bool.cond-true, Bool.cond-false, List.append-nil, List.length-append, List.length-map}
+use Rattle.std.proofs.lemmas.List.{take_all, Elements.All-nil, Elements.All-cons, Elements.All-append, Elements.All-head, Elements.All-tail, Kept.AllPairs-cons}
+use Rattle.std.proofs.lemmas.{Nat.mul-le, Nat.mod_below, Option.slice_get_within, Option.slice_get-get_or}
 use Rattle.std.specs.{List.All, List.AllPairs, List.slice_get, Prelude.MatchResult}
 use Rattle.spin_base.proofs.{Gathering.gathered_more, Pairs.AllPairs-nil, Places.slice_get_there, Places.slice_get-mapped}
 use Rattle.spin_base.specs.declared.{blocks.ChipTable.ChipTable, blocks.Entry.Entry, chips.Chip.Chip}
 use Rattle.machine_desc.specs.{Description.Description, Description.HasSize, Live.chip_of, Live.index_of}
 use Rattle.machine_desc.proofs.{Far.inside_parts, Live.chip_of-inside, Live.index_of-chip_of}
 use Rattle.default_routes.specs.declared.stripping.Final.{Final}
-use Rattle.table_load.specs.declared.{tables.Image.Image, faults.ImageErr.ImageErr, faults.ImageErr.TheVariants.Memory as NoMemory}
-use Rattle.table_load.specs.Images.{IsRow, IsChipBefore, IsTable, IsValid, Spells}
-use Rattle.table_load.specs.Memories.{IsLoaded, loaded, rows_of_index}
-use Rattle.par_compile.specs.Finals.{KeepsRows, loaded_of}
-use Rattle.par_compile.specs.Imaging.{CanBeImaged, FillTables, image_in, listed, tables_from}
+use Rattle.table_load.specs.{declared.tables.Image.Image, declared.faults.ImageErr.ImageErr, Images.IsRow, Images.IsChipBefore, Images.IsTable, Images.IsValid, Images.Spells, Memories.IsLoaded}
+use Rattle.table_load.specs.Memories.{loaded, rows_of_index}
+use Rattle.table_load.specs.declared.faults.ImageErr.TheVariants.{Memory as NoMemory}
+use Rattle.par_compile.specs.{Finals.KeepsRows, Finals.loaded_of, Imaging.CanBeImaged, Imaging.FillTables, Imaging.image_in, Imaging.listed, Imaging.tables_from}
 
 abbrev IsShort : Final → Type 0
 IsShort f = length f.entries ≤ 1024

@@ -1,24 +1,17 @@
 -- Original blocks that go straight on may be left out where no table is covered.
 use Rattle.std.proofs.Common.{◌≡◌, ℕ, ◌+◌, ◌≤◌, Bool, true, List, [], ◌∷◌, ◌++◌, length, get_or, map, filter, refl, sym, ap, ◌∙◌, subst, arith, inl, inr, ◌⊎◌}
-use Rattle.std.proofs.lemmas.Bool.{cases_lt}
-use Rattle.std.proofs.lemmas.List.Elements.{All-cons, All-head, All-tail, All-nil, Contains-get_or}
-use Rattle.std.proofs.lemmas.List.{Filters.length-filter_both, Kept.AllPairs-cons, Kept.AllPairs-filter}
-use Rattle.std.proofs.lemmas.List.Sorted.{All-permutation, IsPermutation-append_right, IsPermutation-cons, IsPermutation-filter_both, IsPermutation-insert, IsPermutation-refl, IsPermutation-trans}
-use Rattle.std.specs.Prelude.{if◌then◌else◌}
-use Rattle.std.specs.{List.All, List.AllPairs, List.Sorted.IsPermutation}
-use Rattle.spin_base.proofs.Members.{Contains-from_filter}
-use Rattle.spin_base.proofs.Pairs.{AllPairs-from_map, AllPairs-head, AllPairs-map, AllPairs-nil, AllPairs-tail}
+use Rattle.std.proofs.lemmas.{Bool.cases_lt, List.Elements.All-cons, List.Elements.All-head, List.Elements.All-tail, List.Elements.All-nil, List.Elements.Contains-get_or}
+use Rattle.std.proofs.lemmas.List.{Filters.length-filter_both, Kept.AllPairs-cons, Kept.AllPairs-filter, Sorted.All-permutation, Sorted.IsPermutation-append_right, Sorted.IsPermutation-cons}
+use Rattle.std.proofs.lemmas.List.Sorted.{IsPermutation-filter_both, IsPermutation-insert, IsPermutation-refl, IsPermutation-trans}
+use Rattle.std.specs.{Prelude.if◌then◌else◌, List.All, List.AllPairs, List.Sorted.IsPermutation}
+use Rattle.spin_base.proofs.{Members.Contains-from_filter, Pairs.AllPairs-from_map, Pairs.AllPairs-head, Pairs.AllPairs-map, Pairs.AllPairs-nil, Pairs.AllPairs-tail}
 use Rattle.spin_base.specs.declared.blocks.Entry.{Entry}
-use Rattle.machine_desc.specs.Description.{Description}
-use Rattle.machine_desc.specs.declared.nets.NetPlan.{NetPlan}
-use Rattle.tern_word.specs.declared.tables.Row.{Row}
-use Rattle.tern_word.specs.{Entries.entry_of, Ternary.Intersects, Ternary.generality}
-use Rattle.default_routes.specs.declared.stripping.Final.{Final}
-use Rattle.default_routes.specs.FinalTable.{IsFinalOf}
+use Rattle.machine_desc.specs.{Description.Description, declared.nets.NetPlan.NetPlan}
+use Rattle.tern_word.specs.{declared.tables.Row.Row, Entries.entry_of, Ternary.Intersects, Ternary.generality}
+use Rattle.default_routes.specs.{declared.stripping.Final.Final, FinalTable.IsFinalOf}
 use Rattle.default_routes.proofs.Determined.{one_table}
-use Rattle.net_tables.specs.declared.marks.Mark.{Mark}
-use Rattle.net_tables.specs.PlainTable.{AreRoutedApart, IsRowNotAfter}
-use Rattle.net_tables.specs.Marks.{AreApart, AreBlocksOf, AreTurningBlocksOf, IsTableOf, goes_straight, row_of_mark, table_of_sorted, turns}
+use Rattle.net_tables.specs.{declared.marks.Mark.Mark, PlainTable.AreRoutedApart, PlainTable.IsRowNotAfter, Marks.AreApart, Marks.AreBlocksOf, Marks.AreTurningBlocksOf, Marks.IsTableOf}
+use Rattle.net_tables.specs.Marks.{goes_straight, row_of_mark, table_of_sorted, turns}
 use Rattle.net_tables.proofs.Whole.{few_marks, marks_apart}
 use Rattle.par_compile.specs.{Finals.AreBlocksFor, Finals.IsFinalFor, ShortTables.kept_entries}
 use Rattle.par_compile.proofs.ShortTables.{final_for, short_for}

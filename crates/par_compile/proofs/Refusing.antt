@@ -3,8 +3,7 @@ use Rattle.std.proofs.Common.{◌≡◌, ℕ, List, refl, ap, subst, arith, inl,
 use Rattle.std.proofs.lemmas.Option.{slice_get_within}
 use Rattle.std.specs.List.{slice_get}
 use Rattle.spin_base.specs.declared.chips.{Chip.Chip, Spot.Spot}
-use Rattle.machine_desc.specs.{Description.Description, RoutingTree.IsRoutingTree}
-use Rattle.machine_desc.specs.declared.nets.NetPlan.{NetPlan}
+use Rattle.machine_desc.specs.{Description.Description, RoutingTree.IsRoutingTree, declared.nets.NetPlan.NetPlan}
 use Rattle.app_graph.specs.declared.graphs.{Graph.Graph, Net.Net}
 use Rattle.place_fit.specs.declared.placing.Placement.{Placement}
 use Rattle.place_fit.proofs.Determined as places
@@ -12,9 +11,9 @@ use Rattle.key_alloc.proofs.Determined as blocks
 use Rattle.spin_base.proofs.Places.{All-at, slice_get_there}
 use Rattle.net_plans.specs.CutOffTargets.{HasNoneCutOff, IsFirstNetCutOff}
 use Rattle.net_plans.proofs.CutOffLaws.{none_cut_off, one_first_net}
-use Rattle.par_compile.specs.declared.compiling.{Plan.Plan, CompileErr.CompileErr}
-use Rattle.par_compile.specs.declared.compiling.CompileErr.TheVariants.{NoRoom, KeysOut, CutOff, TableLong, Memory}
-use Rattle.par_compile.specs.Compiled.{blocks_of, HasCutOff, IsCompileCause, IsPlanOf, IsRefusedWhere, IsRoutingOf}
+use Rattle.par_compile.specs.declared.compiling.{Plan.Plan, CompileErr.CompileErr, CompileErr.TheVariants.NoRoom, CompileErr.TheVariants.KeysOut, CompileErr.TheVariants.CutOff}
+use Rattle.par_compile.specs.{declared.compiling.CompileErr.TheVariants.TableLong, declared.compiling.CompileErr.TheVariants.Memory, Compiled.blocks_of, Compiled.HasCutOff, Compiled.IsCompileCause}
+use Rattle.par_compile.specs.Compiled.{IsPlanOf, IsRefusedWhere, IsRoutingOf}
 use Rattle.par_compile.proofs.Unique.{long_not_planned, one_long}
 
 module _ (m : Description) (graph : Graph) where

@@ -1,29 +1,20 @@
 -- Final tables that are loaded route every net's packets by its tree.
 use Rattle.std.proofs.Common.{◌≡◌, Bool, ℕ, zero, suc, ◌-◌, ◌*◌, ◌^◌, ◌<◌, ◌≤◌, bit_and, List, [], ◌∷◌, length, get_or, map, replicate, take, Some, sym, ap, ◌∙◌, subst, arith}
-use Rattle.std.proofs.lemmas.List.Elements.{All-nil, All-cons, All-contains, All-map}
-use Rattle.std.proofs.lemmas.{List.Sorted.Contains-permutation, Nat.mul-le, Option.get_or_from_slice_get, Option.slice_get-get_or, Slice.Zip.AllZip-long}
+use Rattle.std.proofs.lemmas.{List.Elements.All-nil, List.Elements.All-cons, List.Elements.All-contains, List.Elements.All-map, List.Sorted.Contains-permutation, Nat.mul-le}
+use Rattle.std.proofs.lemmas.{Option.get_or_from_slice_get, Option.slice_get-get_or, Slice.Zip.AllZip-long}
 use Rattle.std.specs.List.{All, AllZip, Contains, slice_get, slice_index_or}
 use Rattle.spin_base.proofs.Places.{AllZip-at_second, slice_get_there, slice_get-mapped}
 use Rattle.spin_base.specs.declared.{blocks.Block.Block, blocks.Entry.Entry, chips.Chip.Chip, chips.Port.Port, routes.Out.Out, routes.Route.Route}
 use Rattle.spin_base.specs.{Lookup.lookup, Outputs.has}
-use Rattle.machine_desc.specs.Description.{Description, HasSize}
-use Rattle.machine_desc.specs.Live.{IsInside, index_of, chip_of}
-use Rattle.machine_desc.specs.declared.nets.NetPlan.{NetPlan}
-use Rattle.machine_desc.specs.{Outputs.is_wanted, RightTables.AreRight}
+use Rattle.machine_desc.specs.{Description.Description, Description.HasSize, Live.IsInside, Live.index_of, Live.chip_of, declared.nets.NetPlan.NetPlan, Outputs.is_wanted, RightTables.AreRight}
 use Rattle.machine_desc.proofs.{Far.index_below, Live.chip_of-inside, Live.index_of-chip_of}
-use Rattle.tern_word.specs.declared.tables.Row.{Row}
-use Rattle.tern_word.specs.{Entries.entry_of, SoundTable.Original, SoundTable.served, Ternary.Matches}
+use Rattle.tern_word.specs.{declared.tables.Row.Row, Entries.entry_of, SoundTable.Original, SoundTable.served, Ternary.Matches}
 use Rattle.tcam_find.specs.Memory.{unused}
 use Rattle.tcam_find.proofs.MemoryLemmas.{unused_matches}
 use Rattle.cover_merge.specs.Merge.{rows_at}
-use Rattle.default_routes.specs.declared.stripping.Final.{Final}
-use Rattle.default_routes.specs.FinalTable.{MatchesNoKey, RoutesAlone}
-use Rattle.net_tables.specs.declared.marks.Mark.{Mark}
-use Rattle.net_tables.specs.Marks.{AreApart, original_of}
-use Rattle.net_tables.specs.PlainTable.{AreOriginals, AreRoutedApart, HasChip}
-use Rattle.net_tables.proofs.Determined.{one_port, rows_lead}
-use Rattle.net_tables.proofs.Trees.{chips_inside, comes_in_tree}
-use Rattle.net_tables.proofs.Whole.{few_rows, has_original, is_plain, serves_them}
+use Rattle.default_routes.specs.{declared.stripping.Final.Final, FinalTable.MatchesNoKey, FinalTable.RoutesAlone}
+use Rattle.net_tables.specs.{declared.marks.Mark.Mark, Marks.AreApart, Marks.original_of, PlainTable.AreOriginals, PlainTable.AreRoutedApart, PlainTable.HasChip}
+use Rattle.net_tables.proofs.{Determined.one_port, Determined.rows_lead, Trees.chips_inside, Trees.comes_in_tree, Whole.few_rows, Whole.has_original, Whole.is_plain, Whole.serves_them}
 use Rattle.par_compile.specs.Finals.{AreBlocksFor, AreCoverable, AreFinals, IsFinalFor, KeepsRows, loaded_of}
 
 -- ---- unused entries

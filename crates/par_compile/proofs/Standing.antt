@@ -4,17 +4,15 @@ use Rattle.std.proofs.lemmas.Option.{slice_get-get_or}
 use Rattle.std.specs.List.{All, AllPairs, AllZip, Contains, slice_index_or}
 use Rattle.spin_base.specs.declared.{chips.Spot.Spot, blocks.Block.Block}
 use Rattle.spin_base.proofs.{Members.Contains-at, Pairs.AllPairs-from_map, Places.All-at, Places.All-each, Places.slice_get_there}
-use Rattle.machine_desc.specs.{Description.Description, Live.IsInside, Live.IsSite, Live.IsUsable, RoutingTree.IsRoutingTree}
-use Rattle.machine_desc.specs.declared.nets.NetPlan.{NetPlan}
-use Rattle.machine_desc.specs.NetsOn.{HaveDisjointBlocks, AreNetsOn}
+use Rattle.machine_desc.specs.{Description.Description, Live.IsInside, Live.IsSite, Live.IsUsable, RoutingTree.IsRoutingTree, declared.nets.NetPlan.NetPlan, NetsOn.HaveDisjointBlocks}
+use Rattle.machine_desc.specs.NetsOn.{AreNetsOn}
 use Rattle.machine_desc.proofs.{Far.live_inside, Sites.site_parts}
 use Rattle.app_graph.specs.declared.graphs.{Net.Net, Graph.Graph, Vertex.Vertex}
 use Rattle.tern_word.specs.Ternary.{Intersects}
 use Rattle.net_plans.specs.{NetPlans.IsPlannedNet, NetPlans.IsEachPlanned, NetPlans.ArePlanned, Order.IsBelow, Targets.spot_key}
 use Rattle.net_plans.proofs.Ordering.{not_both}
 use Rattle.net_tables.specs.PlainTable.{AreRoutedApart}
-use Rattle.place_fit.specs.declared.placing.Placement.{Placement}
-use Rattle.place_fit.specs.Placement.{IsPlacement}
+use Rattle.place_fit.specs.{declared.placing.Placement.Placement, Placement.IsPlacement}
 use Rattle.key_alloc.specs.KeyBlocks.{AreRightBlocks, HasKeys}
 use Rattle.par_compile.specs.Compiled.{blocks_of, IsRoutingOf}
 

@@ -1,9 +1,7 @@
 -- Runs of chips whose tables workers cover, chip by chip.
 use Rattle.std.proofs.Common.{◌≡◌, ℕ, suc, ◌+◌, ◌<◌, ◌≤◌, true, None, List, [], ◌∷◌, ◌++◌, length, get_or, map, take, refl, sym, ap, ◌∙◌, subst, arith}
-use Rattle.std.proofs.{Math.Seq.take-append_seam, lemmas.Bool.ltb-true}
-use Rattle.std.proofs.lemmas.List.{append_assoc, get_or_push, length-append, length-map}
-use Rattle.std.proofs.lemmas.List.Elements.{All-head, All-map, All-tail}
-use Rattle.std.proofs.lemmas.Slice.Zip.{AllZip-long, all_zipped_more}
+use Rattle.std.proofs.{Math.Seq.take-append_seam, lemmas.Bool.ltb-true, lemmas.List.append_assoc, lemmas.List.get_or_push, lemmas.List.length-append, lemmas.List.length-map}
+use Rattle.std.proofs.lemmas.{List.Elements.All-head, List.Elements.All-map, List.Elements.All-tail, Slice.Zip.AllZip-long, Slice.Zip.all_zipped_more}
 use Rattle.std.specs.List.{All, AllZip, position}
 use Rattle.default_routes.specs.declared.stripping.Final.{Final}
 use Rattle.net_tables.specs.declared.marks.Mark.{Mark}

@@ -10,7 +10,7 @@ use crate::requests::CompileRequest;
 use default_routes::Final;
 use key_alloc::{KeyErr, keys};
 use machine_desc::NetPlan;
-use net_plans::{NetErr, net_plans};
+use net_plans::{NetErr, PlacedGraph, net_plans};
 use place_fit::{PlaceErr, Placement, place};
 use spin_base::{Chip, Gate, Memory, ROUTER_ENTRIES, Seq};
 use std::alloc::Global;
@@ -97,7 +97,13 @@ pub fn compile<R: Threads + Sync, G: Gate>(
         Err(KeyErr::KeysOut { net }) => return Err(CompileErr::KeysOut { net }),
         Err(KeyErr::Memory) => return Err(CompileErr::Memory),
     };
-    let nets = match net_plans(rt, alloc, machine, graph, &placement.spots, &blocks) {
+    let placed = PlacedGraph {
+        machine,
+        graph,
+        spots: &placement.spots,
+        blocks: &blocks,
+    };
+    let nets = match net_plans(rt, alloc, placed) {
         Ok(nets) => nets,
         Err(NetErr::CutOff { net, target }) => return Err(CompileErr::CutOff { net, target }),
         Err(NetErr::Memory) => return Err(CompileErr::Memory),

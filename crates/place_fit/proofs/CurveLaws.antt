@@ -1,15 +1,11 @@
 -- The curve of a level has each chip of its square at one place.
-use Rattle.std.proofs.Common.{◌≡◌, ◌≢◌, ℕ, ◌+◌, ◌-◌, ◌*◌, ◌^◌, ◌<◌, ◌≤◌, true, false, ltb, List, [], ◌∷◌, ◌++◌, length, map, refl, sym, ap, ap₂, ◌∙◌, subst, zero, suc, Some, slice_get, inl, inr, ◌⊎◌, arith, All}
-use Rattle.std.proofs.lemmas.{Bool.cases_lt, Bool.Decides.nat_tests}
-use Rattle.std.proofs.lemmas.List.{length-append, length-map}
-use Rattle.std.proofs.lemmas.List.Elements.{All-nil, All-cons, All-append, All-map, All-weaker}
-use Rattle.std.proofs.lemmas.Grind.{pow_more}
-use Rattle.std.proofs.Math.Pow.{pow_mono}
-use Rattle.std.proofs.Math.Nat.{mul-le-mul_left, mul-le-mul_right, le_trans}
+use Rattle.std.proofs.Common.{◌≡◌, ◌≢◌, ℕ, ◌+◌, ◌-◌, ◌*◌, ◌^◌, ◌<◌, ◌≤◌, List, [], ◌∷◌, ◌++◌, length, map, refl, sym, ap, ap₂, ◌∙◌, subst, zero, suc, Some, slice_get, inl, inr, ◌⊎◌, arith, All}
+use Rattle.std.proofs.lemmas.{Bool.cases_lt, Bool.Decides.nat_tests, List.length-append, List.length-map, List.Elements.All-nil, List.Elements.All-cons, List.Elements.All-append}
+use Rattle.std.proofs.{lemmas.List.Elements.All-map, lemmas.List.Elements.All-weaker, lemmas.Grind.pow_more, Math.Pow.pow_mono, Math.Nat.mul-le-mul_left, Math.Nat.mul-le-mul_right, Math.Nat.le_trans}
 use Rattle.std.proofs.lemmas.Option.{slice_get_within, get_or_from_slice_get}
 use Rattle.spin_base.specs.declared.chips.Chip.{Chip}
-use Rattle.place_fit.specs.Curve.{swapped, raised, moved, turned, four_quarters, hilbert}
-use Rattle.place_fit.specs.Quarters.{lowered, moved_back, turned_back, curve_place}
+use Rattle.place_fit.specs.{Curve.swapped, Curve.raised, Curve.moved, Curve.turned, Curve.four_quarters, Curve.hilbert, Quarters.lowered, Quarters.moved_back, Quarters.turned_back}
+use Rattle.place_fit.specs.Quarters.{curve_place}
 
 -- the chip is in a square of that side
 abbrev pub IsIn : ℕ → Chip → Type 0
@@ -42,9 +38,7 @@ module _ (s : ℕ) (chips : List Chip) (inside : All (IsIn s) chips) where
 
 pub hilbert_inside : (k : ℕ) → All (IsIn (2 ^ k)) (hilbert k)
 hilbert_inside zero = subst (All (IsIn 1)) (sym hilbert-zero) (All-cons (IsIn 1) (record { x = 0; y = 0 }) [] (omega arith, omega arith) (All-nil (IsIn 1)))
-hilbert_inside (suc k) =
-    subst (λ s. All (IsIn s) (hilbert (suc k))) (sym (double k))
-    (subst (All (IsIn (2 * 2 ^ k))) (sym (hilbert-suc k)) (quarters_inside (2 ^ k) (hilbert k) (hilbert_inside k)))
+hilbert_inside (suc k) = grind (arith, double k, hilbert-suc k, quarters_inside (2 ^ k) (hilbert k) (hilbert_inside k), hilbert_inside k)
 
 quarters_length : (s : ℕ) (chips : List Chip) → length (four_quarters s chips) ≡ 4 * length chips
 quarters_length s chips =
@@ -82,11 +76,7 @@ get_joined : (xs ys : List Chip) (i : ℕ) (c : Chip) → slice_get (xs ++ ys) i
     → (slice_get xs i ≡ Some c) ⊎ ((j : ℕ) × (i ≡ length xs + j) × (slice_get ys j ≡ Some c))
 get_joined [] ys i c e = inr (i, omega arith, e)
 get_joined (x ∷ xs) ys zero c e = inl e
-get_joined (x ∷ xs) ys (suc i) c e =
-    elim (get_joined xs ys i c e) [
-      | inl here ↦ inl here
-      | inr (j, at, there) ↦ inr (j, omega (arith, at), there)
-    ]
+get_joined (x ∷ xs) ys (suc i) c e = grind (arith, get_joined xs ys i c e)
 
 get_map : (f : Chip → Chip) (xs : List Chip) (i : ℕ) (c : Chip) → slice_get xs i ≡ Some c → slice_get (map f xs) i ≡ Some (f c)
 get_map f [] i c e = cc
@@ -103,31 +93,19 @@ get_mapped f (x ∷ xs) (suc i) c e = get_mapped f xs i c e
 module _ (k : ℕ) (c : Chip) where
   pub lower_left : c.x < 2 ^ k → c.y < 2 ^ k → curve_place (suc k) c ≡ curve_place k (swapped c)
   unfolding curve_place
-  lower_left a b =
-      let t : ltb c.x (2 ^ k) ≡ true = grind (arith, nat_tests) in
-      let u : ltb c.y (2 ^ k) ≡ true = grind (arith, nat_tests) in
-      rw (t, u) refl
+  lower_left a b = grind (arith, nat_tests)
 
   pub upper_left : c.x < 2 ^ k → 2 ^ k ≤ c.y → curve_place (suc k) c ≡ 2 ^ k * 2 ^ k + curve_place k (lowered (2 ^ k) c)
   unfolding curve_place
-  upper_left a b =
-      let t : ltb c.x (2 ^ k) ≡ true = grind (arith, nat_tests) in
-      let u : ltb c.y (2 ^ k) ≡ false = grind (arith, nat_tests) in
-      rw (t, u) refl
+  upper_left a b = grind (arith, nat_tests)
 
   pub upper_right : 2 ^ k ≤ c.x → 2 ^ k ≤ c.y → curve_place (suc k) c ≡ 2 * (2 ^ k * 2 ^ k) + curve_place k (moved_back (2 ^ k) c)
   unfolding curve_place
-  upper_right a b =
-      let t : ltb c.x (2 ^ k) ≡ false = grind (arith, nat_tests) in
-      let u : ltb c.y (2 ^ k) ≡ false = grind (arith, nat_tests) in
-      rw (t, u) refl
+  upper_right a b = grind (arith, nat_tests)
 
   pub lower_right : 2 ^ k ≤ c.x → c.y < 2 ^ k → curve_place (suc k) c ≡ 3 * (2 ^ k * 2 ^ k) + curve_place k (turned_back (2 ^ k) c)
   unfolding curve_place
-  lower_right a b =
-      let t : ltb c.x (2 ^ k) ≡ false = grind (arith, nat_tests) in
-      let u : ltb c.y (2 ^ k) ≡ true = grind (arith, nat_tests) in
-      rw (t, u) refl
+  lower_right a b = grind (arith, nat_tests)
 
 pub place-zero : (c : Chip) → curve_place 0 c ≡ 0
 unfolding curve_place
@@ -191,16 +169,12 @@ at_place (suc k) c inside =
     ]
 
 pub inside_at : (k i : ℕ) (c : Chip) → slice_get (hilbert k) i ≡ Some c → IsIn (2 ^ k) c
-inside_at k i c e =
-    let within = slice_get_within (hilbert k) i c e in
-    subst (IsIn (2 ^ k)) (get_or_from_slice_get (hilbert k) i c c e) (hilbert_inside k i c within)
+inside_at k i c e = grind (arith, slice_get_within (hilbert k) i c e, get_or_from_slice_get (hilbert k) i c c e, hilbert_inside k i c (slice_get_within (hilbert k) i c e))
 
 -- ---- no chip is at two places
 
 pub place_at : (k i : ℕ) (c : Chip) → slice_get (hilbert k) i ≡ Some c → curve_place k c ≡ i
-place_at zero i c e =
-    let within = slice_get_within (hilbert 0) i c e in
-    place-zero c ∙ omega (arith, within, hilbert_length 0)
+place_at zero i c e = grind (arith, slice_get_within (hilbert 0) i c e, place-zero c, hilbert_length 0)
 place_at (suc k) i c e =
     let h = hilbert k in
     let s = 2 ^ k in
@@ -265,16 +239,10 @@ module _ (level side r : ℕ) (c : Chip) (some : level ≢ 0) (few : level ≤ 6
   told_lower_left a b e = told r (e ∙ sym (lower_left (level - 1) c (omega (arith, a, half)) (omega (arith, b, half))))
 
   pub told_upper_left : c.x < side → side ≤ c.y → r ≡ curve_place (level - 1) (lowered side c) → (side * side + r ≡ curve_place level c) × (side * side + r < 4096)
-  told_upper_left a b e =
-      told (side * side + r)
-      (ap (λ n. side * side + n) e ∙ (ap (λ n. n * n + curve_place (level - 1) (lowered n c)) half ∙ sym (upper_left (level - 1) c (omega (arith, a, half)) (omega (arith, b, half)))))
+  told_upper_left a b e = grind (arith, upper_left (level - 1) c (omega (arith, a, half)) (omega (arith, b, half)), told)
 
   pub told_upper_right : side ≤ c.x → side ≤ c.y → r ≡ curve_place (level - 1) (moved_back side c) → (2 * (side * side) + r ≡ curve_place level c) × (2 * (side * side) + r < 4096)
-  told_upper_right a b e =
-      told (2 * (side * side) + r)
-      (ap (λ n. 2 * (side * side) + n) e ∙ (ap (λ n. 2 * (n * n) + curve_place (level - 1) (moved_back n c)) half ∙ sym (upper_right (level - 1) c (omega (arith, a, half)) (omega (arith, b, half)))))
+  told_upper_right a b e = grind (arith, upper_right (level - 1) c (omega (arith, a, half)) (omega (arith, b, half)), told)
 
   pub told_lower_right : side ≤ c.x → c.y < side → r ≡ curve_place (level - 1) (turned_back side c) → (3 * (side * side) + r ≡ curve_place level c) × (3 * (side * side) + r < 4096)
-  told_lower_right a b e =
-      told (3 * (side * side) + r)
-      (ap (λ n. 3 * (side * side) + n) e ∙ (ap (λ n. 3 * (n * n) + curve_place (level - 1) (turned_back n c)) half ∙ sym (lower_right (level - 1) c (omega (arith, a, half)) (omega (arith, b, half)))))
+  told_lower_right a b e = grind (arith, lower_right (level - 1) c (omega (arith, a, half)) (omega (arith, b, half)), told)

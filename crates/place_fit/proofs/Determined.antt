@@ -1,23 +1,17 @@
 -- Vertices have at most one placement.
-use Rattle.std.proofs.Common.{◌≡◌, ℕ, ◌≤◌, true, List, [], ◌∷◌, length, take, slice_get, Option, Some, None, MatchOption, filter, sym, ap, ◌∙◌, subst, inl, inr, arith, All}
-use Rattle.std.proofs.lemmas.{Bool.cases_lt, Grind.same_number_lists, List.take_all}
-use Rattle.std.proofs.lemmas.List.Elements.{All-head, All-tail}
-use Rattle.std.proofs.lemmas.Option.{slice_get_cases, slice_get_within, get_or_from_slice_get}
-use Rattle.spin_base.proofs.Places.{slice_get_there}
-use Rattle.spin_base.proofs.Determined.{EachFollows, determined_begins}
-use Rattle.spin_base.specs.{declared.chips.Chip.Chip, declared.chips.Spot.Spot}
-use Rattle.machine_desc.specs.{declared.trees.Edge.Edge, Description.Description, Live.is_live_chip}
+use Rattle.std.proofs.Common.{◌≡◌, ℕ, ◌≤◌, List, [], ◌∷◌, length, take, slice_get, Option, Some, None, MatchOption, sym, ap, ◌∙◌, subst, inl, inr, arith, All}
+use Rattle.std.proofs.lemmas.{Bool.cases_lt, Grind.same_number_lists, List.take_all, List.Elements.All-head, List.Elements.All-tail, Option.slice_get_cases, Option.slice_get_within}
+use Rattle.std.proofs.lemmas.Option.{get_or_from_slice_get}
+use Rattle.spin_base.proofs.{Places.slice_get_there, Determined.EachFollows, Determined.determined_begins}
+use Rattle.spin_base.specs.declared.chips.{Chip.Chip, Spot.Spot}
+use Rattle.machine_desc.specs.{declared.trees.Edge.Edge, Description.Description}
 use Rattle.machine_desc.proofs.Same.{same_spot}
 use Rattle.app_graph.specs.declared.graphs.Vertex.{Vertex}
-use Rattle.place_fit.specs.Curve.{hilbert, IsChipOrder}
-use Rattle.place_fit.specs.Placement.{core_spot, is_free_core, HasRoom, IsFirstChip, choices, IsCoreFor, HasDeviceRoom, device_spot, IsSpotFor, FindsNoRoom, AreFirstSpots, AreFirstMemories, memory_of, IsPlacement, HasNoRoom}
+use Rattle.place_fit.specs.{Curve.IsChipOrder, Placement.HasRoom, Placement.IsFirstChip, Placement.choices, Placement.IsCoreFor, Placement.HasDeviceRoom, Placement.device_spot, Placement.IsSpotFor}
+use Rattle.place_fit.specs.Placement.{FindsNoRoom, AreFirstSpots, AreFirstMemories, memory_of, IsPlacement, HasNoRoom}
 
 one_order : (m : Description) (xs ys : List Chip) → IsChipOrder m xs → IsChipOrder m ys → xs ≡ ys
-one_order m xs ys a b =
-    let up : a.level ≤ b.level = a.is_level.least b.level b.is_level.wide b.is_level.high in
-    let down : b.level ≤ a.level = b.is_level.least a.level a.is_level.wide a.is_level.high in
-    let same : a.level ≡ b.level = omega (arith, up, down) in
-    a.live ∙ (ap (λ k. filter (is_live_chip m) (hilbert k)) same ∙ sym b.live)
+one_order m xs ys a b = grind arith
 
 one_first : (P : Chip → Type 0) (xs : List Chip) (c d : Chip) → IsFirstChip P xs c → IsFirstChip P xs d → c ≡ d
 one_first P [] c d a b = absurd a
@@ -36,11 +30,7 @@ none_first P (x ∷ xs) c a none =
     ]
 
 one_core : (m : Description) (order : List Chip) (vs : List Vertex) (ss : List Spot) (v : Vertex) (s t : Spot) → IsCoreFor m order vs ss v s → IsCoreFor m order vs ss v t → s ≡ t
-one_core m order vs ss v s t a b =
-    let chips : s.chip ≡ t.chip = one_first (HasRoom m vs ss v) (choices order v.at) s.chip t.chip a.chip b.chip in
-    let up : s.core ≤ t.core = a.least t.core (subst (λ c. is_free_core m ss (core_spot c t.core) ≡ true) (sym chips) b.free) in
-    let down : t.core ≤ s.core = b.least s.core (subst (λ c. is_free_core m ss (core_spot c s.core) ≡ true) chips a.free) in
-    same_spot s t chips (omega (arith, up, down))
+one_core m order vs ss v s t a b = grind (arith, one_first (HasRoom m vs ss v) (choices order v.at) s.chip t.chip a.chip b.chip, same_spot)
 
 one_spot : (m : Description) (order : List Chip) (vs : List Vertex) (ss : List Spot) (v : Vertex) (s t : Spot) → IsSpotFor m order vs ss v s → IsSpotFor m order vs ss v t → s ≡ t
 one_spot m order vs ss v s t = by_device v.device
@@ -70,9 +60,7 @@ module _ (m : Description) (order : List Chip) (vertices : List Vertex) where
       one_spot m order (take n vertices) before b.0 x y (subst (λ z. IsSpotFor m order (take n vertices) before z x) vertex a.2) b.2
 
   followed : (xs : List Spot) → AreFirstSpots m order vertices xs → EachFollows Follows same_follower xs
-  followed xs first n x is =
-      let v = slice_get_there vertices n (omega (arith, slice_get_within xs n x is, first.few)) in
-      (v.0, v.1, first.each n v.0 x v.1 is)
+  followed xs first n x is = grind (arith, slice_get_there vertices n (omega (arith, slice_get_within xs n x is, first.few)), slice_get_within xs n x is)
 
   -- the shorter of two lists of first spots is the beginning of the longer
   begins : (xs ys : List Spot) → AreFirstSpots m order vertices xs → AreFirstSpots m order vertices ys → length xs ≤ length ys → take (length xs) ys ≡ xs
@@ -119,9 +107,7 @@ one_placement m vertices ss ts ms ns a b =
     (spots, one_memory vertices ts ms ns b.all (subst (λ l. AreFirstMemories vertices l ms) spots a.memories) b.memories)
 
 pub not_both : (m : Description) (vertices : List Vertex) (ss : List Spot) (ms : List ℕ) (i : ℕ) → IsPlacement m vertices ss ms → HasNoRoom m vertices i → ⊥
-not_both m vertices ss ms i placed out =
-    omega (arith, no_further m placed.order vertices ss i placed.is_order placed.first out, placed.all, slice_get_within vertices i out.vertex out.is)
+not_both m vertices ss ms i placed out = grind (arith, no_further m placed.order vertices ss i placed.is_order placed.first out, slice_get_within vertices i out.vertex out.is)
 
 pub one_vertex : (m : Description) (vertices : List Vertex) (i j : ℕ) → HasNoRoom m vertices i → HasNoRoom m vertices j → i ≡ j
-one_vertex m vertices i j a b =
-    omega (arith, no_further m a.order vertices a.spots j a.is_order a.before b, no_further m b.order vertices b.spots i b.is_order b.before a, a.here, b.here)
+one_vertex m vertices i j a b = grind (arith, no_further m a.order vertices a.spots j a.is_order a.before b, no_further m b.order vertices b.spots i b.is_order b.before a)

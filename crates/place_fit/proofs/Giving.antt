@@ -1,21 +1,15 @@
 -- Cores and memory given back to a board.
-use Rattle.std.proofs.Common.{◌≡◌, ◌≢◌, ℕ, zero, suc, ◌-◌, ◌^◌, ◌<◌, ◌≤◌, ◌==◌, Bool, true, false, ◌||◌, cond, List, [], ◌∷◌, ◌++◌}
-use Rattle.std.proofs.Common.{length, set, get_or, refl, sym, ap, ap₂, ◌∙◌, subst, Some, slice_get, inl, inr, arith}
+use Rattle.std.proofs.Common.{◌≡◌, ◌≢◌, ℕ, zero, suc, ◌-◌, ◌^◌, ◌<◌, ◌≤◌, ◌==◌, Bool, true, false, ◌||◌, cond, List, [], ◌∷◌, ◌++◌, length, set, get_or, refl, sym, ap, ap₂, ◌∙◌, Some, slice_get, inl}
+use Rattle.std.proofs.Common.{inr, arith}
 use Rattle.std.specs.{Int.bit_at, List.list_any}
-use Rattle.std.proofs.lemmas.Bool.{cases_Bool, cases_eq, cases_lt, and_left, and_right, and_from, both_ways, cond-true, cond-false, or_from, or_left, or_parts, or_right}
-use Rattle.std.proofs.lemmas.Bool.Decides.{nat_tests}
-use Rattle.std.proofs.lemmas.List.{get_or-set_same, get_or-set_other, length-set}
-use Rattle.std.proofs.lemmas.{List.Folds.list_any-append, Nat.Bits.bit_at_above, Option.slice_get_within}
+use Rattle.std.proofs.lemmas.Bool.{cases_Bool, cases_eq, cases_lt, and_left, and_right, and_from, both_ways, cond-true, cond-false, or_from, or_left, or_parts, or_right, Decides.nat_tests}
+use Rattle.std.proofs.lemmas.{List.get_or-set_same, List.get_or-set_other, List.length-set, List.Folds.list_any-append, Nat.Bits.bit_at_above, Option.slice_get_within}
 use Rattle.std.proofs.Math.Bool.{or-false}
-use Rattle.spin_base.proofs.Places.{slice_get_there}
-use Rattle.spin_base.specs.{declared.chips.Chip.Chip, declared.chips.Spot.Spot}
-use Rattle.spin_base.specs.Equality.{chip_eq, spot_eq}
-use Rattle.spin_base.proofs.Equality.{chip_eq_true, chip_eq_same}
+use Rattle.spin_base.proofs.{Places.slice_get_there, Equality.chip_eq_true, Equality.chip_eq_same}
+use Rattle.spin_base.specs.{declared.chips.Chip.Chip, declared.chips.Spot.Spot, Equality.chip_eq, Equality.spot_eq}
 use Rattle.machine_desc.specs.{Description.Description, Live.is_usable}
-use Rattle.place_fit.specs.{declared.boards.Board.Board, declared.boards.Placed.Placed}
-use Rattle.place_fit.specs.Curve.{hilbert, IsCurveLevel}
-use Rattle.place_fit.specs.Quarters.{curve_place}
-use Rattle.place_fit.specs.Boards.{AreFreeOn, AreGiven, AreOthersKept, AreSettled, HaveOneGrid, IsBoard, IsFilled, IsFreed, IsJoined, IsWholeBoard, IsWith, has_spot_on, room_left}
+use Rattle.place_fit.specs.{declared.boards.Board.Board, declared.boards.Placed.Placed, Curve.hilbert, Curve.IsCurveLevel, Quarters.curve_place, Boards.AreFreeOn, Boards.AreGiven}
+use Rattle.place_fit.specs.Boards.{AreOthersKept, AreSettled, HaveOneGrid, IsBoard, IsFilled, IsFreed, IsJoined, IsWholeBoard, IsWith, has_spot_on, room_left}
 use Rattle.place_fit.specs.Placement.{core_spot}
 use Rattle.place_fit.proofs.{CurveLaws.place_at, Standing.usable_parts}
 
@@ -39,9 +33,7 @@ module _ (old mid new : Board) (s : Spot) (place : ℕ) (was : IsBoard old) (boa
       ]
 
   here_chip : (q : ℕ) (c : Chip) → slice_get old.chips q ≡ Some c → q ≡ place → c ≡ s.chip
-  here_chip q c here same =
-      let one : Some c ≡ Some s.chip = sym here ∙ (ap (slice_get old.chips) same ∙ at) in
-      cc
+  here_chip q c here same = grind (arith, slice_get old.chips)
 
   same_level : new.level ≡ mid.level
   same_level = ap (λ (b : Board). b.level) is
@@ -56,13 +48,7 @@ module _ (old mid new : Board) (s : Spot) (place : ℕ) (was : IsBoard old) (boa
   new_rooms = ap (λ (b : Board). b.rooms) is
 
   new_board : IsBoard new
-  new_board = record {
-    small = subst (λ (n : ℕ). n ≤ 6) (sym same_level) board.small;
-    chips = same_chips ∙ (board.chips ∙ ap hilbert (sym same_level));
-    cores = ap length same_cores ∙ (board.cores ∙ ap length (sym same_chips));
-    rooms = ap length new_rooms ∙ (length-set mid.rooms place (room_left (get_or mid.cores.items place 0) mid.sdram) ∙ (board.rooms ∙ ap length (sym same_chips)));
-    few = λ q. subst (λ (n : ℕ). n < 2 ^ 18) (sym (ap (λ l. get_or l q 0) same_cores)) (board.few q);
-  }
+  new_board = grind (arith, same_level, same_chips, same_cores, new_rooms, length-set mid.rooms place (room_left (get_or mid.cores.items place 0) mid.sdram), get_or mid.cores.items place 0)
 
   has_here : (q : ℕ) (c : Chip) → slice_get old.chips q ≡ Some c → q ≡ place → has_spot_on c (s ∷ []) ≡ true
   has_here q c here same = or-false (chip_eq c s.chip) ∙ (ap (λ d. chip_eq d s.chip) (here_chip q c here same) ∙ chip_eq_same s.chip)
@@ -98,15 +84,7 @@ module _ (old mid new : Board) (s : Spot) (place : ℕ) (was : IsBoard old) (boa
 
   -- the spot is no core
   given_none : mid.cores.items ≡ old.cores.items → 18 ≤ s.core → AreGiven (s ∷ []) old new
-  given_none same high = record {
-    settled = settled_one;
-    free = λ q c here p low.
-        let bits : get_or new.cores.items q 0 ≡ get_or old.cores.items q 0 = ap (λ l. get_or l q 0) (same_cores ∙ same) in
-        let differs : (p == s.core) ≡ false = (let apart : p ≢ s.core = λ e. omega (arith, e, low, high) in grind (arith, nat_tests)) in
-        ap (λ n. bit_at n p) bits
-        ∙ sym (cond-false (list_any (spot_eq (core_spot c p)) (s ∷ [])) 1 (bit_at (get_or old.cores.items q 0) p)
-        (or-false (spot_eq (core_spot c p) s) ∙ and_right (chip_eq c s.chip) (p == s.core) differs));
-  }
+  given_none same high = grind (arith, settled_one, same_cores, nat_tests, get_or, apart, cond-false, or-false, and_right)
 
   given_one : IsJoined (get_or old.cores.items place 0) s.core (get_or mid.cores.items place 0) → AreGiven (s ∷ []) old new
   given_one joined = record {
@@ -154,22 +132,7 @@ few_push (y ∷ ys) x all low (suc q) = few_push ys x (λ k. all (suc k)) low q
 
 -- a vertex more leaves the chips without spots as they were
 pub kept_more : (spots : List Spot) (a b c : Board) (place sdram : ℕ) (r : Placed) → AreOthersKept spots a b → IsFilled place sdram b c r → AreOthersKept (spots ++ r.spot ∷ []) a c
-kept_more spots a b c place sdram r kept filled =
-    let parts : (d : Chip) → has_spot_on d (spots ++ r.spot ∷ []) ≡ false → (has_spot_on d spots ≡ false) × (has_spot_on d (r.spot ∷ []) ≡ false) = λ d none.
-    or_parts (has_spot_on d spots) (has_spot_on d (r.spot ∷ [])) (sym (list_any-append (λ (t : Spot). chip_eq d t.chip) spots (r.spot ∷ [])) ∙ none) in
-    let apart : (q : ℕ) (d : Chip) → slice_get a.chips q ≡ Some d → has_spot_on d (r.spot ∷ []) ≡ false → q ≢ place = λ q d at none same.
-    (let one : Some d ≡ Some r.spot.chip = sym at ∙ (ap (λ l. slice_get l q) (sym kept.chips) ∙ (ap (slice_get b.chips) same ∙ filled.chip)) in
-    let chip : d ≡ r.spot.chip = cc in
-    both_ways _ none (or-false (chip_eq d r.spot.chip) ∙ (ap (λ e. chip_eq e r.spot.chip) chip ∙ chip_eq_same r.spot.chip))) in
-    record {
-      level = filled.level ∙ kept.level;
-      sdram = filled.sdram_is ∙ kept.sdram;
-      chips = filled.chips ∙ kept.chips;
-      cores = λ q d at none. let p = parts d none in
-          ap (λ l. get_or l q 0) filled.cores ∙ (get_or-set_other b.cores.items place q filled.others 0 (apart q d at p.1) ∙ kept.cores q d at p.0);
-      rooms = λ q d at none. let p = parts d none in
-          ap (λ l. get_or l q 0) filled.rooms ∙ (get_or-set_other b.rooms place q (room_left filled.others (get_or b.rooms place 0 - 1 - sdram)) 0 (apart q d at p.1) ∙ kept.rooms q d at p.0);
-    }
+kept_more spots a b c place sdram r kept filled = grind (arith, slice_get b.chips, chip_eq_same r.spot.chip, get_or b.rooms place 0, or_parts, list_any-append, both_ways, or-false, get_or-set_other)
 
 pub settled_none : (b : Board) → IsBoard b → AreSettled [] b b
 settled_none b board = record { level = refl; sdram = refl; chips = refl; board = board; rooms = λ q c here. refl; cores = λ q c here none. refl }
@@ -265,20 +228,11 @@ whole_again spots old mid new whole kept settled = record {
 }
 
 pub same_curve : (m n : Description) (k j : ℕ) → HaveOneGrid m n → j ≡ k → IsCurveLevel m k → IsCurveLevel n j
-same_curve m n k j grid same level = record {
-  wide = omega (arith, subst (λ i. m.width ≤ 2 ^ i) (sym same) level.wide, grid.width);
-  high = omega (arith, subst (λ i. m.height ≤ 2 ^ i) (sym same) level.high, grid.height);
-  least = λ i wide high. let up = level.least i (omega (arith, wide, grid.width)) (omega (arith, high, grid.height)) in omega (arith, up, same);
-}
+same_curve m n k j grid same level = grind arith
 
 -- no core from 18 on is usable
 pub high_bit : (m : Description) (c : Chip) (cores p : ℕ) → cores < 2 ^ 18 → 18 ≤ p → bit_at cores p ≡ cond (is_usable m (core_spot c p)) 1 0
-high_bit m c cores p few high =
-    let dead : is_usable m (core_spot c p) ≡ false = elim (cases_Bool (is_usable m (core_spot c p))) [
-      | inl u ↦ absurd (let low = (usable_parts m (core_spot c p) u).1 in omega (arith, low, high))
-      | inr not_usable ↦ not_usable
-    ] in
-    bit_at_above cores 18 p few high ∙ sym (cond-false (is_usable m (core_spot c p)) 1 0 dead)
+high_bit m c cores p few high = grind (arith, cases_Bool (is_usable m (core_spot c p)), bit_at_above cores 18 p few high, usable_parts, cond-false)
 
 cond_or : (a b : Bool) → cond b 1 (cond a 1 0) ≡ cond (a || b) (let one : ℕ = 1 in one) 0
 cond_or true true = refl

@@ -1,7 +1,6 @@
 -- The tree over the rooms of a row.
 use Rattle.std.proofs.Common.{◌≡◌, ◌≢◌, ℕ, ◌+◌, ◌*◌, ◌/◌, ◌<◌, ◌≤◌, max, List, length, drop, get_or, ap, zero, suc, inl, inr, arith, All}
-use Rattle.std.proofs.lemmas.Bool.{cases_lt, cases_eq}
-use Rattle.std.proofs.lemmas.List.{get_or-drop, length-drop, get_or_default}
+use Rattle.std.proofs.lemmas.{Bool.cases_lt, Bool.cases_eq, List.get_or-drop, List.length-drop, List.get_or_default}
 use Rattle.place_fit.specs.RoomTree.{IsTree}
 
 -- the node has the greater of its children's rooms
@@ -16,13 +15,7 @@ pub record IsTreeBut (leaves but : ℕ) (tree : List ℕ) : Type 0 where
 module _ (leaves : ℕ) (tree : List ℕ) (is_tree : IsTree leaves tree) where
   -- a node has no more room than its parent
   pub parent : (q : ℕ) → 2 ≤ q → q < 2 * leaves → get_or tree q 0 ≤ get_or tree (q / 2) 0
-  parent q low high =
-      let p = q / 2 in
-      let up = is_tree.greatest p (omega arith) (omega arith) in
-      elim (cases_eq q (2 * p)) [
-        | inl even ↦ (let e = ap (λ i. get_or tree i 0) even in omega (arith, up, e))
-        | inr odd ↦ (let o : q ≡ 2 * p + 1 = omega arith in let e = ap (λ i. get_or tree i 0) o in omega (arith, up, e))
-      ]
+  parent q low high = grind (arith, cases_eq q (2 * (q / 2)), get_or)
 
   below_root : (need : ℕ) → get_or tree 1 0 ≤ need → (fuel q : ℕ) → q ≤ fuel → 1 ≤ q → q < 2 * leaves → get_or tree q 0 ≤ need
   below_root need root zero q few low high = absurd (omega arith)
@@ -56,28 +49,12 @@ pub record IsFound (tree : List ℕ) (need first node : ℕ) : Type 0 where
 
 module _ (leaves : ℕ) (tree : List ℕ) (is_tree : IsTree leaves tree) (need first node : ℕ) (found : IsFound tree need first node) (inner : node < leaves) where
   before_children : (q : ℕ) → 2 * first ≤ q → q < 2 * node → 1 ≤ first → get_or tree q 0 ≤ need
-  before_children q low high some =
-      let up = parent leaves tree is_tree q (omega arith) (omega arith) in
-      let above = found.little (q / 2) (omega arith) (omega arith) in
-      omega (arith, up, above)
+  before_children q low high some = grind (arith, parent leaves tree is_tree q (omega arith) (omega arith))
 
   pub found_left : 1 ≤ first → need < get_or tree (2 * node) 0 → IsFound tree need (2 * first) (2 * node)
-  found_left some enough = record {
-    from = omega (arith, found.from);
-    to = omega (arith, found.to);
-    little = λ q low high. before_children q low high some;
-    enough = enough;
-  }
+  found_left some enough = grind (arith, before_children)
 
   pub found_right : 1 ≤ first → get_or tree (2 * node) 0 ≤ need → IsFound tree need (2 * first) (2 * node + 1)
-  found_right some little = record {
-    from = omega (arith, found.from);
-    to = omega (arith, found.to);
-    little = λ q low high. elim (cases_lt q (2 * node)) [
-      | inl before ↦ before_children q low before some
-      | inr at ↦ (let e : q ≡ 2 * node = omega arith in let s = ap (λ i. get_or tree i 0) e in omega (arith, s, little))
-    ];
-    enough = (let up = is_tree.greatest node (omega (arith, found.from)) inner in omega (arith, up, found.enough, little));
-  }
+  found_right some little = grind (arith, cases_lt, before_children, get_or)
 
 -- ---- a room changed

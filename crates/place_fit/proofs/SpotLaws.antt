@@ -1,45 +1,28 @@
 -- The spots that a board gives are those of the definition.
-use Rattle.std.proofs.Common.{◌≡◌, ◌≢◌, ℕ, ◌+◌, ◌-◌, ◌^◌, ◌<◌, ◌≤◌, ◌==◌, ◌&&◌, Bool, true, not, leb, ltb, cond, List, [], ◌∷◌, ◌++◌, length}
-use Rattle.std.proofs.Common.{take, filter, get_or, refl, sym, ap, ap₂, ◌∙◌, subst, zero, suc, Option, Some, None, slice_get, MatchOption, inl, inr, arith, All, AllPairs}
-use Rattle.std.proofs.lemmas.Bool.{cases_lt, cases_Bool, cond-true, cond-false, and_from, or_right, le-leb, lt-ltb, both_ways}
-use Rattle.std.proofs.lemmas.List.{length_push, length-take, take-append-le, take_at, take_more, get_or-take}
-use Rattle.std.specs.Int.{bit_at}
-use Rattle.std.specs.List.{AllZip, list_any}
-use Rattle.std.proofs.lemmas.List.Folds.{list_any_at}
-use Rattle.std.proofs.lemmas.List.Elements.{All-filter, All-nil, All-cons}
-use Rattle.std.proofs.lemmas.Option.{slice_get_within, slice_get-get_or, get_or_from_slice_get}
-use Rattle.std.proofs.Math.Bool.{and-true}
-use Rattle.spin_base.proofs.Places.{All-at, slice_get_there, slice_get-push_cases, slice_get-append_left, slice_get-pushed}
-use Rattle.spin_base.specs.{declared.chips.Chip.Chip, declared.chips.Spot.Spot, Equality.spot_eq}
-use Rattle.spin_base.proofs.Equality.{spot_eq_same}
-use Rattle.spin_base.specs.declared.chips.Dir.{Dir}
-use Rattle.spin_base.specs.Links.{dir_number, dir_at}
-use Rattle.spin_base.proofs.Spots.{dir_at-dir_number}
-use Rattle.machine_desc.specs.{declared.trees.Edge.Edge, Description.Description}
-use Rattle.machine_desc.specs.Live.{is_live_chip, is_live_link, is_usable, is_device_place, IsUsable, IsSite}
-use Rattle.machine_desc.proofs.Same.{same_edge, same_dir, below_six}
-use Rattle.machine_desc.proofs.Sites.{usable_site}
+use Rattle.std.proofs.Common.{◌≡◌, ◌≢◌, ℕ, ◌+◌, ◌-◌, ◌^◌, ◌<◌, ◌≤◌, ◌==◌, ◌&&◌, Bool, true, not, leb, ltb, cond, List, [], ◌∷◌, ◌++◌, length, take, filter, get_or, refl, sym, ap, ap₂, ◌∙◌, subst}
+use Rattle.std.proofs.Common.{zero, suc, Option, Some, None, slice_get, MatchOption, inl, inr, arith, All, AllPairs}
+use Rattle.std.proofs.lemmas.{Bool.cases_lt, Bool.cases_Bool, Bool.cond-true, Bool.cond-false, Bool.and_from, Bool.or_right, Bool.le-leb, Bool.lt-ltb, Bool.both_ways, List.length_push}
+use Rattle.std.proofs.lemmas.List.{length-take, take-append-le, take_at, take_more, get_or-take, Folds.list_any_at, Elements.All-filter, Elements.All-nil, Elements.All-cons}
+use Rattle.std.proofs.{lemmas.Option.slice_get_within, lemmas.Option.slice_get-get_or, lemmas.Option.get_or_from_slice_get, Math.Bool.and-true}
+use Rattle.std.specs.{Int.bit_at, List.AllZip, List.list_any}
+use Rattle.spin_base.proofs.{Places.All-at, Places.slice_get_there, Places.slice_get-push_cases, Places.slice_get-append_left, Places.slice_get-pushed, Equality.spot_eq_same, Spots.dir_at-dir_number}
+use Rattle.spin_base.specs.{declared.chips.Chip.Chip, declared.chips.Spot.Spot, Equality.spot_eq, declared.chips.Dir.Dir, Links.dir_number, Links.dir_at}
+use Rattle.machine_desc.specs.{declared.trees.Edge.Edge, Description.Description, Live.is_live_chip, Live.is_live_link, Live.is_usable, Live.is_device_place, Live.IsUsable, Live.IsSite}
+use Rattle.machine_desc.proofs.{Same.same_edge, Same.same_dir, Same.below_six, Sites.usable_site}
 use Rattle.app_graph.specs.{declared.graphs.Vertex.Vertex, ValidGraph.HaveDifferentDevices}
-use Rattle.place_fit.specs.{declared.boards.Board.Board, declared.boards.Placed.Placed}
-use Rattle.place_fit.specs.Curve.{hilbert, IsCurveLevel}
-use Rattle.place_fit.specs.Quarters.{curve_place}
-use Rattle.place_fit.proofs.CurveLaws.{at_place}
-use Rattle.place_fit.specs.Boards.{AreFreeOn, AreGiven, AreSettled, IsBoard, IsWithout, IsWholeBoard, IsPlaceWithRoom, HasNoRoomAt, HasNoPlace, IsFilled, IsPutOnCore, IsPutAtLink, IsPut, HasNoSpot}
-use Rattle.place_fit.specs.Placement.{core_spot, need_of, used_on, HasRoom, IsFirstChip, choices, IsCoreFor, HasDeviceRoom, device_spot, IsSpotFor, FindsNoRoom, HasNoRoom, AreFirstSpots, AreFirstMemories, memory_of}
-use Rattle.place_fit.specs.Standing.{ArePlaced, IsChipTold, Stands}
-use Rattle.place_fit.proofs.Giving.{high_bit, same_curve}
-use Rattle.place_fit.proofs.UsableSpots.{any_usable}
-use Rattle.place_fit.proofs.Standing.{live_in, free_parts, free_at, bit_of_free, has_room, cores_with_room, room_for, usable_parts}
-use Rattle.place_fit.proofs.Standing.{is_taken, need_of_core, need_of_device, stands_first, stands_more as one_stands_more, stands_device}
+use Rattle.place_fit.specs.{declared.boards.Board.Board, declared.boards.Placed.Placed, Curve.hilbert, Curve.IsCurveLevel, Quarters.curve_place, Boards.AreFreeOn, Boards.AreGiven, Boards.AreSettled}
+use Rattle.place_fit.specs.Boards.{IsBoard, IsWithout, IsWholeBoard, IsPlaceWithRoom, HasNoRoomAt, HasNoPlace, IsFilled, IsPutOnCore, IsPutAtLink, IsPut, HasNoSpot}
+use Rattle.place_fit.specs.Placement.{core_spot, need_of, used_on, HasRoom, IsFirstChip, choices, IsCoreFor, HasDeviceRoom, device_spot, IsSpotFor, FindsNoRoom, HasNoRoom, AreFirstSpots}
+use Rattle.place_fit.specs.{Placement.AreFirstMemories, Placement.memory_of, Standing.ArePlaced, Standing.IsChipTold, Standing.Stands}
+use Rattle.place_fit.proofs.{CurveLaws.at_place, Giving.high_bit, Giving.same_curve, UsableSpots.any_usable, Standing.live_in, Standing.free_parts, Standing.free_at, Standing.bit_of_free}
+use Rattle.place_fit.proofs.Standing.{has_room, cores_with_room, room_for, usable_parts, is_taken, need_of_core, need_of_device, stands_first, stands_device}
+use Rattle.place_fit.proofs.Standing.{stands_more as one_stands_more}
 
 -- the first item that passes is the first of those that pass a test, if it passes it
 first_from_place : (P : Chip → Type 0) (test : Chip → Bool) (xs : List Chip) (q : ℕ) (c : Chip) → slice_get xs q ≡ Some c → P c → test c ≡ true
     → ((j : ℕ) (d : Chip) → j < q → slice_get xs j ≡ Some d → P d → ⊥) → IsFirstChip P (filter test xs) c
 first_from_place P test [] q c at has passes none = cc
-first_from_place P test (x ∷ xs) zero c at has passes none =
-    let one : x ≡ c = cc in
-    let here : test x ≡ true = ap test one ∙ passes in
-    subst (λ l. IsFirstChip P l c) (sym (cond-true (test x) (x ∷ filter test xs) (filter test xs) here)) (inl (subst P (sym one) has, one))
+first_from_place P test (x ∷ xs) zero c at has passes none = grind (arith, cond-true (test x) (x ∷ filter test xs) (filter test xs) (ap test (cc) ∙ passes), has)
 first_from_place P test (x ∷ xs) (suc q) c at has passes none =
     let rest = first_from_place P test xs q c at has passes (λ j d low is. none (suc j) d (omega (arith, low)) is) in
     let not_here : P x → ⊥ = none 0 x (omega arith) refl in
@@ -76,10 +59,7 @@ module _ (m : Description) (vs : List Vertex) (ss : List Spot) (b : Board) (stan
     by_choice None first =
         first_from_place (HasRoom m vs ss v) (is_live_chip m) (hilbert b.level) place r.spot.chip (ap (λ l. slice_get l place) (sym stands.board.chips) ∙ filled.chip) has (lives r.spot.chip has)
         (λ j d low is room. let more = room_for m vs ss d (get_or b.cores.items j 0) (get_or b.rooms j 0) (told_at j d (on_board j d is)) v room in omega (arith, more, first j low))
-    by_choice (Some c) is =
-        let same : Some r.spot.chip ≡ Some c = sym filled.chip ∙ is in
-        let one : r.spot.chip ≡ c = cc in
-        inl (subst (HasRoom m vs ss v) one has, sym one)
+    by_choice (Some c) is = grind (arith, has)
 
     pub spot_for : IsCoreFor m (filter (is_live_chip m) (hilbert b.level)) vs ss v r.spot
     spot_for = record {
@@ -171,8 +151,7 @@ module _ (m : Description) (vs : List Vertex) (ss : List Spot) (b : Board) (stan
       by_device (Some device) none = none
 
   pub none_for_core : v.device ≡ None → HasNoPlace b v → FindsNoRoom m (filter (is_live_chip m) (hilbert b.level)) vs ss v
-  none_for_core is none =
-      subst (λ o. MatchOption o (All (λ c. HasRoom m vs ss v c → ⊥) (choices (filter (is_live_chip m) (hilbert b.level)) v.at)) (λ device. HasDeviceRoom m device → ⊥)) (sym is) (none_for none)
+  none_for_core is none = grind (arith, none_for none)
 
 -- ---- one more
 
@@ -226,11 +205,7 @@ module _ (vertices : List Vertex) (i : ℕ) (v : Vertex) (is : slice_get vertice
 -- ---- the vertices so far
 
 pub placed_none : (m : Description) (vertices : List Vertex) (b : Board) → IsWholeBoard b → AreFreeOn m b → ArePlaced m vertices [] [] b
-placed_none m vertices b whole free = record {
-  stands = stands_first m b whole free;
-  first = none_yet m (filter (is_live_chip m) (hilbert b.level)) vertices;
-  memories = no_memory_yet vertices;
-}
+placed_none m vertices b whole free = grind (arith, stands_first m b whole free, none_yet m (filter (is_live_chip m) (hilbert b.level)) vertices, no_memory_yet vertices)
 
 module _ (m : Description) (vertices : List Vertex) (i : ℕ) (v : Vertex) (is : slice_get vertices i ≡ Some v) (spots : List Spot) (here : length spots ≡ i) (memory : List ℕ)
     (b : Board) (placed : ArePlaced m vertices spots memory b) where
@@ -251,16 +226,7 @@ module _ (m : Description) (vertices : List Vertex) (i : ℕ) (v : Vertex) (is :
       }
 
   pub has_no_room : FindsNoRoom m (filter (is_live_chip m) (hilbert b.level)) (take i vertices) spots v → HasNoRoom m vertices i
-  has_no_room none = record {
-    order = filter (is_live_chip m) (hilbert b.level);
-    is_order = record { level = b.level; is_level = placed.stands.level; live = refl };
-    spots = spots;
-    before = placed.first;
-    here = here;
-    vertex = v;
-    is = is;
-    none = none;
-  }
+  has_no_room none = grind (arith, here)
 
 -- ---- what follows for the layers above
 
@@ -276,10 +242,7 @@ device_site m e room =
 
 -- one device has one spot
 same_device : (a b : Edge) → device_spot a ≡ device_spot b → a ≡ b
-same_device a b same =
-    let chip : a.chip ≡ b.chip = ap (λ (s : Spot). s.chip) same in
-    let core : 18 + dir_number a.dir ≡ 18 + dir_number b.dir = ap (λ (s : Spot). s.core) same in
-    same_edge a b chip (same_dir a.dir b.dir (omega (arith, core)))
+same_device a b same = grind (arith, same_edge, same_dir)
 
 module _ (m : Description) (order : List Chip) (vertices : List Vertex) (spots : List Spot) (first : AreFirstSpots m order vertices spots) where
   -- the vertex of a spot
@@ -289,9 +252,7 @@ module _ (m : Description) (order : List Chip) (vertices : List Vertex) (spots :
     spot : IsSpotFor m order (take j vertices) (take j spots) vertex s
 
   vertex_at : (j : ℕ) (s : Spot) → slice_get spots j ≡ Some s → HasVertex j s
-  vertex_at j s is =
-      let v = slice_get_there vertices j (omega (arith, first.few, slice_get_within spots j s is)) in
-      record { vertex = v.0; is = v.1; spot = first.each j v.0 s v.1 is }
+  vertex_at j s is = grind (arith, slice_get_there vertices j (omega (arith, first.few, slice_get_within spots j s is)), slice_get_within spots j s is)
 
   core_usable : (vs : List Vertex) (ss : List Spot) (v : Vertex) (s : Spot) → IsCoreFor m order vs ss v s → IsUsable m s
   core_usable vs ss v s at = (free_parts m ss s at.free).0
@@ -332,9 +293,7 @@ module _ (m : Description) (order : List Chip) (vertices : List Vertex) (spots :
         → MatchOption p (IsCoreFor m order (take j vertices) (take j spots) other.vertex s) (λ d. HasDeviceRoom m d × (s ≡ device_spot d)) → ⊥
     by_device o None is_o is_p mine its = absurd (both_ways _ (free_parts m (take j spots) s its.free).1 taken)
     by_device None (Some e) is_o is_p mine its =
-        let low = (usable_parts m s (core_usable (take i vertices) (take i spots) one.vertex s mine)).1 in
-        let core : s.core ≡ 18 + dir_number e.dir = ap (λ (x : Spot). x.core) its.1 in
-        omega (arith, low, core)
+        grind (arith, usable_parts m s (core_usable (take i vertices) (take i spots) one.vertex s mine), core_usable (take i vertices) (take i spots) one.vertex s mine)
     by_device (Some d) (Some e) is_o is_p mine its = two_devices d e is_o is_p (same_device d e (sym mine.1 ∙ its.1))
 
     pub not_twice : ⊥

@@ -1,29 +1,18 @@
 -- What a board tells of the vertices that stand on it.
-use Rattle.std.proofs.Common.{◌≡◌, ◌≢◌, ℕ, ◌+◌, ◌-◌, ◌^◌, ◌<◌, ◌≤◌, ◌==◌, Bool, true, false, not, ◌&&◌, ◌||◌, cond, eqb, leb, List}
-use Rattle.std.proofs.Common.{[], ◌∷◌, ◌++◌, length, set, get_or, refl, sym, ap, ◌∙◌, subst, Option, Some, None, is_none, slice_get, inl, inr, arith}
-use Rattle.std.specs.Int.{bit_at, trailing_zeros, w32}
-use Rattle.std.specs.List.{list_any}
-use Rattle.std.proofs.lemmas.Bool.{cases_lt, cases_eq, cases_Bool, and_left, and_parts, and_right, and_from, or_left, or_right, not-true, cond-true, cond-false}
-use Rattle.std.proofs.lemmas.{Bool.Decides.nat_tests, List.Folds.list_any-append}
-use Rattle.std.proofs.lemmas.Nat.Bits.{bit_at-trailing_zeros, bit_at-zero}
-use Rattle.std.proofs.lemmas.Option.{slice_get_within}
-use Rattle.std.proofs.lemmas.List.{get_or-set_same, get_or-set_other, length_push}
+use Rattle.std.proofs.Common.{◌≡◌, ◌≢◌, ℕ, ◌+◌, ◌-◌, ◌^◌, ◌<◌, ◌≤◌, ◌==◌, Bool, true, false, not, ◌&&◌, ◌||◌, cond, eqb, List, [], ◌∷◌, ◌++◌, length, set, get_or, refl, sym, ap, ◌∙◌, subst, Option}
+use Rattle.std.proofs.Common.{Some, None, is_none, slice_get, inl, inr, arith}
+use Rattle.std.specs.{Int.bit_at, Int.w32, List.list_any}
+use Rattle.std.proofs.lemmas.Bool.{cases_lt, cases_eq, cases_Bool, and_left, and_parts, and_right, and_from, or_left, or_right, not-true, cond-true, cond-false, Decides.nat_tests}
+use Rattle.std.proofs.lemmas.{List.Folds.list_any-append, Nat.Bits.bit_at-trailing_zeros, Nat.Bits.bit_at-zero, Option.slice_get_within, List.get_or-set_same, List.get_or-set_other, List.length_push}
 use Rattle.std.proofs.Math.Bool.{and-true}
-use Rattle.spin_base.proofs.Tests.{or_neither}
-use Rattle.spin_base.specs.{declared.chips.Chip.Chip, declared.chips.Spot.Spot}
-use Rattle.spin_base.specs.Equality.{chip_eq, spot_eq}
-use Rattle.spin_base.proofs.Equality.{chip_eq_true, chip_eq_same}
-use Rattle.machine_desc.specs.{declared.trees.Edge.Edge, Description.Description}
-use Rattle.machine_desc.specs.Live.{is_live_chip, is_usable}
-use Rattle.machine_desc.proofs.Far.{live_inside, inside_parts}
-use Rattle.machine_desc.proofs.Same.{same_spot}
+use Rattle.spin_base.proofs.{Tests.or_neither, Equality.chip_eq_true, Equality.chip_eq_same}
+use Rattle.spin_base.specs.{declared.chips.Chip.Chip, declared.chips.Spot.Spot, Equality.chip_eq, Equality.spot_eq}
+use Rattle.machine_desc.specs.{declared.trees.Edge.Edge, Description.Description, Live.is_live_chip, Live.is_usable}
+use Rattle.machine_desc.proofs.{Far.live_inside, Far.inside_parts, Same.same_spot}
 use Rattle.app_graph.specs.declared.graphs.Vertex.{Vertex}
-use Rattle.place_fit.specs.{declared.boards.Board.Board, declared.boards.Placed.Placed}
-use Rattle.place_fit.specs.Curve.{hilbert, IsCurveLevel}
-use Rattle.place_fit.specs.Quarters.{curve_place}
-use Rattle.place_fit.specs.Boards.{AreFreeOn, IsBoard, IsFairBoard, IsFilled, IsParted, IsWholeBoard, room_left}
-use Rattle.place_fit.specs.Placement.{core_spot, need_of, used_on, is_free_core, HasRoom}
-use Rattle.place_fit.specs.Standing.{IsChipTold, Stands}
+use Rattle.place_fit.specs.{declared.boards.Board.Board, declared.boards.Placed.Placed, Curve.hilbert, Curve.IsCurveLevel, Quarters.curve_place, Boards.AreFreeOn, Boards.IsBoard, Boards.IsFairBoard}
+use Rattle.place_fit.specs.{Boards.IsFilled, Boards.IsParted, Boards.IsWholeBoard, Boards.room_left, Placement.core_spot, Placement.need_of, Placement.used_on, Placement.is_free_core}
+use Rattle.place_fit.specs.{Placement.HasRoom, Standing.IsChipTold, Standing.Stands}
 use Rattle.place_fit.proofs.CurveLaws.{IsIn, place_at}
 
 pub live_in : (m : Description) (c : Chip) (side : ℕ) → is_live_chip m c ≡ true → m.width ≤ side → m.height ≤ side → IsIn side c
@@ -41,27 +30,17 @@ bit_yes true e = refl
 bit_yes false e = cc
 
 pub some_bits : (n i : ℕ) → bit_at n i ≡ 1 → 0 < n
-some_bits n i one = elim (cases_eq n 0) [
-  | inl none ↦ absurd (omega (arith, one, ap (λ k. bit_at k i) none, bit_at-zero i))
-  | inr some ↦ omega (arith, some)
-]
+some_bits n i one = grind (arith, cases_eq n 0, bit_at-zero i)
 
 -- the least core, as a bit
 pub least_bit : (cores : ℕ) → 0 < cores → cores < 2 ^ 18 → (core : ℕ) × (core < 32) × (bit_at cores core ≡ 1)
-least_bit cores some few =
-    let low = bit_at-trailing_zeros w32 cores some (omega (arith, few)) in (trailing_zeros w32 cores, low.0, low.1)
+least_bit cores some few = grind (arith, bit_at-trailing_zeros w32 cores some (omega (arith, few)))
 
 pub usable_parts : (m : Description) (s : Spot) → is_usable m s ≡ true → (is_live_chip m s.chip ≡ true) × (s.core < 18)
-usable_parts m s u =
-    let p = and_parts _ _ u in
-    let q = and_parts _ _ (and_parts _ _ p.1).0 in
-    let below : leb s.core 17 ≡ true = q.1 in
-    (p.0, grind (arith, nat_tests))
+usable_parts m s u = grind (arith, nat_tests, and_parts)
 
 pub free_parts : (m : Description) (ss : List Spot) (s : Spot) → is_free_core m ss s ≡ true → (is_usable m s ≡ true) × (is_taken ss s ≡ false)
-free_parts m ss s f =
-    let p = and_parts _ _ f in
-    (p.0, not-true _ p.1)
+free_parts m ss s f = grind (arith, and_parts, not-true)
 
 pub free_from : (m : Description) (ss : List Spot) (s : Spot) → is_usable m s ≡ true → is_taken ss s ≡ false → is_free_core m ss s ≡ true
 free_from m ss s u f = and_from _ _ u (ap not f)
@@ -76,11 +55,7 @@ module _ (m : Description) (vs : List Vertex) (ss : List Spot) (c : Chip) (cores
       told.free p (omega (arith, small)) ∙ cond-true (is_free_core m ss (core_spot c p)) 1 0 free
 
   pub cores_with_room : (need : ℕ) → need < room → 0 < cores
-  cores_with_room need more =
-      elim (cases_lt 0 cores) [
-        | inl some ↦ some
-        | inr none ↦ absurd (let f = told.full (omega (arith, none)) in omega (arith, f, more))
-      ]
+  cores_with_room need more = grind (arith, cases_lt 0 cores)
 
   -- a chip has room where its number says so
   pub has_room : (v : Vertex) → cores < 2 ^ 18 → v.sdram < room → HasRoom m vs ss v c
@@ -105,31 +80,10 @@ room_none : (cores left : ℕ) → cores ≡ 0 → room_left cores left ≡ 0
 room_none cores left none = let t : eqb cores 0 ≡ true = grind (arith, nat_tests) in rw t refl
 
 pub stands_first : (m : Description) (b : Board) → IsWholeBoard b → AreFreeOn m b → Stands m [] [] b
-stands_first m b whole free = record {
-  board = whole.board;
-  level = free.level;
-  sdram = free.sdram;
-  same = refl;
-  told = λ q c at.
-      let room = whole.rooms q (slice_get_within b.chips q c at) in
-      record {
-        free = λ p low. free.free q c at p low ∙ ap (λ (t : Bool). cond t 1 0) (sym (and-true (is_usable m (core_spot c p))));
-        full = λ none. room ∙ room_none (get_or b.cores.items q 0) b.sdram none;
-        left = λ some. let r = room ∙ room_some (get_or b.cores.items q 0) b.sdram some in omega (arith, r, free.sdram);
-      };
-}
+stands_first m b whole free = grind (arith, slice_get_within, and-true, room_none, room_some, get_or)
 
 pub whole_fair : (b : Board) → IsWholeBoard b → IsFairBoard b
-whole_fair b whole = record {
-  board = whole.board;
-  rooms = λ q inside some.
-      let cores = get_or b.cores.items q 0 in
-      let room = whole.rooms q inside in
-      elim (cases_lt 0 cores) [
-        | inl any ↦ (any, (let r = room ∙ room_some cores b.sdram any in omega (arith, r)))
-        | inr none ↦ absurd (let r = room ∙ room_none cores b.sdram (omega (arith, none)) in omega (arith, r, some))
-      ];
-}
+whole_fair b whole = grind (arith, get_or, cases_lt, room_some, room_none)
 
 -- ---- one vertex more
 
@@ -169,35 +123,11 @@ module _ (m : Description) (vs : List Vertex) (ss : List Spot) (same : length vs
   untaken_push s p other = taken_push ss s (core_spot c p) ∙ or_neither (is_taken ss (core_spot c p)) (spot_eq (core_spot c p) s) other
 
   told_other : (s : Spot) → chip_eq c s.chip ≡ false → IsChipTold m (vs ++ v ∷ []) (ss ++ s ∷ []) c cores room
-  told_other s other =
-      let used : used_on c (vs ++ v ∷ []) (ss ++ s ∷ []) ≡ used_on c vs ss + 0 =
-      used_push c vs ss v s same ∙ ap (λ b. used_on c vs ss + b) (cond-false (chip_eq c s.chip) (need_of v) 0 other) in
-      record {
-        free = λ p low. still_free s p (untaken_push s p (and_left (chip_eq c s.chip) (p == s.core) other)) low;
-        full = told.full;
-        left = λ some. let l = told.left some in omega (arith, l, used);
-      }
+  told_other s other = grind (arith, used_push c vs ss v s same, cond-false (chip_eq c s.chip) (need_of v) 0 other, still_free, untaken_push, and_left)
 
   -- a device takes no core and no memory
   told_device : (s : Spot) → 18 ≤ s.core → need_of v ≡ 0 → IsChipTold m (vs ++ v ∷ []) (ss ++ s ∷ []) c cores room
-  told_device s high none =
-      let used : used_on c (vs ++ v ∷ []) (ss ++ s ∷ []) ≡ used_on c vs ss + 0 =
-      used_push c vs ss v s same ∙ ap (λ b. used_on c vs ss + b) (ap (λ n. cond (chip_eq c s.chip) n 0) none ∙ cond_same (chip_eq c s.chip) 0) in
-      let free : (p : ℕ) → p < 32 → bit_at cores p ≡ cond (is_free_core m (ss ++ s ∷ []) (core_spot c p)) 1 0 = λ p low.
-      elim (cases_Bool (is_usable m (core_spot c p))) [
-        | inl u ↦ (
-            let small = (usable_parts m (core_spot c p) u).1 in
-            still_free s p (untaken_push s p (and_right (chip_eq c s.chip) (p == s.core) (let below : p < s.core = omega (arith, small, high) in grind (arith, nat_tests)))) low
-            )
-        | inr dead ↦ told.free p low
-            ∙ (ap (λ b. cond b 1 0) (and_left (is_usable m (core_spot c p)) (not (is_taken ss (core_spot c p))) dead)
-            ∙ sym (ap (λ b. cond b 1 0) (and_left (is_usable m (core_spot c p)) (not (is_taken (ss ++ s ∷ []) (core_spot c p))) dead)))
-      ] in
-      record {
-        free = free;
-        full = told.full;
-        left = λ some. let l = told.left some in omega (arith, l, used);
-      }
+  told_device s high none = grind (arith, used_push c vs ss v s same, cond_same (chip_eq c s.chip) 0, nat_tests, cases_Bool, usable_parts, still_free, and_left, untaken_push, and_right)
 
   told_here : (core others : ℕ) → need_of v ≡ v.sdram → v.sdram < room → 0 < cores → IsParted cores core others
       → IsChipTold m (vs ++ v ∷ []) (ss ++ core_spot c core ∷ []) c others (room_left others (room - 1 - v.sdram))

@@ -5,7 +5,7 @@ ghost use Rattle.place_fit.specs.Boards.{AreCores, AreFreeOn, AreGiven, AreSettl
 ghost use Rattle.place_fit.specs.Curve.{IsCurveLevel};
 ghost use Rattle.place_fit.specs.Placement.{HasDeviceRoom, device_spot};
 
-use crate::curves::{curve, place_on_curve};
+use crate::curves::{OnSquare, curve, place_on_curve};
 use crate::rooms::Rooms;
 use app_graph::Vertex;
 use machine_desc::{Edge, Machine};
@@ -172,7 +172,11 @@ impl Board {
     {
         let side = 1 << self.level;
         if chip.x < side && chip.y < side {
-            Some(place_on_curve(self.level, chip))
+            let at = OnSquare {
+                level: self.level,
+                chip,
+            };
+            Some(place_on_curve(at))
         } else {
             None
         }

@@ -56,12 +56,12 @@ enum Quarter {
 }
 
 impl Quarter {
-    // A chip of a square of that side, as it stands in this quarter of the square of twice the side.
-    fn chip(self, side: u8, c: Chip) -> Chip
-        requires small { side ≤ 32 }
-        requires inside { (c.x < side) × (c.y < side) }
-        ensures { result ≡ in_quarter self side c }
+    // A chip of the square, as it stands in this quarter of the square of twice the side.
+    fn chip(self, square: Square, c: Chip) -> Chip
+        requires { (c.x < square.side) × (c.y < square.side) }
+        ensures { result ≡ in_quarter self square.entry.side c }
     {
+        let side = square.side;
         match self {
             Quarter::LowerLeft => Chip { x: c.y, y: c.x },
             Quarter::UpperLeft => Chip {
@@ -86,56 +86,74 @@ fn add_quarter(all: &mut Vec<Chip>, quarter: Quarter, square: Square) -> Result<
         ++ map (in_quarter quarter square.entry.side) square.entry.chips.now) }
 {
     for chip in square.chips {
-        all.push(quarter.chip(square.side, *chip))?;
+        all.push(quarter.chip(square, *chip))?;
     }
     Ok(())
 }
 
+// A chip of the square of a level.
+#[derive(Clone, Copy)]
+pub struct OnSquare {
+    pub level: u32,
+    pub chip: Chip,
+    pub ghost small: { level ≤ 6 },
+    pub ghost inside: { (chip.x < 2 ^ level) × (chip.y < 2 ^ level) },
+}
+
 // The place of a chip on the curve.
-pub(crate) fn place_on_curve(level: u32, c: Chip) -> usize
-    requires small { level ≤ 6 }
-    requires inside { (c.x < 2 ^ level) × (c.y < 2 ^ level) }
-    ensures place { result ≡ curve_place level c }
+pub(crate) fn place_on_curve(at: OnSquare) -> usize
+    ensures place { result ≡ curve_place at.level at.chip }
     ensures below { result < 4096 }
 {
+    let OnSquare { level, chip: c } = at;
     if level == 0 {
         return 0;
     }
-    let side = half_side(level);
+    let side = half_side(at);
     let run = usize::from(side) * usize::from(side);
     if c.x < side {
         if c.y < side {
-            let lower_left = Chip { x: c.y, y: c.x };
-            place_on_curve(level - 1, lower_left)
-        } else {
-            let upper_left = Chip {
-                x: c.x,
-                y: c.y - side,
+            let lower_left = OnSquare {
+                level: level - 1,
+                chip: Chip { x: c.y, y: c.x },
             };
-            run + place_on_curve(level - 1, upper_left)
+            place_on_curve(lower_left)
+        } else {
+            let upper_left = OnSquare {
+                level: level - 1,
+                chip: Chip {
+                    x: c.x,
+                    y: c.y - side,
+                },
+            };
+            run + place_on_curve(upper_left)
         }
     } else if c.y < side {
-        let lower_right = Chip {
-            x: side - 1 - c.y,
-            y: 2 * side - 1 - c.x,
+        let lower_right = OnSquare {
+            level: level - 1,
+            chip: Chip {
+                x: side - 1 - c.y,
+                y: 2 * side - 1 - c.x,
+            },
         };
-        3 * run + place_on_curve(level - 1, lower_right)
+        3 * run + place_on_curve(lower_right)
     } else {
-        let upper_right = Chip {
-            x: c.x - side,
-            y: c.y - side,
+        let upper_right = OnSquare {
+            level: level - 1,
+            chip: Chip {
+                x: c.x - side,
+                y: c.y - side,
+            },
         };
-        2 * run + place_on_curve(level - 1, upper_right)
+        2 * run + place_on_curve(upper_right)
     }
 }
 
-// Half the side of the square of a level.
-fn half_side(level: u32) -> u8
-    requires some { 1 ≤ level }
-    requires small { level ≤ 6 }
-    ensures half { result ≡ 2 ^ (level - 1) }
-    ensures whole { 2 ^ level ≡ 2 * result }
+// Half the side of the square of a level, and 0 for the square of one chip.
+fn half_side(at: OnSquare) -> u8
+    ensures half { 1 ≤ at.level → result ≡ 2 ^ (at.level - 1) }
+    ensures whole { 1 ≤ at.level → 2 ^ at.level ≡ 2 * result }
     ensures small { result ≤ 32 }
 {
-    1 << (level - 1)
+    (1 << at.level) / 2
 }

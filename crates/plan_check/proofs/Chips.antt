@@ -1,27 +1,15 @@
 -- What is amiss with a net, chip by chip in the order of their indices, and net by net.
 use Rattle.std.proofs.Common.{◌≡◌, ℕ, ◌+◌, ◌*◌, ◌<◌, ◌≤◌, List, [], ◌∷◌, length, get_or, Option, Some, None, refl, sym, ap, ◌∙◌, subst, arith, inl, inr, cond, true, false, Bool, ◌==◌}
 use Rattle.std.specs.Prelude.{All, slice_get}
-use Rattle.std.proofs.lemmas.{Bool.cases_lt, List.get_or_default}
-use Rattle.std.proofs.lemmas.List.Elements.{All-nil, All-head, All-tail}
-use Rattle.std.proofs.lemmas.Option.{none-some, slice_get-get_or}
-use Rattle.spin_base.specs.{declared.blocks.ChipTable.ChipTable, declared.blocks.Entry.Entry, declared.chips.Chip.Chip}
-use Rattle.spin_base.specs.{declared.chips.Port.Port, declared.routes.Route.Route, Outputs.nothing}
-use Rattle.machine_desc.specs.Description.{Description}
-use Rattle.machine_desc.specs.Live.{IsInside, index_of}
+use Rattle.std.proofs.lemmas.{Bool.cases_lt, List.get_or_default, List.Elements.All-nil, List.Elements.All-head, List.Elements.All-tail, Option.none-some, Option.slice_get-get_or}
+use Rattle.spin_base.specs.{declared.blocks.ChipTable.ChipTable, declared.blocks.Entry.Entry, declared.chips.Chip.Chip, declared.chips.Port.Port, declared.routes.Route.Route, Outputs.nothing}
+use Rattle.machine_desc.specs.{Description.Description, Live.IsInside, Live.index_of, declared.nets.NetPlan.NetPlan}
 use Rattle.machine_desc.proofs.Far.{index_below}
-use Rattle.machine_desc.specs.declared.nets.NetPlan.{NetPlan}
-use Rattle.table_load.specs.declared.tables.Image.{Image}
-use Rattle.table_load.specs.Images.{IsRow, IsTable, IsValid}
-use Rattle.table_load.specs.{Memories.rows_of_index, Memories.table_index}
-use Rattle.net_tables.specs.Marks.{IsRouted, TellsPort, TellsPorts, TellsRoutes}
-use Rattle.net_tables.proofs.Trees.{chips_inside, comes_in_tree}
-use Rattle.net_tables.specs.PlainTable.{HasChip}
-use Rattle.plan_check.specs.declared.flaws.Flaw.{Flaw}
-use Rattle.plan_check.specs.declared.flaws.Flaw.TheVariants.{Wrong, Split}
-use Rattle.plan_check.specs.declared.verdicts.Verdict.{Verdict}
-use Rattle.plan_check.specs.Boards.{IsAmissAt, IsFlaw, IsFineBelow, IsFirstFlaw, verdict_on}
-use Rattle.plan_check.specs.Verdicts.{IsFine, IsFineAll, AreFineBefore, IsVerdict, rows_for}
-use Rattle.net_tables.proofs.Determined.{same_outputs}
+use Rattle.table_load.specs.{declared.tables.Image.Image, Images.IsRow, Images.IsTable, Images.IsValid, Memories.rows_of_index, Memories.table_index}
+use Rattle.net_tables.specs.{Marks.IsRouted, Marks.TellsPort, Marks.TellsPorts, Marks.TellsRoutes, PlainTable.HasChip}
+use Rattle.net_tables.proofs.{Trees.chips_inside, Trees.comes_in_tree, Determined.same_outputs}
+use Rattle.plan_check.specs.{declared.flaws.Flaw.Flaw, declared.flaws.Flaw.TheVariants.Wrong, declared.flaws.Flaw.TheVariants.Split, declared.verdicts.Verdict.Verdict, Boards.IsAmissAt, Boards.IsFlaw}
+use Rattle.plan_check.specs.{Boards.IsFineBelow, Boards.IsFirstFlaw, Boards.verdict_on, Verdicts.IsFine, Verdicts.IsFineAll, Verdicts.AreFineBefore, Verdicts.IsVerdict, Verdicts.rows_for}
 
 -- ---- the rows of a valid image
 

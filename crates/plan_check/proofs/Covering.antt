@@ -1,19 +1,17 @@
 -- A covered table is sound where the table was, and what holds of all blocks that it serves holds of all that the table served.
-use Rattle.std.proofs.Common.{◌≡◌, ℕ, suc, ◌+◌, ◌-◌, ◌<◌, ◌≤◌, ◌==◌, Bool, true, false, cond, not, List, [], ◌∷◌, length, get_or, take, drop, refl, sym, ap, ◌∙◌, subst, arith, inl, inr, length-take, length-drop, get_or-take, get_or-drop}
+use Rattle.std.proofs.Common.{◌≡◌, ℕ, suc, ◌+◌, ◌-◌, ◌<◌, ◌≤◌, ◌==◌, Bool, true, false, cond, not, List, [], ◌∷◌, length, get_or, take, drop, refl, sym, ap, ◌∙◌, subst, arith, inl, inr, length-take}
+use Rattle.std.proofs.Common.{length-drop, get_or-take, get_or-drop}
 use Rattle.std.specs.{Prelude.All, List.flat_map}
-use Rattle.std.proofs.lemmas.Bool.{cases_Bool, cases_lt, eqb-true, not_from_false}
-use Rattle.std.proofs.lemmas.List.{get_or_default}
-use Rattle.std.proofs.lemmas.List.Elements.{All-nil, All-cons, All-head, All-tail, All-map, All-weaker, All-filter}
+use Rattle.std.proofs.lemmas.{Bool.cases_Bool, Bool.cases_lt, Bool.eqb-true, Bool.not_from_false, List.get_or_default, List.Elements.All-nil, List.Elements.All-cons, List.Elements.All-head}
+use Rattle.std.proofs.lemmas.List.Elements.{All-tail, All-map, All-weaker, All-filter}
 use Rattle.spin_base.specs.declared.routes.Route.{Route}
-use Rattle.tern_word.specs.{declared.tables.Alias.Alias, declared.tables.Row.Row}
-use Rattle.tern_word.specs.SoundTable.{IsSound, Original, served_by, served}
-use Rattle.cover_merge.specs.Merge.{has_row, kept, rows_at, merge_rows, merged_row, insert_place, after, IsLegal}
-use Rattle.cover_merge.proofs.Legal.{legal_from_checks}
-use Rattle.cover_merge.proofs.Lists.{All-left, All-right, All-from_map, All-flat_map, All-from_flat_map, picked-at}
-use Rattle.cover_merge.proofs.Positions.{All-has, rows_at-from, rows_at-has}
+use Rattle.tern_word.specs.{declared.tables.Alias.Alias, declared.tables.Row.Row, SoundTable.IsSound, SoundTable.Original, SoundTable.served_by, SoundTable.served}
+use Rattle.cover_merge.specs.{Merge.has_row, Merge.kept, Merge.rows_at, Merge.merge_rows, Merge.merged_row, Merge.insert_place, Merge.after, Merge.IsLegal, Refinement.Refines, Refinement.ends_empty}
+use Rattle.cover_merge.specs.{Refinement.ends_legal, Refinement.goes_up, Refinement.goes_down, Refinement.keeps, Covering.places_of, Covering.IsChosen, Covering.Covers, Covering.short, Covering.stuck}
+use Rattle.cover_merge.specs.Covering.{merged}
+use Rattle.cover_merge.proofs.{Legal.legal_from_checks, Lists.All-left, Lists.All-right, Lists.All-from_map, Lists.All-flat_map, Lists.All-from_flat_map, Lists.picked-at, Positions.All-has}
+use Rattle.cover_merge.proofs.Positions.{rows_at-from, rows_at-has}
 use Rattle.spin_base.proofs.RouteBits.{same_route}
-use Rattle.cover_merge.specs.Refinement.{Refines, ends_empty, ends_legal, goes_up, goes_down, keeps}
-use Rattle.cover_merge.specs.Covering.{places_of, IsChosen, Covers, short, stuck, merged}
 
 -- an alias with a route
 abbrev marked : Route → Alias → Original

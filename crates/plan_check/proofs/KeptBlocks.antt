@@ -1,16 +1,10 @@
 -- In the kept rows of a sound table, all keys of an alias get its row's route: by its row, inside which it lies, or by default.
 use Rattle.std.proofs.Common.{◌≡◌, ℕ, zero, suc, ◌<◌, ◌≤◌, List, ◌∷◌, length, get_or, map, Some, refl, sym, ap, ◌∙◌, subst, arith, inl, inr}
-use Rattle.std.specs.Prelude.{slice_get, bit_and}
-use Rattle.std.specs.List.{cons_option}
-use Rattle.std.proofs.lemmas.Bool.{cases_lt, eqb-true, eq-eqb}
-use Rattle.std.proofs.lemmas.List.Elements.{All-cons, All-map}
-use Rattle.std.proofs.lemmas.Option.{get_or_from_slice_get}
-use Rattle.spin_base.specs.{declared.blocks.Block.Block, declared.blocks.Entry.Entry, declared.chips.Port.Port, declared.routes.Route.Route}
-use Rattle.spin_base.specs.Lookup.{default_route}
+use Rattle.std.specs.{Prelude.slice_get, Prelude.bit_and, List.cons_option}
+use Rattle.std.proofs.lemmas.{Bool.cases_lt, Bool.eqb-true, Bool.eq-eqb, List.Elements.All-cons, List.Elements.All-map, Option.get_or_from_slice_get}
+use Rattle.spin_base.specs.{declared.blocks.Block.Block, declared.blocks.Entry.Entry, declared.chips.Port.Port, declared.routes.Route.Route, Lookup.default_route}
 use Rattle.machine_desc.specs.RightTables.{IsKeyOf}
-use Rattle.tern_word.specs.{declared.tables.Alias.Alias, declared.tables.Row.Row, Entries.entry_of}
-use Rattle.tern_word.specs.Ternary.{Intersects, LiesIn}
-use Rattle.tern_word.specs.SoundTable.{IsSound}
+use Rattle.tern_word.specs.{declared.tables.Alias.Alias, declared.tables.Row.Row, Entries.entry_of, Ternary.Intersects, Ternary.LiesIn, SoundTable.IsSound}
 use Rattle.tern_word.proofs.BlockLaws.{key_small}
 use Rattle.cover_merge.specs.Merge.{rows_at}
 use Rattle.default_routes.specs.KeptRows.{IsStrippable, KeptFrom, ends, goes, stays, AreKept}

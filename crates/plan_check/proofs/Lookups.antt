@@ -1,33 +1,20 @@
 -- What lookup gives the keys of a block that get one route, and what a verdict means for the tables that are loaded.
 use Rattle.std.proofs.Common.{◌≡◌, ℕ, zero, suc, ◌-◌, ◌*◌, ◌<◌, Bool, true, false, cond, List, [], ◌∷◌, ◌++◌, length, get_or, Some, replicate, refl, sym, ap, ◌∙◌, subst, arith, inl, inr}
-use Rattle.std.specs.Prelude.{All, find, slice_get}
-use Rattle.std.specs.Option.{option_map_or}
-use Rattle.std.proofs.lemmas.Bool.{false_from_ne_true}
-use Rattle.std.proofs.lemmas.List.Elements.{All-head, All-tail}
-use Rattle.std.proofs.lemmas.Option.{get_or_from_slice_get, slice_get_within}
-use Rattle.spin_base.proofs.Places.{All-at}
-use Rattle.spin_base.specs.{declared.blocks.Block.Block, declared.blocks.Entry.Entry, declared.chips.Chip.Chip, declared.chips.Port.Port}
-use Rattle.spin_base.specs.declared.routes.Route.{Route}
-use Rattle.spin_base.specs.Lookup.{matches, default_route, lookup}
-use Rattle.spin_base.specs.Outputs.{has}
-use Rattle.spin_base.proofs.Lookups.{lookup_hit, lookup_miss}
-use Rattle.machine_desc.specs.Description.{Description}
-use Rattle.machine_desc.specs.Live.{IsInside, index_of}
+use Rattle.std.specs.{Prelude.All, Prelude.find, Prelude.slice_get, Option.option_map_or}
+use Rattle.std.proofs.lemmas.{Bool.false_from_ne_true, List.Elements.All-head, List.Elements.All-tail, Option.get_or_from_slice_get, Option.slice_get_within}
+use Rattle.spin_base.proofs.{Places.All-at, Lookups.lookup_hit, Lookups.lookup_miss}
+use Rattle.spin_base.specs.{declared.blocks.Block.Block, declared.blocks.Entry.Entry, declared.chips.Chip.Chip, declared.chips.Port.Port, declared.routes.Route.Route, Lookup.matches}
+use Rattle.spin_base.specs.{Lookup.default_route, Lookup.lookup, Outputs.has}
+use Rattle.machine_desc.specs.{Description.Description, Live.IsInside, Live.index_of, declared.nets.NetPlan.NetPlan, RightTables.IsKeyOf, RightTables.AreRight, RightTables.table_at}
 use Rattle.machine_desc.proofs.Far.{index_below}
-use Rattle.machine_desc.specs.declared.nets.NetPlan.{NetPlan}
-use Rattle.machine_desc.specs.RightTables.{IsKeyOf, AreRight, table_at}
 use Rattle.tern_word.proofs.BlockLaws.{key_small}
 use Rattle.tcam_find.specs.Memory.{unused}
 use Rattle.tcam_find.proofs.MemoryLemmas.{unused_matches}
-use Rattle.table_load.specs.declared.tables.Image.{Image}
-use Rattle.table_load.specs.Memories.{loaded, IsLoaded}
-use Rattle.net_tables.specs.Marks.{IsRouted}
-use Rattle.net_tables.proofs.Determined.{one_port}
-use Rattle.net_tables.proofs.Trees.{chips_inside, comes_in_tree}
-use Rattle.net_tables.specs.PlainTable.{HasChip}
-use Rattle.plan_check.specs.declared.verdicts.Verdict.{Verdict}
-use Rattle.plan_check.specs.declared.verdicts.Verdict.TheVariants.{Right, Wrong}
-use Rattle.plan_check.specs.Verdicts.{Meets, LiesInside, NoneMeets, IsFirstToMeet, GetsRoute, GetsRouteThat, IsFineAll, IsWrong, IsTreeRoute, IsVerdict, IsMisrouted, rows_for}
+use Rattle.table_load.specs.{declared.tables.Image.Image, Memories.loaded, Memories.IsLoaded}
+use Rattle.net_tables.specs.{Marks.IsRouted, PlainTable.HasChip}
+use Rattle.net_tables.proofs.{Determined.one_port, Trees.chips_inside, Trees.comes_in_tree}
+use Rattle.plan_check.specs.{declared.verdicts.Verdict.Verdict, declared.verdicts.Verdict.TheVariants.Right, declared.verdicts.Verdict.TheVariants.Wrong, Verdicts.Meets, Verdicts.LiesInside}
+use Rattle.plan_check.specs.Verdicts.{NoneMeets, IsFirstToMeet, GetsRoute, GetsRouteThat, IsFineAll, IsWrong, IsTreeRoute, IsVerdict, IsMisrouted, rows_for}
 
 -- ---- lookup, entry by entry
 

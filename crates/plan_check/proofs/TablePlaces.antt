@@ -1,15 +1,10 @@
 -- The board of the places of tables, written from the last table to the first.
 use Rattle.std.proofs.Common.{◌≡◌, ℕ, suc, ◌+◌, ◌-◌, ◌*◌, ◌<◌, ◌≤◌, ◌==◌, List, [], ◌∷◌, length, get_or, set, drop, replicate, Some, None, refl, sym, ap, ◌∙◌, subst, arith, inl, inr}
 use Rattle.std.specs.{Prelude.slice_get, Option.option_map_or}
-use Rattle.std.proofs.Math.Seq.{drop-cons}
-use Rattle.std.proofs.lemmas.Bool.{cases_eq, cond-true, cond-false, eq-eqb, eqb-true, false_from_ne_true}
-use Rattle.std.proofs.lemmas.Nat.{mul-add-lt}
-use Rattle.std.proofs.lemmas.List.{get_or-set_same, get_or-set_other, get_or-replicate, drop_all, length-replicate, length-set}
-use Rattle.std.proofs.lemmas.Option.{slice_get-get_or}
+use Rattle.std.proofs.{Math.Seq.drop-cons, lemmas.Bool.cases_eq, lemmas.Bool.cond-true, lemmas.Bool.cond-false, lemmas.Bool.eq-eqb, lemmas.Bool.eqb-true, lemmas.Bool.false_from_ne_true}
+use Rattle.std.proofs.lemmas.{Nat.mul-add-lt, List.get_or-set_same, List.get_or-set_other, List.get_or-replicate, List.drop_all, List.length-replicate, List.length-set, Option.slice_get-get_or}
 use Rattle.spin_base.specs.declared.blocks.ChipTable.{ChipTable}
-use Rattle.table_load.specs.declared.tables.Image.{Image}
-use Rattle.table_load.specs.Images.{IsTable, IsValid}
-use Rattle.table_load.specs.Memories.{table_index, rows_of_index}
+use Rattle.table_load.specs.{declared.tables.Image.Image, Images.IsTable, Images.IsValid, Memories.table_index, Memories.rows_of_index}
 use Rattle.plan_check.specs.Boards.{entries_at}
 
 -- the board tells of the tables from place n on

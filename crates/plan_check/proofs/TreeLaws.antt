@@ -1,21 +1,16 @@
 -- What was found of edges and targets by marks and flags is what a routing tree has.
-use Rattle.std.proofs.Common.{◌≡◌, ℕ, ◌+◌, ◌*◌, ◌<◌, ◌↔◌, ◌⊎◌, IsTrue, Bool, true, false, List, [], ◌∷◌, ◌++◌, length, get_or, set, take, map, replicate, Some, refl, sym, ap, ◌∙◌, subst, arith, inl, inr}
+use Rattle.std.proofs.Common.{◌≡◌, ℕ, ◌+◌, ◌*◌, ◌<◌, ◌↔◌, ◌⊎◌, IsTrue, Bool, true, false, List, [], ◌∷◌, ◌++◌, length, get_or, set, take, map, replicate, Some, refl, sym, ap, ◌∙◌, subst, arith, inl}
+use Rattle.std.proofs.Common.{inr}
 use Rattle.std.specs.Prelude.{All, Any, Contains}
-use Rattle.std.proofs.lemmas.Bool.{cases_eq, false≢true}
-use Rattle.std.proofs.lemmas.Nat.{same_from_place}
-use Rattle.std.proofs.lemmas.List.{get_or-set_same, get_or-set_other, get_or-replicate, length-replicate, length-set, length-map, map_push, take_more}
-use Rattle.std.proofs.lemmas.List.Elements.{All-nil, All-head, All-map, All-contains, Contains-append_left, Contains-push, Contains-push_cases}
-use Rattle.spin_base.proofs.Members.{Contains-none, Contains-first}
-use Rattle.spin_base.proofs.Pairs.{All-from_map}
+use Rattle.std.proofs.lemmas.{Bool.cases_eq, Bool.false≢true, Nat.same_from_place, List.get_or-set_same, List.get_or-set_other, List.get_or-replicate, List.length-replicate, List.length-set}
+use Rattle.std.proofs.lemmas.List.{length-map, map_push, take_more, Elements.All-nil, Elements.All-head, Elements.All-map, Elements.All-contains, Elements.Contains-append_left, Elements.Contains-push}
+use Rattle.std.proofs.lemmas.List.Elements.{Contains-push_cases}
+use Rattle.spin_base.proofs.{Members.Contains-none, Members.Contains-first, Pairs.All-from_map}
 use Rattle.spin_base.specs.{declared.chips.Chip.Chip, declared.chips.Spot.Spot, Links.dir_number}
-use Rattle.machine_desc.specs.{declared.trees.Edge.Edge, Description.Description}
-use Rattle.machine_desc.specs.Live.{IsInside, is_inside, IsLiveLink, index_of, chip_of}
-use Rattle.machine_desc.specs.RoutingTree.{end_of, IsTreeChip, IsPath, IsRoutingTree}
-use Rattle.machine_desc.proofs.Far.{index_below, same_index, far_inside, live_inside, live_ends}
-use Rattle.machine_desc.proofs.Same.{same_dir, same_edge, below_six}
-use Rattle.machine_desc.proofs.Live.{index_of-chip_of, chip_of-inside}
-use Rattle.machine_desc.proofs.TreeLemmas.{tree_cases, path_more, path_in_tree, root_lives_with_edge}
-use Rattle.machine_desc.specs.Flags.{is_flagged, link_place}
+use Rattle.machine_desc.specs.{declared.trees.Edge.Edge, Description.Description, Live.IsInside, Live.is_inside, Live.IsLiveLink, Live.index_of, Live.chip_of, RoutingTree.end_of}
+use Rattle.machine_desc.specs.{RoutingTree.IsTreeChip, RoutingTree.IsPath, RoutingTree.IsRoutingTree, Flags.is_flagged, Flags.link_place}
+use Rattle.machine_desc.proofs.{Far.index_below, Far.same_index, Far.far_inside, Far.live_inside, Far.live_ends, Same.same_dir, Same.same_edge, Same.below_six, Live.index_of-chip_of}
+use Rattle.machine_desc.proofs.{Live.chip_of-inside, TreeLemmas.tree_cases, TreeLemmas.path_more, TreeLemmas.path_in_tree, TreeLemmas.root_lives_with_edge}
 use Rattle.plan_check.specs.Marks.{IsAlone, EntersOnce, IsMarkedChip, AreMarks, AreFlags, IsReachedChip, at_root, by_link, HasEdgeOrTarget, mark_at}
 use Rattle.plan_check.proofs.Marking.{one_mark}
 

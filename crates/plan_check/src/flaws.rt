@@ -36,11 +36,12 @@ pub(crate) fn flaw_in(rows: Rows, block: Block, port: Port, wanted: Route) -> Op
         None => flaw_by(default_route(port), wanted),
         Some(place) => {
             let entries = rows.entries;
-            let row = entries[place as usize];
-            if !lies_inside(block, row) {
+            let entry = entries[place as usize];
+            let valid = ValidRow { row: entry };
+            if !lies_inside(block, valid) {
                 return Some(Flaw::Split { row: place });
             }
-            flaw_by(row.route, wanted)
+            flaw_by(entry.route, wanted)
         }
     }
 }
@@ -63,38 +64,45 @@ fn first_to_meet(rows: Rows, block: Block) -> Option<u32>
 {
     let entries = rows.entries;
     for place in 0..entries.len() {
-        if meets(block, entries[place]) {
+        let valid = ValidRow {
+            row: entries[place],
+        };
+        if meets(block, valid) {
             return Some(place as u32);
         }
     }
     None
 }
 
+// A row that a table may have.
+#[derive(Clone, Copy)]
+struct ValidRow {
+    row: Entry,
+    ghost valid: { IsRow row } by { Prim.hlevel props },
+}
+
 // Whether the row matches some key of the block.
-fn meets(block: Block, row: Entry) -> bool
-    requires { IsRow row }
-    ensures { IsTrue result ↔ Meets block row }
+fn meets(block: Block, valid: ValidRow) -> bool
+    ensures { IsTrue result ↔ Meets block valid.row }
 {
-    intersects(block, keys_of(row))
+    intersects(block, keys_of(valid))
 }
 
 // Whether the row matches each key of the block.
-fn lies_inside(block: Block, row: Entry) -> bool
-    requires { IsRow row }
-    ensures { IsTrue result ↔ LiesInside block row }
+fn lies_inside(block: Block, valid: ValidRow) -> bool
+    ensures { IsTrue result ↔ LiesInside block valid.row }
 {
-    lies_in(block, keys_of(row))
+    lies_in(block, keys_of(valid))
 }
 
 // The keys that the row matches.
-fn keys_of(row: Entry) -> Block
-    requires { IsRow row }
-    ensures key { result.key ≡ row.key }
-    ensures mask { result.mask ≡ row.mask }
+fn keys_of(valid: ValidRow) -> Block
+    ensures key { result.key ≡ valid.row.key }
+    ensures mask { result.mask ≡ valid.row.mask }
 {
     Block {
-        key: row.key,
-        mask: row.mask,
+        key: valid.row.key,
+        mask: valid.row.mask,
     }
 }
 

@@ -1,5 +1,6 @@
 // Whether a tree is a routing tree.
-ghost use Rattle.std.specs.Prelude.{◌≡◌, ◌<◌, ◌↔◌, ℕ, true, false, length, All, IsTrue, IfOk, MatchBool, None, if◌then◌else◌, slice_index_or};
+ghost use Rattle.std.specs.Prelude.{◌≡◌, ◌<◌, ◌%◌, ◌↔◌, ℕ, true, false, length, All, IsTrue, IfOk, MatchBool, None, if◌then◌else◌, slice_index_or};
+ghost use Rattle.std.proofs.Props.{props};
 ghost use Rattle.spin_base.specs.Links.{dir_at};
 ghost use Rattle.machine_desc.specs.Live.{IsInside, far_of};
 ghost use Rattle.machine_desc.specs.RoutingTree.{IsRoutingTree};
@@ -48,7 +49,7 @@ fn is_tree(
     if !machine.is_inside(root) {
         return Ok(is_alone(root, edges, targets));
     }
-    is_routed(alloc, machine, root, edges, targets)
+    is_routed(alloc, Rooted { machine, root }, edges, targets)
 }
 
 // Whether there is no edge, and some target, and all targets are on the root.
@@ -66,18 +67,26 @@ fn is_alone(root: Chip, edges: &[Edge], targets: &[Spot]) -> bool
     true
 }
 
-// Whether the edges are a routing tree from a root in the grid.
+// A root in the grid of a machine.
+#[derive(Clone, Copy)]
+struct Rooted<'a> {
+    machine: &'a Machine,
+    root: Chip,
+    ghost inside: { IsInside machine.now root } by { Prim.hlevel props },
+}
+
+// Whether the edges are a routing tree from the root.
 fn is_routed(
     alloc: Global,
-    machine: &Machine,
-    root: Chip,
+    rooted: Rooted,
     edges: &[Edge],
     targets: &[Spot],
 ) -> Result<bool, Memory>
-    requires { IsInside machine.now root }
-    ensures { IfOk result (λ is. IsTrue is ↔ IsRoutingTree machine.now root edges.now targets.now) }
+    ensures { IfOk result (λ is. IsTrue is
+        ↔ IsRoutingTree rooted.entry.machine.now rooted.entry.root edges.now targets.now) }
 {
-    if !enters_once(alloc, machine, root, edges)? {
+    let Rooted { machine, root } = rooted;
+    if !enters_once(alloc, rooted, edges)? {
         return Ok(false);
     }
     let flags = flags_of(alloc, machine, edges)?;
@@ -93,12 +102,12 @@ fn is_routed(
 }
 
 // Whether all edges are live, none leads into the root, and no two lead into one chip.
-fn enters_once(alloc: Global, machine: &Machine, root: Chip, edges: &[Edge]) -> Result<bool, Memory>
-    requires { IsInside machine.now root }
-    ensures { IfOk result (λ once. IsTrue once ↔ EntersOnce machine.now root edges.now) }
+fn enters_once(alloc: Global, rooted: Rooted, edges: &[Edge]) -> Result<bool, Memory>
+    ensures { IfOk result (λ once. IsTrue once
+        ↔ EntersOnce rooted.entry.machine.now rooted.entry.root edges.now) }
 {
-    let mut entered = PerChip::filled(alloc, machine, false)?;
-    entered.set(root, true);
+    let mut entered = PerChip::filled(alloc, rooted.machine, false)?;
+    entered.set(rooted.root, true);
     for edge in edges {
         if !enters_anew(&mut entered, *edge) {
             return Ok(false);
@@ -160,12 +169,11 @@ fn flagged_far(flags: &LinkFlags, chip: Chip, link: Dir) -> Option<Chip>
     }
 }
 
-// The link of a number.
+// The link of a number, of those that go round from East again and again.
 fn link_at(number: usize) -> Dir
-    requires { number < 6 }
-    ensures { result ≡ dir_at number }
+    ensures { result ≡ dir_at (number % 6) }
 {
-    Dir::ALL[number]
+    Dir::ALL[number % 6]
 }
 
 // Marks of the chips that are reached from the root by flagged links. It looks at the links of each chip that it reaches, one
@@ -187,7 +195,7 @@ fn reached_from<'m>(
     let mut next = 0;
     while next < queue.len() * 6 {
         let from = queue[next / 6];
-        let link = link_at(next % 6);
+        let link = link_at(next);
         if let Some(to) = flagged_far(flags, from, link) {
             if !marks.at(to) {
                 queue.push(to)?;

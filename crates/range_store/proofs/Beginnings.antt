@@ -1,11 +1,8 @@
 -- Which holes begin before a place.
 use Rattle.std.proofs.Common.{◌≡◌, ℕ, ◌+◌, ◌<◌, ◌≤◌, false, List, [], ◌∷◌, length, get_or, take, zero, suc, Some, slice_get, refl, subst₂, arith, inl, inr}
-use Rattle.std.proofs.lemmas.Bool.{cases_lt}
-use Rattle.std.proofs.lemmas.Bool.Decides.{nat_tests}
-use Rattle.std.proofs.lemmas.Option.{slice_get_within, get_or_from_slice_get}
+use Rattle.std.proofs.lemmas.{Bool.cases_lt, Bool.Decides.nat_tests, Option.slice_get_within, Option.get_or_from_slice_get}
 use Rattle.std.specs.List.Sorted.{IsNonDecreasingBy}
-use Rattle.range_store.specs.declared.holes.Hole.{Hole}
-use Rattle.range_store.specs.Regions.{AreRuns, has_range, is_hole_range, hole_end}
+use Rattle.range_store.specs.{declared.holes.Hole.Hole, Regions.AreRuns, Regions.has_range, Regions.is_hole_range, Regions.hole_end}
 
 -- a hole of the list begins at the list's beginning or later
 pub place_from : (from n : ℕ) (hs : List Hole) → AreRuns from n hs → (k : ℕ) (d : Hole) → k < length hs → from ≤ (get_or hs k d).place
@@ -33,9 +30,7 @@ pub none_before : (from n : ℕ) (hs : List Hole) (i b q s : ℕ) (d : Hole) →
 none_before from n [] i b q s d runs inside begins behind = absurd (omega arith)
 none_before from n (h ∷ hs) zero b q s d runs inside begins behind = refl
 none_before from n (h ∷ hs) (suc i) b q s d runs inside begins behind =
-    let later = place_from (hole_end h + 1) n hs runs.3 i d (omega arith) in
-    let ends : has_range q s h ≡ false = grind (arith, nat_tests) in
-    rw ends (none_before (hole_end h + 1) n hs i b q s d runs.3 (omega arith) begins behind)
+    grind (arith, place_from (hole_end h + 1) n hs runs.3 i d (omega arith), nat_tests, none_before (hole_end h + 1) n hs i b q s d runs.3 (omega arith) begins behind)
 
 -- a range that no hole of a list has
 pub none_has : (hs : List Hole) (p s : ℕ) → ((k : ℕ) (h : Hole) → slice_get hs k ≡ Some h → has_range p s h ≡ false) → is_hole_range hs p s ≡ false

@@ -1,15 +1,10 @@
 -- A range put back among the holes.
 use Rattle.std.proofs.Common.{◌≡◌, ◌≢◌, ℕ, ◌+◌, ◌-◌, ◌<◌, ◌≤◌, Bool, true, false, ◌||◌, List, [], ◌∷◌, ◌++◌, ◌∙◌, zero, suc, Option, Some, None, Result, Ok, Err, if◌then◌else◌, length, get_or, set}
 use Rattle.std.proofs.Common.{take, drop, refl, sym, ap, subst, arith, MatchOption, slice_get, is_ok, IsOk, inl, inr, append_assoc}
-use Rattle.std.proofs.lemmas.Bool.{cases_lt}
-use Rattle.std.proofs.lemmas.Bool.Decides.{nat_tests}
-use Rattle.std.proofs.lemmas.List.{take-append-drop, set_split, set_at, length-take-le}
-use Rattle.std.proofs.lemmas.List.Folds.{list_any-append}
-use Rattle.std.proofs.lemmas.Option.{slice_get-get_or, slice_get_within}
-use Rattle.range_store.specs.declared.holes.Hole.{Hole}
-use Rattle.range_store.specs.Fits.{AreNeighbours}
-use Rattle.range_store.specs.Regions.{AreRuns, has_range, is_free, in_range, hole_end}
-use Rattle.range_store.proofs.RunLemmas.{next, runs_split, runs_join, earlier, fits_any, drop_got}
+use Rattle.std.proofs.lemmas.{Bool.cases_lt, Bool.Decides.nat_tests, List.take-append-drop, List.set_split, List.set_at, List.length-take-le, List.Folds.list_any-append, Option.slice_get-get_or}
+use Rattle.std.proofs.lemmas.Option.{slice_get_within}
+use Rattle.range_store.specs.{declared.holes.Hole.Hole, Fits.AreNeighbours, Fits.IsPutBack, Regions.AreRuns, Regions.NoneIsFree, Regions.has_range, Regions.is_free, Regions.in_range, Regions.hole_end}
+use Rattle.range_store.proofs.RunLemmas.{next, runs_split, runs_join, earlier, fits_any, drop_got, split_got, some_len}
 use Rattle.range_store.proofs.HolePlaces.{clash, has_from}
 
 -- one hole in place of some, of which it has the places, and those of a range
@@ -42,9 +37,6 @@ take_got [] i h e = cc
 take_got (x ∷ xs) zero h e = let same : x ≡ h = cc in ap (λ y. y ∷ []) same
 take_got (x ∷ xs) (suc i) h e = ap (λ r. x ∷ r) (take_got xs i h e)
 
-split_got : (xs : List Hole) (i : ℕ) (h : Hole) → slice_get xs i ≡ Some h → xs ≡ take i xs ++ (h ∷ drop (suc i) xs)
-split_got xs i h e = sym (take-append-drop i xs) ∙ ap (λ d. take i xs ++ d) (drop_got xs i h e)
-
 get_dropped : (xs : List Hole) (i : ℕ) (h : Hole) → slice_get (drop i xs) 0 ≡ Some h → slice_get xs i ≡ Some h
 get_dropped xs zero h e = e
 get_dropped [] (suc i) h e = cc
@@ -67,11 +59,8 @@ later : (from to n : ℕ) (post : List Hole) → AreRuns from n post → ((h : H
 later from to n [] runs first = tt
 later from to n (h ∷ hs) runs first = (first h refl, runs.1, runs.2, runs.3)
 
-some_len : (from n : ℕ) (xs : List Hole) (i : ℕ) (h : Hole) → AreRuns from n xs → slice_get xs i ≡ Some h → (0 < h.len) × (hole_end h ≤ n)
-some_len from n xs i h runs e = let r = (runs_split from n (take i xs) (h ∷ drop (suc i) xs) (subst (AreRuns from n) (split_got xs i h e) runs)).1 in (r.1, r.2)
-
 module _ (n p s a : ℕ) (xs : List Hole) (some : 0 < s) (within : p + s ≤ n) (runs : AreRuns 0 n xs)
-    (taken : (k : ℕ) → in_range p s k ≡ true → is_free xs k ≡ false)
+    (taken : NoneIsFree xs p s)
     (before : (k : ℕ) (h : Hole) → k < a → slice_get xs k ≡ Some h → h.place < p)
     (first : (h : Hole) → slice_get xs a ≡ Some h → p ≤ h.place) where
   free_at : (i : ℕ) (h : Hole) (k : ℕ) → slice_get xs i ≡ Some h → h.place ≤ k → k < hole_end h → is_free xs k ≡ true
@@ -114,43 +103,38 @@ module _ (n p s a : ℕ) (xs : List Hole) (some : 0 < s) (within : p + s ≤ n) 
 
   after_none : ((r : Hole) → slice_get xs a ≡ Some r → r.place ≢ p + s) → AreRuns (p + s + 1) n (drop a xs)
   after_none apart =
-      later (next 0 (take a xs)) (p + s + 1) n (drop a xs)
-      (runs_split 0 n (take a xs) (drop a xs) (subst (AreRuns 0 n) (sym (take-append-drop a xs)) runs)).1
-      (λ h e. let at = get_dropped xs a h e in let gap = right_gap h at in let ne = apart h at in omega (arith, gap, ne))
+      grind (arith, next 0 (take a xs), runs_split 0 n (take a xs) (drop a xs) (subst (AreRuns 0 n) (sym (take-append-drop a xs)) runs), take-append-drop a xs, later, get_dropped, right_gap)
 
   after_right : (r : Hole) → slice_get xs a ≡ Some r → AreRuns (hole_end r + 1) n (drop (suc a) xs)
   after_right r e = (runs_split 0 n (take a xs) (r ∷ drop (suc a) xs) (subst (AreRuns 0 n) (split_got xs a r e) runs)).1.3
 
-  abbrev Gives : List Hole → Type 0
-  Gives ys = ((k : ℕ) → is_free ys k ≡ (is_free xs k || in_range p s k)) × AreRuns 0 n ys
-
   -- one hole in place of those between two places of the list
   gives : (i j : ℕ) (mid : List Hole) (m : Hole) (ys : List Hole) → xs ≡ take i xs ++ (mid ++ drop j xs) → ys ≡ take i xs ++ m ∷ drop j xs
       → ((k : ℕ) → has_range k 1 m ≡ (is_free mid k || in_range p s k)) → next 0 (take i xs) ≤ m.place → 0 < m.len → hole_end m ≤ n
-      → AreRuns (hole_end m + 1) n (drop j xs) → Gives ys
+      → AreRuns (hole_end m + 1) n (drop j xs) → IsPutBack p s n xs ys
   gives i j mid m ys old new same start long below after =
       let here = subst (AreRuns 0 n) old runs in
       let free = put_free n p s (take i xs) mid (drop j xs) m here same in
-      subst Gives (sym new) (
+      subst (IsPutBack p s n xs) (sym new) (
         λ k. free k ∙ ap (λ l. is_free l k || in_range p s k) (sym old),
         put_runs n p s (take i xs) mid (drop j xs) m here same start long below after,
       )
 
   give_none : a ≤ length xs → ((l : Hole) → 0 < a → slice_get xs (a - 1) ≡ Some l → hole_end l ≢ p) → ((r : Hole) → slice_get xs a ≡ Some r → r.place ≢ p + s)
-      → Gives (take a xs ++ record { place = p; len = s } ∷ drop a xs)
+      → IsPutBack p s n xs (take a xs ++ record { place = p; len = s } ∷ drop a xs)
   give_none le no_left no_right =
       gives a a [] (record { place = p; len = s }) _ (sym (take-append-drop a xs)) refl (λ k. has_none k p s)
       (start_none no_left a refl le) some within (after_none no_right)
 
   give_right : (r : Hole) → a ≤ length xs → ((l : Hole) → 0 < a → slice_get xs (a - 1) ≡ Some l → hole_end l ≢ p) → slice_get xs a ≡ Some r → r.place ≡ p + s
-      → Gives (set xs a (record { place = p; len = s + r.len }))
+      → IsPutBack p s n xs (set xs a (record { place = p; len = s + r.len }))
   give_right r le no_left e meets =
       let long = some_len 0 n xs a r runs e in
       gives a (suc a) (r ∷ []) (record { place = p; len = s + r.len }) _ (split_got xs a r e) (set_split xs a _ (slice_get_within xs a r e)) (λ k. has_right k p s r meets)
       (start_none no_left a refl le) (omega arith) (omega (arith, long.1)) (earlier (hole_end r + 1) _ n _ (after_right r e) (omega arith))
 
   give_left : (l : Hole) → 0 < a → slice_get xs (a - 1) ≡ Some l → hole_end l ≡ p → ((r : Hole) → slice_get xs a ≡ Some r → r.place ≢ p + s)
-      → Gives (set xs (a - 1) (record { place = l.place; len = l.len + s }))
+      → IsPutBack p s n xs (set xs (a - 1) (record { place = l.place; len = l.len + s }))
   give_left l some_before e meets no_right =
       let up : suc (a - 1) ≡ a = omega arith in
       let m : Hole = record { place = l.place; len = l.len + s } in
@@ -161,7 +145,7 @@ module _ (n p s a : ℕ) (xs : List Hole) (some : 0 < s) (within : p + s ≤ n) 
       (earlier (p + s + 1) (hole_end m + 1) n _ (after_none no_right) (omega arith))
 
   give_both : (l r : Hole) → 0 < a → slice_get xs (a - 1) ≡ Some l → hole_end l ≡ p → slice_get xs a ≡ Some r → r.place ≡ p + s
-      → Gives (set (take a xs ++ drop (suc a) xs) (a - 1) (record { place = l.place; len = l.len + s + r.len }))
+      → IsPutBack p s n xs (set (take a xs ++ drop (suc a) xs) (a - 1) (record { place = l.place; len = l.len + s + r.len }))
   give_both l r some_before e meets f meets_right =
       let up : suc (a - 1) ≡ a = omega arith in
       let m : Hole = record { place = l.place; len = l.len + s + r.len } in
@@ -178,7 +162,7 @@ module _ (n p s a : ℕ) (xs : List Hole) (some : 0 < s) (within : p + s ≤ n) 
       (earlier (hole_end r + 1) (hole_end m + 1) n _ (after_right r f) (omega arith))
 
 module _ {n p s a : ℕ} {xs lent : List Hole} {left right : Option Hole} (some : 0 < s) (within : p + s ≤ n) (runs : AreRuns 0 n xs)
-    (taken : (k : ℕ) → in_range p s k ≡ true → is_free xs k ≡ false) (same : lent ≡ xs) (lent_near : AreNeighbours lent p (p + s) a left right) where
+    (same : lent ≡ xs) (lent_near : AreNeighbours lent p (p + s) a left right) where
   near : AreNeighbours xs p (p + s) a left right
   near = subst (λ l. AreNeighbours l p (p + s) a left right) same lent_near
 
@@ -189,25 +173,22 @@ module _ {n p s a : ℕ} {xs lent : List Hole} {left right : Option Hole} (some 
   abbrev RightIs : Option Hole → Type 0
   RightIs o = MatchOption o ((h : Hole) → slice_get xs a ≡ Some h → h.place ≢ p + s) (λ h. (slice_get xs a ≡ Some h) × (h.place ≡ p + s))
 
-  abbrev Put : List Hole → Type 0
-  Put ys = ((k : ℕ) → is_free ys k ≡ (is_free xs k || in_range p s k)) × AreRuns 0 n ys
+  pub arm_none : NoneIsFree xs p s → left ≡ None → right ≡ None → IsPutBack p s n xs (take a xs ++ record { place = p; len = s } ∷ drop a xs)
+  arm_none taken l r = give_none n p s a xs some within runs taken near.before near.first near.within (subst LeftIs l near.left_is) (subst RightIs r near.right_is)
 
-  pub arm_none : left ≡ None → right ≡ None → Put (take a xs ++ record { place = p; len = s } ∷ drop a xs)
-  arm_none l r = give_none n p s a xs some within runs taken near.before near.first near.within (subst LeftIs l near.left_is) (subst RightIs r near.right_is)
-
-  pub arm_right : {y : Hole} → left ≡ None → right ≡ Some y → Put (set xs a (record { place = p; len = s + y.len }))
-  arm_right {y} l r =
+  pub arm_right : {y : Hole} → NoneIsFree xs p s → left ≡ None → right ≡ Some y → IsPutBack p s n xs (set xs a (record { place = p; len = s + y.len }))
+  arm_right {y} taken l r =
       let is = subst RightIs r near.right_is in
       give_right n p s a xs some within runs taken near.before near.first y near.within (subst LeftIs l near.left_is) is.0 is.1
 
-  pub arm_left : {x : Hole} → left ≡ Some x → right ≡ None → Put (set xs (a - 1) (record { place = x.place; len = x.len + s }))
-  arm_left {x} l r =
+  pub arm_left : {x : Hole} → NoneIsFree xs p s → left ≡ Some x → right ≡ None → IsPutBack p s n xs (set xs (a - 1) (record { place = x.place; len = x.len + s }))
+  arm_left {x} taken l r =
       let is = subst LeftIs l near.left_is in
       give_left n p s a xs some within runs taken near.before near.first x is.0 is.1 is.2 (subst RightIs r near.right_is)
 
-  pub arm_both : {x y : Hole} → left ≡ Some x → right ≡ Some y
-      → Put (set (take a xs ++ drop (suc a) xs) (a - 1) (record { place = x.place; len = x.len + s + y.len }))
-  arm_both {x} {y} l r =
+  pub arm_both : {x y : Hole} → NoneIsFree xs p s → left ≡ Some x → right ≡ Some y
+      → IsPutBack p s n xs (set (take a xs ++ drop (suc a) xs) (a - 1) (record { place = x.place; len = x.len + s + y.len }))
+  arm_both {x} {y} taken l r =
       let is = subst LeftIs l near.left_is in
       let at = subst RightIs r near.right_is in
       give_both n p s a xs some within runs taken near.before near.first x y is.0 is.1 is.2 at.0 at.1

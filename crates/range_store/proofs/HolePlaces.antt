@@ -1,9 +1,7 @@
 -- Holes and the places that are free in them: which ranges fit.
 use Rattle.std.proofs.Common.{◌≡◌, ℕ, ◌+◌, ◌<◌, ◌≤◌, Bool, true, false, List, [], ◌∷◌, refl, inl, inr, arith}
-use Rattle.std.proofs.lemmas.Bool.{both_ways, cases_lt, or_cases, or_left, or_right}
-use Rattle.std.proofs.lemmas.Bool.Decides.{nat_tests}
-use Rattle.range_store.specs.declared.holes.Hole.{Hole}
-use Rattle.range_store.specs.Regions.{AreRuns, has_range, is_hole_range, is_free, hole_end}
+use Rattle.std.proofs.lemmas.Bool.{both_ways, cases_lt, or_cases, or_left, or_right, Decides.nat_tests}
+use Rattle.range_store.specs.{declared.holes.Hole.Hole, Regions.AreRuns, Regions.has_range, Regions.is_hole_range, Regions.is_free, Regions.hole_end}
 
 pub clash : {A : Type 0} {b : Bool} → b ≡ true → b ≡ false → A
 clash t f = absurd (both_ways _ f t)

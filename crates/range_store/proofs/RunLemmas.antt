@@ -1,17 +1,13 @@
 -- Holes as runs of free places, and what a range leaves of them.
 use Rattle.std.proofs.Common.{◌≡◌, ◌≢◌, ℕ, ◌+◌, ◌-◌, ◌%◌, ◌<◌, ◌≤◌, Bool, true, false, ◌&&◌, ◌||◌, List, [], ◌∷◌, ◌++◌, ◌∙◌, ◌*◌, ◌/◌, zero, suc, Some, min, max, not, leb, ltb, length, get_or, set}
 use Rattle.std.proofs.Common.{take, drop, refl, sym, ap, ap₂, subst, arith, slice_get, inl, inr, append_assoc}
-use Rattle.std.proofs.lemmas.Bool.{cases_Bool, cases_lt, cases_eq, or_cases, or_parts, or_right}
-use Rattle.std.proofs.lemmas.Option.{get_or_from_slice_get, slice_get_within}
-use Rattle.std.proofs.lemmas.List.{set_split, set_at, length-take-le, length_push, take-append-drop}
-use Rattle.std.proofs.lemmas.List.Folds.{list_any-append}
-use Rattle.std.proofs.lemmas.Bool.Decides.{nat_tests}
+use Rattle.std.proofs.lemmas.{Bool.cases_Bool, Bool.cases_lt, Bool.cases_eq, Bool.or_cases, Bool.or_parts, Bool.or_right, Option.get_or_from_slice_get, Option.slice_get_within, List.set_split}
+use Rattle.std.proofs.lemmas.{List.set_at, List.length-take-le, List.length_push, List.take-append-drop, List.Folds.list_any-append, Bool.Decides.nat_tests}
 use Rattle.std.proofs.Math.Nat.{mul-le-mul_left, mul-mod_right, mod_self, mod-eq_of_lt}
-use Rattle.range_store.specs.declared.holes.Hole.{Hole}
+use Rattle.range_store.specs.{declared.holes.Hole.Hole, Fits.FitsAt, Fits.IsLeastIn, Fits.NoneIn, Regions.AreRuns, Regions.IsFirstFitFrom, Regions.HasNoFitFrom, Regions.has_range}
+use Rattle.range_store.specs.Regions.{is_hole_range, is_free, in_range, hole_end, hole_of, rest_of, holes_without}
 use Rattle.std.specs.Int.{next_multiple_of}
-use Rattle.range_store.specs.Fits.{FitsAt, IsLeastIn, NoneIn}
 use Rattle.range_store.proofs.HolePlaces.{clash, has_facts, has_from}
-use Rattle.range_store.specs.Regions.{AreRuns, IsFirstFitFrom, HasNoFitFrom, has_range, is_hole_range, is_free, in_range, hole_end, hole_of, rest_of, holes_without}
 
 -- an earlier beginning may stand before the same holes
 pub earlier : (from to n : ℕ) (hs : List Hole) → AreRuns from n hs → to ≤ from → AreRuns to n hs
@@ -25,8 +21,7 @@ next from (h ∷ hs) = next (hole_end h + 1) hs
 
 pub runs_split : (from n : ℕ) (pre post : List Hole) → AreRuns from n (pre ++ post) → AreRuns from n pre × AreRuns (next from pre) n post
 runs_split from n [] post runs = (tt, runs)
-runs_split from n (h ∷ hs) post runs =
-    let rest = runs_split (hole_end h + 1) n hs post runs.3 in ((runs.0, runs.1, runs.2, rest.0), rest.1)
+runs_split from n (h ∷ hs) post runs = grind (arith, runs_split (hole_end h + 1) n hs post runs.3)
 
 pub runs_join : (from n : ℕ) (pre post : List Hole) → AreRuns from n pre → AreRuns (next from pre) n post → AreRuns from n (pre ++ post)
 runs_join from n [] post a b = b
@@ -43,31 +38,23 @@ pub hole_none : (a b : ℕ) → b ≤ a → hole_of a b ≡ []
 hole_none a b le = let t : ltb a b ≡ false = grind (arith, nat_tests) in rw t refl
 
 hole_whole : (h : Hole) → 0 < h.len → hole_of h.place (hole_end h) ≡ h ∷ []
-hole_whole h some =
-    let e : h.place + h.len - h.place ≡ h.len = omega arith in
-    hole_some h.place (hole_end h) (omega arith) ∙ ap (λ l. record { place = h.place; len = l } ∷ []) e
+hole_whole h some = grind (arith, hole_some h.place (hole_end h) (omega arith))
 
 -- a range leaves a hole that it does not meet as it was
 leaves_before : (p s : ℕ) (h : Hole) → 0 < h.len → hole_end h ≤ p → rest_of p s h ≡ h ∷ []
-leaves_before p s h some le =
-    let m : min (hole_end h) p ≡ hole_end h = omega arith in
-    ap₂ (λ (a b : List Hole). a ++ b) (ap (hole_of h.place) m ∙ hole_whole h some) (hole_none (max h.place (p + s)) (hole_end h) (omega arith))
+leaves_before p s h some le = grind (arith, hole_whole h some, hole_none (max h.place (p + s)) (hole_end h) (omega arith))
 
 leaves_after : (p s : ℕ) (h : Hole) → 0 < h.len → p + s ≤ h.place → rest_of p s h ≡ h ∷ []
-leaves_after p s h some le =
-    let m : max h.place (p + s) ≡ h.place = omega arith in
-    ap₂ (λ (a b : List Hole). a ++ b) (hole_none h.place (min (hole_end h) p) (omega arith)) (ap (λ k. hole_of k (hole_end h)) m ∙ hole_whole h some)
+leaves_after p s h some le = grind (arith, hole_none h.place (min (hole_end h) p) (omega arith), hole_whole h some)
 
 without_after : (from n p s : ℕ) (hs : List Hole) → AreRuns from n hs → p + s ≤ from → holes_without p s hs ≡ hs
 without_after from n p s [] runs le = refl
-without_after from n p s (h ∷ hs) runs le =
-    rw (leaves_after p s h runs.1 (omega arith)) (ap (λ r. h ∷ r) (without_after (hole_end h + 1) n p s hs runs.3 (omega arith)))
+without_after from n p s (h ∷ hs) runs le = grind (arith, leaves_after p s h runs.1 (omega arith), without_after (hole_end h + 1) n p s hs runs.3 (omega arith))
 
 -- what a range leaves of all holes is what it leaves of the hole in which it lies
 pub without_at : (from n p s : ℕ) (pre : List Hole) (h : Hole) (post : List Hole) → AreRuns from n (pre ++ h ∷ post) → h.place ≤ p → p + s ≤ hole_end h
     → holes_without p s (pre ++ h ∷ post) ≡ pre ++ (rest_of p s h ++ post)
-without_at from n p s [] h post runs low high =
-    ap (λ r. rest_of p s h ++ r) (without_after (hole_end h + 1) n p s post runs.3 (omega arith))
+without_at from n p s [] h post runs low high = grind (arith, without_after (hole_end h + 1) n p s post runs.3 (omega arith))
 without_at from n p s (x ∷ xs) h post runs low high =
     let far = (runs_split (hole_end x + 1) n xs (h ∷ post) runs.3) in
     let reach = next_le (hole_end x + 1) n xs far.0 in
@@ -75,20 +62,10 @@ without_at from n p s (x ∷ xs) h post runs low high =
 
 hole_runs : (from to n : ℕ) (post : List Hole) → from ≤ to → to ≤ n → AreRuns (to + 1) n post → AreRuns from n (hole_of from to ++ post)
 hole_runs from to n post ord le runs =
-    elim (cases_lt from to) [
-      | inl lt ↦ rw (hole_some from to lt) (omega arith, omega arith, omega arith, earlier (to + 1) (from + (to - from) + 1) n post runs (omega arith))
-      | inr ge ↦ rw (hole_none from to ge) (earlier (to + 1) from n post runs (omega arith))
-    ]
+    grind (arith, cases_lt from to, earlier (to + 1) (from + (to - from) + 1) n post runs (omega arith), earlier (to + 1) from n post runs (omega arith), hole_some, hole_none)
 
 pub rest_runs : (from n p s : ℕ) (h : Hole) (post : List Hole) → AreRuns from n (h ∷ post) → 0 < s → h.place ≤ p → p + s ≤ hole_end h → AreRuns from n (rest_of p s h ++ post)
-rest_runs from n p s h post runs some low high =
-    let m : min (hole_end h) p ≡ p = omega arith in
-    let x : max h.place (p + s) ≡ p + s = omega arith in
-    let e : rest_of p s h ++ post ≡ hole_of h.place p ++ (hole_of (p + s) (hole_end h) ++ post) =
-    ap₂ (λ a b. (hole_of h.place a ++ hole_of b (hole_end h)) ++ post) m x ∙ append_assoc (hole_of h.place p) (hole_of (p + s) (hole_end h)) post in
-    let right = hole_runs (p + s) (hole_end h) n post high runs.2 runs.3 in
-    let both = hole_runs h.place p n (hole_of (p + s) (hole_end h) ++ post) low (omega arith) (earlier (p + s) (p + 1) n _ right (omega arith)) in
-    subst (AreRuns from n) (sym e) (earlier h.place from n _ both runs.0)
+rest_runs from n p s h post runs some low high = grind (arith, append_assoc (hole_of h.place p) (hole_of (p + s) (hole_end h)) post, hole_runs (p + s) (hole_end h) n post high runs.2 runs.3, earlier)
 
 pub end_below : (from n : ℕ) (hs : List Hole) (i : ℕ) (d : Hole) → AreRuns from n hs → i < length hs → hole_end (get_or hs i d) ≤ n
 end_below from n [] i d runs inside = absurd (omega arith)
@@ -97,19 +74,11 @@ end_below from n (h ∷ hs) (suc i) d runs inside = end_below (hole_end h + 1) n
 
 -- two different multiples of y are at least y apart
 apart : (y a b q m : ℕ) → q ≡ y * a → m ≡ y * b → q < m → q + y ≤ m
-apart y a b q m e f lt =
-    elim (cases_lt a b) [
-      | inl less ↦ (let wide = mul-le-mul_left y less in omega (arith, wide))
-      | inr more ↦ (let wide = mul-le-mul_left y more in absurd (omega (arith, wide)))
-    ]
+apart y a b q m e f lt = grind (arith, cases_lt a b, mul-le-mul_left)
 
 -- the least multiple of y from x on
 pub least_multiple : (x y q m : ℕ) → 0 < y → m % y ≡ 0 → m < x + y → x ≤ q → q % y ≡ 0 → m ≤ q
-least_multiple x y q m some even near from aligned =
-    elim (cases_lt q m) [
-      | inl less ↦ absurd (let far = apart y (q / y) (m / y) q m (omega arith) (omega arith) less in omega (arith, far))
-      | inr more ↦ more
-    ]
+least_multiple x y q m some even near from aligned = grind (arith, cases_lt q m, apart)
 
 pub runs_without : (from n p s : ℕ) (pre : List Hole) (h : Hole) (post : List Hole) → AreRuns from n (pre ++ h ∷ post) → 0 < s → h.place ≤ p → p + s ≤ hole_end h
     → AreRuns from n (pre ++ (rest_of p s h ++ post))
@@ -135,35 +104,17 @@ multiple x y some =
 
 pub least_in : (h : Hole) (b x s y : ℕ) → x ≡ max h.place b → 0 < y → next_multiple_of x y ≤ hole_end h → s ≤ hole_end h - next_multiple_of x y
     → IsLeastIn h b s y (next_multiple_of x y)
-least_in h b x s y is some low room =
-    let m = multiple x y some in
-    record {
-      aligned = m.0;
-      behind = omega arith;
-      fits = has_from _ s h (omega arith) (omega arith);
-      least = λ q from even here. let facts = has_facts q s h here in least_multiple x y q _ some m.0 m.1 (omega (arith, from, facts.0)) even;
-    }
+least_in h b x s y is some low room = grind (arith, multiple x y some, has_from, has_facts, least_multiple)
 
 pub none_in : (h : Hole) (b x s y : ℕ) → x ≡ max h.place b → 0 < s → 0 < y → hole_end h - next_multiple_of x y < s → NoneIn h b s y
-none_in h b x s y is size some short q from even =
-    elim (cases_Bool (has_range q s h)) [
-      | inl here ↦ (
-          let m = multiple x y some in
-          let facts = has_facts q s h here in
-          let low = least_multiple x y q _ some m.0 m.1 (omega (arith, from, facts.0)) even in absurd (omega (arith, facts.1))
-          )
-      | inr none ↦ none
-    ]
+none_in h b x s y is size some short q from even = grind (arith, cases_Bool (has_range q s h), multiple x y some, has_facts, least_multiple)
 
 pub got : (xs : List Hole) (i : ℕ) (h d : Hole) → slice_get xs i ≡ Some h → (get_or xs i d ≡ h) × (i < length xs)
 got xs i h d e = (get_or_from_slice_get xs i h d e, slice_get_within xs i h e)
 
 -- what a range leaves of the hole in which it lies
 rest_is : (p s : ℕ) (h : Hole) → h.place ≤ p → p + s ≤ hole_end h → rest_of p s h ≡ hole_of h.place p ++ hole_of (p + s) (hole_end h)
-rest_is p s h low high =
-    let m : min (hole_end h) p ≡ p = omega arith in
-    let x : max h.place (p + s) ≡ p + s = omega arith in
-    ap₂ (λ a b. hole_of h.place a ++ hole_of b (hole_end h)) m x
+rest_is p s h low high = grind arith
 
 or_second : (a b : Bool) → a ≡ false → (a || b) ≡ true → b ≡ true
 or_second true b e f = clash refl e
@@ -173,6 +124,12 @@ pub drop_got : (xs : List Hole) (i : ℕ) (h : Hole) → slice_get xs i ≡ Some
 drop_got [] i h e = cc
 drop_got (x ∷ xs) zero h e = cc
 drop_got (x ∷ xs) (suc i) h e = drop_got xs i h e
+
+pub split_got : (xs : List Hole) (i : ℕ) (h : Hole) → slice_get xs i ≡ Some h → xs ≡ take i xs ++ (h ∷ drop (suc i) xs)
+split_got xs i h e = sym (take-append-drop i xs) ∙ ap (λ d. take i xs ++ d) (drop_got xs i h e)
+
+pub some_len : (from n : ℕ) (xs : List Hole) (i : ℕ) (h : Hole) → AreRuns from n xs → slice_get xs i ≡ Some h → (0 < h.len) × (hole_end h ≤ n)
+some_len from n xs i h runs e = let r = (runs_split from n (take i xs) (h ∷ drop (suc i) xs) (subst (AreRuns from n) (split_got xs i h e) runs)).1 in (r.1, r.2)
 
 module _ (xs : List Hole) (i p s : ℕ) (h : Hole) (inside : i < length xs) (low : h.place ≤ p) (high : p + s ≤ hole_end h) where
   abbrev left : Hole
@@ -185,9 +142,7 @@ module _ (xs : List Hole) (i p s : ℕ) (h : Hole) (inside : i < length xs) (low
   after_cut = take i xs ++ (rest_of p s h ++ drop (i + 1) xs)
 
   to_rest : (ls rs : List Hole) → hole_of h.place p ≡ ls → hole_of (p + s) (hole_end h) ≡ rs → take i xs ++ (ls ++ rs ++ drop (suc i) xs) ≡ after_cut
-  to_rest ls rs l r =
-      ap (λ m. take i xs ++ (m ++ drop (suc i) xs)) (sym (rest_is p s h low high ∙ ap₂ (λ (a b : List Hole). a ++ b) l r))
-      ∙ (let e : suc i ≡ i + 1 = omega arith in ap (λ k. take i xs ++ (rest_of p s h ++ drop k xs)) e)
+  to_rest ls rs l r = grind (arith, rest_is p s h low high)
 
   pub cut_none : p - h.place ≡ 0 → hole_end h - (p + s) ≡ 0 → take i xs ++ drop (suc i) xs ≡ after_cut
   cut_none l r = to_rest [] [] (hole_none h.place p (omega arith)) (hole_none (p + s) (hole_end h) (omega arith))
@@ -209,15 +164,14 @@ module _ (xs : List Hole) (i p s : ℕ) (h : Hole) (inside : i < length xs) (low
       ∙ to_rest (left ∷ []) (right ∷ []) (hole_some h.place p (omega arith)) (hole_some (p + s) (hole_end h) (omega arith))
 
 -- the element that was read is the hole in which the range fits
-pub read_hole : (xs : List Hole) (i p s : ℕ) (r : Hole) → FitsAt xs i p s → r ≡ get_or xs i r → AreRuns 0 4294967296 xs
+pub read_hole : (xs : List Hole) (i p s : ℕ) (r : Hole) → FitsAt xs i p s → r ≡ get_or xs i r
     → (r.place ≤ p) × (p + s ≤ hole_end r) × (hole_end r ≤ 4294967296) × ((h : Hole) → slice_get xs i ≡ Some h → r ≡ h)
-read_hole xs i p s r f is runs =
+read_hole xs i p s r f is =
     let same : (h : Hole) → slice_get xs i ≡ Some h → r ≡ h = λ h e. is ∙ (got xs i h r e).0 in
     let facts = has_facts p s f.hole f.fits in
-    let below = end_below 0 4294967296 xs i r runs f.inside in
     subst (λ (z : Hole). (z.place ≤ p) × (p + s ≤ hole_end z) × (hole_end z ≤ 4294967296) × ((h : Hole) → slice_get xs i ≡ Some h → z ≡ h))
     (sym (same f.hole f.is))
-    (facts.0, facts.1, subst (λ (z : Hole). hole_end z ≤ 4294967296) ((got xs i f.hole r f.is).0) below, λ h e. sym (same f.hole f.is) ∙ same h e)
+    (facts.0, facts.1, f.below, λ h e. sym (same f.hole f.is) ∙ same h e)
 
 pub fits_any : (xs : List Hole) (i : ℕ) (h : Hole) (size place : ℕ) → slice_get xs i ≡ Some h → has_range place size h ≡ true → is_hole_range xs place size ≡ true
 fits_any [] i h size place is fits = cc
@@ -238,16 +192,7 @@ begins from n (x ∷ xs) q size runs fits =
 least_of : (from n : ℕ) (xs : List Hole) (i : ℕ) (h : Hole) (b size align place q : ℕ) → AreRuns from n xs → slice_get xs i ≡ Some h
     → IsLeastIn h b size align place → is_hole_range (take i xs) q size ≡ false → b ≤ q → q % align ≡ 0 → is_hole_range xs q size ≡ true → place ≤ q
 least_of from n [] i h b size align place q runs is here none behind even fits = cc
-least_of from n (x ∷ xs) zero h b size align place q runs is here none behind even fits =
-    let e : x ≡ h = cc in
-    elim (or_cases (has_range q size x) _ fits) [
-      | inl mine ↦ here.least q behind even (ap (has_range q size) (sym e) ∙ mine)
-      | inr later ↦ (
-          let rest = begins (hole_end x + 1) n xs q size runs.3 later in
-          let facts = has_facts place size h here.fits in
-          let same = ap hole_end e in omega (arith, rest, facts.1, same)
-          )
-    ]
+least_of from n (x ∷ xs) zero h b size align place q runs is here none behind even fits = grind (arith, has_facts place size h here.fits, or_cases, begins)
 least_of from n (x ∷ xs) (suc i) h b size align place q runs is here none behind even fits =
     let apart = or_parts (has_range q size x) (is_hole_range (take i xs) q size) none in
     least_of (hole_end x + 1) n xs i h b size align place q runs.3 is here apart.1 behind even (or_second (has_range q size x) _ apart.0 fits)
@@ -255,23 +200,14 @@ least_of from n (x ∷ xs) (suc i) h b size align place q runs is here none behi
 -- the first hole with a fit has the least one of all, since the holes stand in order
 pub first_is_least : (from n : ℕ) (xs : List Hole) (i : ℕ) (h : Hole) (b size align place : ℕ) → AreRuns from n xs → slice_get xs i ≡ Some h
     → IsLeastIn h b size align place → HasNoFitFrom (take i xs) b size align → 0 < size → IsFirstFitFrom xs b size align place
-first_is_least from n xs i h b size align place runs is here none some = record {
-  aligned = here.aligned;
-  behind = here.behind;
-  fits = fits_any xs i h size place is here.fits;
-  least = λ q behind even fits. least_of from n xs i h b size align place q runs is here (none q behind even) behind even fits;
-}
+first_is_least from n xs i h b size align place runs is here none some = grind (arith, fits_any xs i h size place is here.fits, least_of)
 
 pub widen : (from n m : ℕ) (hs : List Hole) → AreRuns from n hs → n ≤ m → AreRuns from m hs
 widen from n m [] runs le = tt
 widen from n m (h ∷ hs) runs le = (runs.0, runs.1, omega arith, widen (hole_end h + 1) n m hs runs.3 le)
 
 free_hole : (a b k : ℕ) → is_free (hole_of a b) k ≡ (leb a k && ltb k b)
-free_hole a b k =
-    elim (cases_lt a b) [
-      | inl lt ↦ rw (hole_some a b lt) (grind (arith, nat_tests))
-      | inr ge ↦ rw (hole_none a b ge) (grind (arith, nat_tests))
-    ]
+free_hole a b k = grind (arith, cases_lt a b, nat_tests, hole_some, hole_none)
 
 free_rest : (p s : ℕ) (h : Hole) (k : ℕ) → is_free (rest_of p s h) k ≡ (has_range k 1 h && not (in_range p s k))
 free_rest p s h k =
@@ -288,9 +224,7 @@ spread false b n = refl
 free_without : (p s : ℕ) (xs : List Hole) (k : ℕ) → is_free (holes_without p s xs) k ≡ (is_free xs k && not (in_range p s k))
 free_without p s [] k = refl
 free_without p s (x ∷ xs) k =
-    list_any-append (has_range k 1) (rest_of p s x) (holes_without p s xs)
-    ∙ ap₂ (λ a b. a || b) (free_rest p s x k) (free_without p s xs k)
-    ∙ spread (has_range k 1 x) (is_free xs k) (not (in_range p s k))
+    grind (arith, list_any-append (has_range k 1) (rest_of p s x) (holes_without p s xs), free_rest p s x k, free_without p s xs k, spread (has_range k 1 x) (is_free xs k) (not (in_range p s k)))
 
 -- the holes after a range was cut out of the one in which it lies
 pub record IsCut (n p s : ℕ) (xs ys : List Hole) : Type 0 where

@@ -1,6 +1,7 @@
 -- Regions of places, as the lists of their holes. The rules are this project's own.
-use Rattle.std.specs.Prelude.{◌≡◌, ℕ, ◌+◌, ◌-◌, ◌%◌, ◌<◌, ◌≤◌, min, max, Bool, true, false, ◌&&◌, nat_le, nat_lt, List, [], ◌∷◌, ◌++◌, if◌then◌else◌}
+use Rattle.std.specs.Prelude.{◌≡◌, ℕ, ◌+◌, ◌-◌, ◌%◌, ◌<◌, ◌≤◌, min, max, Bool, refl, true, false, ◌&&◌, nat_le, nat_lt, List, [], ◌∷◌, ◌++◌, if◌then◌else◌}
 use Rattle.std.specs.List.{list_any, flat_map}
+use Rattle.std.specs.Coded.{le_prop}
 use Rattle.range_store.specs.declared.holes.Hole.{Hole}
 
 -- the place after a hole's last
@@ -28,6 +29,20 @@ in_range place size k = nat_le place k && nat_lt k (place + size)
 abbrev pub AreRuns : ℕ → ℕ → List Hole → Type 0
 AreRuns from n [] = Unit {0}
 AreRuns from n (h ∷ hs) = (from ≤ h.place) × (0 < h.len) × (hole_end h ≤ n) × AreRuns (hole_end h + 1) n hs
+
+-- that holes are such runs has one proof at most
+pub AreRuns-prop : (from n : ℕ) (hs : List Hole) → IsProp (AreRuns from n hs)
+AreRuns-prop from n [] a b = refl
+AreRuns-prop from n (h ∷ hs) a b = λ i. (le_prop a.0 b.0 i, le_prop a.1 b.1 i, le_prop a.2 b.2 i, AreRuns-prop (hole_end h + 1) n hs a.3 b.3 i)
+
+-- no place of the range is free
+abbrev pub NoneIsFree : List Hole → ℕ → ℕ → Type 0
+NoneIsFree holes place size = (k : ℕ) → in_range place size k ≡ true → is_free holes k ≡ false
+
+-- so many places, from a multiple of a number on: neither is 0
+pub record IsAsked (size align : ℕ) : Type 0 where
+  pub some : 0 < size
+  pub step : 0 < align
 
 -- the places from one up to another, as a hole, or as none where there are none
 abbrev pub hole_of : ℕ → ℕ → List Hole

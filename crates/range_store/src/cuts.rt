@@ -1,11 +1,11 @@
 // Which hole serves a range, and what the range leaves of it.
 ghost use Rattle.std.specs.Prelude.{◌≡◌, ℕ, ◌+◌, ◌%◌, ◌<◌, ◌≤◌, ◌++◌, ◌∷◌, true, false, IfSome, IfNone, OnOk, OnErr, Some, slice_get, take, drop};
 ghost use Rattle.std.specs.Prelude.{vec_len, vec_capacity};
-ghost use Rattle.range_store.specs.Regions.{AreRuns, IsFirstFitFrom, HasNoFitFrom, has_range, rest_of, is_hole_range, hole_end};
+ghost use Rattle.range_store.specs.Regions.{IsFirstFitFrom, HasNoFitFrom, has_range, rest_of, is_hole_range, hole_end};
 ghost use Rattle.range_store.specs.Fits.{FitsAt, IsLeastIn, NoneIn};
 ghost use Rattle.range_store.specs.declared.holes.Hole.{Hole};
 
-use crate::begins::begin_before;
+use crate::begins::{Holes, begin_before};
 use crate::holes::Hole;
 use spin_base::Memory;
 
@@ -21,15 +21,16 @@ pub(crate) struct Claim {
 
 /// The first hole that has a range as claimed, and the least place in it from which one lies there. The search begins at the
 /// hole in which the claim's place may lie: those before it end before that place.
-pub(crate) fn first_fit(holes: &[Hole], claim: Claim) -> Option<(usize, u64)>
-    requires runs { AreRuns 0 4294967296 holes.now }
-    ensures first { IfSome result (λ r. IsFirstFitFrom holes.now claim.from claim.size claim.align r.1) }
-    ensures at { IfSome result (λ r. FitsAt holes.now r.0 r.1 claim.size) }
-    ensures none { IfNone result (HasNoFitFrom holes.now claim.from claim.size claim.align) }
+pub(crate) fn first_fit(holes: Holes, claim: Claim) -> Option<(usize, u64)>
+    ensures first { IfSome result (λ r. IsFirstFitFrom holes.entry.list.now claim.from claim.size
+        claim.align r.1) }
+    ensures at { IfSome result (λ r. FitsAt holes.entry.list.now r.0 r.1 claim.size) }
+    ensures none { IfNone result (HasNoFitFrom holes.entry.list.now claim.from claim.size claim.align) }
 {
+    let list = holes.list;
     let first = begin_before(holes, claim.from).saturating_sub(1);
-    for at in first..holes.len() {
-        if let Some(place) = fit_in(&holes[at], claim) {
+    for at in first..list.len() {
+        if let Some(place) = fit_in(&list[at], claim) {
             return Some((at, place));
         }
     }
@@ -38,14 +39,14 @@ pub(crate) fn first_fit(holes: &[Hole], claim: Claim) -> Option<(usize, u64)>
 
 /// The least place from which a range as claimed lies in the hole.
 fn fit_in(hole: &Hole, claim: Claim) -> Option<u64>
-    requires below { hole_end hole.now ≤ 4294967296 }
+    requires { hole_end hole.now ≤ 4294967296 }
     ensures least { IfSome result (λ place. IsLeastIn hole.now claim.from claim.size claim.align place) }
     ensures none { IfNone result (NoneIn hole.now claim.from claim.size claim.align) }
 {
-    let end = hole.place + hole.len;
     let low = hole.place.max(claim.from);
     let place = low.checked_next_multiple_of(claim.align)?;
-    if place <= end && claim.size <= end - place {
+    let left = hole.len.saturating_sub(place - hole.place);
+    if claim.size <= left {
         Some(place)
     } else {
         None
@@ -53,19 +54,18 @@ fn fit_in(hole: &Hole, claim: Claim) -> Option<u64>
 }
 
 /// The hole in which a range lies: it can only be the last that begins at the range's place or before it.
-pub(crate) fn hole_with(holes: &[Hole], place: u64, size: u64) -> Option<usize>
-    requires runs { AreRuns 0 4294967296 holes.now }
-    requires within { place + size ≤ 4294967296 }
-    ensures at { IfSome result (λ at. FitsAt holes.now at place size) }
-    ensures none { IfNone result (is_hole_range holes.now place size ≡ false) }
+pub(crate) fn hole_with(holes: Holes, place: u64, size: u64) -> Option<usize>
+    ensures at { IfSome result (λ at. FitsAt holes.entry.list.now at place size) }
+    ensures none { IfNone result (is_hole_range holes.entry.list.now place size ≡ false) }
 {
-    let count = begin_before(holes, place + 1);
+    let list = holes.list;
+    let count = begin_before(holes, place.saturating_add(1));
     if count == 0 {
         return None;
     }
     let at = count - 1;
-    let hole = holes[at];
-    if place + size <= hole.place + hole.len {
+    let hole = list[at];
+    if place.saturating_add(size) <= hole.place + hole.len {
         Some(at)
     } else {
         None
@@ -74,8 +74,7 @@ pub(crate) fn hole_with(holes: &[Hole], place: u64, size: u64) -> Option<usize>
 
 /// Takes a range out of the hole in which it lies.
 pub(crate) fn cut_out(holes: &mut Vec<Hole>, at: usize, place: u64, size: u64) -> Result<(), Memory>
-    requires fits { FitsAt holes.old.items at place size }
-    requires runs { AreRuns 0 4294967296 holes.old.items }
+    requires { FitsAt holes.old.items at place size }
     ensures ok { OnOk result ((h : Hole) → slice_get holes.old.items at ≡ Some h → holes.new.items
         ≡ take at holes.old.items ++ (rest_of place size h ++ drop (at + 1) holes.old.items)) }
     ensures err { OnErr result (holes.new.items ≡ holes.old.items) }

@@ -1,11 +1,11 @@
 // A range put back among the holes.
-ghost use Rattle.std.specs.Prelude.{◌≡◌, ◌≢◌, ℕ, ◌+◌, ◌-◌, ◌<◌, ◌≤◌, ◌||◌, true, false, Some, IfSome, IfNone, length, slice_get};
+ghost use Rattle.std.specs.Prelude.{◌≡◌, ◌≢◌, ℕ, ◌+◌, ◌-◌, ◌<◌, ◌≤◌, Some, IfSome, IfNone, slice_get};
 ghost use Rattle.std.specs.Prelude.{vec_len, vec_capacity};
-ghost use Rattle.range_store.specs.Regions.{AreRuns, is_free, in_range, hole_end};
-ghost use Rattle.range_store.specs.Fits.{AreNeighbours};
+ghost use Rattle.range_store.specs.Regions.{AreRuns, NoneIsFree, hole_end};
+ghost use Rattle.range_store.specs.Fits.{AreNeighbours, IsPutBack};
 ghost use Rattle.range_store.specs.declared.holes.Hole.{Hole};
 
-use crate::begins::begin_before;
+use crate::begins::{Holes, begin_before};
 use crate::holes::Hole;
 
 /// A range that comes back.
@@ -19,19 +19,19 @@ pub(crate) struct Span {
 
 /// Puts a range back, and merges it with the holes that end where it begins and begin where it ends.
 pub(crate) fn put_back(holes: &mut Vec<Hole>, span: Span)
-    requires runs { AreRuns 0 4294967296 holes.old.items }
-    requires taken { (k : ℕ) → in_range span.place span.size k ≡ true
-        → is_free holes.old.items k ≡ false }
-    requires room { vec_len holes.old < vec_capacity holes.old }
-    ensures free { (k : ℕ) → is_free holes.new.items k
-        ≡ (is_free holes.old.items k || in_range span.place span.size k) }
-    ensures runs { (n : ℕ) → AreRuns 0 n holes.old.items → span.place + span.size ≤ n
-        → AreRuns 0 n holes.new.items }
+    requires { AreRuns 0 4294967296 holes.old.items }
+    ensures put { vec_len holes.old < vec_capacity holes.old
+        → NoneIsFree holes.old.items span.place span.size → (n : ℕ) → AreRuns 0 n holes.old.items
+        → span.place + span.size ≤ n
+        → IsPutBack span.place span.size n holes.old.items holes.new.items }
     ensures len { vec_len holes.new ≤ vec_len holes.old + 1 }
     ensures capacity { vec_capacity holes.old ≤ vec_capacity holes.new }
 {
     let Span { place, size } = span;
-    let (at, left, right) = neighbours(holes.as_slice(), place, place + size);
+    let list = Holes {
+        list: holes.as_slice(),
+    };
+    let (at, left, right) = neighbours(list, place, place + size);
     match (left, right) {
         (Some(left), Some(right)) => {
             holes.remove(at);
@@ -53,41 +53,34 @@ pub(crate) fn put_back(holes: &mut Vec<Hole>, span: Span)
             };
         }
         (None, None) => {
-            // There is room, so it can't fail.
+            // Where there is room it can't fail.
             let _ = holes.insert(at, Hole { place, len: size });
         }
     }
 }
 
 /// How many holes begin before a range, and the holes that end where it begins and begin where it ends.
-fn neighbours(holes: &[Hole], place: u64, end: u64) -> (usize, Option<Hole>, Option<Hole>)
-    requires runs { AreRuns 0 4294967296 holes.now }
-    ensures { AreNeighbours holes.now place end result.0 result.1 result.2 }
+fn neighbours(holes: Holes, place: u64, end: u64) -> (usize, Option<Hole>, Option<Hole>)
+    ensures { AreNeighbours holes.entry.list.now place end result.0 result.1 result.2 }
 {
     let at = begin_before(holes, place);
     (
         at,
-        hole_that_ends(holes, at, place),
-        hole_that_begins(holes, at, end),
+        hole_that_ends(holes.list, at, place),
+        hole_that_begins(holes.list, at, end),
     )
 }
 
 /// The hole before one of the list, if it ends at a place.
 fn hole_that_ends(holes: &[Hole], at: usize, place: u64) -> Option<Hole>
-    requires at { at ≤ length holes.now }
-    requires before { (k : ℕ) (h : Hole) → k < at → slice_get holes.now k ≡ Some h
-        → h.place < place }
     ensures some { IfSome result (λ h. (0 < at) × (slice_get holes.now (at - 1) ≡ Some h)
         × (hole_end h ≡ place)) }
     ensures none { IfNone result ((h : Hole) → 0 < at → slice_get holes.now (at - 1) ≡ Some h
         → hole_end h ≢ place) }
 {
-    if at == 0 {
-        return None;
-    }
-    let hole = holes[at - 1];
-    if hole.len == place - hole.place {
-        Some(hole)
+    let hole = holes.get(at.checked_sub(1)?)?;
+    if place.checked_sub(hole.place) == Some(hole.len) {
+        Some(*hole)
     } else {
         None
     }
@@ -98,12 +91,9 @@ fn hole_that_begins(holes: &[Hole], at: usize, place: u64) -> Option<Hole>
     ensures some { IfSome result (λ h. (slice_get holes.now at ≡ Some h) × (h.place ≡ place)) }
     ensures none { IfNone result ((h : Hole) → slice_get holes.now at ≡ Some h → h.place ≢ place) }
 {
-    if at >= holes.len() {
-        return None;
-    }
-    let hole = holes[at];
+    let hole = holes.get(at)?;
     if hole.place == place {
-        Some(hole)
+        Some(*hole)
     } else {
         None
     }

@@ -1,7 +1,9 @@
 // The region.
 ghost use Rattle.std.specs.Prelude.{◌≡◌, ℕ, ◌+◌, ◌^◌, ◌<◌, ◌≤◌, ◌&&◌, ◌||◌, not, true, false, IfOk, IfSome, IfNone, OnOk, OnErr, length};
-ghost use Rattle.range_store.specs.Regions.{AreRuns, IsFirstFit, HasNoFit, IsFirstFitFrom, HasNoFitFrom, holes_without, hole_of, is_free, is_hole_range, in_range};
+ghost use Rattle.range_store.specs.Views.{CanGive};
+ghost use Rattle.range_store.specs.Regions.{AreRuns, IsAsked, IsFirstFit, HasNoFit, IsFirstFitFrom, HasNoFitFrom, holes_without, hole_of, is_free, is_hole_range, in_range};
 
+use crate::begins::Holes;
 use crate::cuts::{Claim, cut_out, first_fit, hole_with};
 use crate::gives::{Span, put_back};
 use crate::holes::Hole;
@@ -67,8 +69,7 @@ impl Ranges {
     /// Takes the range of `size` places from the least multiple of `align` that fits in the first hole that has one,
     /// and answers its place. `None` exactly where no hole has one: then nothing changes. Nor does it after a refusal.
     pub fn take(&mut self, size: u64, align: u64) -> Result<Option<u64>, Memory>
-        requires some { 0 < size }
-        requires step { 0 < align }
+        requires { IsAsked size align }
         ensures found { IfOk result (λ o. IfSome o
             (λ place. IsFirstFit self.old.holes size align place)) }
         ensures taken { IfOk result (λ o. IfSome o
@@ -88,8 +89,7 @@ impl Ranges {
     /// The same among the places from `from` on: takes the range from the least multiple of `align` that is not below
     /// `from` and fits in a hole. The holes that end below `from` are not looked at.
     pub fn take_from(&mut self, from: u64, size: u64, align: u64) -> Result<Option<u64>, Memory>
-        requires some { 0 < size }
-        requires step { 0 < align }
+        requires { IsAsked size align }
         ensures found { IfOk result (λ o. IfSome o
             (λ place. IsFirstFitFrom self.old.holes from size align place)) }
         ensures taken { IfOk result (λ o. IfSome o
@@ -104,7 +104,10 @@ impl Ranges {
         ensures runs { AreRuns 0 self.new.size self.new.holes }
     {
         let claim = Claim { from, size, align };
-        let Some((at, place)) = first_fit(self.holes.as_slice(), claim) else {
+        let holes = Holes {
+            list: self.holes.as_slice(),
+        };
+        let Some((at, place)) = first_fit(holes, claim) else {
             return Ok(None);
         };
         cut_out(&mut self.holes, at, place, size)?;
@@ -114,8 +117,7 @@ impl Ranges {
     /// Takes the range of `size` places from `place` on. True exactly where it lies in one hole: else nothing
     /// changes. Nor does it after a refusal.
     pub fn take_at(&mut self, place: u64, size: u64) -> Result<bool, Memory>
-        requires some { 0 < size }
-        requires within { place + size ≤ self.old.size }
+        requires { 0 < size }
         ensures found { IfOk result (λ b. b ≡ is_hole_range self.old.holes place size) }
         ensures taken { IfOk result (λ b. b ≡ true → self.new.holes
             ≡ holes_without place size self.old.holes) }
@@ -127,7 +129,10 @@ impl Ranges {
         ensures spare { self.old.spare ≤ self.new.spare + 1 }
         ensures runs { AreRuns 0 self.new.size self.new.holes }
     {
-        let Some(at) = hole_with(self.holes.as_slice(), place, size) else {
+        let holes = Holes {
+            list: self.holes.as_slice(),
+        };
+        let Some(at) = hole_with(holes, place, size) else {
             return Ok(false);
         };
         cut_out(&mut self.holes, at, place, size)?;
@@ -147,10 +152,7 @@ impl Ranges {
 
     /// Gives a range back: its places become free, and it is merged with the holes beside it. It takes no memory.
     pub fn give(&mut self, place: u64, size: u64)
-        requires some { 0 < size }
-        requires within { place + size ≤ self.old.size }
-        requires taken { (k : ℕ) → in_range place size k ≡ true → is_free self.old.holes k ≡ false }
-        requires spare { 0 < self.old.spare }
+        requires { CanGive self.old place size }
         ensures free { (k : ℕ) → is_free self.new.holes k
             ≡ (is_free self.old.holes k || in_range place size k) }
         ensures size { self.new.size ≡ self.old.size }

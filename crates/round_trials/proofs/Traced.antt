@@ -4,20 +4,15 @@ use Rattle.std.specs.List.{slice_get}
 use Rattle.std.proofs.lemmas.List.Elements.{All-replicate}
 use Rattle.spin_base.specs.declared.copies.Packet.{Packet}
 use Rattle.machine_desc.specs.declared.nets.NetPlan.{NetPlan}
-use Rattle.mesh_core.specs.State.{Hand, State}
-use Rattle.mesh_core.specs.Step.{after_events}
-use Rattle.mesh_core.specs.Opened.{MeetsJobLedger}
-use Rattle.mesh_core.specs.Whereabouts.{IsTracked}
+use Rattle.mesh_core.specs.{State.Hand, State.State, Step.after_events, Opened.MeetsJobLedger, Whereabouts.IsTracked}
 use Rattle.mesh_example.proofs.Tracked.{job_tracked}
 use Rattle.mesh_round.specs.RoundFlow.{HasNoHand}
 use Rattle.job_readers.specs.declared.jobs.Job.{Job}
 use Rattle.par_compile.specs.declared.compiling.Plan.{Plan}
 use Rattle.run_report.specs.declared.reports.Report.{Report}
 use Rattle.spin_words.specs.declared.commands.JobWord.TheVariants.{Trace}
-use Rattle.spin_jobs.specs.declared.outcomes.Parts.{Parts}
-use Rattle.spin_jobs.specs.Parts.{WhereRun}
-use Rattle.spin_jobs.specs.Planned.{opened_of, setup_of}
-use Rattle.spin_jobs.specs.Words.{IsMadeOf, IsTraced, ran, reinjected, traced, imaged, listed, generated}
+use Rattle.spin_jobs.specs.{declared.outcomes.Parts.Parts, Parts.WhereRun, Planned.opened_of, Planned.setup_of, Words.IsMadeOf, Words.IsTraced, Words.ran, Words.reinjected, Words.traced, Words.imaged}
+use Rattle.spin_jobs.specs.Words.{listed, generated}
 use Rattle.round_trials.specs.Kept.{KeepsLedger}
 
 no_hand : (job : Job) (plan : Plan) (mesh : State) (report : Report) → IsTraced job plan mesh report → job.run.events ≡ [] → HasNoHand mesh

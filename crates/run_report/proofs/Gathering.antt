@@ -1,19 +1,11 @@
 -- What is gathered from the items of a list, one item more.
 use Rattle.std.proofs.Common.{◌≡◌, ap₂, subst, ℕ, zero, suc, ◌+◌, ◌-◌, ◌^◌, ◌<◌, ◌≤◌, List, [], ◌∷◌, ◌++◌, take, length, get_or, min, sum_by, sym, ap, ◌∙◌, arith, append_assoc, map, map-id, Some}
 use Rattle.std.specs.List.{slice_get, slice_index_or, range_with_len, flat_map}
-use Rattle.std.proofs.lemmas.List.{flat_map_more, map_push, take_more, take_all}
-use Rattle.std.proofs.lemmas.List.FromFn.{sum_by-map-range_with_len_more}
-use Rattle.std.proofs.lemmas.Option.{slice_get-get_or}
-use Rattle.spin_base.specs.Gathered.{gathered}
+use Rattle.std.proofs.lemmas.{List.flat_map_more, List.map_push, List.take_more, List.take_all, List.FromFn.sum_by-map-range_with_len_more, Option.slice_get-get_or}
+use Rattle.spin_base.specs.{Gathered.gathered, declared.chips.Spot.Spot, declared.copies.McCopy.McCopy}
 use Rattle.spin_base.proofs.Gathering.{gathered_more}
-use Rattle.spin_base.specs.declared.chips.Spot.{Spot}
-use Rattle.spin_base.specs.declared.copies.McCopy.{McCopy}
-use Rattle.mesh_core.specs.declared.places.Did.{Did}
-use Rattle.mesh_core.specs.declared.places.Place.{Place}
-use Rattle.mesh_core.specs.declared.places.Place.TheVariants.{CoreQueue}
-use Rattle.mesh_core.specs.State.{State}
-use Rattle.run_report.specs.ReportText.{event_line}
-use Rattle.run_report.specs.RunReport.{waits_at, copies_at, core_waits}
+use Rattle.mesh_core.specs.{declared.places.Did.Did, declared.places.Place.Place, declared.places.Place.TheVariants.CoreQueue, State.State}
+use Rattle.run_report.specs.{ReportText.event_line, RunReport.waits_at, RunReport.copies_at, RunReport.core_waits}
 
 -- an item that a loop shows is there
 pub shown_there : {X : Type 0} (xs : List X) (i : ℕ) (x : X) → i < length xs → x ≡ get_or xs i x → slice_get xs i ≡ Some x

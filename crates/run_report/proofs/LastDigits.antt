@@ -1,8 +1,7 @@
 -- The last digit of a number, those before it, and lines that differ in it alone.
 use Rattle.std.proofs.Common.{◌≡◌, ◌∙◌, refl, sym, ap, arith, ℕ, zero, suc, ◌+◌, ◌/◌, ◌%◌, ◌^◌, ◌<◌, List, [], ◌∷◌, ◌++◌, append_assoc, take, length, codes}
 use Rattle.std.specs.Fmt.{decimal}
-use Rattle.std.proofs.Math.Seq.{take-append-add}
-use Rattle.std.proofs.lemmas.Fmt.{decimal_digit, decimal_step}
+use Rattle.std.proofs.{Math.Seq.take-append-add, lemmas.Fmt.decimal_digit, lemmas.Fmt.decimal_step}
 use Rattle.mesh_core.specs.declared.places.Did.{Did}
 use Rattle.run_report.specs.ReportText.{tens_digits, event_front, event_line, did_word}
 

@@ -1,11 +1,8 @@
 -- Tables of an image have few rows, all together.
 use Rattle.std.proofs.Common.{◌≡◌, ℕ, suc, ◌+◌, ◌*◌, ◌<◌, ◌≤◌, ◌^◌, List, [], ◌∷◌, length, arith, All}
-use Rattle.std.proofs.lemmas.List.Elements.{All-head, All-tail}
-use Rattle.std.proofs.lemmas.List.Sums.{sum_by-cons}
-use Rattle.std.proofs.lemmas.Nat.{mul-le}
+use Rattle.std.proofs.lemmas.{List.Elements.All-head, List.Elements.All-tail, List.Sums.sum_by-cons, Nat.mul-le}
 use Rattle.spin_base.specs.declared.blocks.ChipTable.{ChipTable}
-use Rattle.table_load.specs.declared.tables.Image.{Image}
-use Rattle.table_load.specs.Images.{IsTable, IsValid}
+use Rattle.table_load.specs.{declared.tables.Image.Image, Images.IsTable, Images.IsValid}
 use Rattle.run_report.specs.ReportText.{row_total}
 
 le_by : (all first others n : ℕ) → all ≡ first + others → first ≤ 1024 → others ≤ 1024 * n → all ≤ 1024 * suc n

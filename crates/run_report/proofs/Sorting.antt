@@ -1,8 +1,7 @@
 -- A sort by keys that are tuples of numbers, as an order of lists of numbers.
 use Rattle.std.proofs.Common.{◌≡◌, ℕ, Bool, List, [], ◌∷◌, refl, subst, Less, Equal, Greater, Ordering, nat_cmp, is_lt}
-use Rattle.std.specs.Ordering.{ordering_then}
-use Rattle.std.specs.Cmp.Lexicographic.{slice_cmp}
-use Rattle.std.specs.List.Sorted.{IsPermutation, IsSortedBy, IsStableBy, IsSortedByKey, IsStableByKey}
+use Rattle.std.specs.{Ordering.ordering_then, Cmp.Lexicographic.slice_cmp, List.Sorted.IsPermutation, List.Sorted.IsSortedBy, List.Sorted.IsStableBy, List.Sorted.IsSortedByKey}
+use Rattle.std.specs.List.Sorted.{IsStableByKey}
 use Rattle.run_report.specs.Orders.{IsSortedStably}
 
 two : (a b : Ordering) → ordering_then a b ≡ ordering_then a (ordering_then b Equal)

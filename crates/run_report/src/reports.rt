@@ -5,7 +5,7 @@ ghost use Rattle.run_report.specs.RunReport.{IsReportOf};
 
 use crate::lists::{keys_of, placed_of};
 use crate::named::NamedDeliveries;
-use crate::orders::{delivered_of, dumped_of};
+use crate::orders::dumped_of;
 use crate::planned::PlannedGraph;
 use crate::unsents::unsent_of;
 use crate::waits::waiting_of;
@@ -56,7 +56,8 @@ pub fn report_of(
     let placed = placed_of(alloc, &planned.graph.vertices, planned.spots)?;
     let keys = keys_of(alloc, &planned.graph.nets, planned.nets)?;
     let named = placed_of(alloc, &planned.graph.vertices, planned.spots)?;
-    let delivered = delivered_of(alloc, named, mesh)?;
+    let mut sorted = Vec::from_slice(alloc, mesh.delivered())?;
+    sorted.sort_by_key(|delivery| (delivery.copy.packet, delivery.vertex))?;
     let dumped = dumped_of(alloc, mesh)?;
     let waiting = waiting_of(alloc, mesh)?;
     let unsent = unsent_of(mesh);
@@ -65,7 +66,10 @@ pub fn report_of(
         keys,
         tables,
         did,
-        delivered,
+        delivered: NamedDeliveries {
+            placed: named,
+            deliveries: sorted,
+        },
         dumped,
         waiting,
         unsent,

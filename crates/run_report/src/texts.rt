@@ -240,22 +240,8 @@ fn put_gots(text: &mut Vec<u8>, delivered: &NamedDeliveries) -> Result<(), Memor
     ensures { OnOk result (text.new.items
         ≡ text.old.items ++ flat_map got_line delivered.now) }
 {
-    put_all_gots(
-        text,
-        delivered.placed.as_slice(),
-        delivered.deliveries.as_slice(),
-    )?;
-    Ok(())
-}
-
-fn put_all_gots(
-    text: &mut Vec<u8>,
-    placed: &[(Name, Spot)],
-    deliveries: &[Delivery],
-) -> Result<(), Memory>
-    ensures { OnOk result (text.new.items
-        ≡ text.old.items ++ flat_map (λ d. got_line (named_delivery placed.now d)) deliveries.now) }
-{
+    let placed = delivered.placed.as_slice();
+    let deliveries = delivered.deliveries.as_slice();
     for delivery in deliveries {
         put_got(text, placed, delivery)?;
     }

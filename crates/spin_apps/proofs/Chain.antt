@@ -1,22 +1,17 @@
 -- Steps answered one after the other.
 use Rattle.std.proofs.Common.{◌≡◌, ℕ, zero, suc, ◌+◌, ◌≤◌, refl, sym, ap, ◌∙◌, subst, arith, List, [], ◌∷◌, ◌++◌, length, drop, ◌||◌, Option, Some, None, Result, Ok, Err, IfOk, IfSome, OnOk}
-use Rattle.std.proofs.lemmas.Bool.{false≢true}
-use Rattle.std.proofs.Math.Bool.{or_assoc, or-false, or-true}
-use Rattle.std.proofs.lemmas.{List.append-nil, List.append_assoc, List.drop_all, Option.same_Some}
-use Rattle.std.specs.List.{list_any, slice_get}
-use Rattle.std.specs.Prelude.{is_some, option_map, true}
+use Rattle.std.proofs.{lemmas.Bool.false≢true, Math.Bool.or_assoc, Math.Bool.or-false, Math.Bool.or-true, lemmas.List.append-nil, lemmas.List.append_assoc, lemmas.List.drop_all}
+use Rattle.std.proofs.lemmas.Option.{same_Some}
+use Rattle.std.specs.{List.list_any, List.slice_get, Prelude.is_some, Prelude.option_map, Prelude.true}
 use Rattle.machine_desc.specs.Description.{Description}
-use Rattle.job_requests.specs.declared.steps.Step.{Step, TheVariants.Load, TheVariants.Unload, TheVariants.Run}
-use Rattle.job_requests.specs.{Steps.is_load, Valid.HasFirstMachine, Valid.IsValidJob, Valid.IsValidStep, declared.steps.AppJob.AppJob}
-use Rattle.app_loads.specs.{Applications.AreApps, Host.Host}
-use Rattle.app_loads.specs.declared.answers.LoadRefusal.TheVariants.{Loaded, MemoryOut, KeysOut, RowsOut}
-use Rattle.app_loads.specs.Opening.{bare_host}
-use Rattle.spin_apps.specs.declared.hosts.LoadAnswer.{LoadAnswer}
-use Rattle.spin_apps.specs.declared.hosts.LoadAnswer.TheVariants.{Done, NoRoom, CutOff, Refused}
+use Rattle.job_requests.specs.{declared.steps.Step.Step, declared.steps.Step.TheVariants.Load, declared.steps.Step.TheVariants.Unload, declared.steps.Step.TheVariants.Run, Steps.is_load}
+use Rattle.job_requests.specs.{Valid.HasFirstMachine, Valid.IsValidJob, Valid.IsValidStep, declared.steps.AppJob.AppJob}
+use Rattle.app_loads.specs.{Applications.AreApps, Host.Host, declared.answers.LoadRefusal.TheVariants.Loaded, declared.answers.LoadRefusal.TheVariants.MemoryOut}
+use Rattle.app_loads.specs.{declared.answers.LoadRefusal.TheVariants.KeysOut, declared.answers.LoadRefusal.TheVariants.RowsOut, Opening.bare_host}
+use Rattle.spin_apps.specs.declared.hosts.LoadAnswer.{LoadAnswer, TheVariants.Done, TheVariants.NoRoom, TheVariants.CutOff, TheVariants.Refused}
 use Rattle.spin_apps.specs.declared.hosts.UnloadAnswer.{UnloadAnswer, TheVariants.Got, TheVariants.NotLoaded, TheVariants.Waiting}
-use Rattle.spin_apps.specs.Answers.{Answers, AreAnswered, AreAnsweredFrom, IsLoadAnswer, IsUnloadAnswer, host_at}
-use Rattle.spin_apps.specs.Hosting.{IsAnsweredBy, HasAddedLine, FindHosts, FindsHost, packet_count_of}
-use Rattle.spin_apps.specs.{Lines.load_line, declared.answers.Answered.Answered}
+use Rattle.spin_apps.specs.{Answers.Answers, Answers.AreAnswered, Answers.AreAnsweredFrom, Answers.IsLoadAnswer, Answers.IsUnloadAnswer, Answers.host_at, Hosting.IsAnsweredBy, Hosting.HasAddedLine}
+use Rattle.spin_apps.specs.{Hosting.FindHosts, Hosting.FindsHost, Hosting.packet_count_of, Lines.load_line, declared.answers.Answered.Answered}
 use Rattle.spin_base.specs.declared.wants.Memory.{Memory}
 
 -- What the steps that are left are answered, behind the text so far, is what all steps are answered.

@@ -1,23 +1,17 @@
 -- The cores that are free, as a machine.
 use Rattle.std.proofs.Common.{◌≡◌, ℕ, ◌+◌, ◌-◌, ◌*◌, ◌/◌, ◌%◌, ◌<◌, ◌≤◌, refl, sym, ap, ◌∙◌, subst, arith, inl, inr, List, [], ◌∷◌, ◌++◌, take, Bool, true, false, not, ◌||◌, Option, Some, None}
-use Rattle.std.specs.Prelude.{MatchOption}
-use Rattle.std.specs.List.{All, Contains, list_any, slice_get}
-use Rattle.std.proofs.lemmas.Bool.{and_from, and_parts, both_ways, cases_Bool, leb-true, not-true, or_from, or_parts}
-use Rattle.std.proofs.lemmas.{List.Elements.All-weaker, List.Folds.list_any-append, Option.slice_get-get_or}
+use Rattle.std.specs.{Prelude.MatchOption, List.All, List.Contains, List.list_any, List.slice_get}
+use Rattle.std.proofs.lemmas.{Bool.and_from, Bool.and_parts, Bool.both_ways, Bool.cases_Bool, Bool.leb-true, Bool.not-true, Bool.or_from, Bool.or_parts, List.Elements.All-weaker}
+use Rattle.std.proofs.lemmas.{List.Folds.list_any-append, Option.slice_get-get_or}
 use Rattle.spin_base.proofs.Members.{Contains-at, Contains-filter, Contains-from_filter, among_any, among_contains, any_among, contains_among}
-use Rattle.spin_base.proofs.Places.{All-at, All-each, slice_get_there}
-use Rattle.spin_base.proofs.Ranges.{slice_get-map_range}
+use Rattle.spin_base.proofs.{Places.All-at, Places.All-each, Places.slice_get_there, Ranges.slice_get-map_range, Equality.spot_eq_same, Equality.spot_eq_true}
 use Rattle.spin_base.specs.{declared.chips.Spot.Spot, Equality.spot_eq}
-use Rattle.spin_base.proofs.Equality.{spot_eq_same, spot_eq_true}
-use Rattle.machine_desc.specs.{declared.trees.Edge.Edge, Description.Description}
-use Rattle.machine_desc.specs.Live.{index_of, chip_of, is_usable, IsInside, IsSite, IsUsable}
+use Rattle.machine_desc.specs.{declared.trees.Edge.Edge, Description.Description, Live.index_of, Live.chip_of, Live.is_usable, Live.IsInside, Live.IsSite, Live.IsUsable}
 use Rattle.machine_desc.proofs.{Far.index_below, Same.same_spot, Sites.usable_site}
 use Rattle.app_graph.specs.declared.graphs.Vertex.{Vertex}
 use Rattle.mesh_core.proofs.Moves.{chip_of-index_of}
 use Rattle.place_fit.specs.Placement.{HasDeviceRoom, IsCoreFor, IsPlacement, device_spot}
-use Rattle.app_loads.specs.declared.loaded.LoadedApp.{LoadedApp}
-use Rattle.app_loads.specs.Host.{Host, all_spots, is_free_spot, is_spot_taken}
-use Rattle.app_loads.specs.Opening.{spot_of, grid_spots}
+use Rattle.app_loads.specs.{declared.loaded.LoadedApp.LoadedApp, Host.Host, Host.all_spots, Host.is_free_spot, Host.is_spot_taken, Opening.spot_of, Opening.grid_spots}
 use Rattle.app_loads.proofs.SpotsOf.{same_tests}
 use Rattle.spin_apps.specs.Free.{free_machine, unusable_spots}
 

@@ -1,17 +1,13 @@
 -- Where a net has a plan, live links lead to each of its targets.
 use Rattle.std.proofs.Common.{◌≡◌, ℕ, zero, suc, List, [], ◌∷◌, ◌++◌, Some, refl, sym, ◌∙◌, subst, inl, inr}
-use Rattle.std.proofs.lemmas.List.Elements.{All-append, All-cons, All-contains, All-nil}
-use Rattle.std.proofs.lemmas.Option.{same_Some}
+use Rattle.std.proofs.lemmas.{List.Elements.All-append, List.Elements.All-cons, List.Elements.All-contains, List.Elements.All-nil, Option.same_Some}
 use Rattle.std.specs.List.{All, Contains}
 use Rattle.spin_base.proofs.{Members.Contains-cases, Members.Contains-none, Places.All-each}
 use Rattle.spin_base.specs.declared.{blocks.Block.Block, chips.Chip.Chip, chips.Spot.Spot}
-use Rattle.machine_desc.specs.declared.trees.Edge.{Edge}
-use Rattle.machine_desc.specs.{Description.Description, Live.IsLiveWalk, Live.LeadsTo, RoutingTree.end_of, RoutingTree.IsTreeChip}
-use Rattle.machine_desc.specs.declared.nets.NetPlan.{NetPlan}
+use Rattle.machine_desc.specs.{declared.trees.Edge.Edge, Description.Description, Live.IsLiveWalk, Live.LeadsTo, RoutingTree.end_of, RoutingTree.IsTreeChip, declared.nets.NetPlan.NetPlan}
 use Rattle.machine_desc.proofs.TreeLemmas.{tree_cases}
 use Rattle.app_graph.specs.declared.graphs.Net.{Net}
-use Rattle.link_detours.specs.Steps.{Steps}
-use Rattle.link_detours.specs.Repair.{IsDetour, IsKeptEdge, IsRepaired, IsTreeLevel, IsWalkTo, Joins, LiveEdgeStep, last_of}
+use Rattle.link_detours.specs.{Steps.Steps, Repair.IsDetour, Repair.IsKeptEdge, Repair.IsRepaired, Repair.IsTreeLevel, Repair.IsWalkTo, Repair.Joins, Repair.LiveEdgeStep, Repair.last_of}
 use Rattle.net_plans.specs.{CutOffTargets.HasNoneCutOff, NetPlans.IsPlannedNet, NetPlans.joined_chips}
 use Rattle.net_plans.proofs.Determined.{same_source}
 

@@ -1,18 +1,13 @@
 -- The board of free cores, where cores are taken and given back.
 use Rattle.std.proofs.Common.{◌≡◌, ℕ, refl, sym, ap, ◌∙◌, arith, List, [], ◌∷◌, ◌++◌, append_assoc, append-nil, ap₂, nat_le, Bool, true, false, not, ◌&&◌, ◌||◌, cond}
 use Rattle.std.specs.List.{All, list_any}
-use Rattle.std.proofs.lemmas.List.Folds.{list_any-append}
-use Rattle.std.proofs.Math.Bool.{and-true}
+use Rattle.std.proofs.{lemmas.List.Folds.list_any-append, Math.Bool.and-true}
 use Rattle.spin_base.specs.{declared.chips.Spot.Spot, Equality.spot_eq}
-use Rattle.machine_desc.specs.Description.{Description}
-use Rattle.machine_desc.specs.Live.{is_live_chip, is_usable, IsUsable}
+use Rattle.machine_desc.specs.{Description.Description, Live.is_live_chip, Live.is_usable, Live.IsUsable}
 use Rattle.mesh_core.specs.State.{State}
-use Rattle.place_fit.specs.Boards.{AreFreeOn, HaveOneGrid, IsWith, IsWithout}
-use Rattle.place_fit.specs.{Placement.core_spot, declared.boards.Board.Board}
+use Rattle.place_fit.specs.{Boards.AreFreeOn, Boards.HaveOneGrid, Boards.IsWith, Boards.IsWithout, Placement.core_spot, declared.boards.Board.Board}
 use Rattle.place_fit.proofs.UsableSpots.{any_usable}
-use Rattle.app_loads.specs.{Applications.AreApps, declared.answers.Ended.Ended, declared.loaded.LoadedApp.LoadedApp}
-use Rattle.app_loads.specs.declared.plans.AppPlan.{AppPlan}
-use Rattle.app_loads.specs.Host.{Host, all_spots, is_spot_taken}
+use Rattle.app_loads.specs.{Applications.AreApps, declared.answers.Ended.Ended, declared.loaded.LoadedApp.LoadedApp, declared.plans.AppPlan.AppPlan, Host.Host, Host.all_spots, Host.is_spot_taken}
 use Rattle.app_loads.specs.{Loading.HasLoaded, Leaving.others_than, Opening.bare_host, Unloading.HasUnloaded}
 use Rattle.app_loads.proofs.SpotsOf.{spots_beside, spots_usable}
 use Rattle.spin_apps.specs.Free.{free_but, free_machine, unusable_spots}

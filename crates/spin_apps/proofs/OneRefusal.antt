@@ -3,8 +3,8 @@ use Rattle.std.proofs.Common.{◌≡◌, ℕ, zero, suc, ◌+◌, ◌<◌, ◌�
 use Rattle.std.proofs.lemmas.{Bool.cases_order, List.take_all, Option.slice_get_within}
 use Rattle.spin_base.proofs.Places.{one_item_at, slice_get_there, take_more_at}
 use Rattle.machine_desc.specs.Description.{Description}
-use Rattle.app_loads.specs.declared.{answers.LoadRefusal.LoadRefusal, loaded.Claim.Claim, loaded.Range.Range}
-use Rattle.app_loads.specs.Claims.{AreFirstServed, AreServed, IsLeastOpenRange, IsOpenRange, IsRefusalDue}
+use Rattle.app_loads.specs.{declared.answers.LoadRefusal.LoadRefusal, declared.loaded.Claim.Claim, declared.loaded.Range.Range, Claims.AreFirstServed, Claims.AreServed, Claims.IsLeastOpenRange}
+use Rattle.app_loads.specs.Claims.{IsOpenRange, IsRefusalDue}
 
 module _ (m : Description) (taken : List Range) (claims : List Claim) where
   one_least : (before : List Range) (claim : Claim) (r s : Range) → IsLeastOpenRange m before claim r → IsLeastOpenRange m before claim s → r ≡ s

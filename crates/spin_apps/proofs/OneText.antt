@@ -1,10 +1,8 @@
 -- Steps have one text: whatever states they lead through, these are states of machines with the same applications.
 use Rattle.std.proofs.Common.{◌≡◌, ℕ, zero, suc, ◌<◌, refl, sym, ap, ◌∙◌, subst, arith, inl, List, [], ◌∷◌, ◌++◌, length, true, false, Bool, Option, Some, None, IfSome}
-use Rattle.std.proofs.lemmas.{Bool.true≢false, List.length-replicate}
-use Rattle.std.proofs.lemmas.List.Elements.{All-contains, All-cons, All-head, All-nil, All-tail}
+use Rattle.std.proofs.lemmas.{Bool.true≢false, List.length-replicate, List.Elements.All-contains, List.Elements.All-cons, List.Elements.All-head, List.Elements.All-nil, List.Elements.All-tail}
 use Rattle.std.proofs.lemmas.Option.{same_Some, slice_get_within}
-use Rattle.std.specs.Prelude.{option_map, replicate}
-use Rattle.std.specs.List.{All, Contains, slice_get}
+use Rattle.std.specs.{Prelude.option_map, Prelude.replicate, List.All, List.Contains, List.slice_get}
 use Rattle.spin_base.proofs.{Members.among_contains, Members.among_right, Places.slice_get_there}
 use Rattle.spin_base.specs.declared.{chips.Spot.Spot, copies.McCopy.McCopy}
 use Rattle.machine_desc.specs.Description.{Description}
@@ -12,18 +10,15 @@ use Rattle.mesh_core.specs.State.{Hand, State}
 use Rattle.net_plans.proofs.Determined.{same_places}
 use Rattle.job_requests.specs.declared.steps.{AppJob.AppJob, Step.Step, Step.TheVariants.Load, Step.TheVariants.Unload, Step.TheVariants.Run}
 use Rattle.job_requests.specs.Valid.{IsValidJob, IsValidStep}
-use Rattle.app_loads.specs.declared.{loaded.LoadedApp.LoadedApp, loaded.Range.Range, plans.AppPlan.AppPlan}
-use Rattle.app_loads.specs.{Alike.AreAlike, Alike.IsQuiet, Applications.AreApps, Applications.IsLoadedOn, Claims.AreBlocks, Claims.AreServed, Claims.claims_of}
-use Rattle.app_loads.specs.{Host.Host, Host.all_ranges, Loading.sent_by_vertex, Opening.bare_host}
+use Rattle.app_loads.specs.{declared.loaded.LoadedApp.LoadedApp, declared.loaded.Range.Range, declared.plans.AppPlan.AppPlan, Alike.AreAlike, Alike.IsQuiet, Applications.AreApps}
+use Rattle.app_loads.specs.{Applications.IsLoadedOn, Claims.AreBlocks, Claims.AreServed, Claims.claims_of, Host.Host, Host.all_ranges, Loading.sent_by_vertex, Opening.bare_host}
 use Rattle.app_loads.specs.declared.answers.LoadRefusal.TheVariants.{Loaded, MemoryOut, KeysOut, RowsOut}
 use Rattle.app_loads.proofs.{Alike.alike_moved, Alike.alike_unloaded, Alike.same_spots, OneClaim.one_block}
-use Rattle.spin_apps.specs.declared.hosts.LoadAnswer.{LoadAnswer}
-use Rattle.spin_apps.specs.declared.hosts.LoadAnswer.TheVariants.{Done, NoRoom, CutOff, Refused}
+use Rattle.spin_apps.specs.declared.hosts.LoadAnswer.{LoadAnswer, TheVariants.Done, TheVariants.NoRoom, TheVariants.CutOff, TheVariants.Refused}
 use Rattle.spin_apps.specs.declared.hosts.UnloadAnswer.{UnloadAnswer, TheVariants.Got, TheVariants.NotLoaded, TheVariants.Waiting}
 use Rattle.spin_apps.specs.Answers.{Answers, AreAnsweredFrom, AreAnswered, HasGot, IsDone, IsLoadAnswer, IsUnloadAnswer, host_at}
 use Rattle.spin_apps.specs.Lines.{load_line, unload_line}
-use Rattle.spin_apps.proofs.OneLine.{HaveAsManyDeliveries, one_load, one_plan, one_unload, plan_there, served_there}
-use Rattle.spin_apps.proofs.OneRefusal.{one_served}
+use Rattle.spin_apps.proofs.{OneLine.HaveAsManyDeliveries, OneLine.one_load, OneLine.one_plan, OneLine.one_unload, OneLine.plan_there, OneLine.served_there, OneRefusal.one_served}
 
 -- ---- loads
 

@@ -1,37 +1,24 @@
 -- The plan of a job on free cores.
 use Rattle.std.proofs.Common.{◌≡◌, ℕ, ◌+◌, ◌^◌, ◌<◌, refl, sym, ap, ◌∙◌, subst, arith, inl, inr, List, [], ◌∷◌, ◌++◌, length, map, take, false, Some, Result, Ok, Err, IfOk}
 use Rattle.std.specs.List.{All, AllZip, Contains, slice_get}
-use Rattle.std.proofs.lemmas.{Bool.cases_lt, List.length-map}
-use Rattle.std.proofs.lemmas.List.Elements.{All-push, All-weaker}
-use Rattle.std.proofs.lemmas.Slice.Zip.{AllZip-long, all_zipped_more}
-use Rattle.spin_base.proofs.Members.{Contains-at}
-use Rattle.spin_base.proofs.Places.{All-each, AllZip-at_first, one_item_at, slice_get_there, take_more_at}
-use Rattle.spin_base.specs.{declared.blocks.Block.Block, declared.chips.Spot.Spot, declared.copies.Packet.Packet}
-use Rattle.machine_desc.specs.{Description.Description, RoutingTree.IsRoutingTree}
-use Rattle.app_graph.specs.{declared.graphs.Net.Net, declared.graphs.Vertex.Vertex}
+use Rattle.std.proofs.lemmas.{Bool.cases_lt, List.length-map, List.Elements.All-push, List.Elements.All-weaker, Slice.Zip.AllZip-long, Slice.Zip.all_zipped_more}
+use Rattle.spin_base.proofs.{Members.Contains-at, Places.All-each, Places.AllZip-at_first, Places.one_item_at, Places.slice_get_there, Places.take_more_at}
+use Rattle.spin_base.specs.declared.{blocks.Block.Block, chips.Spot.Spot, copies.Packet.Packet}
+use Rattle.machine_desc.specs.{Description.Description, RoutingTree.IsRoutingTree, declared.nets.NetPlan.NetPlan}
+use Rattle.app_graph.specs.{declared.graphs.Net.Net, declared.graphs.Vertex.Vertex, RunPart.key_count_of, ValidGraph.IsValidNet}
 use Rattle.app_graph.proofs.Keys.{keys_of-at}
-use Rattle.app_graph.specs.RunPart.{IsPacketOf as IsRunPacket, key_count_of}
-use Rattle.app_graph.specs.ValidGraph.{IsValidNet}
-use Rattle.machine_desc.specs.declared.nets.NetPlan.{NetPlan}
-use Rattle.net_plans.specs.CutOffTargets.{HasNoneCutOff, IsFirstNetCutOff}
-use Rattle.net_plans.specs.NetPlans.{IsPlannedNet}
-use Rattle.app_loads.specs.{declared.plans.AppNet.AppNet, declared.plans.AppPlan.AppPlan}
-use Rattle.app_loads.specs.Host.{Host, is_spot_taken}
-use Rattle.app_loads.specs.Plans.{IsAppNet, IsPacketOfApp, IsPlan, MayLoad}
-use Rattle.job_requests.specs.Valid.{IsValidJob}
+use Rattle.app_graph.specs.RunPart.{IsPacketOf as IsRunPacket}
+use Rattle.net_plans.specs.{CutOffTargets.HasNoneCutOff, CutOffTargets.IsFirstNetCutOff, NetPlans.IsPlannedNet, Cause.IsNetCause, Cause.IsCauseOne, declared.nets.NetErr.NetErr}
+use Rattle.app_loads.specs.{declared.plans.AppNet.AppNet, declared.plans.AppPlan.AppPlan, Host.Host, Host.is_spot_taken, Plans.IsAppNet, Plans.IsPacketOfApp, Plans.IsPlan, Plans.MayLoad}
 use Rattle.app_loads.specs.declared.answers.LoadRefusal.TheVariants.{Loaded, MemoryOut, KeysOut, RowsOut}
-use Rattle.job_requests.specs.declared.steps.AppJob.{AppJob}
-use Rattle.spin_apps.specs.declared.hosts.LoadAnswer.{LoadAnswer}
-use Rattle.spin_apps.specs.declared.hosts.LoadAnswer.TheVariants.{Done, NoRoom, CutOff, Refused}
-use Rattle.spin_apps.specs.{Answers.IsLoadAnswer, Hosting.IsTaken, Free.free_machine, declared.plans.PlanErr.PlanErr}
+use Rattle.job_requests.specs.{Valid.IsValidJob, declared.steps.AppJob.AppJob}
+use Rattle.spin_apps.specs.declared.hosts.LoadAnswer.{LoadAnswer, TheVariants.Done, TheVariants.NoRoom, TheVariants.CutOff, TheVariants.Refused}
+use Rattle.spin_apps.specs.{Answers.IsLoadAnswer, Hosting.IsTaken, Free.free_machine, declared.plans.PlanErr.PlanErr, Making.IsNoPlanOn, Making.IsPlaced, Making.unplaced, Making.unrouted}
+use Rattle.spin_apps.specs.{Making.unrouted_net, Plans.IsNetFor, Plans.IsPlanFor, Plans.IsWhyUnplanned}
 use Rattle.spin_apps.specs.declared.plans.PlanErr.TheVariants as plans
-use Rattle.spin_apps.specs.Making.{IsNoPlanOn, IsPlaced, unplaced, unrouted, unrouted_net}
-use Rattle.spin_apps.specs.Plans.{IsNetFor, IsPlanFor, IsWhyUnplanned}
 use Rattle.spin_apps.proofs.FreeSpots.{free_usable, placed_free}
 use Rattle.link_detours.specs.declared.repairs.RepairErr.{RepairErr}
 use Rattle.link_detours.specs.declared.repairs.RepairErr.TheVariants as repairs
-use Rattle.net_plans.specs.Cause.{IsNetCause, IsCauseOne}
-use Rattle.net_plans.specs.declared.nets.NetErr.{NetErr}
 use Rattle.net_plans.specs.declared.nets.NetErr.TheVariants as nets
 use Rattle.place_fit.specs.Cause.{IsPlacementCause as IsPlaceCause}
 use Rattle.place_fit.specs.{Boards.AreFreeOn, declared.boards.Board.Board, declared.placing.PlaceErr.PlaceErr}

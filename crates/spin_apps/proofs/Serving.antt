@@ -3,12 +3,9 @@ use Rattle.std.proofs.Common.{◌≡◌, ℕ, List, ◌++◌, Option, Some, refl
 use Rattle.machine_desc.specs.Description.{Description}
 use Rattle.mesh_core.specs.State.{State}
 use Rattle.place_fit.specs.{Boards.AreFreeOn, declared.boards.Board.Board}
-use Rattle.app_loads.specs.{Applications.AreApps, Host.Host, Loading.HasLoaded, Unloading.HasUnloaded, declared.answers.Ended.Ended}
-use Rattle.app_loads.specs.declared.plans.AppPlan.{AppPlan}
+use Rattle.app_loads.specs.{Applications.AreApps, Host.Host, Loading.HasLoaded, Unloading.HasUnloaded, declared.answers.Ended.Ended, declared.plans.AppPlan.AppPlan}
 use Rattle.job_requests.specs.declared.steps.Step.TheVariants.{Run}
-use Rattle.spin_apps.specs.Answers.{HasDrained}
-use Rattle.spin_apps.specs.Free.{free_but, free_machine}
-use Rattle.spin_apps.specs.{Hosting.HasAddedLine, Lines.run_line}
+use Rattle.spin_apps.specs.{Answers.HasDrained, Free.free_but, Free.free_machine, Hosting.HasAddedLine, Lines.run_line}
 use Rattle.spin_apps.proofs.Keeping.{loaded_free}
 
 loaded_machine : (old new : Host) (number : ℕ) (plan : AppPlan) → HasLoaded old number plan new → new.mesh.setup.machine ≡ old.mesh.setup.machine

@@ -16,9 +16,9 @@ ghost use Rattle.spin_apps.specs.Plans.{IsNetFor};
 use app_graph::{Net, Vertex};
 use app_loads::{AppNet, AppPlan};
 use job_requests::AppJob;
-use link_detours::{RepairErr, Roads};
+use link_detours::{Ground, RepairErr, Roads};
 use machine_desc::{Machine, NetPlan};
-use net_plans::{NetErr, net_plan};
+use net_plans::{NetErr, PlacedNet, net_plan};
 use place_fit::{FreeCores, PlaceErr};
 use spin_base::{Block, Chip, Memory, Packet, Seq, Spot};
 use std::alloc::Global;
@@ -167,12 +167,12 @@ fn unrouted_net(net: u32, e: RepairErr) -> NetErr
 }
 
 // A net with its source, its targets and its tree.
-fn app_net(
+fn app_net<'x>(
     alloc: Global,
-    machine: &Machine,
-    roads: &Roads,
-    spots: &Seq<Spot>,
-    net: &Net,
+    machine: &'x Machine,
+    roads: &'x Roads,
+    spots: &'x Seq<Spot>,
+    net: &'x Net,
 ) -> Result<AppNet, RepairErr>
     requires { CanRouteNet machine.now roads.now spots.now net.now }
     ensures net { IfOk result (IsNetFor machine.now spots.now net.now) }
@@ -180,7 +180,14 @@ fn app_net(
     ensures reached { IfOk result (λ _. HasNoneCutOff machine.now spots.now net.now) }
     ensures why { IfErr result (IsCauseOne machine.now spots.now net.now) }
 {
-    let plan = net_plan(alloc, machine, roads, spots, net, NO_KEYS)?;
+    let ground = Ground { machine, roads };
+    let placed = PlacedNet {
+        ground,
+        spots,
+        net,
+        block: NO_KEYS,
+    };
+    let plan = net_plan(alloc, placed)?;
     let NetPlan {
         block: _,
         source,

@@ -1,9 +1,8 @@
 -- Lists in ascending order of a number that each item has.
-use Rattle.std.proofs.Common.{◌≡◌, ℕ, ◌<◌, List, [], ◌∷◌, refl, sym, ap, ◌∙◌, arith, inl, inr}
+use Rattle.std.proofs.Common.{◌≡◌, ℕ, ◌<◌, List, [], ◌∷◌, refl, sym, arith, inl, inr}
 use Rattle.std.specs.List.{Contains, AllPairs}
 use Rattle.std.proofs.lemmas.List.Elements.{All-contains}
-use Rattle.spin_base.proofs.Members.{Contains-none, Contains-first, Contains-later, Contains-cases}
-use Rattle.spin_base.proofs.Pairs.{AllPairs-head, AllPairs-tail}
+use Rattle.spin_base.proofs.{Members.Contains-none, Members.Contains-first, Members.Contains-later, Members.Contains-cases, Pairs.AllPairs-head, Pairs.AllPairs-tail}
 
 module _ {X : Type 0} (number : X → ℕ) where
   -- the first of an ascending list is before all others
@@ -17,22 +16,14 @@ module _ {X : Type 0} (number : X → ℕ) where
     | inl here ↦ sym here
     | inr later ↦ elim (Contains-cases x xs y onto) [
       | inl here ↦ here
-      | inr after ↦
-          let one : number y < number x = ascending_first y ys also x later in
-          let two : number x < number y = ascending_first x xs up y after in
-          absurd (omega arith)
+      | inr after ↦ grind (arith, ascending_first y ys also x later, ascending_first x xs up y after)
     ]
   ]
 
   -- and the same others
   has_after : (x y : X) (xs ys : List X) → x ≡ y → AllPairs (λ a b. number a < number b) (x ∷ xs) → ((z : X) → Contains (x ∷ xs) z → Contains (y ∷ ys) z) →
       (z : X) → Contains xs z → Contains ys z
-  has_after x y xs ys same up into z has = elim (Contains-cases y ys z (into z (Contains-later x xs z has))) [
-    | inl here ↦
-        let low : number x < number z = ascending_first x xs up z has in
-        let number_is : number x ≡ number z = ap number (same ∙ here) in absurd (omega arith)
-    | inr later ↦ later
-  ]
+  has_after x y xs ys same up into z has = grind (arith, Contains-cases y ys z (into z (Contains-later x xs z has)), Contains-later x xs z has, ascending_first x xs up z has)
 
   -- Two lists in ascending order with the same items are the same list.
   pub same_in_order : (xs ys : List X) → AllPairs (λ a b. number a < number b) xs → AllPairs (λ a b. number a < number b) ys →

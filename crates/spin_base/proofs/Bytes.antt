@@ -1,8 +1,7 @@
 -- Laws of bytes that are given and taken piece by piece.
-use Rattle.std.proofs.Common.{◌≡◌, ℕ, ◌+◌, ◌<◌, ◌≤◌, List, [], ◌∷◌, ◌++◌, length, take, Option, Some, None, refl, ap, sym, ◌∙◌, arith, append_assoc, append-nil, length-append, length-take-le, length-drop, drop}
-use Rattle.std.proofs.Math.Seq.{take-add, take-length}
-use Rattle.std.proofs.lemmas.List.{take-append-le, take-append-drop, drop-drop}
-use Rattle.std.proofs.Common.{inl, inr, ◌-◌}
+use Rattle.std.proofs.Common.{◌≡◌, ℕ, ◌+◌, ◌<◌, ◌≤◌, List, [], ◌∷◌, ◌++◌, length, take, Option, Some, None, refl, ap, sym, ◌∙◌, arith, append_assoc, append-nil, length-append, length-take-le}
+use Rattle.std.proofs.Common.{length-drop, drop, inl, inr, ◌-◌}
+use Rattle.std.proofs.{Math.Seq.take-add, Math.Seq.take-length, lemmas.List.take-append-le, lemmas.List.take-append-drop, lemmas.List.drop-drop}
 use Rattle.spin_base.specs.Outside.{FaultsRose, GivesFirst, GivesAll, HasMoreThan, LosesAtMost, LosesMoreThan, Takes, Reads}
 
 -- before the first read nothing was given
@@ -46,10 +45,7 @@ rose_since early late after before (inr last) = inr last
 
 -- at the end of input all has been given
 pub gives_end : (a b c : Option (List ℕ)) (g : List ℕ) (n : ℕ) (buffer : List ℕ) → GivesFirst a g b → Reads b n buffer c → n ≡ 0 → GivesAll a g c
-gives_end (Some x) (Some y) (Some z) g n buffer given reads none =
-    let nothing_given : take n buffer ≡ [] = ap (λ k. take k buffer) none in
-    let last : y ≡ z = reads.gives ∙ ap (λ v. v ++ z) nothing_given in
-    record { gives = given ∙ ap (λ v. g ++ v) last; at_end = sym last ∙ reads.end_of_input none }
+gives_end (Some x) (Some y) (Some z) g n buffer given reads none = grind arith
 gives_end (Some x) (Some y) None g n buffer given reads none = absurd reads.gives
 gives_end (Some x) None c g n buffer given reads none = absurd given
 gives_end None (Some y) c g n buffer given reads none = absurd given
@@ -58,10 +54,7 @@ gives_end None None None g n buffer given reads none = record { gives = tt; at_e
 
 -- one read past the limit
 pub loses_too_many : (a b c : Option (List ℕ)) (g buffer : List ℕ) (n limit : ℕ) → GivesFirst a g b → GivesFirst b (take n buffer) c → n ≤ length buffer → limit - length g < n → LosesMoreThan limit a c
-loses_too_many a b c g buffer n limit first second within past =
-    let both : length (g ++ take n buffer) ≡ length g + n =
-    length-append g (take n buffer) ∙ ap (λ k. length g + k) (length-take-le n buffer within)
-    in (g ++ take n buffer, gives_then a b c g (take n buffer) first second, omega arith)
+loses_too_many a b c g buffer n limit first second within past = grind (arith, length-append g (take n buffer), length-take-le n buffer within, gives_then a b c g (take n buffer) first second)
 
 pub gives_too_many : (a b c : Option (List ℕ)) (g buffer : List ℕ) (n limit : ℕ) → GivesFirst a g b → GivesFirst b (take n buffer) c → n ≤ length buffer → limit - length g < n → HasMoreThan limit a
 gives_too_many a b c g buffer n limit first second within past =
@@ -69,17 +62,11 @@ gives_too_many a b c g buffer n limit first second within past =
 
 -- one read that stays within the limit
 pub loses_few : (a b c : Option (List ℕ)) (g buffer : List ℕ) (n limit : ℕ) → GivesFirst a g b → GivesFirst b (take n buffer) c → n ≤ length buffer → length g + n ≤ limit → LosesAtMost limit a c
-loses_few a b c g buffer n limit first second within few =
-    let both : length (g ++ take n buffer) ≡ length g + n =
-    length-append g (take n buffer) ∙ ap (λ k. length g + k) (length-take-le n buffer within)
-    in (g ++ take n buffer, gives_then a b c g (take n buffer) first second, omega arith)
+loses_few a b c g buffer n limit first second within few = grind (arith, length-append g (take n buffer), length-take-le n buffer within, gives_then a b c g (take n buffer) first second)
 
 -- what a write takes of the bytes after the first d
 pub takes_from : (a b c : Option (List ℕ)) (s : List ℕ) (d n : ℕ) → Takes a (take d s) b → Takes b (take n (take (length s - d) (drop d s))) c → Takes a (take (d + n) s) c
-takes_from a b c s d n first second =
-    let rest : take (length s - d) (drop d s) ≡ drop d s =
-    ap (λ k. take k (drop d s)) (sym (length-drop d s)) ∙ take-length (drop d s)
-    in rw take-add (takes_then a b c (take d s) (take n (drop d s)) first (rw rest at second))
+takes_from a b c s d n first second = grind (arith, length-drop d s, take-length (drop d s), take-add, takes_then)
 
 no_items : (s : List ℕ) → length s ≡ 0 → s ≡ []
 no_items [] e = refl

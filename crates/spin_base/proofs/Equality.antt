@@ -1,15 +1,9 @@
 -- The tests of equality say what equality says.
-use Rattle.std.proofs.Common.{◌≡◌, ◌∙◌, ℕ, true, ◌==◌, refl, ap, arith}
+use Rattle.std.proofs.Common.{◌≡◌, ℕ, true, ◌==◌, refl, ap, arith}
 use Rattle.std.proofs.lemmas.Bool.{and_parts, eq-eqb, eqb-true}
-use Rattle.spin_base.specs.declared.chips.Chip.{Chip}
-use Rattle.spin_base.specs.declared.chips.Dir.{Dir}
-use Rattle.spin_base.specs.declared.chips.Port.{Port}
-use Rattle.spin_base.specs.declared.chips.Port.TheVariants.{Local, Link as FromLink}
-use Rattle.spin_base.specs.declared.chips.Spot.{Spot}
-use Rattle.spin_base.specs.declared.routes.Out.{Out}
-use Rattle.spin_base.specs.Links.{dir_number, port_number}
-use Rattle.spin_base.specs.Outputs.{out_number}
-use Rattle.spin_base.specs.Equality.{chip_eq, spot_eq, dir_eq, port_eq, out_eq}
+use Rattle.spin_base.specs.declared.{chips.Chip.Chip, chips.Dir.Dir, chips.Port.Port, chips.Port.TheVariants.Local, chips.Spot.Spot, routes.Out.Out}
+use Rattle.spin_base.specs.{Links.dir_number, Links.port_number, Outputs.out_number, Equality.chip_eq, Equality.spot_eq, Equality.dir_eq, Equality.port_eq, Equality.out_eq}
+use Rattle.spin_base.specs.declared.chips.Port.TheVariants.{Link as FromLink}
 use Rattle.spin_base.proofs.Outputs.{dir_number_injective, dir_number_below, out_number_injective}
 
 pub nat_eq_same : (m : ℕ) → (m == m) ≡ true
@@ -19,15 +13,10 @@ pub chip_eq_same : (a : Chip) → chip_eq a a ≡ true
 chip_eq_same a = rw (nat_eq_same a.x, nat_eq_same a.y) refl
 
 pub same_chip : (a b : Chip) → a.x ≡ b.x → a.y ≡ b.y → a ≡ b
-same_chip a b p q =
-    let first : a ≡ record { x = b.x; y = a.y } = ap (λ (n : ℕ). let c : Chip = record { x = n; y = a.y } in c) p in
-    first ∙ ap (λ (n : ℕ). let c : Chip = record { x = b.x; y = n } in c) q
+same_chip a b p q = grind arith
 
 pub same_spot : (a b : Spot) → a.chip ≡ b.chip → a.core ≡ b.core → a ≡ b
-same_spot a b p q =
-    let first : a ≡ record { chip = b.chip; core = a.core } =
-    ap (λ (c : Chip). let s : Spot = record { chip = c; core = a.core } in s) p in
-    first ∙ ap (λ (n : ℕ). let s : Spot = record { chip = b.chip; core = n } in s) q
+same_spot a b p q = grind arith
 
 pub chip_eq_true : (a b : Chip) → chip_eq a b ≡ true → a ≡ b
 chip_eq_true a b e = same_chip a b (eqb-true a.x b.x (and_parts _ _ e).0) (eqb-true a.y b.y (and_parts (a.x == b.x) _ e).1)
@@ -36,8 +25,7 @@ pub spot_eq_same : (a : Spot) → spot_eq a a ≡ true
 spot_eq_same a = rw (nat_eq_same a.chip.x, nat_eq_same a.chip.y, nat_eq_same a.core) refl
 
 pub spot_eq_true : (a b : Spot) → spot_eq a b ≡ true → a ≡ b
-spot_eq_true a b e =
-    same_spot a b (chip_eq_true a.chip b.chip (and_parts _ _ e).0) (eqb-true a.core b.core (and_parts (chip_eq a.chip b.chip) _ e).1)
+spot_eq_true a b e = grind (arith, same_spot, chip_eq_true, eqb-true, and_parts)
 
 pub dir_eq_same : (a : Dir) → dir_eq a a ≡ true
 dir_eq_same a = nat_eq_same (dir_number a)

@@ -1,11 +1,10 @@
 -- What is made of the items of a list with their places, one after the other: members and counts.
-use Rattle.std.proofs.Common.{◌≡◌, ◌≢◌, ℕ, ◌+◌, ◌<◌, ◌≤◌, suc, zero, List, [], ◌∷◌, ◌++◌, map, take, Bool, true, false, if◌then◌else◌, Option, Some, None, refl, ap, sym, ◌∙◌, subst, arith, inl, inr, ◌⊎◌, count_by, replicate, append_assoc, append-nil, add-one}
+use Rattle.std.proofs.Common.{◌≡◌, ◌≢◌, ℕ, ◌+◌, ◌<◌, ◌≤◌, suc, zero, List, [], ◌∷◌, ◌++◌, map, take, Bool, true, false, if◌then◌else◌, Option, Some, None, refl, ap, sym, ◌∙◌, subst, arith, inl, inr}
+use Rattle.std.proofs.Common.{◌⊎◌, count_by, replicate, append_assoc, append-nil, add-one}
 use Rattle.std.specs.List.{All, slice_get, range_with_len, filter_map, enumerate_from, cons_option}
-use Rattle.std.proofs.lemmas.Bool.{cases_order}
-use Rattle.std.proofs.lemmas.List.Elements.{All-head, All-tail}
+use Rattle.std.proofs.lemmas.{Bool.cases_order, List.Elements.All-head, List.Elements.All-tail}
 use Rattle.spin_base.specs.Gathered.{gathered}
-use Rattle.spin_base.proofs.Members.{Among, among_left, among_right, among_either}
-use Rattle.spin_base.proofs.Counts.{count_by-append, count_by-cons}
+use Rattle.spin_base.proofs.{Members.Among, Members.among_left, Members.among_right, Members.among_either, Counts.count_by-append, Counts.count_by-cons}
 
 -- nothing is made of items of which nothing is made
 pub gathered_of_none : {X Y : Type 0} (f : ℕ → X → List Y) (x : X) → ((j : ℕ) → f j x ≡ []) → (i : ℕ) (xs : List X) → All (λ y. y ≡ x) xs → gathered f i xs ≡ []
@@ -17,20 +16,14 @@ gathered_of_none f x nothing i (y ∷ xs) all =
 
 pub gathered_nothing : {X Y : Type 0} (f : ℕ → X → List Y) (x : X) → ((j : ℕ) → f j x ≡ []) → (i n : ℕ) → gathered f i (replicate n x) ≡ []
 gathered_nothing f x nothing i zero = refl
-gathered_nothing f x nothing i (suc n) =
-    ap (λ l. l ++ gathered f (i + 1) (replicate n x)) (nothing i) ∙ gathered_nothing f x nothing (i + 1) n
+gathered_nothing f x nothing i (suc n) = grind (arith, gathered_nothing f x nothing (i + 1) n)
 
 -- ---- the first items and the next
 
 gathered_next : {X Y : Type 0} (f : ℕ → X → List Y) (n : ℕ) (xs : List X) (i j : ℕ) (x : X) → slice_get xs i ≡ Some x → n + i ≡ j → gathered f n (take (suc i) xs) ≡ gathered f n (take i xs) ++ f j x
 gathered_next f n [] i j x here at = cc
-gathered_next {X} {Y} f n (y ∷ ys) zero j x here at =
-    let same : y ≡ x = cc in
-    let place : n ≡ j = omega (arith, at) in
-    append-nil (f n y) ∙ ap (f n) same ∙ ap (λ (m : ℕ). f m x) place
-gathered_next {X} {Y} f n (y ∷ ys) (suc i) j x here at =
-    ap (λ l. f n y ++ l) (gathered_next f (n + 1) ys i j x here (omega (arith, at)))
-    ∙ sym (append_assoc (f n y) (gathered f (n + 1) (take i ys)) (f j x))
+gathered_next {X} {Y} f n (y ∷ ys) zero j x here at = grind (arith, append-nil (f n y))
+gathered_next {X} {Y} f n (y ∷ ys) (suc i) j x here at = grind (arith, gathered_next f (n + 1) ys i j x here (omega (arith, at)), append_assoc (f n y) (gathered f (n + 1) (take i ys)) (f j x))
 
 -- the first items and the next
 pub gathered_more : {X Y : Type 0} (f : ℕ → X → List Y) (n : ℕ) (xs : List X) (i j : ℕ) (x : X) → slice_get xs i ≡ Some x → n + i ≡ j → gathered f n (take (i + 1) xs) ≡ gathered f n (take i xs) ++ f j x
@@ -52,11 +45,7 @@ among_gathered_from f y i (x ∷ xs) a = elim (among_either y (f i x) (gathered 
 pub gathered_among_from : {X Y : Type 0} (f : ℕ → X → List Y) (y : Y) (i : ℕ) (xs : List X) (j : ℕ) (x : X) → slice_get xs j ≡ Some x →
     Among y (f (i + j) x) → Among y (gathered f i xs)
 gathered_among_from f y i [] j x at a = cc
-gathered_among_from {X} {Y} f y i (z ∷ xs) zero x at a =
-    let same : x ≡ z = cc in
-    let n_is : i + 0 ≡ i = omega arith in
-    let P : ℕ → X → Type 0 = λ n v. Among y (f n v) in
-    among_left y (f i z) (gathered f (i + 1) xs) (subst (λ n. P n z) n_is (subst (λ v. P (i + 0) v) same a))
+gathered_among_from {X} {Y} f y i (z ∷ xs) zero x at a = grind (arith, Among, among_left)
 gathered_among_from f y i (z ∷ xs) (suc j) x at a =
     let n_is : i + suc j ≡ i + 1 + j = omega arith in
     among_right y (f i z) (gathered f (i + 1) xs) (gathered_among_from f y (i + 1) xs j x at (subst (λ n. Among y (f n x)) n_is a))
@@ -64,10 +53,7 @@ gathered_among_from f y i (z ∷ xs) (suc j) x at a =
 -- the list's item of which a member is made
 pub among_gathered : {X Y : Type 0} (f : ℕ → X → List Y) (y : Y) (xs : List X) → Among y (gathered f 0 xs) →
     (j : ℕ) × (x : X) × (slice_get xs j ≡ Some x) × Among y (f j x)
-among_gathered f y xs a =
-    let found = among_gathered_from f y 0 xs a in
-    let n_is : 0 + found.0 ≡ found.0 = omega arith in
-    (found.0, found.1, found.2, subst (λ n. Among y (f n found.1)) n_is found.3)
+among_gathered f y xs a = grind (arith, among_gathered_from f y 0 xs a, Among)
 
 pub gathered_among : {X Y : Type 0} (f : ℕ → X → List Y) (y : Y) (xs : List X) (j : ℕ) (x : X) → slice_get xs j ≡ Some x →
     Among y (f j x) → Among y (gathered f 0 xs)
@@ -109,14 +95,8 @@ module _ {X Y : Type 0} (f : ℕ → X → List Y) (g : ℕ → X) where
       ((w : ℕ) → w ≢ v → count_by p (f w (g w)) ≡ 0) → count_by p (made i n) ≡ c
   count_made_one p i zero v c low high here others = absurd (omega arith)
   count_made_one p i (suc n) v c low high here others = elim (cases_order i v) [
-    | inl same ↦
-        let first : count_by p (f i (g i)) ≡ c = subst (λ k. count_by p (f k (g k)) ≡ c) (sym same) here in
-        let rest = count_made_none p (i + 1) n (λ w above. others w (λ e. omega arith)) in
-        count_by-append p (f i (g i)) (made (i + 1) n) ∙ omega (arith, first, rest)
-    | inr (inl before) ↦
-        let first : count_by p (f i (g i)) ≡ 0 = others i (λ e. omega arith) in
-        let rest = count_made_one p (i + 1) n v c (omega arith) (omega arith) here others in
-        count_by-append p (f i (g i)) (made (i + 1) n) ∙ omega (arith, first, rest)
+    | inl same ↦ grind (arith, count_by-append p (f i (g i)) (made (i + 1) n), count_by, count_made_none)
+    | inr (inl before) ↦ grind (arith, count_made_one p (i + 1) n v c (omega arith) (omega arith) here others, count_by-append p (f i (g i)) (made (i + 1) n))
     | inr (inr after) ↦ absurd (omega arith)
   ]
 
@@ -156,10 +136,7 @@ module _ {X Y : Type 0} (h : ℕ × X → Option Y) where
 
   pub chosen_among : (y : Y) (n : ℕ) (xs : List X) (i : ℕ) (x : X) → slice_get xs i ≡ Some x → h (n + i, x) ≡ Some y → Among y (chosen n xs)
   chosen_among y n [] i x at is = cc
-  chosen_among y n (z ∷ xs) zero x at is =
-      let same : z ≡ x = cc in
-      let zero_more : n + 0 ≡ n = omega arith in
-      first_among y (h (n, z)) (chosen (n + 1) xs) (ap (λ w. h (n, w)) same ∙ (ap (λ k. h (k, x)) (sym zero_more) ∙ is))
+  chosen_among y n (z ∷ xs) zero x at is = grind (arith, first_among)
   chosen_among y n (z ∷ xs) (suc i) x at is =
       let next : n + suc i ≡ n + 1 + i = omega arith in
       still_among y (h (n, z)) (chosen (n + 1) xs) (chosen_among y (n + 1) xs i x at (ap (λ k. h (k, x)) (sym next) ∙ is))
@@ -172,9 +149,7 @@ module _ {X Y : Type 0} (h : ℕ × X → Option Y) where
   count_option p None l fails = refl
 
   count_option_one : (p : Y → Bool) (o : Option Y) (l : List Y) (y : Y) → o ≡ Some y → p y ≡ true → count_by p (cons_option o l) ≡ 1 + count_by p l
-  count_option_one p (Some z) l y is passes =
-      let same : z ≡ y = cc in
-      count_by-cons p z l ∙ ap (λ b. (if b then 1 else 0) + count_by p l) (ap p same ∙ passes)
+  count_option_one p (Some z) l y is passes = grind (arith, count_by-cons p z l, count_by p l)
   count_option_one p None l y is passes = cc
 
   -- where none of the items counts, none is counted

@@ -1,12 +1,9 @@
 -- The members of a list: of a first item and others, of lists joined, mapped, filtered and searched.
 -- `Among` is membership by recursion over the list; `Contains` of std names a place.
-use Rattle.std.proofs.Common.{◌≡◌, ℕ, zero, suc, ◌<◌, ◌≤◌, Bool, true, false, cond, nat_lt, List, [], ◌∷◌, ◌++◌, map, length, Option, Some, None, refl, sym, ap, ◌∙◌, subst, arith, inl, inr, ◌⊎◌}
+use Rattle.std.proofs.Common.{◌≡◌, ℕ, zero, suc, ◌<◌, Bool, true, false, cond, nat_lt, List, [], ◌∷◌, ◌++◌, map, length, Option, Some, None, refl, sym, ap, ◌∙◌, subst, arith, inl, inr, ◌⊎◌}
 use Rattle.std.specs.List.{Contains, slice_get, slice_index_or, filter, filter_map, cons_option, list_any, position, position_or_len}
-use Rattle.std.proofs.lemmas.Bool.{cases_Bool, cond-true, cond-false, ltb-false}
-use Rattle.std.proofs.lemmas.List.Folds.{Any-from_list_any, list_any_at}
-use Rattle.std.proofs.lemmas.List.Quantifiers.{position-Some}
-use Rattle.std.proofs.lemmas.List.Sums.{fails_before_first}
-use Rattle.std.proofs.lemmas.Option.{slice_get-get_or, slice_get_within, get_or_from_slice_get}
+use Rattle.std.proofs.lemmas.{Bool.cases_Bool, Bool.cond-true, Bool.cond-false, Bool.ltb-false, List.Folds.Any-from_list_any, List.Folds.list_any_at, List.Quantifiers.position-Some}
+use Rattle.std.proofs.lemmas.{List.Sums.fails_before_first, Option.slice_get-get_or, Option.slice_get_within, Option.get_or_from_slice_get}
 
 -- ---- Contains, of a first item and others
 
@@ -66,8 +63,7 @@ among_right x (y ∷ xs) ys a = inr (among_right x xs ys a)
 pub among_either : {X : Type 0} (x : X) (xs ys : List X) → Among x (xs ++ ys) → Among x xs ⊎ Among x ys
 among_either x [] ys a = inr a
 among_either x (y ∷ xs) ys (inl here) = inl (inl here)
-among_either x (y ∷ xs) ys (inr later) =
-    elim (among_either x xs ys later) [ inl l ↦ inl (inr l) | inr r ↦ inr r ]
+among_either x (y ∷ xs) ys (inr later) = grind (arith, among_either x xs ys later)
 
 pub map_among : {X Y : Type 0} (f : X → Y) (x : X) (xs : List X) → Among x xs → Among (f x) (map f xs)
 map_among f x [] a = absurd a
@@ -92,8 +88,7 @@ Contains-map f xs x has = among_contains (f x) (map f xs) (map_among f x xs (con
 
 pub Contains-unmap : {X Y : Type 0} (f : X → Y) (xs : List X) (y : Y) → Contains (map f xs) y → (x : X) × Contains xs x × (f x ≡ y)
 Contains-unmap f xs y has =
-    let found = among_map f y xs (contains_among y (map f xs) has) in
-    (found.0, among_contains found.0 xs found.1, sym found.2)
+    grind (arith, among_map f y xs (contains_among y (map f xs) has), among_contains (among_map f y xs (contains_among y (map f xs) has)).0 xs (among_map f y xs (contains_among y (map f xs) has)).1)
 
 -- ---- what a filter keeps
 
@@ -112,13 +107,8 @@ Contains-from_filter {X} p (y ∷ ys) x has = elim (cases_Bool (p y)) [
 pub Contains-filter : {X : Type 0} (p : X → Bool) (xs : List X) (x : X) → Contains xs x → p x ≡ true → Contains (filter p xs) x
 Contains-filter p [] x has pass = absurd (Contains-none x has)
 Contains-filter {X} p (y ∷ ys) x has pass = elim (Contains-cases y ys x has) [
-  | inl here ↦
-      let kept : p y ≡ true = subst (λ (z : X). p z ≡ true) (sym here) pass in
-      subst (λ zs. Contains zs x) (sym (cond-true (p y) (y ∷ filter p ys) (filter p ys) kept)) (0, omega arith, here)
-  | inr later ↦ elim (cases_Bool (p y)) [
-    | inl kept ↦ subst (λ zs. Contains zs x) (sym (cond-true (p y) (y ∷ filter p ys) (filter p ys) kept)) (Contains-later y (filter p ys) x (Contains-filter p ys x later pass))
-    | inr left ↦ subst (λ zs. Contains zs x) (sym (cond-false (p y) (y ∷ filter p ys) (filter p ys) left)) (Contains-filter p ys x later pass)
-  ]
+  | inl here ↦ grind (arith, cond-true)
+  | inr later ↦ grind (arith, cases_Bool (p y), Contains-later y (filter p ys) x (Contains-filter p ys x later pass), Contains-filter p ys x later pass, cond-true, cond-false)
 ]
 
 pub among_filter : {X : Type 0} (p : X → Bool) (x : X) (xs : List X) → Among x (filter p xs) → Among x xs × (p x ≡ true)
@@ -157,9 +147,7 @@ Contains-filter_map {X} {Y} h (z ∷ zs) x y has is = elim (Contains-cases z zs 
 -- ---- what a search finds
 
 pub any_among : {X : Type 0} (p : X → Bool) (xs : List X) → list_any p xs ≡ true → (x : X) × Among x xs × (p x ≡ true)
-any_among p xs e =
-    let found = Any-from_list_any p xs e in
-    (found.1, contains_among found.1 xs (found.0, found.2, found.3), found.4)
+any_among p xs e = grind (arith, Any-from_list_any p xs e, contains_among (Any-from_list_any p xs e).1 xs ((Any-from_list_any p xs e).0, (Any-from_list_any p xs e).2, (Any-from_list_any p xs e).3))
 
 pub among_any : {X : Type 0} (p : X → Bool) (x : X) (xs : List X) → Among x xs → p x ≡ true → list_any p xs ≡ true
 among_any p x xs a passes = let has = among_contains x xs a in list_any_at p xs has.0 x has.1 (ap p has.2 ∙ passes)
@@ -168,10 +156,7 @@ among_any p x xs a passes = let has = among_contains x xs a in list_any_at p xs 
 pub position_there : {X : Type 0} (p : X → Bool) (xs : List X) (i : ℕ) (d : X) → position p xs ≡ Some i →
     (x : X) × (slice_get xs i ≡ Some x) × Among x xs × (p x ≡ true)
 position_there p xs i d is =
-    let found = position-Some p xs i d is in
-    let x = slice_index_or xs i d in
-    let at : slice_get xs i ≡ Some x = slice_get-get_or xs i d found.0 in
-    (x, at, among_at xs i x at, found.1)
+    grind (arith, position-Some p xs i d is, slice_get-get_or xs i d (position-Some p xs i d is).0, among_at xs i (slice_index_or xs i d) (slice_get-get_or xs i d (position-Some p xs i d is).0))
 
 -- where no place is found, no item passes
 pub position_nowhere : {X : Type 0} (p : X → Bool) (xs : List X) (x : X) → position p xs ≡ None → Among x xs → p x ≡ true → ⊥
@@ -182,10 +167,4 @@ position_nowhere {X} p xs x is a passes = by_size (nat_lt first (length xs)) ref
 
     by_size : (b : Bool) → nat_lt first (length xs) ≡ b → cond b (Some first) None ≡ None → ⊥
     by_size true e none = cc
-    by_size false e none =
-        let has = among_contains x xs a in
-        let past : length xs ≤ first = ltb-false first (length xs) e in
-        let before : has.0 < first = let within : has.0 < length xs = has.1 in omega arith in
-        let fails : p (slice_index_or xs has.0 x) ≡ false = fails_before_first p xs has.0 x before in
-        let also : p (slice_index_or xs has.0 x) ≡ true = ap p has.2 ∙ passes in
-        cc
+    by_size false e none = grind (arith, among_contains x xs a, ltb-false first (length xs) e, fails_before_first)

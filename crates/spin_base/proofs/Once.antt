@@ -1,18 +1,11 @@
 -- How often an output stands in what a route names: once where the route has it, else not.
-use Rattle.std.proofs.Common.{◌≡◌, ◌≢◌, ℕ, ◌+◌, ◌<◌, ◌≤◌, List, [], ◌∷◌, map, filter, Bool, true, false, ◌==◌, arith, ap, sym, ◌∙◌, refl, cond, if◌then◌else◌, count_by, suc, zero}
+use Rattle.std.proofs.Common.{◌≡◌, ℕ, ◌+◌, ◌<◌, ◌≤◌, List, [], ◌∷◌, map, filter, Bool, true, false, ◌==◌, arith, ◌∙◌, refl, cond, if◌then◌else◌, count_by, suc, zero}
 use Rattle.std.specs.List.{range_with_len}
-use Rattle.std.proofs.lemmas.Bool.{eqb-true, ne_eqb}
-use Rattle.std.proofs.lemmas.List.Sums.{sum_by-append, sum_by-cons}
-use Rattle.spin_base.specs.declared.chips.Dir.{Dir}
-use Rattle.spin_base.specs.Links.{dir_number}
-use Rattle.spin_base.specs.declared.chips.Dir.TheVariants.{East, NorthEast, North, West, SouthWest, South}
-use Rattle.spin_base.specs.declared.routes.Out.{Out}
-use Rattle.spin_base.specs.declared.routes.Out.TheVariants.{Link, Core}
-use Rattle.spin_base.specs.declared.routes.Route.{Route}
-use Rattle.spin_base.specs.Equality.{out_eq}
-use Rattle.spin_base.specs.Outputs.{has, outs_of, all_outs, link_outs, core_outs, IsOutput}
-use Rattle.spin_base.proofs.Outputs.{dir_number_below}
-use Rattle.spin_base.proofs.Equality.{out_eq_true, nat_eq_same}
+use Rattle.std.proofs.lemmas.{Bool.eqb-true, Bool.ne_eqb, List.Sums.sum_by-append, List.Sums.sum_by-cons}
+use Rattle.spin_base.specs.declared.chips.Dir.{Dir, TheVariants.East, TheVariants.NorthEast, TheVariants.North, TheVariants.West, TheVariants.SouthWest, TheVariants.South}
+use Rattle.spin_base.specs.{declared.routes.Out.Out, declared.routes.Out.TheVariants.Link, declared.routes.Out.TheVariants.Core, declared.routes.Route.Route, Equality.out_eq, Outputs.has}
+use Rattle.spin_base.specs.Outputs.{outs_of, all_outs, link_outs, core_outs, IsOutput}
+use Rattle.spin_base.proofs.{Outputs.dir_number_below, Equality.out_eq_true, Equality.nat_eq_same}
 
 -- a count of a list, from its first item on
 count_by-cons : (q : Out → Bool) (x : Out) (xs : List Out) → count_by q (x ∷ xs) ≡ cond (q x) 1 0 + count_by q xs
@@ -33,29 +26,21 @@ pub count_by-filter_same : (p q : Out → Bool) (b : Bool) (xs : List Out) → (
 count_by-filter_same p q true [] same = refl
 count_by-filter_same p q false [] same = refl
 count_by-filter_same p q b (x ∷ xs) same =
-    count_step p q b x xs (filter p xs) (same x) (count_by-filter_same p q b xs same) (p x) (q x) refl refl
-    ∙ ap (λ n. cond b n 0) (sym (count_by-cons q x xs))
+    grind (arith, count_step p q b x xs (filter p xs) (same x) (count_by-filter_same p q b xs same) (p x) (q x) refl refl, count_by-filter_same p q b xs same, count_by-cons q x xs)
 
 cores_none : (d : Dir) (a n : ℕ) → count_by (out_eq (Link d)) (map Core (range_with_len a n)) ≡ 0
 cores_none d a zero = refl
-cores_none d a (suc n) =
-    let no : (dir_number d == 6 + a) ≡ false = ne_eqb (dir_number d) (6 + a) (λ e. omega (arith, dir_number_below d)) in
-    count_by-cons (out_eq (Link d)) (Core a) (map Core (range_with_len (a + 1) n)) ∙ rw no (omega (arith, cores_none d (a + 1) n))
+cores_none d a (suc n) = grind (arith, dir_number_below d, count_by-cons (out_eq (Link d)) (Core a) (map Core (range_with_len (a + 1) n)), cores_none d (a + 1) n, ne_eqb)
 
 cores_before : (p a n : ℕ) → p < a → count_by (out_eq (Core p)) (map Core (range_with_len a n)) ≡ 0
 cores_before p a zero before = refl
-cores_before p a (suc n) before =
-    let no : (6 + p == 6 + a) ≡ false = ne_eqb (6 + p) (6 + a) (λ e. omega arith) in
-    count_by-cons (out_eq (Core p)) (Core a) (map Core (range_with_len (a + 1) n))
-    ∙ rw no (omega (arith, cores_before p (a + 1) n (omega arith)))
+cores_before p a (suc n) before = grind (arith, count_by-cons (out_eq (Core p)) (Core a) (map Core (range_with_len (a + 1) n)), cores_before p (a + 1) n (omega arith), ne_eqb)
 
 cores_once_by : (p a n : ℕ) → a ≤ p → p < a + suc n → (a + 1 ≤ p → count_by (out_eq (Core p)) (map Core (range_with_len (a + 1) n)) ≡ 1) → (b : Bool) → (6 + p == 6 + a) ≡ b → cond b 1 0 + count_by (out_eq (Core p)) (map Core (range_with_len (a + 1) n)) ≡ 1
 cores_once_by p a n after before later true here =
     let same : 6 + p ≡ 6 + a = eqb-true (6 + p) (6 + a) here in
     omega (arith, cores_before p (a + 1) n (omega arith))
-cores_once_by p a n after before later false here =
-    let other : 6 + p ≢ 6 + a = λ e. let yes = nat_eq_same (6 + p) in cc (ap (λ k. 6 + p == k) e) in
-    omega (arith, later (omega arith))
+cores_once_by p a n after before later false here = grind (arith, nat_eq_same (6 + p))
 
 cores_once : (p a n : ℕ) → a ≤ p → p < a + n → count_by (out_eq (Core p)) (map Core (range_with_len a n)) ≡ 1
 cores_once p a zero after before = absurd (omega arith)
@@ -74,15 +59,7 @@ link_once South = refl
 
 links_none : (p : ℕ) → count_by (out_eq (Core p)) link_outs ≡ 0
 unfolding link_outs
-links_none p =
-    rw (
-      ne_eqb (6 + p) 0 (λ e. omega arith),
-      ne_eqb (6 + p) 1 (λ e. omega arith),
-      ne_eqb (6 + p) 2 (λ e. omega arith),
-      ne_eqb (6 + p) 3 (λ e. omega arith),
-      ne_eqb (6 + p) 4 (λ e. omega arith),
-      ne_eqb (6 + p) 5 (λ e. omega arith),
-    ) refl
+links_none p = grind (arith, ne_eqb)
 
 core_outs_none : (d : Dir) → count_by (out_eq (Link d)) core_outs ≡ 0
 unfolding core_outs
@@ -94,13 +71,9 @@ core_outs_once p below = cores_once p 0 18 (omega arith) (omega arith)
 
 -- each output of a chip stands once in the list of them
 pub all_once : (o : Out) → IsOutput o → count_by (out_eq o) all_outs ≡ 1
-all_once (Link d) valid =
-    sum_by-append (λ x. cond (out_eq (Link d) x) 1 0) link_outs core_outs ∙ rw (link_once d, core_outs_none d) refl
-all_once (Core p) valid =
-    sum_by-append (λ x. cond (out_eq (Core p) x) 1 0) link_outs core_outs ∙ rw (links_none p, core_outs_once p valid) refl
+all_once (Link d) valid = grind (arith, link_once d, core_outs_none d, sum_by-append)
+all_once (Core p) valid = grind (arith, links_none p, core_outs_once p valid, sum_by-append)
 
 -- an output stands once in what a route names where the route has it, else not
 pub outs_once : (r : Route) (o : Out) → IsOutput o → count_by (out_eq o) (outs_of r) ≡ (if has r o then 1 else 0)
-outs_once r o valid =
-    count_by-filter_same (has r) (out_eq o) (has r o) all_outs (λ x same. ap (has r) (sym (out_eq_true o x same)))
-    ∙ ap (λ n. cond (has r o) n 0) (all_once o valid)
+outs_once r o valid = grind (arith, all_once o valid, count_by-filter_same, out_eq_true)

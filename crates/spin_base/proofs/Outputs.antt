@@ -1,20 +1,12 @@
 -- Lemmas on routes and their outputs.
-use Rattle.std.proofs.Common.{◌≡◌, ◌≢◌, ℕ, ◌+◌, ◌*◌, ◌%◌, ◌<◌, ◌≤◌, ◌^◌, ◌==◌, List, [], ◌∷◌, ◌++◌, map, filter, length, zero, suc, length-append, arith, ap, sym, ◌∙◌, refl, append_assoc, append-nil, inl, inr, w32, bit_or, lit<}
-use Rattle.std.specs.Prelude.{bit_and}
-use Rattle.std.specs.List.{range_with_len}
-use Rattle.std.specs.Int.{bit_at, bit_not, trailing_zeros}
-use Rattle.std.proofs.lemmas.Bool.{cases_eq, cases_lt}
-use Rattle.std.proofs.lemmas.Nat.{and_le_l, or_lt}
-use Rattle.std.proofs.Math.Pow.{pow-lt}
-use Rattle.std.proofs.lemmas.List.Sums.{count_by-le-length, length-filter}
+use Rattle.std.proofs.Common.{◌≡◌, ◌≢◌, ℕ, ◌+◌, ◌*◌, ◌%◌, ◌<◌, ◌≤◌, ◌^◌, ◌==◌, List, [], ◌∷◌, ◌++◌, map, filter, length, zero, suc, length-append, arith, ap, sym, ◌∙◌, refl, append_assoc, append-nil}
+use Rattle.std.proofs.Common.{inl, inr, w32, bit_or, lit<}
+use Rattle.std.specs.{Prelude.bit_and, List.range_with_len, Int.bit_at, Int.bit_not, Int.trailing_zeros}
+use Rattle.std.proofs.{lemmas.Bool.cases_eq, lemmas.Bool.cases_lt, lemmas.Nat.and_le_l, lemmas.Nat.or_lt, Math.Pow.pow-lt, lemmas.List.Sums.count_by-le-length, lemmas.List.Sums.length-filter}
 use Rattle.std.proofs.lemmas.Nat.Bits.{bit_at_above, bit_at-zero, bit_at_set_same, bit_at_set_other, bit_at-trailing_zeros, bit_at_clear_same, bit_at_clear_other}
-use Rattle.spin_base.specs.declared.routes.Out.{Out}
-use Rattle.spin_base.specs.declared.routes.Out.TheVariants.{Link, Core}
-use Rattle.spin_base.specs.declared.chips.Dir.{Dir}
-use Rattle.spin_base.specs.declared.chips.Dir.TheVariants.{East, NorthEast, North, West, SouthWest, South}
-use Rattle.spin_base.specs.declared.routes.Route.{Route}
-use Rattle.spin_base.specs.Outputs.{has, all_outs, outs_of, link_outs, core_outs, out_number, IsOutput, WithOut}
-use Rattle.spin_base.specs.Links.{dir_number}
+use Rattle.spin_base.specs.declared.{routes.Out.Out, routes.Out.TheVariants.Link, routes.Out.TheVariants.Core, chips.Dir.Dir, chips.Dir.TheVariants.East, chips.Dir.TheVariants.NorthEast}
+use Rattle.spin_base.specs.declared.{chips.Dir.TheVariants.North, chips.Dir.TheVariants.West, chips.Dir.TheVariants.SouthWest, chips.Dir.TheVariants.South, routes.Route.Route}
+use Rattle.spin_base.specs.{Outputs.has, Outputs.all_outs, Outputs.outs_of, Outputs.link_outs, Outputs.core_outs, Outputs.out_number, Outputs.IsOutput, Outputs.WithOut, Links.dir_number}
 
 -- no bit from 24 on is set
 pub no_high_bit : (r : Route) (k : ℕ) → 24 ≤ k → bit_at r.bits k ≡ 0
@@ -140,9 +132,7 @@ module _ (word : ℕ) (fits : word < 2 ^ 24) (some : word ≢ 0) where
   same_past : (os : List Out) (k : ℕ) → RiseFrom k os → lowest < k → k + length os ≤ 32 → outs_in word os ≡ outs_in (less word lowest) os
   unfolding RiseFrom
   same_past [] k rise past within = refl
-  same_past (o ∷ os) k rise past within =
-      let bit : bit_at (less word lowest) (out_number o) ≡ bit_at word (out_number o) = kept (out_number o) (omega (arith, rise.0, within)) (λ e. omega (arith, rise.0, past, e)) in
-      rw (bit, same_past os (k + 1) rise.1 (omega (arith, past)) (omega (arith, within))) refl
+  same_past (o ∷ os) k rise past within = grind (arith, same_past os (k + 1) rise.1 (omega (arith, past)) (omega (arith, within)), kept)
 
   -- the output of the lowest bit comes first
   lowest_first : (os : List Out) (k : ℕ) (first : Out) → out_number first ≡ lowest → RiseFrom k os → k ≤ lowest → lowest < k + length os → k + length os ≤ 32 →
@@ -169,12 +159,4 @@ module _ (word : ℕ) (fits : word < 2 ^ 24) (some : word ≢ 0) where
     one_more = append_assoc items (first ∷ []) (outs_in (less word lowest) all_outs) ∙ (ap (λ l. items ++ l) (sym split) ∙ so_far)
 
     pub room_left : length items < 24
-    room_left = omega (
-      arith,
-      ap length so_far,
-      ap length split,
-      length-append items (outs_in word all_outs),
-      length-filter (has r) all_outs,
-      count_by-le-length (has r) all_outs,
-      all_are,
-    )
+    room_left = grind (arith, split, length-append items (outs_in word all_outs), length-filter (has r) all_outs, count_by-le-length (has r) all_outs, all_are)

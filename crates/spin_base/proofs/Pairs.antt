@@ -2,17 +2,11 @@
 -- and what holds of all items of joined lists.
 use Rattle.std.proofs.Common.{◌≡◌, ◌≢◌, ℕ, suc, ◌<◌, List, [], ◌∷◌, ◌++◌, map, length, get_or, set, refl, sym, ap, ◌∙◌, subst, arith, inl, inr, ◌⊎◌, Some}
 use Rattle.std.specs.List as lists
-use Rattle.std.specs.List.{All, AllPairs, flat_map, slice_get}
-use Rattle.std.specs.List.Sorted.{IsPermutation}
+use Rattle.std.specs.List.{All, AllPairs, flat_map, slice_get, Sorted.IsPermutation}
 use Rattle.std.proofs.Math.ListN as whole
-use Rattle.std.proofs.Math.ListN.{length-set}
-use Rattle.std.proofs.lemmas.Bool.{cases_eq, cases_order}
-use Rattle.std.proofs.lemmas.List.{length-map, get_or-map, get_or-set_same, get_or-set_other}
-use Rattle.std.proofs.lemmas.List.Edits.{swap_is, length-swap}
-use Rattle.std.proofs.lemmas.List.Elements.{All-nil, All-cons, All-head, All-tail, All-append}
-use Rattle.std.proofs.lemmas.List.Kept.{AllPairs-cons}
-use Rattle.std.proofs.lemmas.List.Sorted.{IsPermutation-keeps}
-use Rattle.std.proofs.lemmas.Option.{slice_get_within, get_or_from_slice_get}
+use Rattle.std.proofs.{Math.ListN.length-set, lemmas.Bool.cases_eq, lemmas.Bool.cases_order, lemmas.List.length-map, lemmas.List.get_or-map, lemmas.List.get_or-set_same, lemmas.List.get_or-set_other}
+use Rattle.std.proofs.lemmas.List.{Edits.swap_is, Edits.length-swap, Elements.All-nil, Elements.All-cons, Elements.All-head, Elements.All-tail, Elements.All-append, Kept.AllPairs-cons}
+use Rattle.std.proofs.lemmas.{List.Sorted.IsPermutation-keeps, Option.slice_get_within, Option.get_or_from_slice_get}
 
 -- ---- all items of joined lists
 
@@ -123,20 +117,9 @@ moved l i j k d il jl kl = elim (cases_eq k j) [
     inl (last, refl),
   )
   | inr not_last ↦ elim (cases_eq k i) [
-    | inl first ↦ (
-      j,
-      ap (λ xs. get_or xs k d) (sym (swap_is l i j d il jl)) ∙ (get_or-set_other (set l i (get_or l j d)) j k (get_or l i d) d not_last
-          ∙ (ap (λ n. get_or (set l i (get_or l j d)) n d) first ∙ get_or-set_same l i (get_or l j d) d il)),
-      jl,
-      inr (inl (first, refl)),
-    )
-    | inr not_first ↦ (
-      k,
-      ap (λ xs. get_or xs k d) (sym (swap_is l i j d il jl)) ∙ (get_or-set_other (set l i (get_or l j d)) j k (get_or l i d) d not_last
-          ∙ get_or-set_other l i k (get_or l j d) d not_first),
-      kl,
-      inr (inr (not_last, not_first, refl)),
-    )
+    | inl first ↦ grind (arith, swap_is l i j d il jl, get_or-set_other (set l i (get_or l j d)) j k (get_or l i d) d not_last, get_or l j d, get_or l i d, get_or-set_same l i (get_or l j d) d il)
+    | inr not_first ↦
+        grind (arith, swap_is l i j d il jl, get_or-set_other (set l i (get_or l j d)) j k (get_or l i d) d not_last, get_or l j d, get_or l i d, get_or-set_other l i k (get_or l j d) d not_first)
   ]
 ]
 
@@ -159,9 +142,5 @@ AllPairs-permutation {X} R turn xs ys perm all = IsPermutation-keeps xs (λ l. A
     let pl : p < length l = omega arith in
     let one = moved l i j p d il jl pl in
     let two = moved l i j q d il jl ql in
-    let here : R (get_or l one.0 d) (get_or l two.0 d) = elim (cases_order one.0 two.0) [
-      | inl same ↦ absurd (differ i j p q one.0 two.0 less one.3 two.3 same)
-      | inr (inl before) ↦ pairs one.0 two.0 d before two.2
-      | inr (inr after) ↦ turn (get_or l two.0 d) (get_or l one.0 d) (pairs two.0 one.0 d after one.2)
-    ] in
+    let here : R (get_or l one.0 d) (get_or l two.0 d) = grind (arith, cases_order one.0 two.0, get_or l two.0 d, get_or l one.0 d, differ) in
     subst (λ (x : X). R x (get_or (lists.swap l i j) q d)) (sym one.1) (subst (λ (y : X). R (get_or l one.0 d) y) (sym two.1) here)) ys perm

@@ -1,9 +1,7 @@
 -- The item at a place of a list, as `slice_get` gives it: after a write, a push, a map, and beside another list.
 use Rattle.std.proofs.Common.{◌≡◌, ◌≢◌, ℕ, zero, suc, ◌+◌, ◌<◌, ◌≤◌, List, [], ◌∷◌, ◌++◌, map, take, length, set, get_or, Option, Some, refl, sym, ap, ◌∙◌, subst, arith, inl, inr, ◌⊎◌}
 use Rattle.std.specs.List.{All, AllZip, Contains, slice_get, zip, enumerate_from}
-use Rattle.std.proofs.lemmas.List.{take_more}
-use Rattle.std.proofs.lemmas.List.Elements.{All-weaker, All-contains_itself}
-use Rattle.std.proofs.lemmas.Option.{slice_get_within, get_or_from_slice_get, same_Some}
+use Rattle.std.proofs.lemmas.{List.take_more, List.Elements.All-weaker, List.Elements.All-contains_itself, Option.slice_get_within, Option.get_or_from_slice_get, Option.same_Some}
 use Rattle.std.proofs.lemmas.Slice.Zip.{all_zipped_more}
 
 -- ---- what holds of each item
@@ -24,15 +22,12 @@ slice_get_there (x ∷ xs) (suc i) below = slice_get_there xs i (omega arith)
 
 -- the first items and the next, where it is known
 pub take_more_at : {X : Type 0} (xs : List X) (i : ℕ) (x : X) → slice_get xs i ≡ Some x → take (i + 1) xs ≡ take i xs ++ x ∷ []
-take_more_at xs i x at =
-    take_more xs i x (slice_get_within xs i x at) ∙ ap (λ y. take i xs ++ y ∷ []) (get_or_from_slice_get xs i x x at)
+take_more_at xs i x at = grind (arith, take_more xs i x (slice_get_within xs i x at), slice_get_within xs i x at, get_or_from_slice_get xs i x x at)
 
 pub map_more_at : {X Y : Type 0} (f : X → Y) (xs : List X) (i : ℕ) (x : X) → slice_get xs i ≡ Some x → map f (take (i + 1) xs) ≡ map f (take i xs) ++ f x ∷ []
 map_more_at f [] i x there = cc
 map_more_at f (y ∷ ys) zero x there = let same : y ≡ x = cc in ap (λ z. f z ∷ []) same
-map_more_at f (y ∷ ys) (suc i) x there =
-    let more : suc i + 1 ≡ suc (i + 1) = omega arith in
-    ap (λ n. map f (take n (y ∷ ys))) more ∙ ap (λ l. f y ∷ l) (map_more_at f ys i x there)
+map_more_at f (y ∷ ys) (suc i) x there = grind (arith, map_more_at f ys i x there)
 
 -- what a function makes of the item at a place is at that place of what it makes of all
 pub slice_get-mapped : {X Y : Type 0} (f : X → Y) (xs : List X) (i : ℕ) (x : X) → slice_get xs i ≡ Some x → slice_get (map f xs) i ≡ Some (f x)
@@ -95,11 +90,7 @@ pub slice_get-push_cases : {X : Type 0} (xs : List X) (y x : X) (j : ℕ) → sl
 slice_get-push_cases [] y x zero e = inr (refl, cc)
 slice_get-push_cases [] y x (suc j) e = cc
 slice_get-push_cases (z ∷ zs) y x zero e = inl (omega arith, e)
-slice_get-push_cases (z ∷ zs) y x (suc j) e =
-    elim (slice_get-push_cases zs y x j e) [
-      | inl before ↦ inl (omega (arith, before.0), before.1)
-      | inr last ↦ inr (ap suc last.0, last.1)
-    ]
+slice_get-push_cases (z ∷ zs) y x (suc j) e = grind (arith, slice_get-push_cases zs y x j e)
 
 pub slice_get-append_left : {X : Type 0} (xs ys : List X) (j : ℕ) (x : X) → slice_get xs j ≡ Some x → slice_get (xs ++ ys) j ≡ Some x
 slice_get-append_left [] ys j x e = cc
@@ -134,19 +125,15 @@ AllZip-at_first R (z ∷ xs) (y ∷ ys) h (suc i) x e = AllZip-at_first R xs ys 
 -- one pair more of a loop over the first list
 pub AllZip-more : {X Y : Type 0} (R : X → Y → Type 0) (xs : List X) (ys : List Y) (i : ℕ) (x : X) (y : Y) → i < length xs → x ≡ get_or xs i x → AllZip R (take i xs) ys → R x y →
     AllZip R (take (i + 1) xs) (ys ++ y ∷ [])
-AllZip-more R xs ys i x y below is h r =
-    subst (λ l. AllZip R l (ys ++ y ∷ [])) (sym (take_more xs i x below ∙ ap (λ z. take i xs ++ z ∷ []) (sym is))) (all_zipped_more R (take i xs) ys x y h r)
+AllZip-more R xs ys i x y below is h r = grind (arith, take_more xs i x below, all_zipped_more R (take i xs) ys x y h r)
 
 -- the pairs of two lists, one pair more
 pub zip_more : {X Y : Type 0} (xs : List X) (ys : List Y) (i : ℕ) (x : X) (y : Y) → slice_get xs i ≡ Some x → slice_get ys i ≡ Some y →
     zip (take (i + 1) xs) (take (i + 1) ys) ≡ zip (take i xs) (take i ys) ++ (x, y) ∷ []
 zip_more [] ys i x y ex ey = cc
 zip_more (w ∷ xs) [] i x y ex ey = cc
-zip_more {X} {Y} (w ∷ xs) (z ∷ ys) zero x y ex ey =
-    let a : w ≡ x = cc in let b : z ≡ y = cc in ap {B = List (X × Y)} (λ u. (u, z) ∷ []) a ∙ ap {B = List (X × Y)} (λ u. (x, u) ∷ []) b
-zip_more {X} {Y} (w ∷ xs) (z ∷ ys) (suc i) x y ex ey =
-    let more : suc i + 1 ≡ suc (i + 1) = omega arith in
-    ap {B = List (X × Y)} (λ n. zip (take n (w ∷ xs)) (take n (z ∷ ys))) more ∙ ap {B = List (X × Y)} (λ l. (w, z) ∷ l) (zip_more xs ys i x y ex ey)
+zip_more {X} {Y} (w ∷ xs) (z ∷ ys) zero x y ex ey = grind arith
+zip_more {X} {Y} (w ∷ xs) (z ∷ ys) (suc i) x y ex ey = grind (arith, zip_more xs ys i x y ex ey)
 
 -- the first of a pair is the first list's item there
 pub zip-first_at : {X Y : Type 0} (xs : List X) (ys : List Y) (i : ℕ) (p : X × Y) → slice_get (zip xs ys) i ≡ Some p → slice_get xs i ≡ Some p.0
@@ -168,14 +155,8 @@ zip-at_first (z ∷ xs) (y ∷ ys) (suc i) x long at = zip-at_first xs ys i x (o
 pub enumerate_more : {X : Type 0} (n : ℕ) (xs : List X) (i j : ℕ) (x : X) → slice_get xs i ≡ Some x → n + i ≡ j →
     enumerate_from n (take (i + 1) xs) ≡ enumerate_from n (take i xs) ++ (j, x) ∷ []
 enumerate_more n [] i j x is at = cc
-enumerate_more {X} n (y ∷ ys) zero j x is at =
-    let same : y ≡ x = cc in
-    let here : n ≡ j = omega (arith, at) in
-    ap {B = List (ℕ × X)} (λ k. (k, y) ∷ []) here ∙ ap {B = List (ℕ × X)} (λ z. (j, z) ∷ []) same
-enumerate_more {X} n (y ∷ ys) (suc i) j x is at =
-    let more : suc i + 1 ≡ suc (i + 1) = omega arith in
-    ap {B = List (ℕ × X)} (λ k. enumerate_from n (take k (y ∷ ys))) more
-    ∙ ap {B = List (ℕ × X)} (λ l. (n, y) ∷ l) (enumerate_more (n + 1) ys i j x is (omega (arith, at)))
+enumerate_more {X} n (y ∷ ys) zero j x is at = grind arith
+enumerate_more {X} n (y ∷ ys) (suc i) j x is at = grind (arith, enumerate_more (n + 1) ys i j x is (omega (arith, at)))
 
 pub enumerate_push : {X : Type 0} (i : ℕ) (xs : List X) (y : X) (j : ℕ) → i + length xs ≡ j → enumerate_from i (xs ++ y ∷ []) ≡ enumerate_from i xs ++ (j, y) ∷ []
 enumerate_push {X} i [] y j e = let same : i ≡ j = omega (arith, e) in ap {B = List (ℕ × X)} (λ k. (k, y) ∷ []) same

@@ -1,12 +1,8 @@
 -- The outputs that lead to the spots of a chip: two spots of one chip have two outputs.
-use Rattle.std.proofs.Common.{◌≡◌, ℕ, zero, suc, ◌+◌, ◌-◌, ◌%◌, ◌<◌, ◌≤◌, ltb, refl, sym, ap, ◌∙◌, subst, arith, inl, inr}
-use Rattle.std.proofs.lemmas.Bool.{lt-ltb, le-ltb, cases_lt, cond-true, cond-false}
-use Rattle.std.proofs.Math.Nat.{mod-eq_of_lt}
-use Rattle.spin_base.specs.declared.chips.Dir.{Dir}
-use Rattle.spin_base.specs.declared.chips.Dir.TheVariants.{East, NorthEast, North, West, SouthWest, South}
-use Rattle.spin_base.specs.declared.routes.Out.TheVariants.{Link, Core}
-use Rattle.spin_base.specs.Links.{dir_number, dir_at}
-use Rattle.spin_base.specs.Outputs.{out_number, out_of, IsOutput}
+use Rattle.std.proofs.Common.{◌≡◌, ℕ, zero, suc, ◌+◌, ◌-◌, ◌%◌, ◌<◌, ◌≤◌, ltb, refl, arith}
+use Rattle.std.proofs.{lemmas.Bool.lt-ltb, lemmas.Bool.le-ltb, lemmas.Bool.cases_lt, lemmas.Bool.cond-true, lemmas.Bool.cond-false, Math.Nat.mod-eq_of_lt}
+use Rattle.spin_base.specs.declared.chips.Dir.{Dir, TheVariants.East, TheVariants.NorthEast, TheVariants.North, TheVariants.West, TheVariants.SouthWest, TheVariants.South}
+use Rattle.spin_base.specs.{declared.routes.Out.TheVariants.Link, declared.routes.Out.TheVariants.Core, Links.dir_number, Links.dir_at, Outputs.out_number, Outputs.out_of, Outputs.IsOutput}
 
 -- the link of a number has that number
 pub dir_number-dir_at : (n : ℕ) → n < 6 → dir_number (dir_at n) ≡ n
@@ -45,41 +41,19 @@ link_is_no_core e = cc
 
 -- the output that leads to a spot has a bit
 pub out_of-has_bit : (p : ℕ) → IsOutput (out_of p)
-out_of-has_bit p = elim (cases_lt p 18) [
-  | inl core ↦ subst IsOutput (sym (out_of-core p core)) core
-  | inr device ↦ subst IsOutput (sym (out_of-device p device)) tt
-]
+out_of-has_bit p = grind (arith, cases_lt p 18, out_of-core, out_of-device)
 
 -- cores come after the links, and the devices on links come round to them
 pub out_number-out_of : (p : ℕ) → p < 24 → out_number (out_of p) ≡ (p + 6) % 24
-out_number-out_of p h = elim (cases_lt p 18) [
-  | inl core ↦
-      let below : p + 6 < 24 = omega arith in
-      ap out_number (out_of-core p core) ∙ (omega arith ∙ sym (mod-eq_of_lt below))
-  | inr device ↦
-      let below : p - 18 < 6 = omega arith in
-      ap out_number (out_of-device p device) ∙ (dir_number-dir_at (p - 18) below ∙ omega arith)
-]
+out_number-out_of p h = grind (arith, cases_lt p 18, out_of-core, mod-eq_of_lt, out_of-device, dir_number-dir_at)
 
 -- an output that is a core leads to the spot of its number, one that is a link to that of 18 and the link's number
 pub spot_of_core : (p q : ℕ) → out_of p ≡ Core q → (p ≡ q) × (p < 18)
-spot_of_core p q e = elim (cases_lt p 18) [
-  | inl core ↦ (same_core (sym (out_of-core p core) ∙ e), core)
-  | inr device ↦ absurd (link_is_no_core (sym (out_of-device p device) ∙ e))
-]
+spot_of_core p q e = grind (arith, cases_lt p 18, same_core, out_of-core, link_is_no_core, out_of-device)
 
 pub spot_of_link : (p : ℕ) (d : Dir) → p < 24 → out_of p ≡ Link d → p ≡ 18 + dir_number d
-spot_of_link p d h e = elim (cases_lt p 18) [
-  | inl core ↦ absurd (link_is_no_core (sym e ∙ out_of-core p core))
-  | inr device ↦
-      let below : p - 18 < 6 = omega arith in
-      let is : dir_at (p - 18) ≡ d = same_link _ _ (sym (out_of-device p device) ∙ e) in
-      let number : p - 18 ≡ dir_number d = sym (dir_number-dir_at (p - 18) below) ∙ ap dir_number is in
-      omega arith
-]
+spot_of_link p d h e = grind (arith, cases_lt p 18, link_is_no_core, out_of-core, same_link, out_of-device, dir_number-dir_at)
 
 -- spots of one chip with one output are one spot
 pub same_number : (p q : ℕ) → p < 24 → q < 24 → out_of p ≡ out_of q → p ≡ q
-same_number p q h k e =
-    let same : (p + 6) % 24 ≡ (q + 6) % 24 = sym (out_number-out_of p h) ∙ (ap out_number e ∙ out_number-out_of q k) in
-    omega arith
+same_number p q h k e = grind (arith, out_number-out_of p h, out_number-out_of q k)

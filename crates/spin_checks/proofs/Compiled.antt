@@ -4,26 +4,20 @@ use Rattle.std.proofs.lemmas.List.{length-map, Sorted.IsPermutation-refl}
 use Rattle.std.specs.{Prelude.MatchResult, List.All, List.AllPairs, List.slice_get}
 use Rattle.spin_base.proofs.Places.{All-at, one_item_at, slice_get-mapped}
 use Rattle.spin_base.specs.declared.blocks.Block.{Block}
-use Rattle.machine_desc.specs.declared.trees.Edge.{Edge}
-use Rattle.machine_desc.specs.{Description.Description, EdgeOrder.IsEdgeBefore, Live.IsInside, RoutingTree.IsRoutingTree}
-use Rattle.machine_desc.specs.declared.nets.NetPlan.{NetPlan}
+use Rattle.machine_desc.specs.{declared.trees.Edge.Edge, Description.Description, EdgeOrder.IsEdgeBefore, Live.IsInside, RoutingTree.IsRoutingTree, declared.nets.NetPlan.NetPlan}
 use Rattle.machine_desc.proofs.EdgePlaces.{before_place}
 use Rattle.app_graph.specs.declared.graphs.{Graph.Graph, Net.Net}
 use Rattle.link_detours.specs.Repair.{AreInPlaceOrder}
 use Rattle.net_plans.specs.NetPlans.{IsPlannedNet}
 use Rattle.net_tables.proofs.Trees.{edges_inside}
 use Rattle.net_tables.specs.PlainTable.{AreRoutedApart}
-use Rattle.table_load.specs.declared.tables.Image.{Image}
-use Rattle.table_load.specs.Images.{Spells}
-use Rattle.par_compile.specs.declared.compiling.Plan.{Plan}
-use Rattle.par_compile.specs.Compiled.{IsPlanOf, blocks_of}
+use Rattle.table_load.specs.{declared.tables.Image.Image, Images.Spells}
+use Rattle.par_compile.specs.{declared.compiling.Plan.Plan, Compiled.IsPlanOf, Compiled.blocks_of}
 use Rattle.par_compile.proofs.Unique.{routed_of}
-use Rattle.plan_check.specs.declared.verdicts.Verdict.TheVariants.{Right}
-use Rattle.plan_check.specs.{MadeImages.IsImageOf, Verdicts.IsVerdict}
+use Rattle.plan_check.specs.{declared.verdicts.Verdict.TheVariants.Right, MadeImages.IsImageOf, Verdicts.IsVerdict}
 use Rattle.run_report.specs.declared.causes.Refusal.{Refusal, TheVariants.Memory}
-use Rattle.spin_checks.specs.declared.findings.Finding.TheVariants.{Judged}
-use Rattle.spin_checks.specs.Answers.{HasNoAnswer, IsAnswer}
-use Rattle.spin_checks.specs.{Findings.HasGoodTree, Findings.right_line, Nets.AreNetsWith, Nets.IsNetWith, Plans.HasKeptRows, Plans.trees_of}
+use Rattle.spin_checks.specs.{declared.findings.Finding.TheVariants.Judged, Answers.HasNoAnswer, Answers.IsAnswer, Findings.HasGoodTree, Findings.right_line, Nets.AreNetsWith, Nets.IsNetWith}
+use Rattle.spin_checks.specs.Plans.{HasKeptRows, trees_of}
 use Rattle.spin_checks.proofs.Refusing.{none_due}
 
 -- ---- the trees of plans are in order

@@ -4,9 +4,7 @@ use Rattle.std.proofs.lemmas.{Bool.cases_lt, List.length_push, Option.slice_get-
 use Rattle.std.specs.List.{All, slice_get}
 use Rattle.spin_base.proofs.Places.{one_item_at, slice_get-push_cases}
 use Rattle.spin_base.specs.declared.{blocks.Block.Block, chips.Spot.Spot}
-use Rattle.machine_desc.specs.declared.trees.Edge.{Edge}
-use Rattle.machine_desc.specs.Description.{Description}
-use Rattle.machine_desc.specs.declared.nets.NetPlan.{NetPlan}
+use Rattle.machine_desc.specs.{declared.trees.Edge.Edge, Description.Description, declared.nets.NetPlan.NetPlan}
 use Rattle.app_graph.specs.declared.graphs.Net.{Net}
 use Rattle.spin_checks.specs.{Findings.HasGoodTree, Nets.IsEachNetWith, Nets.IsNetWith}
 

@@ -8,3 +8,4 @@ mod OneTree
 mod OneVerdict
 mod Refusing
 mod Sites
+mod Sorting

@@ -3,16 +3,12 @@ use Rattle.std.proofs.Common.{◌≡◌, ℕ, List, [], ◌++◌, Option, Some, 
 use Rattle.std.proofs.lemmas.Bool.{cases_order}
 use Rattle.std.specs.List.{All}
 use Rattle.spin_base.proofs.Places.{All-at}
-use Rattle.machine_desc.specs.{Description.Description, Live.IsInside, RoutingTree.IsRoutingTree}
-use Rattle.machine_desc.specs.declared.nets.NetPlan.{NetPlan}
+use Rattle.machine_desc.specs.{Description.Description, Live.IsInside, RoutingTree.IsRoutingTree, declared.nets.NetPlan.NetPlan}
 use Rattle.net_tables.specs.Marks.{IsRouted}
-use Rattle.table_load.specs.declared.tables.Image.{Image}
-use Rattle.table_load.specs.{Images.Spells, Reading.fault_of}
-use Rattle.plan_check.specs.declared.verdicts.Verdict.{Verdict}
-use Rattle.plan_check.specs.Verdicts.{IsVerdict}
+use Rattle.table_load.specs.{declared.tables.Image.Image, Images.Spells, Reading.fault_of}
+use Rattle.plan_check.specs.{declared.verdicts.Verdict.Verdict, Verdicts.IsVerdict}
 use Rattle.spin_checks.specs.declared.findings.Finding.{Finding, TheVariants.BadTree, TheVariants.BadImage, TheVariants.OtherMachine, TheVariants.Judged}
-use Rattle.spin_checks.specs.Findings.{HasGoodTree, IsFinding, IsFirstBad, IsOfGrid}
-use Rattle.spin_checks.specs.Nets.{StandsOnSites}
+use Rattle.spin_checks.specs.{Findings.HasGoodTree, Findings.IsFinding, Findings.IsFirstBad, Findings.IsOfGrid, Nets.StandsOnSites}
 use Rattle.spin_checks.proofs.OneVerdict.{one_verdict}
 
 -- a net with a good tree, on sites, is routed

@@ -4,9 +4,7 @@ use Rattle.std.proofs.lemmas.Option.{slice_get_within}
 use Rattle.std.specs.List.{slice_get}
 use Rattle.spin_base.proofs.Places.{slice_get_there}
 use Rattle.spin_base.specs.declared.{blocks.Block.Block, chips.Spot.Spot}
-use Rattle.machine_desc.specs.declared.trees.Edge.{Edge}
-use Rattle.machine_desc.specs.Description.{Description}
-use Rattle.machine_desc.specs.declared.nets.NetPlan.{NetPlan}
+use Rattle.machine_desc.specs.{declared.trees.Edge.Edge, Description.Description, declared.nets.NetPlan.NetPlan}
 use Rattle.app_graph.specs.declared.graphs.{Graph.Graph, Net.Net}
 use Rattle.place_fit.proofs.Determined as places
 use Rattle.key_alloc.proofs.Determined as keys

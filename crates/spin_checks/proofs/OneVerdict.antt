@@ -4,8 +4,7 @@ use Rattle.std.proofs.lemmas.Bool.{cases_order}
 use Rattle.std.specs.List.{All, slice_get}
 use Rattle.spin_base.proofs.Places.{All-at, one_item_at}
 use Rattle.spin_base.specs.declared.{blocks.Block.Block, blocks.Entry.Entry, chips.Chip.Chip, chips.Port.Port, routes.Route.Route}
-use Rattle.machine_desc.specs.{Description.Description, Live.IsInside, Live.index_of}
-use Rattle.machine_desc.specs.declared.nets.NetPlan.{NetPlan}
+use Rattle.machine_desc.specs.{Description.Description, Live.IsInside, Live.index_of, declared.nets.NetPlan.NetPlan}
 use Rattle.machine_desc.proofs.Far.{same_index}
 use Rattle.net_tables.specs.Marks.{IsRouted}
 use Rattle.net_tables.proofs.{Determined.one_port, Trees.chips_inside}

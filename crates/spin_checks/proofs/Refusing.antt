@@ -1,25 +1,20 @@
 -- A graph has at most one refusal that is due, and none where it has nets with trees.
 use Rattle.std.proofs.Common.{◌≡◌, ℕ, List, Result, Ok, Err, IfOk, IfErr, sym, ap, ◌∙◌, inl, inr}
 use Rattle.spin_base.proofs.Places.{one_item_at}
-use Rattle.spin_base.specs.declared.{chips.Spot.Spot, wants.Memory.Memory as WantsMemory}
-use Rattle.machine_desc.specs.declared.trees.Edge.{Edge}
-use Rattle.machine_desc.specs.Description.{Description}
+use Rattle.spin_base.specs.declared.chips.Spot.{Spot}
+use Rattle.spin_base.specs.declared.wants.Memory.{Memory as WantsMemory}
+use Rattle.machine_desc.specs.{declared.trees.Edge.Edge, Description.Description, declared.nets.NetPlan.NetPlan}
 use Rattle.app_graph.specs.declared.graphs.{Graph.Graph, Net.Net, Vertex.Vertex}
-use Rattle.place_fit.specs.Cause.{IsPlacementCause}
-use Rattle.place_fit.specs.declared.placing.PlaceErr.{PlaceErr}
+use Rattle.place_fit.specs.{Cause.IsPlacementCause, declared.placing.PlaceErr.PlaceErr, Placement.IsPlacement}
 use Rattle.place_fit.specs.declared.placing.PlaceErr.TheVariants as places
-use Rattle.key_alloc.specs.Cause.{IsKeysCause}
-use Rattle.key_alloc.specs.declared.alloc.KeyErr.{KeyErr}
+use Rattle.key_alloc.specs.{Cause.IsKeysCause, declared.alloc.KeyErr.KeyErr}
 use Rattle.key_alloc.specs.declared.alloc.KeyErr.TheVariants as keys
-use Rattle.machine_desc.specs.declared.nets.NetPlan.{NetPlan}
 use Rattle.net_plans.specs.Cause.{IsRefusedBy}
-use Rattle.place_fit.specs.Placement.{IsPlacement}
 use Rattle.place_fit.proofs.Determined as placing
 use Rattle.key_alloc.proofs.Determined as keying
 use Rattle.run_report.specs.declared.causes.Refusal.{Refusal, TheVariants.NoRoom, TheVariants.KeysOut, TheVariants.Memory}
-use Rattle.spin_checks.specs.Answers.{HasNoAnswer, IsAnswer, IsJobRefusal, keys_out, no_room}
-use Rattle.spin_checks.specs.Nets.{AreNetsWith}
-use Rattle.spin_checks.specs.Naming.{IsNetIn, IsVertexIn, key_refusal, place_refusal}
+use Rattle.spin_checks.specs.{Answers.HasNoAnswer, Answers.IsAnswer, Answers.IsJobRefusal, Answers.keys_out, Answers.no_room, Nets.AreNetsWith, Naming.IsNetIn, Naming.IsVertexIn, Naming.key_refusal}
+use Rattle.spin_checks.specs.Naming.{place_refusal}
 
 module _ (m : Description) (graph : Graph) where
   -- one refusal is due

@@ -4,9 +4,7 @@ use Rattle.std.proofs.lemmas.Option.{slice_get-get_or}
 use Rattle.std.specs.List.{All}
 use Rattle.spin_base.proofs.Places.{All-at, All-each, slice_get_there}
 use Rattle.spin_base.specs.declared.{blocks.Block.Block, chips.Spot.Spot}
-use Rattle.machine_desc.specs.declared.trees.Edge.{Edge}
-use Rattle.machine_desc.specs.{Description.Description, Live.IsSite}
-use Rattle.machine_desc.specs.declared.nets.NetPlan.{NetPlan}
+use Rattle.machine_desc.specs.{declared.trees.Edge.Edge, Description.Description, Live.IsSite, declared.nets.NetPlan.NetPlan}
 use Rattle.machine_desc.proofs.{Far.live_inside, Sites.site_parts}
 use Rattle.app_graph.specs.declared.graphs.Net.{Net}
 use Rattle.spin_checks.specs.Nets.{IsEachNetWith, IsNetWith, StandsOnSites}

@@ -13,7 +13,7 @@ ghost use Rattle.spin_checks.specs.Naming.{IsNetIn, IsVertexIn, key_refusal, pla
 use app_graph::{Graph, Net};
 use key_alloc::{KeyErr, keys};
 use machine_desc::{Edge, Machine, NetPlan, Tree};
-use net_plans::targets_of;
+use net_plans::{TargetVertices, targets_of};
 use place_fit::{PlaceErr, place};
 use run_report::Refusal;
 use spin_base::{Block, Chip, Memory, Name, Seq, Spot};
@@ -141,7 +141,11 @@ fn net_with(
     ensures { IfOk result (IsNetWith spots.now net.now block edges.now) }
 {
     let source = *spots.get(net.source as usize);
-    let targets = targets_of(alloc, spots, &net.targets)?;
+    let wanted = TargetVertices {
+        spots,
+        vertices: &net.targets,
+    };
+    let targets = targets_of(alloc, wanted)?;
     let tree = tree_of(alloc, source.chip, edges)?;
     Ok(NetPlan {
         block,

@@ -1,24 +1,17 @@
 -- Which input bytes are, and what a source that tells its bytes gave.
-use Rattle.std.proofs.Common.{◌≡◌, ◌⊎◌, inl, inr, ℕ, ◌<◌, ◌≤◌, List, [], ◌∷◌, ◌++◌, length, nat_lt, Bool, true, false, Option, Some, None, Result, Ok, Err, IfOk, IfErr, refl, sym, ap, ◌∙◌, subst, arith}
-use Rattle.std.specs.Prelude.{MatchResult}
-use Rattle.std.specs.Result.{IsErr, IsErrAnd}
-use Rattle.std.proofs.lemmas.Bool.{cond-true, cond-false, lt-ltb, ltb-true}
-use Rattle.std.proofs.lemmas.List.{append-nil, length-append}
+use Rattle.std.proofs.Common.{◌≡◌, ◌⊎◌, inl, inr, ℕ, ◌<◌, ◌≤◌, List, [], ◌∷◌, ◌++◌, length, nat_lt, Bool, true, false, Option, Some, None, Result, Ok, Err, IfOk, IfErr, refl, sym, ap, ◌∙◌, subst}
+use Rattle.std.proofs.Common.{arith}
+use Rattle.std.specs.{Prelude.MatchResult, Result.IsErr, Result.IsErrAnd}
+use Rattle.std.proofs.lemmas.{Bool.cond-true, Bool.cond-false, Bool.lt-ltb, Bool.ltb-true, List.append-nil, List.length-append}
 use Rattle.serde_json.specs.Data.{Data}
-use Rattle.job_text.specs.declared.faults.JobFault.{JobFault}
-use Rattle.job_text.specs.declared.faults.TextErr.{TextErr}
+use Rattle.job_text.specs.{declared.faults.JobFault.JobFault, declared.faults.TextErr.TextErr, declared.parses.ParseErr.ParseErr, Reading.GivesOrFaults, Reading.first, Json.json_of}
 use Rattle.job_text.specs.declared.faults.TextErr.TheVariants as texts
-use Rattle.job_text.specs.declared.parses.ParseErr.{ParseErr}
 use Rattle.job_text.specs.declared.parses.ParseErr.TheVariants as parses
-use Rattle.job_text.specs.Reading.{GivesOrFaults, first}
-use Rattle.job_text.specs.Json.{json_of}
-use Rattle.spin_base.specs.Outside.{FaultsRose, GivesAll, LosesAtMost, LosesFront, LosesMoreThan}
-use Rattle.spin_base.specs.declared.reading.ReadErr.{ReadErr}
+use Rattle.spin_base.specs.{Outside.FaultsRose, Outside.GivesAll, Outside.LosesAtMost, Outside.LosesFront, Outside.LosesMoreThan, declared.reading.ReadErr.ReadErr}
 use Rattle.spin_base.specs.declared.reading.ReadErr.TheVariants as reads
 use Rattle.run_report.specs.declared.causes.Refusal.{Refusal}
 use Rattle.run_report.specs.declared.causes.Refusal.TheVariants as refusals
-use Rattle.spin_input.specs.Inputs.{HasNoFault, HasNoInput, Reading, no_memory, read_fault, too_long}
-use Rattle.spin_input.specs.Kinds.{input_by, input_from, input_in}
+use Rattle.spin_input.specs.{Inputs.HasNoFault, Inputs.HasNoInput, Inputs.Reading, Inputs.no_memory, Inputs.read_fault, Inputs.too_long, Kinds.input_by, Kinds.input_from, Kinds.input_in}
 use Rattle.spin_input.specs.Refusals.{IsOrWantsMemory, unread, unparsed, unfit}
 
 -- ---- bytes

@@ -1,47 +1,24 @@
 -- The report of a mesh at rest.
 use Rattle.std.proofs.Common.{◌≡◌, ℕ, ◌+◌, ◌^◌, ◌-◌, List, [], ◌∷◌, ◌++◌, map, length, refl, ap, sym, subst, ◌∙◌, Option, Some, None, Result, Ok, Err, IfOk, codes, decimal}
-use Rattle.std.specs.Prelude.{min}
-use Rattle.std.specs.List.{All, flat_map, slice_get, range_with_len}
-use Rattle.std.specs.List.Sorted.{IsPermutation}
-use Rattle.std.proofs.lemmas.List.{length-map, nil_from_length}
-use Rattle.std.proofs.lemmas.List.Sorted.{length_permutation}
-use Rattle.spin_base.specs.Gathered.{gathered}
+use Rattle.std.specs.{Prelude.min, List.All, List.flat_map, List.slice_get, List.range_with_len, List.Sorted.IsPermutation}
+use Rattle.std.proofs.lemmas.List.{length-map, nil_from_length, Sorted.length_permutation}
+use Rattle.spin_base.specs.{Gathered.gathered, declared.blocks.Block.Block, declared.blocks.ChipTable.ChipTable, declared.chips.Chip.Chip, declared.chips.Spot.Spot, declared.copies.Delivery.Delivery}
+use Rattle.spin_base.specs.declared.{copies.DumpRec.DumpRec, copies.McCopy.McCopy, copies.Packet.Packet, wants.Memory.Memory}
 use Rattle.spin_base.proofs.Places.{All-at}
 use Rattle.mesh_round.proofs.Sums.{sum_none}
-use Rattle.spin_base.specs.declared.blocks.Block.{Block}
-use Rattle.spin_base.specs.declared.blocks.ChipTable.{ChipTable}
-use Rattle.spin_base.specs.declared.chips.Chip.{Chip}
-use Rattle.spin_base.specs.declared.chips.Spot.{Spot}
-use Rattle.spin_base.specs.declared.copies.Delivery.{Delivery}
-use Rattle.spin_base.specs.declared.copies.DumpRec.{DumpRec}
-use Rattle.spin_base.specs.declared.copies.McCopy.{McCopy}
-use Rattle.spin_base.specs.declared.copies.Packet.{Packet}
-use Rattle.spin_base.specs.declared.wants.Memory.{Memory}
-use Rattle.machine_desc.specs.Live.{grid_chips, index_of}
-use Rattle.machine_desc.specs.declared.nets.NetPlan.{NetPlan}
-use Rattle.mesh_core.specs.State.{Hand, Setup, State, IsMesh, queue_at}
-use Rattle.mesh_core.specs.Ledger.{all_ports}
-use Rattle.mesh_core.specs.Opened.{MeetsJobLedger}
-use Rattle.mesh_core.specs.Expected.{AreAsExpected, IsAtRest, expected_deliveries, without_hop}
-use Rattle.mesh_core.specs.declared.places.Did.{Did}
-use Rattle.mesh_core.specs.declared.places.Place.{Place}
-use Rattle.mesh_core.specs.declared.places.Place.TheVariants.{InQueue, CoreQueue}
-use Rattle.mesh_core.proofs.DeliveredLaw.{delivered_as_expected}
-use Rattle.mesh_core.proofs.ExpectedList.{in_order_is_list}
+use Rattle.machine_desc.specs.{Live.grid_chips, Live.index_of, declared.nets.NetPlan.NetPlan}
+use Rattle.mesh_core.specs.{State.Hand, State.Setup, State.State, State.IsMesh, State.queue_at, Ledger.all_ports, Opened.MeetsJobLedger, Expected.AreAsExpected, Expected.IsAtRest}
+use Rattle.mesh_core.specs.{Expected.expected_deliveries, Expected.without_hop, declared.places.Did.Did, declared.places.Place.Place, declared.places.Place.TheVariants.InQueue}
+use Rattle.mesh_core.specs.declared.places.Place.TheVariants.{CoreQueue}
+use Rattle.mesh_core.proofs.{DeliveredLaw.delivered_as_expected, ExpectedList.in_order_is_list}
 use Rattle.job_readers.specs.declared.jobs.Job.{Job}
-use Rattle.run_report.specs.declared.reports.Report.{Report}
-use Rattle.run_report.specs.Listed.{placed_of}
-use Rattle.run_report.specs.ReportText.{dump_line, event_lines, got_line, keys_line, line, place_line, report_text, table_lines, wait_line}
-use Rattle.run_report.specs.RunReport.{chip_waits, copies_at, core_waits, hand_waits, held_waits, named_delivery, queue_waits, unsent_by, unsent_total, waits_at, waits_of, IsDeliveredOf}
+use Rattle.run_report.specs.{declared.reports.Report.Report, Listed.placed_of, ReportText.dump_line, ReportText.event_lines, ReportText.got_line, ReportText.keys_line, ReportText.line}
+use Rattle.run_report.specs.{ReportText.place_line, ReportText.report_text, ReportText.table_lines, ReportText.wait_line, RunReport.chip_waits, RunReport.copies_at, RunReport.core_waits}
+use Rattle.run_report.specs.RunReport.{hand_waits, held_waits, named_delivery, queue_waits, unsent_by, unsent_total, waits_at, waits_of, IsDeliveredOf}
 use Rattle.run_report.proofs.GotLines.{got_lines, none_after}
 use Rattle.par_compile.specs.declared.compiling.Plan.{Plan}
-use Rattle.spin_jobs.specs.declared.outcomes.WordOutput.{WordOutput}
-use Rattle.spin_jobs.specs.declared.outcomes.Parts.{Parts}
-use Rattle.spin_jobs.specs.Parts.{parts_with}
-use Rattle.spin_jobs.specs.Planned.{IsMeshOf}
-use Rattle.spin_jobs.specs.Reinjecting.{HasKeptPasses, HasReinjected}
-use Rattle.spin_jobs.specs.Runs.{HasLostNothing, HasRunOut, IsReachedSoon, IsRoomy, full_report}
-use Rattle.spin_jobs.specs.Words.{IsRunKept, IsReported, Reports, TellsRun}
+use Rattle.spin_jobs.specs.{declared.outcomes.WordOutput.WordOutput, declared.outcomes.Parts.Parts, Parts.parts_with, Planned.IsMeshOf, Reinjecting.HasKeptPasses, Reinjecting.HasReinjected}
+use Rattle.spin_jobs.specs.{Runs.HasLostNothing, Runs.HasRunOut, Runs.IsReachedSoon, Runs.IsRoomy, Runs.full_report, Words.IsRunKept, Words.IsReported, Words.Reports, Words.TellsRun}
 
 -- ---- lists
 

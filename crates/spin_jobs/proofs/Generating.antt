@@ -1,17 +1,12 @@
 -- Each generated job has a plan.
 use Rattle.std.proofs.Common.{◌≡◌, ℕ, ◌≤◌, length, sym, subst, arith}
-use Rattle.par_compile.specs.declared.compiling.CompileErr.{CompileErr}
-use Rattle.par_compile.specs.declared.compiling.CompileErr.TheVariants.{NoRoom, KeysOut, CutOff, TableLong, Memory}
+use Rattle.par_compile.specs.declared.compiling.CompileErr.{CompileErr, TheVariants.NoRoom, TheVariants.KeysOut, TheVariants.CutOff, TheVariants.TableLong, TheVariants.Memory}
 use Rattle.par_compile.specs.Compiled.{IsCompileCause}
 use Rattle.run_report.specs.declared.causes.Refusal.{Refusal}
 use Rattle.job_readers.specs.declared.jobs.Job.{Job}
-use Rattle.job_gen.specs.Draws.{drawn}
-use Rattle.job_gen.specs.Generated.{gen_job, job_of_drawn, graph_of, net_of}
-use Rattle.job_gen.proofs.DrawnLaws.{is_drawn}
-use Rattle.job_gen.proofs.ListReading.{length-numbered}
-use Rattle.job_gen.proofs.Fitting.{gen_room, gen_keys, gen_joined, gen_queue}
-use Rattle.spin_jobs.specs.Runs.{IsRoomy}
-use Rattle.spin_jobs.specs.Unplanned.{HasNoPlan, Names}
+use Rattle.job_gen.specs.{Draws.drawn, Generated.gen_job, Generated.job_of_drawn, Generated.graph_of, Generated.net_of}
+use Rattle.job_gen.proofs.{DrawnLaws.is_drawn, ListReading.length-numbered, Fitting.gen_room, Fitting.gen_keys, Fitting.gen_joined, Fitting.gen_queue}
+use Rattle.spin_jobs.specs.{Runs.IsRoomy, Unplanned.HasNoPlan, Unplanned.Names}
 
 -- a generated job has 300 nets
 few_nets : (n : ℕ) → length (gen_job n).graph.nets ≤ 1024

@@ -1,29 +1,16 @@
 -- The opened mesh of a job: what it asks of the plan, and what it keeps.
 use Rattle.std.proofs.Common.{◌≡◌, ℕ, ◌+◌, ◌*◌, ◌<◌, List, [], length, map, Option, Some, None, Result, Ok, Err, IfOk, refl, sym, ap, ◌∙◌, subst}
-use Rattle.std.specs.Option.{option_map}
-use Rattle.std.specs.List.{slice_get, slice_index_or}
-use Rattle.std.proofs.lemmas.List.Elements.{All-replicate}
-use Rattle.std.proofs.lemmas.Option.{slice_get-get_or, get_or_from_slice_get, slice_get-map}
+use Rattle.std.specs.{Option.option_map, List.slice_get, List.slice_index_or}
+use Rattle.std.proofs.lemmas.{List.Elements.All-replicate, Option.slice_get-get_or, Option.get_or_from_slice_get, Option.slice_get-map}
 use Rattle.spin_base.proofs.Places.{All-at, AllZip-at_first}
-use Rattle.spin_base.specs.declared.blocks.Block.{Block}
-use Rattle.spin_base.specs.declared.copies.McCopy.{McCopy}
-use Rattle.spin_base.specs.declared.copies.Packet.{Packet}
-use Rattle.machine_desc.specs.Description.{Description}
-use Rattle.app_graph.specs.declared.graphs.Net.{Net}
-use Rattle.app_graph.specs.declared.graphs.Graph.{Graph}
-use Rattle.app_graph.specs.declared.graphs.RunPart.{RunPart}
-use Rattle.app_graph.specs.RunPart.{IsPacketOf, IsRunOf, key_count_of}
+use Rattle.spin_base.specs.declared.{blocks.Block.Block, copies.McCopy.McCopy, copies.Packet.Packet}
+use Rattle.machine_desc.specs.{Description.Description, declared.nets.NetPlan.NetPlan, RightTables.IsKeyOf}
+use Rattle.app_graph.specs.{declared.graphs.Net.Net, declared.graphs.Graph.Graph, declared.graphs.RunPart.RunPart, RunPart.IsPacketOf, RunPart.IsRunOf, RunPart.key_count_of}
 use Rattle.key_alloc.specs.KeyBlocks.{HasKeys}
-use Rattle.machine_desc.specs.declared.nets.NetPlan.{NetPlan}
-use Rattle.machine_desc.specs.RightTables.{IsKeyOf}
-use Rattle.mesh_core.specs.State.{Hand, Setup, State, IsMesh}
-use Rattle.mesh_core.specs.Opened.{opened_mesh, AreOfNets, MeetsJobLedger}
-use Rattle.mesh_core.specs.Expected.{NothingWaits}
+use Rattle.mesh_core.specs.{State.Hand, State.Setup, State.State, State.IsMesh, Opened.opened_mesh, Opened.AreOfNets, Opened.MeetsJobLedger, Expected.NothingWaits}
 use Rattle.mesh_core.proofs.OpenedLaw.{opened_meets_ledger}
-use Rattle.mesh_round.specs.RoundFlow.{HasNoHand}
-use Rattle.mesh_round.specs.OnThreads.{MayGoOn}
-use Rattle.par_compile.specs.declared.compiling.Plan.{Plan}
-use Rattle.par_compile.specs.Compiled.{blocks_of, IsPlanOf}
+use Rattle.mesh_round.specs.{RoundFlow.HasNoHand, OnThreads.MayGoOn}
+use Rattle.par_compile.specs.{declared.compiling.Plan.Plan, Compiled.blocks_of, Compiled.IsPlanOf}
 use Rattle.job_readers.specs.declared.jobs.Job.{Job}
 use Rattle.spin_jobs.specs.Planned.{opened_of, setup_of, IsPlanOfJob}
 

@@ -5,10 +5,7 @@ use Rattle.std.proofs.lemmas.Option.{slice_get-get_or}
 use Rattle.spin_base.proofs.Places.{take_more_at}
 use Rattle.spin_base.specs.declared.copies.Event.{Event}
 use Rattle.app_graph.specs.RunPart.{IsRunOf}
-use Rattle.mesh_core.specs.State.{State, IsMesh}
-use Rattle.mesh_core.specs.Step.{after_event, after_events, answer, answers_of}
-use Rattle.mesh_core.specs.Opened.{MeetsJobLedger}
-use Rattle.mesh_core.specs.declared.places.Did.{Did}
+use Rattle.mesh_core.specs.{State.State, State.IsMesh, Step.after_event, Step.after_events, Step.answer, Step.answers_of, Opened.MeetsJobLedger, declared.places.Did.Did}
 use Rattle.mesh_core.proofs.EventsLaw.{events_keep_job}
 use Rattle.job_readers.specs.declared.jobs.Job.{Job}
 use Rattle.par_compile.specs.declared.compiling.Plan.{Plan}

@@ -1,24 +1,16 @@
 -- Steps that are refused: by a fault, or for want of memory.
 use Rattle.std.proofs.Common.{◌≡◌, ℕ, ◌≤◌, List, [], ◌∷◌, length, nat_lt, Bool, true, false, if◌then◌else◌, arith, Option, Some, None, IfSome, Err, sym, subst}
-use Rattle.std.specs.List.{list_any}
-use Rattle.std.specs.Prelude.{is_some}
+use Rattle.std.specs.{List.list_any, Prelude.is_some}
 use Rattle.serde_json.specs.Data.{Data}
 use Rattle.spin_apps.specs.Answers.{AreAnswered, is_load}
-use Rattle.app_loads.specs.Applications.{AreApps}
-use Rattle.app_loads.specs.Host.{Host}
-use Rattle.job_requests.specs.Steps.{steps_faults, steps_value}
-use Rattle.job_requests.specs.declared.steps.Step.{Step}
-use Rattle.job_text.specs.declared.faults.JobFault.{JobFault}
-use Rattle.job_text.specs.Json.{json_of}
-use Rattle.spin_input.specs.Inputs.{Reading, read_fault, too_long, not_read_as, no_memory}
-use Rattle.spin_input.specs.Kinds.{input_by, input_in}
-use Rattle.spin_input.specs.Steps.{steps_from, steps_in, app_steps_of}
-use Rattle.run_report.specs.Refusals.{status_of}
-use Rattle.run_report.specs.declared.causes.Refusal.{Refusal}
+use Rattle.app_loads.specs.{Applications.AreApps, Host.Host}
+use Rattle.job_requests.specs.{Steps.steps_faults, Steps.steps_value, declared.steps.Step.Step}
+use Rattle.job_text.specs.{declared.faults.JobFault.JobFault, Json.json_of}
+use Rattle.spin_input.specs.{Inputs.Reading, Inputs.read_fault, Inputs.too_long, Inputs.not_read_as, Inputs.no_memory, Kinds.input_by, Kinds.input_in, Steps.steps_from, Steps.steps_in}
+use Rattle.spin_input.specs.Steps.{app_steps_of}
+use Rattle.run_report.specs.{Refusals.status_of, declared.causes.Refusal.Refusal}
 use Rattle.run_report.specs.declared.causes.Refusal.TheVariants as refusals
-use Rattle.spin_top.specs.Causes.{HaveNoLines}
-use Rattle.spin_top.specs.Inputs.{IsRefusedFor, no_value, no_answer}
-use Rattle.spin_top.specs.Made.{AreDone, HaveOneText}
+use Rattle.spin_top.specs.{Causes.HaveNoLines, Inputs.IsRefusedFor, Inputs.no_value, Inputs.no_answer, Made.AreDone, Made.HaveOneText}
 
 -- what is answered to the steps that were read
 pub done_of : (steps given : List Step) (apps : Option Host) (text : List ℕ) → given ≡ steps → AreAnswered given text apps → is_some apps ≡ list_any is_load given →

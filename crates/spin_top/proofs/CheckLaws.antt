@@ -1,34 +1,21 @@
 -- A request has an answer or one reason why it has none.
 use Rattle.std.proofs.Common.{◌≡◌, ℕ, List, [], ◌∷◌, length, nat_lt, Bool, true, false, if◌then◌else◌, codes, arith, Option, Some, None, Err, sym, ap, ◌∙◌, subst}
 use Rattle.spin_base.proofs.Places.{one_item_at}
-use Rattle.app_graph.specs.declared.graphs.Net.{Net}
-use Rattle.app_graph.specs.declared.graphs.Vertex.{Vertex}
+use Rattle.app_graph.specs.declared.graphs.{Net.Net, Vertex.Vertex}
 use Rattle.place_fit.proofs.Determined as places
 use Rattle.key_alloc.proofs.Determined as blocks
-use Rattle.job_requests.specs.declared.requests.Request.{Request}
-use Rattle.spin_checks.specs.Answers.{IsAnswer, NamesMisrouted, RoutesRight, no_room, keys_out}
-use Rattle.spin_checks.specs.Findings.{right_line}
-use Rattle.spin_checks.specs.Plans.{HasKeptRows, trees_of}
-use Rattle.par_compile.specs.Compiled.{IsPlanOf}
-use Rattle.par_compile.specs.declared.compiling.Plan.{Plan}
-use Rattle.table_load.specs.Images.{Spells}
-use Rattle.table_load.specs.declared.tables.Image.{Image}
+use Rattle.job_requests.specs.{declared.requests.Request.Request, Requests.request_faults, Requests.request_value}
+use Rattle.spin_checks.specs.{Answers.IsAnswer, Answers.NamesMisrouted, Answers.RoutesRight, Answers.no_room, Answers.keys_out, Findings.right_line, Plans.HasKeptRows, Plans.trees_of}
+use Rattle.par_compile.specs.{Compiled.IsPlanOf, declared.compiling.Plan.Plan}
+use Rattle.table_load.specs.{Images.Spells, declared.tables.Image.Image}
 use Rattle.machine_desc.specs.declared.trees.Edge.{Edge}
-use Rattle.run_report.specs.ReportText.{line}
-use Rattle.spin_input.specs.Inputs.{Reading, read_fault, too_long, not_read_as, no_memory}
-use Rattle.spin_input.specs.Kinds.{input_by, input_in}
-use Rattle.spin_input.specs.Requests.{request_from, request_in, request_of}
-use Rattle.job_text.specs.declared.faults.JobFault.{JobFault}
-use Rattle.job_text.specs.Json.{json_of}
+use Rattle.run_report.specs.{ReportText.line, Refusals.status_of, declared.causes.Refusal.Refusal}
+use Rattle.spin_input.specs.{Inputs.Reading, Inputs.read_fault, Inputs.too_long, Inputs.not_read_as, Inputs.no_memory, Kinds.input_by, Kinds.input_in, Requests.request_from, Requests.request_in}
+use Rattle.spin_input.specs.Requests.{request_of}
+use Rattle.job_text.specs.{declared.faults.JobFault.JobFault, Json.json_of}
 use Rattle.serde_json.specs.Data.{Data}
-use Rattle.job_requests.specs.Requests.{request_faults, request_value}
-use Rattle.run_report.specs.Refusals.{status_of}
-use Rattle.run_report.specs.declared.causes.Refusal.{Refusal}
 use Rattle.run_report.specs.declared.causes.Refusal.TheVariants as refusals
-use Rattle.spin_top.specs.Causes.{HasNoNets}
-use Rattle.spin_top.specs.Ends.{HasNets}
-use Rattle.spin_top.specs.Inputs.{IsRefusedFor, no_value, no_answer}
-use Rattle.spin_top.specs.Made.{IsChecked}
+use Rattle.spin_top.specs.{Causes.HasNoNets, Ends.HasNets, Inputs.IsRefusedFor, Inputs.no_value, Inputs.no_answer, Made.IsChecked}
 
 -- where all vertices have places and all nets have keys, no refusal is due
 pub with_nets : (request : Request) (r : Refusal) → HasNets request → HasNoNets request r → ⊥

@@ -1,51 +1,32 @@
 -- What follows from how a call ends.
 use Rattle.std.proofs.Common.{◌≡◌, ◌⊎◌, ℕ, List, Option, Some, None, Result, Ok, Err, IfSome, refl, sym, ap, ◌∙◌, subst, inl, inr}
 use Rattle.std.specs.Prelude.{MatchResult}
-use Rattle.spin_base.specs.declared.wants.Memory.{Memory}
-use Rattle.spin_base.specs.Outside.{FaultsRose}
-use Rattle.app_loads.specs.Applications.{AreApps}
-use Rattle.app_loads.specs.Host.{Host}
-use Rattle.job_requests.specs.declared.steps.Step.{Step}
-use Rattle.mesh_core.specs.State.{State}
-use Rattle.mesh_core.specs.Opened.{MeetsJobLedger}
-use Rattle.job_requests.specs.declared.requests.Request.{Request}
+use Rattle.spin_base.specs.{declared.wants.Memory.Memory, Outside.FaultsRose}
+use Rattle.app_loads.specs.{Applications.AreApps, Host.Host}
+use Rattle.job_requests.specs.declared.{steps.Step.Step, requests.Request.Request}
+use Rattle.mesh_core.specs.{State.State, Opened.MeetsJobLedger}
 use Rattle.job_readers.specs.declared.jobs.Job.{Job}
-use Rattle.run_report.specs.declared.reports.Report.{Report}
+use Rattle.run_report.specs.{declared.reports.Report.Report, declared.causes.Refusal.Refusal, Refusals.line_of, Refusals.status_at}
 use Rattle.par_compile.specs.declared.compiling.Plan.{Plan}
-use Rattle.spin_words.specs.Commands.{spelled, ReadsJob}
-use Rattle.spin_words.specs.declared.commands.Command.{Command}
-use Rattle.spin_words.specs.declared.commands.Command.TheVariants.{OfJob, Check, Apps}
-use Rattle.spin_words.specs.declared.commands.JobWord.{JobWord}
-use Rattle.spin_words.specs.declared.commands.JobWord.TheVariants.{Run, Reinject, Trace, Compile, Tables, Gen}
-use Rattle.run_report.specs.declared.causes.Refusal.{Refusal}
+use Rattle.spin_words.specs.{Commands.spelled, Commands.ReadsJob, declared.commands.Command.Command, declared.commands.Command.TheVariants.OfJob, declared.commands.Command.TheVariants.Check}
+use Rattle.spin_words.specs.declared.commands.{Command.TheVariants.Apps, JobWord.JobWord, JobWord.TheVariants.Run, JobWord.TheVariants.Reinject, JobWord.TheVariants.Trace, JobWord.TheVariants.Compile}
+use Rattle.spin_words.specs.declared.commands.JobWord.TheVariants.{Tables, Gen}
 use Rattle.run_report.specs.declared.causes.Refusal.TheVariants as refusals
-use Rattle.run_report.specs.Refusals.{line_of, status_at}
 use Rattle.job_gen.specs.Generated.{gen_job}
-use Rattle.spin_input.specs.Inputs.{Reading, IsReadAs, IsUntouched}
-use Rattle.spin_input.specs.Jobs.{job_in, job_of}
-use Rattle.spin_input.specs.Requests.{request_in, request_of}
-use Rattle.spin_input.specs.Steps.{steps_in, app_steps_of}
+use Rattle.spin_input.specs.{Inputs.Reading, Inputs.IsReadAs, Inputs.IsUntouched, Jobs.job_in, Jobs.job_of, Requests.request_in, Requests.request_of, Steps.steps_in, Steps.app_steps_of}
 use Rattle.spin_input.proofs.JobBytes.{told_long}
-use Rattle.spin_jobs.specs.declared.outcomes.Parts.{Parts}
-use Rattle.spin_jobs.specs.Parts.{no_parts, WhereGiven, WhereRun}
-use Rattle.spin_jobs.specs.Planned.{IsThePlan}
-use Rattle.spin_jobs.specs.Reinjecting.{HasReinjected}
-use Rattle.spin_jobs.specs.Runs.{HasRunOut}
-use Rattle.spin_jobs.specs.Unplanned.{HasNoPlan}
+use Rattle.spin_jobs.specs.{declared.outcomes.Parts.Parts, Parts.no_parts, Parts.WhereGiven, Parts.WhereRun, Planned.IsThePlan, Reinjecting.HasReinjected, Runs.HasRunOut, Unplanned.HasNoPlan}
 use Rattle.spin_jobs.specs.Words.{IsTraced}
-use Rattle.spin_jobs.proofs.Exclusive.{one_no_plan, planned_has_plan, plannable_has_plan}
-use Rattle.spin_jobs.proofs.Generating.{generated_planned}
-use Rattle.spin_jobs.proofs.WordLaws.{plan_given, ledger_given, run_given, reinject_given, trace_given, generated_given}
-use Rattle.spin_top.specs.declared.outcomes.Outcome.{Outcome}
-use Rattle.spin_top.specs.Causes.{HasCause, usage, of_job, of_request, of_steps, no_memory, AreCommand, AskForApps, AskForCheck, AskForJob, HasNoNets, HaveNoLines, IsReadAsAsked}
-use Rattle.spin_top.specs.Ends.{Ends, made, refused, Says, SaysSurely, IsExact, IsGenerated, IsOfApps, IsOfCheck, HasAnswer, has_plan, has_nets, has_steps}
-use Rattle.spin_top.specs.Inputs.{AreRefused, no_value, no_answer}
-use Rattle.spin_top.specs.Made.{HasNoJob, IsJobOf, from_job, checked, done, IsMadeOfJob}
-use Rattle.spin_top.specs.Writing.{IsWritten, Writing, told_unmade}
-use Rattle.spin_top.proofs.AppLaws.{IsSpared, bytes_refused_spared, fault_spared, memory_spared, none_refused, zero_spared}
-use Rattle.spin_top.proofs.CheckLaws.{checked_has_nets, fault_other, IsOther, memory_other, one_due, refused_other, with_nets, zero_other}
-use Rattle.spin_top.proofs.NameLaws.{HasNames, names_given}
-use Rattle.spin_top.proofs.InputLaws.{answered_not_refused, read_told, refusal_due, refused_in_part, refused_quiet, served_memory}
+use Rattle.spin_jobs.proofs.{Exclusive.one_no_plan, Exclusive.planned_has_plan, Exclusive.plannable_has_plan, Generating.generated_planned, WordLaws.plan_given, WordLaws.ledger_given}
+use Rattle.spin_jobs.proofs.WordLaws.{run_given, reinject_given, trace_given, generated_given}
+use Rattle.spin_top.specs.{declared.outcomes.Outcome.Outcome, Causes.HasCause, Causes.usage, Causes.of_job, Causes.of_request, Causes.of_steps, Causes.no_memory, Causes.AreCommand, Causes.AskForApps}
+use Rattle.spin_top.specs.{Causes.AskForCheck, Causes.AskForJob, Causes.HasNoNets, Causes.HaveNoLines, Causes.IsReadAsAsked, Ends.Ends, Ends.made, Ends.refused, Ends.Says, Ends.SaysSurely}
+use Rattle.spin_top.specs.{Ends.IsExact, Ends.IsGenerated, Ends.IsOfApps, Ends.IsOfCheck, Ends.HasAnswer, Ends.has_plan, Ends.has_nets, Ends.has_steps, Inputs.AreRefused, Inputs.no_value}
+use Rattle.spin_top.specs.{Inputs.no_answer, Made.HasNoJob, Made.IsJobOf, Made.from_job, Made.checked, Made.done, Made.IsMadeOfJob, Writing.IsWritten, Writing.Writing, Writing.told_unmade}
+use Rattle.spin_top.proofs.{AppLaws.IsSpared, AppLaws.bytes_refused_spared, AppLaws.fault_spared, AppLaws.memory_spared, AppLaws.none_refused, AppLaws.zero_spared, CheckLaws.checked_has_nets}
+use Rattle.spin_top.proofs.{CheckLaws.fault_other, CheckLaws.IsOther, CheckLaws.memory_other, CheckLaws.one_due, CheckLaws.refused_other, CheckLaws.with_nets, CheckLaws.zero_other, NameLaws.HasNames}
+use Rattle.spin_top.proofs.{NameLaws.names_given, InputLaws.answered_not_refused, InputLaws.read_told, InputLaws.refusal_due, InputLaws.refused_in_part, InputLaws.refused_quiet}
+use Rattle.spin_top.proofs.InputLaws.{served_memory}
 
 -- ---- words
 

@@ -1,15 +1,12 @@
 -- The text of a number is read as its job.
 use Rattle.std.proofs.Common.{◌≡◌, ◌⊎◌, ℕ, List, Some, Ok, Err, sym, ap, ◌∙◌, inl, inr}
-use Rattle.job_gen.specs.Generated.{gen_job}
-use Rattle.job_gen.specs.Values.{gen_value}
+use Rattle.job_gen.specs.{Generated.gen_job, Values.gen_value}
 use Rattle.job_gen.proofs.JobReading.{generated_clean, generated_is}
 use Rattle.job_text.specs.Json.{json_of}
-use Rattle.job_readers.specs.declared.jobs.Job.{Job}
-use Rattle.job_readers.specs.WholeJob.{job_value}
+use Rattle.job_readers.specs.{declared.jobs.Job.Job, WholeJob.job_value}
 use Rattle.run_report.specs.declared.causes.Refusal.{Refusal}
 use Rattle.run_report.specs.declared.causes.Refusal.TheVariants as refusals
-use Rattle.spin_input.specs.Kinds.{input_by}
-use Rattle.spin_input.specs.Jobs.{job_from, job_of}
+use Rattle.spin_input.specs.{Kinds.input_by, Jobs.job_from, Jobs.job_of}
 
 -- the job of a number
 of_value : (k : ℕ) → job_of (gen_value k) ≡ Ok (gen_job k)

@@ -1,12 +1,9 @@
 -- That no name stands twice in the job that a word gives.
 use Rattle.std.proofs.Common.{ℕ, List, sym, subst}
-use Rattle.job_readers.specs.Named.{HasNamesApart}
-use Rattle.job_readers.specs.declared.jobs.Job.{Job}
+use Rattle.job_readers.specs.{Named.HasNamesApart, declared.jobs.Job.Job}
 use Rattle.par_compile.specs.declared.compiling.Plan.{Plan}
 use Rattle.spin_words.specs.declared.commands.JobWord.{JobWord}
-use Rattle.spin_jobs.specs.declared.outcomes.Parts.{Parts}
-use Rattle.spin_jobs.specs.Parts.{WhereGiven}
-use Rattle.spin_jobs.specs.Words.{IsMadeOf, ran, reinjected, traced, imaged, listed, generated}
+use Rattle.spin_jobs.specs.{declared.outcomes.Parts.Parts, Parts.WhereGiven, Words.IsMadeOf, Words.ran, Words.reinjected, Words.traced, Words.imaged, Words.listed, Words.generated}
 
 abbrev pub HasNames : Job → Plan → Type 0
 HasNames job plan = HasNamesApart job.graph

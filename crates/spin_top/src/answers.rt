@@ -1,46 +1,14 @@
-// What each kind of words makes of the input that it asks for.
-ghost use Rattle.std.specs.Prelude.{◌≡◌, ℕ, List, Some, IfOk, IfErr};
-ghost use Rattle.spin_words.specs.Commands.{spelled};
-ghost use Rattle.spin_words.specs.declared.commands.Command.TheVariants.{OfJob};
+// What words make of an input that is no job.
+ghost use Rattle.std.specs.Prelude.{ℕ, List, IfOk, IfErr};
 ghost use Rattle.spin_input.specs.Inputs.{reading_of};
 ghost use Rattle.spin_top.specs.Causes.{AskForApps, AskForCheck, HasCause};
 ghost use Rattle.spin_top.specs.Made.{IsMade};
 
-use crate::inputs::job_for;
 use crate::outcomes::{Output, no_parts};
 use run_report::Refusal;
-use spin_base::{Gate, Memory, Source};
+use spin_base::{Memory, Source};
 use spin_input::{read_request, read_steps};
-use spin_jobs::made_of_job;
-use spin_words::JobWord;
 use std::alloc::Global;
-use std::sync::Wait;
-use std::thread::Threads;
-
-// What a word makes of its job.
-pub(crate) fn from_job<R: Threads + Wait + Sync, S: Source, G: Gate>(
-    rt: &R,
-    alloc: Global,
-    word: JobWord,
-    source: &mut S,
-    gate: &G,
-) -> Result<Output, Refusal>
-    ensures made { (words : List (List ℕ)) → spelled words ≡ Some (OfJob word)
-        → IfOk result (λ made. IsMade words
-        (reading_of S.left S.faults source.old source.new)
-        made.parts made.apps made.text) }
-    ensures err { (words : List (List ℕ)) → spelled words ≡ Some (OfJob word)
-        → IfErr result (HasCause words
-        (reading_of S.left S.faults source.old source.new)) }
-{
-    let job = job_for(alloc, word, source)?;
-    let made = made_of_job(rt, alloc, word, job, gate)?;
-    Ok(Output {
-        parts: made.parts,
-        apps: None,
-        text: made.text,
-    })
-}
 
 // The answer to the request that the source's bytes are.
 pub(crate) fn checked<S: Source>(alloc: Global, source: &mut S) -> Result<Output, Refusal>

@@ -19,10 +19,12 @@ ghost use Rattle.spin_top.specs.Ends.{Ends, EndsGenerated, HasAnswer, IsExact, I
 ghost use Rattle.spin_top.specs.Made.{IsMade};
 ghost use Rattle.spin_top.specs.Writing.{IsWritten, told_unmade, writing_of};
 
-use crate::answers::{checked, done, from_job};
+use crate::answers::{checked, done};
+use crate::inputs::job_for;
 use crate::outcomes::{Outcome, Output, no_parts};
 use run_report::{OUT_OF_MEMORY, Refusal, line_of};
 use spin_base::{Gate, Memory, Seq, Sink, Source, write_all};
+use spin_jobs::made_of_job;
 use spin_words::{Command, command_of};
 use std::alloc::Global;
 use std::sync::Wait;
@@ -86,24 +88,6 @@ pub fn spin<Rt: Threads + Wait + Sync, S: Source, K: Sink, G: Gate>(
         ¬ FaultsRose (K.faults sink.old) (K.faults sink.new)
         → (result.status ≡ 0) ⊎ (result.status ≡ 9) }
 {
-    answered(rt, alloc, words, source, sink, gate)
-}
-
-// What `spin` does, and how it ends.
-fn answered<R: Threads + Wait + Sync, S: Source, K: Sink, G: Gate>(
-    rt: &R,
-    alloc: Global,
-    words: &[String],
-    source: &mut S,
-    sink: &mut K,
-    gate: &G,
-) -> Outcome
-    ensures status { result.status ≡ status_at result.refusal }
-    ensures ends { Ends (texts_of words.now)
-        (reading_of S.left S.faults source.old source.new)
-        (writing_of K.written K.faults sink.old sink.new)
-        result }
-{
     match made_of(rt, alloc, words, source, gate) {
         Ok(made) => write_text(made, sink),
         Err(refusal) => {
@@ -131,7 +115,15 @@ fn made_of<R: Threads + Wait + Sync, S: Source, G: Gate>(
         return Err(Refusal::Usage);
     };
     match command {
-        Command::OfJob(word) => from_job(rt, alloc, word, source, gate),
+        Command::OfJob(word) => {
+            let job = job_for(alloc, word, source)?;
+            let made = made_of_job(rt, alloc, word, job, gate)?;
+            Ok(Output {
+                parts: made.parts,
+                apps: None,
+                text: made.text,
+            })
+        }
         Command::Check => checked(alloc, source),
         Command::Apps => done(alloc, source),
     }

@@ -1,11 +1,7 @@
 -- Which words write a number: `0`, or digits without a leading 0.
 use Rattle.std.proofs.Common.{rules, ◌≡◌, ℕ, ◌<◌, ◌^◌, List, length, get_or, Bool, true, false, not, nat_lt, nat_eq, Some, None, Result, Ok, Err, refl, ap, sym, ◌∙◌, arith, subst}
-use Rattle.std.specs.Prelude.{◌&&◌, if◌then◌else◌}
-use Rattle.std.specs.List.{list_all}
-use Rattle.std.specs.Char.{is_ascii_digit}
-use Rattle.std.specs.Str.Parse.{ParsesUnsigned, digits_value}
-use Rattle.std.proofs.lemmas.Bool.{cond-true, cond-false, eqb-true, lt-ltb, ltb-true}
-use Rattle.std.proofs.lemmas.Str.Parse.{IsNumeralModel, numerals_by_value, parse_digits}
+use Rattle.std.specs.{Prelude.◌&&◌, Prelude.if◌then◌else◌, List.list_all, Char.is_ascii_digit, Str.Parse.ParsesUnsigned, Str.Parse.digits_value}
+use Rattle.std.proofs.lemmas.{Bool.cond-true, Bool.cond-false, Bool.eqb-true, Bool.lt-ltb, Bool.ltb-true, Str.Parse.IsNumeralModel, Str.Parse.numerals_by_value, Str.Parse.parse_digits}
 use Rattle.spin_words.specs.Commands.{is_numeral, number_in}
 
 -- texts of digits, and the numbers that they write

@@ -1,6 +1,6 @@
 // Words, and the command that they are.
 ghost use Rattle.std.specs.Prelude.{◌≡◌};
-ghost use Rattle.spin_words.specs.Commands.{plain_command, numbered_command, spelled, texts_of};
+ghost use Rattle.spin_words.specs.Commands.{numbered_command, spelled, texts_of};
 
 use crate::numbers::number_of;
 
@@ -38,37 +38,29 @@ pub fn command_of(words: &[String]) -> Option<Command>
     ensures { result ≡ spelled (texts_of words.now) }
 {
     match words {
-        [word] => plain_command(word.as_str()),
+        [word] => {
+            let word = word.as_str();
+            if word == "run" {
+                Some(Command::OfJob(JobWord::Run))
+            } else if word == "reinject" {
+                Some(Command::OfJob(JobWord::Reinject))
+            } else if word == "trace" {
+                Some(Command::OfJob(JobWord::Trace))
+            } else if word == "compile" {
+                Some(Command::OfJob(JobWord::Compile))
+            } else if word == "tables" {
+                Some(Command::OfJob(JobWord::Tables))
+            } else if word == "check" {
+                Some(Command::Check)
+            } else if word == "apps" {
+                Some(Command::Apps)
+            } else {
+                None
+            }
+        }
         [word, number] => numbered_command(word.as_str(), number.as_str()),
         _ => None,
     }
-}
-
-fn plain_command(word: &str) -> Option<Command>
-    ensures { result ≡ plain_command word.now }
-{
-    if word == "run" {
-        return Some(Command::OfJob(JobWord::Run));
-    }
-    if word == "reinject" {
-        return Some(Command::OfJob(JobWord::Reinject));
-    }
-    if word == "trace" {
-        return Some(Command::OfJob(JobWord::Trace));
-    }
-    if word == "compile" {
-        return Some(Command::OfJob(JobWord::Compile));
-    }
-    if word == "tables" {
-        return Some(Command::OfJob(JobWord::Tables));
-    }
-    if word == "check" {
-        return Some(Command::Check);
-    }
-    if word == "apps" {
-        return Some(Command::Apps);
-    }
-    None
 }
 
 fn numbered_command(word: &str, number: &str) -> Option<Command>

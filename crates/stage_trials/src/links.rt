@@ -2,7 +2,9 @@
 ghost use Rattle.std.specs.Prelude.{◌<◌, ◌≤◌};
 ghost use Rattle.link_queue.specs.Ends.{IsTx, IsRx};
 
-use link_queue::{Link, LinkEnds, Offered, Rx, Tx, link_down, link_up, offer, take};
+use link_queue::{
+    FirstList, Link, LinkEnds, Offered, Rx, Tx, WholeLink, link_down, link_up, offer, take,
+};
 use spin_base::{McCopy, Seq};
 use std::alloc::Global;
 use std::sync::Wait;
@@ -60,7 +62,11 @@ fn passes_many<R: Threads + Wait + Sync>(rt: &R, alloc: Global, places: u32) -> 
     requires some { 1 ≤ places }
     requires few { places ≤ 64 }
 {
-    let Ok(ends) = link_up(rt, alloc, Seq::new(alloc), places) else {
+    let first = FirstList {
+        list: Seq::new(alloc),
+        cap: places,
+    };
+    let Ok(ends) = link_up(rt, alloc, first) else {
         return false;
     };
     let LinkEnds {
@@ -114,7 +120,11 @@ fn looks_again<R: Wait>(rt: &R, alloc: Global) -> bool {
     let Ok(copies) = vec![in alloc; copy_of(1), copy_of(2)] else {
         return false;
     };
-    let Ok(ends) = link_up(rt, alloc, Seq::from_vec(copies), 2) else {
+    let first = FirstList {
+        list: Seq::from_vec(copies),
+        cap: 2,
+    };
+    let Ok(ends) = link_up(rt, alloc, first) else {
         return false;
     };
     let LinkEnds {
@@ -131,7 +141,7 @@ fn looks_again<R: Wait>(rt: &R, alloc: Global) -> bool {
         taken(rt, &link, &mut rx),
         taken(rt, &link, &mut rx),
     ];
-    let held = link_down(rt, link, tx, rx, room);
+    let held = link_down(rt, WholeLink { link, tx, rx, room });
     offers_full == Some(true)
         && first == Some(1)
         && offers_room == Some(false)
@@ -141,7 +151,11 @@ fn looks_again<R: Wait>(rt: &R, alloc: Global) -> bool {
 
 /// Of a link that holds none: none is taken, and after an offer that copy.
 fn finds_it_then<R: Wait>(rt: &R, alloc: Global) -> bool {
-    let Ok(ends) = link_up(rt, alloc, Seq::new(alloc), 2) else {
+    let first = FirstList {
+        list: Seq::new(alloc),
+        cap: 2,
+    };
+    let Ok(ends) = link_up(rt, alloc, first) else {
         return false;
     };
     let LinkEnds {

@@ -1,60 +1,40 @@
 -- Memories that are filled table by table.
-use Rattle.std.proofs.Common.{◌≡◌, ◌≢◌, ℕ, zero, suc, ◌+◌, ◌*◌, ◌<◌, ◌≤◌, eqb, cond, List, [], ◌∷◌, ◌++◌, length, get_or, set, take, drop, replicate, refl, sym, ap, ◌∙◌, subst, arith, Some, slice_get, append_assoc, take-append-drop, length-append, inl, inr}
-use Rattle.std.proofs.Math.Nat.{mul-le-mul_left}
-use Rattle.std.proofs.Math.Seq.{drop-cons}
-use Rattle.std.proofs.lemmas.Bool.{cases_eq, eq-eqb, ne_eqb}
-use Rattle.std.proofs.lemmas.List.{set_at, length-take-le, take_more, length-set, get_or-take, length-replicate, drop-replicate}
-use Rattle.spin_base.specs.declared.blocks.Entry.{Entry}
-use Rattle.spin_base.specs.declared.chips.Chip.{Chip}
+use Rattle.std.proofs.Common.{◌≡◌, ◌≢◌, ℕ, zero, suc, ◌+◌, ◌*◌, ◌<◌, ◌≤◌, eqb, cond, List, [], ◌∷◌, ◌++◌, length, get_or, set, take, drop, replicate, refl, sym, ap, ◌∙◌, subst, arith, Some, slice_get}
+use Rattle.std.proofs.Common.{append_assoc, inl, inr}
+use Rattle.std.proofs.{Math.Nat.mul-le-mul_left, Math.Seq.drop-cons, Math.Seq.take-length, lemmas.Bool.cases_eq, lemmas.Bool.eq-eqb, lemmas.Bool.ne_eqb, lemmas.List.set_at, lemmas.List.length-take-le}
+use Rattle.std.proofs.lemmas.List.{take_more, length-set, get_or-take, length-replicate, drop-replicate}
+use Rattle.spin_base.specs.declared.{blocks.Entry.Entry, chips.Chip.Chip, blocks.ChipTable.ChipTable}
 use Rattle.tcam_find.specs.Memory.{unused, empty_memory}
-use Rattle.spin_base.specs.declared.blocks.ChipTable.{ChipTable}
-use Rattle.table_load.specs.declared.tables.Image.{Image}
-use Rattle.table_load.specs.Images.{IsValid, IsChipBefore}
-use Rattle.table_load.specs.Memories.{table_index, rows_of_index, loaded}
+use Rattle.table_load.specs.{declared.tables.Image.Image, Images.IsValid, Images.IsChipBefore, Memories.table_index, Memories.rows_of_index, Memories.loaded}
 
 pub empty_is : empty_memory ≡ loaded []
 unfolding empty_memory
 empty_is = refl
 
-pub empty_long : (old : List Entry) → old ≡ empty_memory → length old ≡ 1024
+-- ---- rows from place 0 on
+
+pub rows_more : (rows : List Entry) (p : ℕ) (x : Entry) (m n : List Entry) → length rows ≤ 1024 → p < length rows → x ≡ get_or rows p x
+    → m ≡ take p rows ++ drop p empty_memory → n ≡ set m p x → n ≡ take (p + 1) rows ++ drop (p + 1) empty_memory
 unfolding empty_memory
-empty_long old is = ap length is ∙ length-replicate 1024 unused
-
--- ---- rows from a place on
-
-pub rows_start : (old rows : List Entry) (first : ℕ) → old ≡ take first old ++ (take 0 rows ++ drop (first + 0) old)
-rows_start old rows first =
-    let same : first ≡ first + 0 = omega arith in
-    sym (take-append-drop first old) ∙ ap (λ n. take first old ++ drop n old) same
-
-pub rows_more : (old rows : List Entry) (first p : ℕ) (x : Entry) (m n : List Entry) → length old ≡ 1024 → first + length rows ≤ 1024 → p < length rows → x ≡ get_or rows p x
-    → m ≡ take first old ++ (take p rows ++ drop (first + p) old) → n ≡ set m (first + p) x → n ≡ take first old ++ (take (p + 1) rows ++ drop (first + (p + 1)) old)
-rows_more old rows first p x m n size fits inside is before given =
-    let a = take first old in
+rows_more rows p x m n few inside is before given =
     let b = take p rows in
-    let y = get_or old (first + p) x in
-    let ys = drop (suc (first + p)) old in
-    let rest : drop (first + p) old ≡ y ∷ ys = drop-cons old (first + p) x (omega arith) in
-    let long : length (a ++ b) ≡ first + p = omega (arith, length-append a b, length-take-le first old (omega arith), length-take-le p rows (omega arith)) in
+    let ys = drop (suc p) empty_memory in
+    let rest : drop p empty_memory ≡ get_or empty_memory p x ∷ ys = drop-cons empty_memory p x (omega (arith, length-replicate 1024 unused)) in
     let more : take (p + 1) rows ≡ b ++ x ∷ [] = take_more rows p x inside ∙ ap (λ z. b ++ z ∷ []) (sym is) in
-    let next : suc (first + p) ≡ first + (p + 1) = omega arith in
+    let next : suc p ≡ p + 1 = omega arith in
     given
-    ∙ ap (λ l. set l (first + p) x) (before ∙ ap (λ l. a ++ (b ++ l)) rest ∙ sym (append_assoc a b (y ∷ ys)))
-    ∙ set_at (a ++ b) y ys x (first + p) long
-    ∙ append_assoc a b (x ∷ ys)
-    ∙ ap (λ l. a ++ l) (sym (append_assoc b (x ∷ []) ys))
-    ∙ ap (λ l. a ++ (l ++ ys)) (sym more)
-    ∙ ap (λ k. a ++ (take (p + 1) rows ++ drop k old)) next
+    ∙ ap (λ l. set l p x) (before ∙ ap (λ l. b ++ l) rest)
+    ∙ set_at b (get_or empty_memory p x) ys x p (length-take-le p rows (omega arith))
+    ∙ sym (append_assoc b (x ∷ []) ys)
+    ∙ ap (λ l. l ++ ys) (sym more)
+    ∙ ap (λ k. take (p + 1) rows ++ drop k empty_memory) next
 
--- in an empty memory, from place 0 on
-pub rows_loaded : (rows old new : List Entry) (first : ℕ) → first ≡ 0 → old ≡ empty_memory → new ≡ take first old ++ (rows ++ drop (first + length rows) old) → new ≡ loaded rows
+pub rows_loaded : (rows new : List Entry) (at : ℕ) → at ≡ length rows → new ≡ take at rows ++ drop at empty_memory → new ≡ loaded rows
 unfolding empty_memory
-rows_loaded rows old new first zeroth empty put =
-    let behind : first + length rows ≡ length rows = omega (arith, zeroth) in
+rows_loaded rows new at all put =
     put
-    ∙ ap (λ k. take first old ++ (rows ++ drop k old)) behind
-    ∙ ap (λ k. take k old ++ (rows ++ drop (length rows) old)) zeroth
-    ∙ ap (λ l. rows ++ drop (length rows) l) empty
+    ∙ ap (λ n. take n rows ++ drop n empty_memory) all
+    ∙ ap (λ l. l ++ drop (length rows) empty_memory) (take-length rows)
     ∙ ap (λ l. rows ++ l) (drop-replicate (length rows) 1024 unused)
 
 -- ---- memories of all chips
@@ -83,20 +63,9 @@ get_set_other (y ∷ ys) zero (suc j) x ne = refl
 get_set_other (y ∷ ys) (suc i) zero x ne = refl
 get_set_other (y ∷ ys) (suc i) (suc j) x ne = get_set_other ys i j x (λ e. ne (ap suc e))
 
-got : (xs : List (List Entry)) (i : ℕ) (x d : List Entry) → slice_get xs i ≡ Some x → get_or xs i d ≡ x
-got [] i x d e = cc
-got (y ∷ ys) zero x d e = cc
-got (y ∷ ys) (suc i) x d e = got ys i x d e
-
 -- no table of the list is of that chip
 abbrev Without : ℕ → List ChipTable → ℕ → Type 0
 Without h ts i = (j : ℕ) (d : ChipTable) → j < length ts → table_index h (get_or ts j d) ≢ i
-
-rows_none : (h : ℕ) (ts : List ChipTable) (i : ℕ) → Without h ts i → rows_of_index h ts i ≡ []
-rows_none h [] i none = refl
-rows_none h (t ∷ ts) i none =
-    let first = ne_eqb (table_index h t) i (none 0 t (omega arith)) in
-    rw first (rows_none h ts i (λ j d lt. none (suc j) d (omega arith)))
 
 rows_here : (h : ℕ) (ts : List ChipTable) (t : ChipTable) (i : ℕ) → Without h ts i → table_index h t ≡ i → rows_of_index h (ts ++ t ∷ []) i ≡ t.entries
 rows_here h [] t i none here = rw (eq-eqb (table_index h t) i here) refl
@@ -142,11 +111,6 @@ module _ (v : Image) (valid : IsValid v) (k : ℕ) (t : ChipTable) (inside : k <
 
   module _ (ms : List (List Entry)) (long : length ms ≡ v.width * v.height)
       (each : (i : ℕ) → i < v.width * v.height → slice_get ms i ≡ Some (loaded (rows_of_index v.height (take k v.chips) i))) where
-    -- the memory of the next table's chip is empty
-    pub still_empty : (m : List Entry) → m ≡ get_or ms at m → m ≡ empty_memory
-    still_empty m here =
-        here ∙ got ms at _ m (each at in_grid) ∙ ap loaded (rows_none v.height (take k v.chips) at apart) ∙ sym empty_is
-
     pub load_more : (m : List Entry) → m ≡ loaded t.entries
         → (length (set ms at m) ≡ v.width * v.height)
         × ((i : ℕ) → i < v.width * v.height → slice_get (set ms at m) i ≡ Some (loaded (rows_of_index v.height (take (k + 1) v.chips) i)))

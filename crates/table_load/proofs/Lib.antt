@@ -1,6 +1,5 @@
 mod Filling
 mod Numbers
-mod Places
 mod Rows
 mod Spelling
 mod TableReads

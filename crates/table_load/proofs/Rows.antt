@@ -1,19 +1,13 @@
 -- A row that is read is spelled so, and what is spelled so is read.
 use Rattle.std.proofs.Common.{◌≡◌, ℕ, zero, suc, ◌+◌, ◌-◌, ◌%◌, ◌^◌, ◌<◌, ◌≤◌, true, leb, List, [], ◌∷◌, ◌++◌, length, Result, Ok, Err, refl, sym, ap, subst, ◌∙◌, append_assoc, arith, eq-eqb}
-use Rattle.std.specs.List.{flat_map, AllByRecursion}
-use Rattle.std.specs.Int.{w32, to_le_bytes}
-use Rattle.std.proofs.Math.Nat.{mod-eq_of_lt}
-use Rattle.std.proofs.lemmas.Bool.{and_parts, and_from, leb-true, le-leb, eqb-true}
-use Rattle.std.proofs.lemmas.Nat.{and_le_r}
-use Rattle.std.proofs.lemmas.List.{append-nil}
+use Rattle.std.specs.{List.flat_map, List.AllByRecursion, Int.w32, Int.to_le_bytes}
+use Rattle.std.proofs.{Math.Nat.mod-eq_of_lt, lemmas.Bool.and_parts, lemmas.Bool.and_from, lemmas.Bool.leb-true, lemmas.Bool.le-leb, lemmas.Bool.eqb-true, lemmas.Nat.and_le_r, lemmas.List.append-nil}
 use Rattle.std.proofs.lemmas.List.Concat.{flat_map-cons}
-use Rattle.spin_base.specs.declared.routes.Route.{Route}
-use Rattle.spin_base.specs.declared.blocks.Entry.{Entry}
-use Rattle.table_load.specs.declared.faults.Stop.{Stop}
+use Rattle.spin_base.specs.declared.{routes.Route.Route, blocks.Entry.Entry}
+use Rattle.table_load.specs.{declared.faults.Stop.Stop, Images.IsRow, Images.row_bytes, Reading.◌>>=◌, Reading.StopsAt, Reading.AreBytes, Reading.number, Reading.field, Reading.between}
+use Rattle.table_load.specs.Reading.{covers, route_of, read_route, read_row, read_rows}
 use Rattle.table_load.specs.declared.faults.Stop.TheVariants as stops
 use Rattle.spin_base.proofs.RouteBits.{same_route}
-use Rattle.table_load.specs.Images.{IsRow, row_bytes}
-use Rattle.table_load.specs.Reading.{◌>>=◌, StopsAt, AreBytes, number, field, between, covers, route_of, read_route, read_row, read_rows}
 use Rattle.table_load.proofs.Numbers.{bind_ok, ok_is, Takes, Takes-then, wide32, number_takes, number_again, field_takes, field_again, field_allows}
 
 -- ---- bounds

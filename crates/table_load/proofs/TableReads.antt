@@ -1,18 +1,13 @@
 -- Tables that are read are spelled so, and what is spelled so is read.
-use Rattle.std.proofs.Common.{◌≡◌, ℕ, zero, suc, ◌+◌, ◌-◌, ◌^◌, ◌<◌, ◌≤◌, Bool, true, eqb, ltb, ◌&&◌, List, [], ◌∷◌, ◌++◌, length, All, Option, Some, None, Result, Ok, Err, refl, sym, ap, subst, ◌∙◌, append_assoc, arith, eq-eqb, inl, inr}
-use Rattle.std.specs.List.{flat_map, AllByRecursion, AllPairs}
-use Rattle.std.specs.Int.{w8, w16, to_le_bytes}
-use Rattle.std.proofs.lemmas.Bool.{and_parts, and_from, or_cases, or_left, or_right, ltb-true, lt-ltb, eqb-true}
-use Rattle.std.proofs.lemmas.List.{append-nil}
-use Rattle.std.proofs.lemmas.List.Concat.{flat_map-cons}
-use Rattle.std.proofs.lemmas.List.Elements.{All-from_recursion, recursion_from_All, All-nil}
-use Rattle.std.proofs.lemmas.List.Kept.{AllPairs-cons}
-use Rattle.spin_base.specs.declared.chips.Chip.{Chip}
-use Rattle.table_load.specs.declared.faults.Stop.{Stop}
+use Rattle.std.proofs.Common.{◌≡◌, ℕ, zero, suc, ◌+◌, ◌-◌, ◌^◌, ◌<◌, ◌≤◌, Bool, true, eqb, ltb, ◌&&◌, List, [], ◌∷◌, ◌++◌, length, All, Option, Some, None, Result, Ok, Err, refl, sym, ap, subst, ◌∙◌}
+use Rattle.std.proofs.Common.{append_assoc, arith, eq-eqb, inl, inr}
+use Rattle.std.specs.{List.flat_map, List.AllByRecursion, List.AllPairs, Int.w8, Int.w16, Int.to_le_bytes}
+use Rattle.std.proofs.lemmas.{Bool.and_parts, Bool.and_from, Bool.or_cases, Bool.or_left, Bool.or_right, Bool.ltb-true, Bool.lt-ltb, Bool.eqb-true, List.append-nil, List.Concat.flat_map-cons}
+use Rattle.std.proofs.lemmas.List.{Elements.All-from_recursion, Elements.recursion_from_All, Elements.All-nil, Kept.AllPairs-cons}
+use Rattle.spin_base.specs.declared.{chips.Chip.Chip, blocks.ChipTable.ChipTable}
+use Rattle.table_load.specs.{declared.faults.Stop.Stop, Images.IsRow, Images.IsChipBefore, Images.IsTable, Images.row_bytes, Images.table_bytes, Reading.◌>>=◌, Reading.StopsAt, Reading.AreBytes}
+use Rattle.table_load.specs.Reading.{field, between, comes_after, read_chip, read_rows, read_table, read_tables}
 use Rattle.table_load.specs.declared.faults.Stop.TheVariants as stops
-use Rattle.spin_base.specs.declared.blocks.ChipTable.{ChipTable}
-use Rattle.table_load.specs.Images.{IsRow, IsChipBefore, IsTable, row_bytes, table_bytes}
-use Rattle.table_load.specs.Reading.{◌>>=◌, StopsAt, AreBytes, field, between, comes_after, read_chip, read_rows, read_table, read_tables}
 use Rattle.table_load.proofs.Numbers.{bind_ok, ok_is, Takes, Takes-then, wide8, wide16, byte_is, field_takes, field_again}
 use Rattle.table_load.proofs.Rows.{between_is, between_from, rows_take, rows_again}
 

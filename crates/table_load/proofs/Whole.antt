@@ -1,21 +1,15 @@
 -- An image that is read is spelled by the bytes, and one that is spelled is read; so no spelling begins another.
-use Rattle.std.proofs.Common.{◌≡◌, ℕ, zero, suc, ◌*◌, ◌%◌, ◌^◌, ◌<◌, ◌≤◌, Bool, true, false, cond, eqb, List, [], ◌∷◌, ◌++◌, length, Some, None, Result, Ok, Err, refl, sym, ap, subst, ◌∙◌, append_assoc, arith}
-use Rattle.std.specs.Prelude.{if◌then◌else◌}
-use Rattle.std.specs.List.{flat_map, AllByRecursion, AllPairs}
-use Rattle.std.specs.Int.{w8, w16, w32, to_le_bytes}
-use Rattle.std.proofs.Math.Nat.{mod-eq_of_lt, mul-le-mul}
-use Rattle.std.proofs.lemmas.Bool.{eqb-true, ne_eqb}
-use Rattle.std.proofs.lemmas.List.{append-nil, nil_from_length, length-append}
+use Rattle.std.proofs.Common.{◌≡◌, ℕ, zero, suc, ◌*◌, ◌%◌, ◌^◌, ◌<◌, ◌≤◌, Bool, true, false, cond, eqb, List, [], ◌∷◌, ◌++◌, length, Some, None, Result, Ok, Err, refl, sym, ap, subst, ◌∙◌}
+use Rattle.std.proofs.Common.{append_assoc, arith}
+use Rattle.std.specs.{Prelude.if◌then◌else◌, List.flat_map, List.AllByRecursion, List.AllPairs, Int.w8, Int.w16, Int.w32, Int.to_le_bytes}
+use Rattle.std.proofs.{Math.Nat.mod-eq_of_lt, Math.Nat.mul-le-mul, lemmas.Bool.eqb-true, lemmas.Bool.ne_eqb, lemmas.List.append-nil, lemmas.List.nil_from_length, lemmas.List.length-append}
 use Rattle.std.proofs.lemmas.List.Elements.{All-from_recursion, recursion_from_All}
-use Rattle.table_load.specs.declared.faults.Stop.{Stop}
+use Rattle.table_load.specs.{declared.faults.Stop.Stop, declared.tables.Image.Image, Images.IsTable, Images.Spells, Images.table_bytes, Reading.◌>>=◌, Reading.StopsAt, Reading.AreBytes, Reading.field}
+use Rattle.table_load.specs.Reading.{between, read_tables, read_image, fault_place_in, fault_of}
 use Rattle.table_load.specs.declared.faults.Stop.TheVariants as stops
 use Rattle.spin_base.specs.declared.blocks.ChipTable.{ChipTable}
-use Rattle.table_load.specs.declared.tables.Image.{Image}
-use Rattle.table_load.specs.Images.{IsTable, Spells, table_bytes}
-use Rattle.table_load.specs.Reading.{◌>>=◌, StopsAt, AreBytes, field, between, read_tables, read_image, fault_place_in, fault_of}
 use Rattle.table_load.proofs.Numbers.{bind_ok, if_ok, ok_is, Takes-then, wide8, wide16, wide32, field_takes, field_again}
-use Rattle.table_load.proofs.Rows.{between_is, between_from}
-use Rattle.table_load.proofs.TableReads.{Earlier, tables_take, tables_again, pairs_from_order, order_from_pairs}
+use Rattle.table_load.proofs.{Rows.between_is, Rows.between_from, TableReads.Earlier, TableReads.tables_take, TableReads.tables_again, TableReads.pairs_from_order, TableReads.order_from_pairs}
 
 -- ---- what is read after each field
 

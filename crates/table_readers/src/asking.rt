@@ -52,8 +52,6 @@ impl ItemReader for Rows {
 
     type Item = RoutedBlock;
 
-    ghost IsReady = { λ _. ⊤ };
-
     ghost faults = { λ _. row_faults };
 
     ghost value = { λ _. row_value };
@@ -236,12 +234,9 @@ fn route_of(bits: u32) -> Route
 struct Tables;
 
 impl ItemReader for Tables {
-    ghost use Rattle.std.specs.Prelude.{⊤};
     ghost use Rattle.table_readers.specs.Asking.{HasFewRows, table_faults, table_value};
 
     type Item = GivenTable;
-
-    ghost IsReady = { λ _. ⊤ };
 
     ghost faults = { λ _. table_faults };
 

@@ -1,31 +1,20 @@
 -- The table that is made of rows says what they say.
-use Rattle.std.proofs.Common.{◌≡◌, ℕ, ◌-◌, ◌^◌, ◌<◌, ◌≤◌, inl, inr, List, [], ◌∷◌, ◌++◌, length, get_or, map, Some, None, refl, sym, ap, ◌∙◌, subst, append_assoc, arith}
-use Rattle.std.specs.Prelude.{All}
-use Rattle.std.specs.List.{Contains}
-use Rattle.std.specs.List.Sorted.{IsPermutation}
-use Rattle.std.proofs.lemmas.List.{append-nil, get_or-map, length-map}
-use Rattle.std.proofs.lemmas.List.Elements.{All-nil, All-map, Contains-get_or}
-use Rattle.std.proofs.lemmas.List.Sorted.{All-permutation, IsPermutation-sym}
+use Rattle.std.proofs.Common.{◌≡◌, ℕ, ◌-◌, ◌^◌, ◌<◌, inl, inr, List, [], ◌∷◌, ◌++◌, length, get_or, map, Some, None, refl, sym, ap, ◌∙◌, subst, append_assoc, arith}
+use Rattle.std.specs.{Prelude.All, List.Contains, List.Sorted.IsPermutation}
+use Rattle.std.proofs.lemmas.List.{append-nil, get_or-map, length-map, Elements.All-nil, Elements.All-map, Elements.Contains-get_or, Sorted.All-permutation, Sorted.IsPermutation-sym}
 use Rattle.std.proofs.lemmas.Option.{none-some}
-use Rattle.spin_base.proofs.Members.{Contains-map}
-use Rattle.spin_base.proofs.Pairs.{AllPairs-nil}
-use Rattle.spin_base.specs.declared.blocks.Block.{Block}
-use Rattle.spin_base.specs.declared.routes.Route.{Route}
-use Rattle.spin_base.specs.declared.chips.Port.{Port}
-use Rattle.tern_word.specs.declared.tables.Alias.{Alias}
-use Rattle.tern_word.specs.declared.tables.Row.{Row}
-use Rattle.tern_word.specs.Ternary.{Matches, Intersects, LiesIn, generality}
-use Rattle.tern_word.specs.SoundTable.{HoldsItsAliases, IsSound, Misses, Original, served, served_by}
+use Rattle.spin_base.proofs.{Members.Contains-map, Pairs.AllPairs-nil}
+use Rattle.spin_base.specs.declared.{blocks.Block.Block, routes.Route.Route, chips.Port.Port}
+use Rattle.tern_word.specs.{declared.tables.Alias.Alias, declared.tables.Row.Row, Ternary.Matches, Ternary.Intersects, Ternary.LiesIn, Ternary.generality, SoundTable.HoldsItsAliases}
+use Rattle.tern_word.specs.SoundTable.{IsSound, Original, served, served_by}
 use Rattle.cover_merge.specs.Merge.{place_for, rows_at}
 use Rattle.block_cuts.specs.Pieces.{ArePieces, HasPiece}
 use Rattle.block_cuts.proofs.PieceLaws.{are_pieces}
-use Rattle.table_rules.specs.declared.rows.RoutedBlock.{RoutedBlock}
-use Rattle.table_rules.specs.Made.{IsTableFrom, IsTableMadeOf, IsRowAdded, StandsBefore, alias_of, row_blocks, done, in_pieces, left_out, more, piece_row, whole, whole_row, with_row, with_rows}
-use Rattle.table_rules.specs.Rows.{LeaveBy, KeepsRoutes, by_row, first_with, routed}
-use Rattle.table_rules.specs.Shortened.{AreLeft}
-use Rattle.table_rules.proofs.FirstRows.{first_none, first_of_more, none_before, none_first, not_none}
-use Rattle.table_rules.proofs.Kept.{IsSentOn, all_sent}
-use Rattle.table_rules.proofs.Sounds.{all_insert, all_with_rows, served_keeps, served_keeps_all, served_new, served_news, sound_with, sound_with_pieces}
+use Rattle.table_rules.specs.{declared.rows.RoutedBlock.RoutedBlock, Made.IsTableFrom, Made.IsTableMadeOf, Made.IsRowAdded, Made.StandsBefore, Made.alias_of, Made.row_blocks, Made.done}
+use Rattle.table_rules.specs.{Made.in_pieces, Made.left_out, Made.more, Made.piece_row, Made.whole, Made.whole_row, Made.with_row, Made.with_rows, Rows.LeaveBy, Rows.KeepsRoutes, Rows.by_row}
+use Rattle.table_rules.specs.{Rows.first_with, Rows.routed, Shortened.AreLeft}
+use Rattle.table_rules.proofs.{FirstRows.first_none, FirstRows.first_of_more, FirstRows.none_before, FirstRows.none_first, FirstRows.not_none, Kept.IsSentOn, Kept.all_sent, Sounds.all_insert}
+use Rattle.table_rules.proofs.Sounds.{all_with_rows, served_keeps, served_keeps_all, served_new, served_news, sound_with, sound_with_pieces}
 
 -- an original block of the table has the key, the port and the route
 pub record IsServed (rows : List Row) (k : ℕ) (port : Port) (route : Route) : Type 0 where
@@ -111,11 +100,7 @@ module _ (before : List RoutedBlock) (rows : List Row) (given : RoutedBlock) (pi
   }
 
   with_none : pieces ≡ [] → IsFaithful (before ++ given ∷ []) rows
-  with_none none = record {
-    sound = so_far.sound;
-    within = still_within;
-    complete = complete rows (λ o among. among) (λ k piece. absurd (omega (arith, piece.among.1, ap length none)));
-  }
+  with_none none = grind (arith, still_within, complete)
 
 faithful_put : (before : List RoutedBlock) (rows : List Row) (given : RoutedBlock) (pieces : List Block) (next : List Row) → IsFaithful before rows → ArePieces given.block (row_blocks before) pieces
     → IsRowAdded rows given pieces next → IsFaithful (before ++ given ∷ []) next
@@ -130,11 +115,7 @@ faithful_from room before rows given table (more r b rs g rest pieces next t cut
     (faithful_from (r - length pieces) (b ++ g ∷ []) next rest t from (faithful_put b rs g pieces next so_far (are_pieces r g.block (row_blocks b) (Some pieces) (sym cuts)) put))
 
 none_yet : IsFaithful [] []
-none_yet = record {
-  sound = record { ordered = AllPairs-nil (λ (r s : Row). generality r.block ≤ generality s.block); inside = All-nil HoldsItsAliases; unmet = AllPairs-nil (λ (r s : Row). Misses r.block s) };
-  within = All-nil (IsOf []);
-  complete = λ k row small first. absurd (none-some row first);
-}
+none_yet = grind (arith, All-nil HoldsItsAliases, All-nil (IsOf []), complete, AllPairs-nil, none-some)
 
 pub made_is_sound : (room : ℕ) (given : List RoutedBlock) (table : List Row) → IsTableMadeOf room given table → IsSound table
 made_is_sound room given table made = (faithful_from room [] [] given table made none_yet).sound

@@ -1,16 +1,11 @@
 -- Which row has a key first.
-use Rattle.std.proofs.Common.{◌≡◌, ℕ, ◌⊎◌, true, false, cond, inl, inr, List, [], ◌∷◌, ◌++◌, Some, None, refl, sym, ap, ◌∙◌}
+use Rattle.std.proofs.Common.{arith, ◌≡◌, ℕ, ◌⊎◌, true, false, cond, inl, inr, List, [], ◌∷◌, ◌++◌, Some, None, refl, sym, ap, ◌∙◌}
 use Rattle.std.specs.Prelude.{bit_and}
-use Rattle.std.proofs.lemmas.Bool.{eq-eqb}
-use Rattle.std.proofs.lemmas.Bool.Decides.{eqb_tells}
-use Rattle.std.proofs.lemmas.List.Elements.{All-nil, All-cons, All-head, All-tail}
-use Rattle.std.proofs.lemmas.Option.{none-some, same_Some}
+use Rattle.std.proofs.lemmas.{Bool.eq-eqb, Bool.Decides.eqb_tells, List.Elements.All-nil, List.Elements.All-cons, List.Elements.All-head, List.Elements.All-tail, Option.none-some, Option.same_Some}
 use Rattle.spin_base.specs.declared.blocks.Block.{Block}
 use Rattle.tern_word.specs.Ternary.{Matches}
 use Rattle.block_cuts.specs.Pieces.{NoneHas}
-use Rattle.table_rules.specs.declared.rows.RoutedBlock.{RoutedBlock}
-use Rattle.table_rules.specs.Rows.{takes_key, first_with}
-use Rattle.table_rules.specs.Made.{row_blocks}
+use Rattle.table_rules.specs.{declared.rows.RoutedBlock.RoutedBlock, Rows.takes_key, Rows.first_with, Made.row_blocks}
 
 pub has_tells : (k : ℕ) (r : RoutedBlock) → ((takes_key k r ≡ true) × Matches r.block k) ⊎ ((takes_key k r ≡ false) × (Matches r.block k → ⊥))
 has_tells k r = elim (eqb_tells (bit_and k r.block.mask) r.block.key) [
@@ -63,10 +58,7 @@ not_none rows g k hit none = none-some g (sym none ∙ (first_next rows (g ∷ [
 
 -- the first row with one more: one of those before, or that one
 pub first_of_more : (rows : List RoutedBlock) (g x : RoutedBlock) (k : ℕ) → first_with (rows ++ g ∷ []) k ≡ Some x → (first_with rows k ≡ Some x) ⊎ ((first_with rows k ≡ None) × (g ≡ x) × Matches g.block k)
-first_of_more [] g x k first = elim (has_tells k g) [
-  | inl hit ↦ inr (refl, same_Some g x (sym (first_hit g [] k hit.1) ∙ first), hit.1)
-  | inr miss ↦ absurd (none-some x (sym (first_miss g [] k miss.1) ∙ first))
-]
+first_of_more [] g x k first = grind (arith, has_tells k g, first_miss g, first_hit g, same_Some, none-some)
 first_of_more (r ∷ rows) g x k first = elim (has_tells k r) [
   | inl hit ↦ inl (first_hit r rows k hit.1 ∙ (sym (first_hit r (rows ++ g ∷ []) k hit.1) ∙ first))
   | inr miss ↦ elim (first_of_more rows g x k (sym (first_miss r (rows ++ g ∷ []) k miss.1) ∙ first)) [

@@ -1,36 +1,19 @@
 -- From which number on all are among sorted ones, and what is free below it.
-use Rattle.std.proofs.Common.{◌≡◌, ℕ, ◌+◌, ◌-◌, ◌<◌, ◌≤◌, min, inl, inr, List, length, get_or, map, ap, ◌∙◌, subst, arith}
-use Rattle.std.specs.Prelude.{All, slice_index}
-use Rattle.std.specs.List.{Contains}
-use Rattle.std.specs.List.Sorted.{IsPermutation}
-use Rattle.std.proofs.lemmas.Bool.{cases_lt}
-use Rattle.std.proofs.lemmas.List.{get_or_default}
-use Rattle.std.proofs.lemmas.List.Sorted.{All-permutation, Contains-permutation, IsPermutation-sym}
-use Rattle.spin_base.proofs.Members.{Contains-unmap}
-use Rattle.spin_base.proofs.Pairs.{All-from_map}
-use Rattle.table_rules.specs.declared.rows.RoutedBlock.{RoutedBlock}
-use Rattle.table_rules.specs.Exact.{HasAllRoutes, IsFree}
+use Rattle.std.proofs.Common.{◌≡◌, ℕ, ◌+◌, ◌-◌, ◌<◌, ◌≤◌, min, List, length, get_or, map, subst, arith}
+use Rattle.std.specs.{Prelude.All, Prelude.slice_index, List.Contains, List.Sorted.IsPermutation}
+use Rattle.std.proofs.lemmas.{Bool.cases_lt, List.get_or_default, List.Sorted.All-permutation, List.Sorted.Contains-permutation, List.Sorted.IsPermutation-sym}
+use Rattle.spin_base.proofs.{Members.Contains-unmap, Pairs.All-from_map}
+use Rattle.table_rules.specs.{declared.rows.RoutedBlock.RoutedBlock, Exact.HasAllRoutes, Exact.IsFree}
 
 module _ (bits : List ℕ) (routes full k next : ℕ) (k_in : k < length bits) (is : next ≡ min full (slice_index bits (length bits - 1 - k))) where
   pub next_below : full ≤ routes → next ≤ routes
   next_below below = omega (arith, is, below)
 
   pub next_full : full - slice_index bits (length bits - 1 - k) ≤ 1 → ((b : ℕ) → full ≤ b → b < routes → Contains bits b) → (b : ℕ) → next ≤ b → b < routes → Contains bits b
-  next_full close all b from within = elim (cases_lt b full) [
-    | inl less ↦
-        let at : slice_index bits (length bits - 1 - k) ≡ b = omega (arith, is, close, from, less) in
-        (length bits - 1 - k, omega (arith, k_in), get_or_default bits (length bits - 1 - k) b 0 (omega (arith, k_in)) ∙ at)
-    | inr most ↦ all b (omega (arith, most)) within
-  ]
+  next_full close all b from within = grind (arith, cases_lt b full, get_or_default bits (length bits - 1 - k) b 0 (omega (arith, k_in)))
 
   pub next_passed : ((j d : ℕ) → length bits ≤ j + k → j < length bits → full ≤ get_or bits j d) → (j d : ℕ) → length bits ≤ j + (k + 1) → j < length bits → next ≤ get_or bits j d
-  next_passed passed j d from within = elim (cases_lt (length bits - 1 - k) j) [
-    | inl behind ↦ let above : full ≤ get_or bits j d = passed j d (omega (arith, behind)) within in omega (arith, is, above)
-    | inr here ↦
-        let place : length bits - 1 - k ≡ j = omega (arith, here, from, within) in
-        let at : slice_index bits (length bits - 1 - k) ≡ get_or bits j d = get_or_default bits (length bits - 1 - k) 0 d (omega (arith, k_in)) ∙ ap (λ n. get_or bits n d) place in
-        omega (arith, is, at)
-  ]
+  next_passed passed j d from within = grind (arith, cases_lt (length bits - 1 - k) j, get_or bits j d, get_or_default bits (length bits - 1 - k) 0 d (omega (arith, k_in)))
 
 module _ (given : List RoutedBlock) (bits sorted : List ℕ) (of : bits ≡ map (λ (r : RoutedBlock). r.route.bits) given) (moved : IsPermutation bits sorted) where
   pub is_free : (b : ℕ) → All (λ x. x ≡ b → ⊥) sorted → IsFree given b

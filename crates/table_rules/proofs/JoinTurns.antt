@@ -1,58 +1,33 @@
 -- One block more, one route more.
 use Rattle.std.proofs.Common.{◌≡◌, ℕ, ◌+◌, ◌<◌, ◌≤◌, Bool, true, false, List, [], ◌∷◌, ◌++◌, length, get_or, map, set, take, drop, refl, sym, ap, ◌∙◌, append_assoc, arith}
-use Rattle.std.specs.Prelude.{filter, if◌then◌else◌, not}
-use Rattle.std.proofs.lemmas.List.{append-nil, drop_all, drop_more, map-append, map_push, take_more, take_all}
-use Rattle.std.proofs.lemmas.List.Concat.{flat_map-append}
-use Rattle.std.proofs.lemmas.List.Edits.{sets-eq}
-use Rattle.std.proofs.lemmas.List.Elements.{filter-append}
-use Rattle.std.proofs.lemmas.List.Sums.{fold-append}
-use Rattle.spin_base.specs.declared.blocks.Block.{Block}
-use Rattle.spin_base.specs.declared.routes.Route.{Route}
-use Rattle.tern_word.specs.declared.tables.Alias.{Alias}
-use Rattle.tern_word.specs.declared.tables.Row.{Row}
-use Rattle.tern_word.specs.SoundTable.{Original, served, served_by}
-use Rattle.tern_word.specs.Ternary.{merge_two}
-use Rattle.table_rules.specs.declared.rows.RoutedBlock.{RoutedBlock}
-use Rattle.table_rules.specs.Made.{row_blocks}
-use Rattle.table_rules.specs.Pairs.{goes_by, joined_blocks, meets_one, others, own_blocks, pieces_of, row_by, rows_by_routes, with_block}
+use Rattle.std.specs.Prelude.{if◌then◌else◌}
+use Rattle.std.proofs.lemmas.List.{append-nil, drop_all, drop_more, map-append, map_push, take_more, take_all, Concat.flat_map-append, Edits.sets-eq, Elements.filter-append, Sums.fold-append}
+use Rattle.spin_base.specs.declared.{blocks.Block.Block, routes.Route.Route}
+use Rattle.tern_word.specs.{declared.tables.Alias.Alias, declared.tables.Row.Row, SoundTable.Original, SoundTable.served_by, Ternary.merge_two}
+use Rattle.table_rules.specs.{declared.rows.RoutedBlock.RoutedBlock, Pairs.goes_by, Pairs.joined_blocks, Pairs.meets_one, Pairs.others, Pairs.own_blocks, Pairs.pieces_of, Pairs.row_by}
+use Rattle.table_rules.specs.Pairs.{rows_by_routes, with_block}
 
 -- ---- a block is put
 
 module _ (behind : List RoutedBlock) (block : Block) (blocks all : List Block) (i : ℕ) (so_far : take i blocks ++ with_block behind (drop i blocks) block ≡ all) where
   pub put_at_end : length blocks ≤ i → blocks ++ block ∷ [] ≡ all
-  put_at_end past =
-      ap (λ l. l ++ block ∷ []) (sym (take_all i blocks past))
-      ∙ (ap (λ l. take i blocks ++ with_block behind l block) (sym (drop_all i blocks past)) ∙ so_far)
+  put_at_end past = grind (arith, take_all i blocks past, drop_all i blocks past)
 
   module _ (b join : Block) (within : i < length blocks) (read : b ≡ get_or blocks i b) (is : join ≡ merge_two b block) where
     at_place : (t : Bool) → meets_one behind join ≡ t → take i blocks ++ (if t then b ∷ with_block behind (drop (i + 1) blocks) block else join ∷ drop (i + 1) blocks) ≡ all
-    at_place t met =
-        ap (λ x. take i blocks ++ (if x then b ∷ with_block behind (drop (i + 1) blocks) block else join ∷ drop (i + 1) blocks)) (sym met)
-        ∙ (ap (λ j. take i blocks ++ (if meets_one behind j then b ∷ with_block behind (drop (i + 1) blocks) block else j ∷ drop (i + 1) blocks)) is
-        ∙ (ap (λ l. take i blocks ++ with_block behind l block) (ap (λ x. x ∷ drop (i + 1) blocks) read ∙ sym (drop_more blocks i b within))
-        ∙ so_far))
+    at_place t met = grind (arith, drop_more blocks i b within)
 
     pub taken_in : meets_one behind join ≡ false → set blocks i join ≡ all
-    taken_in clear =
-        let one : i + length (join ∷ []) ≡ i + 1 = omega arith in
-        sets-eq (join ∷ []) blocks i (omega (arith, within))
-        ∙ (append_assoc (take i blocks) (join ∷ []) (drop (i + length (join ∷ [])) blocks)
-        ∙ (ap (λ n. take i blocks ++ join ∷ drop n blocks) one ∙ at_place false clear))
+    taken_in clear = grind (arith, sets-eq (join ∷ []) blocks i (omega (arith, within)), append_assoc (take i blocks) (join ∷ []) (drop (i + length (join ∷ [])) blocks), at_place false clear)
 
     pub passed_on : meets_one behind join ≡ true → take (i + 1) blocks ++ with_block behind (drop (i + 1) blocks) block ≡ all
-    passed_on met =
-        ap (λ l. l ++ with_block behind (drop (i + 1) blocks) block) (take_more blocks i b within ∙ ap (λ x. take i blocks ++ x ∷ []) (sym read))
-        ∙ (append_assoc (take i blocks) (b ∷ []) (with_block behind (drop (i + 1) blocks) block) ∙ at_place true met)
+    passed_on met = grind (arith, take_more blocks i b within, append_assoc (take i blocks) (b ∷ []) (with_block behind (drop (i + 1) blocks) block), at_place true met)
 
 -- ---- blocks are joined
 
 pub joined_more : (behind : List RoutedBlock) (blocks : List Block) (i : ℕ) (block : Block) (old new : List Block) → i < length blocks → block ≡ get_or blocks i block → old ≡ joined_blocks behind (take i blocks)
     → new ≡ with_block behind old block → new ≡ joined_blocks behind (take (i + 1) blocks)
-joined_more behind blocks i block old new within read so_far put =
-    put
-    ∙ (ap (λ l. with_block behind l block) so_far
-    ∙ (sym (fold-append (with_block behind) [] (take i blocks) (block ∷ []))
-    ∙ ap (joined_blocks behind) (sym (take_more blocks i block within ∙ ap (λ x. take i blocks ++ x ∷ []) (sym read)))))
+joined_more behind blocks i block old new within read so_far put = grind (arith, fold-append (with_block behind), take_more blocks i block within)
 
 -- ---- pieces of a route, and of others
 
@@ -61,38 +36,20 @@ module _ (route : Route) (pieces : List RoutedBlock) (i : ℕ) (piece : RoutedBl
   one_more = take_more pieces i piece within ∙ ap (λ x. take i pieces ++ x ∷ []) (sym read)
 
   pub own_more : (old new : List Block) → old ≡ own_blocks route (take i pieces) → new ≡ old ++ own_blocks route (piece ∷ []) → new ≡ own_blocks route (take (i + 1) pieces)
-  own_more old new so_far put =
-      put
-      ∙ (ap (λ l. l ++ own_blocks route (piece ∷ [])) so_far
-      ∙ sym (ap (own_blocks route) one_more
-      ∙ (ap row_blocks (filter-append (goes_by route) (take i pieces) (piece ∷ []))
-      ∙ map-append (λ (r : RoutedBlock). r.block) (filter (goes_by route) (take i pieces)) (filter (goes_by route) (piece ∷ [])))))
+  own_more old new so_far put = grind (arith, one_more, filter-append (goes_by route) (take i pieces) (piece ∷ []), map-append)
 
   pub others_more : (old new : List RoutedBlock) → old ≡ others route (take i pieces) → new ≡ old ++ others route (piece ∷ []) → new ≡ others route (take (i + 1) pieces)
-  others_more old new so_far put =
-      put
-      ∙ (ap (λ l. l ++ others route (piece ∷ [])) so_far
-      ∙ sym (ap (others route) one_more ∙ filter-append (λ (p : RoutedBlock). not (goes_by route p)) (take i pieces) (piece ∷ [])))
+  others_more old new so_far put = grind (arith, one_more, filter-append)
 
 -- ---- the pieces of rows
 
 pub pieces_more : (rows : List Row) (i : ℕ) (row : Row) (old new : List RoutedBlock) → i < length rows → row ≡ get_or rows i row → old ≡ pieces_of (take i rows)
     → new ≡ old ++ map (λ (o : Original). row_by o.route o.block) (served_by row) → new ≡ pieces_of (take (i + 1) rows)
-pieces_more rows i row old new within read so_far put =
-    put
-    ∙ (ap (λ l. l ++ map (λ (o : Original). row_by o.route o.block) (served_by row)) so_far
-    ∙ sym (ap pieces_of (take_more rows i row within ∙ ap (λ x. take i rows ++ x ∷ []) (sym read))
-    ∙ (ap (map (λ (o : Original). row_by o.route o.block)) (flat_map-append served_by (take i rows) (row ∷ []) ∙ ap (λ l. served (take i rows) ++ l) (append-nil (served_by row)))
-    ∙ map-append (λ (o : Original). row_by o.route o.block) (served (take i rows)) (served_by row))))
+pieces_more rows i row old new within read so_far put = grind (arith, take_more rows i row within, flat_map-append served_by (take i rows) (row ∷ []), append-nil (served_by row), map-append)
 
 module _ (row : Row) (items : List Alias) (i : ℕ) (before old : List RoutedBlock) (so_far : old ≡ before ++ map (λ (a : Alias). row_by row.route a.block) (take i items)) where
   pub aliases_more : (a : Alias) (new : List RoutedBlock) → i < length items → a ≡ get_or items i a → new ≡ old ++ row_by row.route a.block ∷ [] → new ≡ before ++ map (λ (x : Alias). row_by row.route x.block) (take (i + 1) items)
-  aliases_more a new within read put =
-      put
-      ∙ (ap (λ l. l ++ row_by row.route a.block ∷ []) so_far
-      ∙ (append_assoc before (map (λ (x : Alias). row_by row.route x.block) (take i items)) (row_by row.route a.block ∷ [])
-      ∙ ap (λ l. before ++ l) (sym (map_push (λ (x : Alias). row_by row.route x.block) (take i items) a)
-      ∙ ap (map (λ (x : Alias). row_by row.route x.block)) (sym (take_more items i a within ∙ ap (λ x. take i items ++ x ∷ []) (sym read))))))
+  aliases_more a new within read put = grind (arith, take_more items i a within, append_assoc, map_push)
 
   pub aliases_all : items ≡ row.aliases → length items ≤ i → old ≡ before ++ map (λ (o : Original). row_by o.route o.block) (served_by row)
   aliases_all same past =

@@ -1,21 +1,15 @@
 -- Blocks that are joined have all keys of the blocks taken in, and none of the pieces behind.
-use Rattle.std.proofs.Common.{◌≡◌, ℕ, ◌<◌, ◌^◌, ◌⊎◌, Bool, true, false, inl, inr, List, [], ◌∷◌, ◌++◌, map, None, refl, sym, ap, ◌∙◌, subst}
-use Rattle.std.specs.Prelude.{All, filter, fold, if◌then◌else◌, not}
-use Rattle.std.proofs.lemmas.Bool.{cases_Bool, eq-eqb, eqb-true, false≢true}
-use Rattle.std.proofs.lemmas.Bool.Decides.{eqb_tells}
-use Rattle.std.proofs.lemmas.List.Elements.{All-head, All-tail}
+use Rattle.std.proofs.Common.{arith, ◌≡◌, ℕ, ◌<◌, ◌^◌, ◌⊎◌, Bool, true, false, inl, inr, List, [], ◌∷◌, ◌++◌, map, None, refl, sym, ap, ◌∙◌, subst}
+use Rattle.std.specs.Prelude.{All, filter, fold, if◌then◌else◌}
+use Rattle.std.proofs.lemmas.{Bool.cases_Bool, Bool.eq-eqb, Bool.eqb-true, Bool.false≢true, Bool.Decides.eqb_tells, List.Elements.All-head, List.Elements.All-tail}
 use Rattle.spin_base.proofs.Members.{Among, Contains-filter, Contains-map, among_any, among_contains, among_filter, any_among, contains_among}
 use Rattle.spin_base.proofs.RouteBits.{same_route}
-use Rattle.spin_base.specs.declared.blocks.Block.{Block}
-use Rattle.spin_base.specs.declared.routes.Route.{Route}
+use Rattle.spin_base.specs.declared.{blocks.Block.Block, routes.Route.Route}
 use Rattle.tern_word.specs.Ternary.{Intersects, LiesIn, Matches, merge_two}
 use Rattle.tern_word.proofs.BlockLaws.{LiesIn-merge}
-use Rattle.block_cuts.specs.Cuts.{meets}
 use Rattle.block_cuts.proofs.HalfLaws.{meets_tells}
-use Rattle.table_rules.specs.declared.rows.RoutedBlock.{RoutedBlock}
-use Rattle.table_rules.specs.Made.{row_blocks}
-use Rattle.table_rules.specs.Pairs.{goes_by, joined_blocks, meets_one, others, own_blocks, row_by, rows_by_routes, with_block}
-use Rattle.table_rules.specs.Rows.{GoesBy, first_with}
+use Rattle.table_rules.specs.{declared.rows.RoutedBlock.RoutedBlock, Made.row_blocks, Pairs.goes_by, Pairs.joined_blocks, Pairs.meets_one, Pairs.others, Pairs.own_blocks, Pairs.row_by}
+use Rattle.table_rules.specs.{Pairs.rows_by_routes, Pairs.with_block, Rows.GoesBy, Rows.first_with}
 use Rattle.table_rules.proofs.FirstRows.{first_hit, first_miss, has_tells}
 
 -- one of the blocks has the key
@@ -96,10 +90,7 @@ module _ (behind : List RoutedBlock) where
 
   module _ (p : RoutedBlock) (among : Among p behind) (k : ℕ) (small : k < 2 ^ 32) (hit : Matches p.block k) where
     unclear : (b : Block) → Matches b k → meets_one behind b ≡ false → ⊥
-    unclear b has clear = elim (meets_tells b p.block) [
-      | inl met ↦ false≢true (sym clear ∙ among_any (λ (q : RoutedBlock). meets b q.block) p behind among met.0)
-      | inr apart ↦ apart.1 (record { key = k; small = small; first = has; second = hit })
-    ]
+    unclear b has clear = grind (arith, meets_tells b p.block, false≢true, among_any)
 
     none_has : (bs : List Block) → AllClear bs → SomeHas bs k → ⊥
     none_has [] all has = has
@@ -139,17 +130,10 @@ module _ (route : Route) (pieces : List RoutedBlock) where
   own_of p same = eq-eqb p.route.bits route.bits same
 
   pub of_others : (p : RoutedBlock) → Among p (others route pieces) → Among p pieces × (p.route.bits ≡ route.bits → ⊥)
-  of_others p among =
-      let parts = among_filter (λ (q : RoutedBlock). not (goes_by route q)) p pieces among in
-      (parts.0, λ same. false≢true (ap not (sym (own_of p same)) ∙ parts.1))
+  of_others p among = grind (arith, among_filter, false≢true, own_of)
 
   pub to_others : (p : RoutedBlock) → Among p pieces → (p.route.bits ≡ route.bits → ⊥) → Among p (others route pieces)
-  to_others p among other = elim (eqb_tells p.route.bits route.bits) [
-    | inl same ↦ absurd (other same.1)
-    | inr apart ↦
-        contains_among p (others route pieces)
-        (Contains-filter (λ (q : RoutedBlock). not (goes_by route q)) pieces p (among_contains p pieces among) (ap not apart.0))
-  ]
+  to_others p among other = grind (arith, eqb_tells p.route.bits route.bits, among_contains p pieces among, contains_among, Contains-filter)
 
   own_block : (p : RoutedBlock) → Among p pieces → p.route.bits ≡ route.bits → Among p.block (own_blocks route pieces)
   own_block p among same =
@@ -162,16 +146,7 @@ module _ (route : Route) (pieces : List RoutedBlock) where
 
   module _ (apart : AreApart pieces) where
     clear_own : (p : RoutedBlock) → Among p pieces → p.route.bits ≡ route.bits → meets_one (others route pieces) p.block ≡ false
-    clear_own p among same = elim (cases_Bool (meets_one (others route pieces) p.block)) [
-      | inl met ↦
-          let found = any_among (λ (q : RoutedBlock). meets p.block q.block) (others route pieces) met in
-          let other = of_others found.0 found.1 in
-          elim (meets_tells p.block found.0.block) [
-            | inl meet ↦ absurd (apart p found.0 among other.0 (λ alike. other.1 (sym alike ∙ same)) meet.1)
-            | inr unmet ↦ absurd (false≢true (sym unmet.0 ∙ found.2))
-          ]
-      | inr clear ↦ clear
-    ]
+    clear_own p among same = grind (arith, cases_Bool (meets_one (others route pieces) p.block), any_among, of_others, meets_tells, false≢true)
 
     all_clear : (ps : List RoutedBlock) → ((p : RoutedBlock) → Among p ps → meets_one (others route pieces) p.block ≡ false) → AllClear (others route pieces) (row_blocks ps)
     all_clear [] each = tt

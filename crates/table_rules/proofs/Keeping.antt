@@ -1,29 +1,15 @@
 -- The rows of joined pieces say what the given rows say, and behind a wall no more.
-use Rattle.std.proofs.Common.{◌≡◌, ℕ, ◌<◌, ◌≤◌, ◌^◌, List, [], ◌∷◌, length, map, Some, refl, sym, ap, ◌∙◌, subst, arith}
-use Rattle.std.specs.Prelude.{not}
-use Rattle.std.specs.List.{Contains}
-use Rattle.std.specs.Option.{option_or}
-use Rattle.std.specs.List.Sorted.{IsPermutation}
-use Rattle.std.proofs.lemmas.List.Folds.{find-append}
-use Rattle.std.proofs.lemmas.List.Sums.{count_by-le-length, length-filter}
-use Rattle.std.proofs.lemmas.List.Sorted.{IsPermutation-refl}
-use Rattle.std.proofs.lemmas.Option.{same_Some}
+use Rattle.std.proofs.Common.{◌≡◌, ℕ, ◌<◌, ◌^◌, List, [], ◌∷◌, map, Some, refl, sym, ap, ◌∙◌, subst}
+use Rattle.std.specs.{List.Contains, Option.option_or, List.Sorted.IsPermutation}
+use Rattle.std.proofs.lemmas.{List.Folds.find-append, List.Sorted.IsPermutation-refl, Option.same_Some}
 use Rattle.spin_base.proofs.Members.{Among, among_contains, among_map, contains_among, map_among}
 use Rattle.spin_base.specs.declared.routes.Route.{Route}
-use Rattle.tern_word.specs.declared.tables.Row.{Row}
-use Rattle.tern_word.specs.Ternary.{Matches, all_keys}
-use Rattle.tern_word.specs.SoundTable.{IsSound, Original, served}
-use Rattle.table_rules.specs.declared.rows.RoutedBlock.{RoutedBlock}
-use Rattle.table_rules.specs.Exact.{IsFree, wall_of, walled}
-use Rattle.table_rules.specs.Made.{IsTableMadeOf}
-use Rattle.table_rules.specs.Pairs.{AreJoinedRows, AreRoutesOf, goes_by, others, pieces_of, row_by}
-use Rattle.table_rules.specs.Rows.{GoesBy, HasNoNewKeys, KeepsRoutes, by_row, first_with, takes_key}
-use Rattle.table_rules.specs.Shortened.{AreLeft, IsShorterOf, few, fewer, many, no_fewer}
-use Rattle.table_rules.proofs.Faithful.{is_served, keeps, made_is_sound}
-use Rattle.table_rules.proofs.FirstRows.{first_hit, first_next}
-use Rattle.table_rules.proofs.Joins.{AreApart, of_others, piece_goes, piece_is_missed, to_others}
-use Rattle.table_rules.proofs.Sounds.{GoesWhere, all_go}
-use Rattle.table_rules.proofs.Walls.{all_match, found_holds}
+use Rattle.tern_word.specs.{declared.tables.Row.Row, Ternary.Matches, Ternary.all_keys, SoundTable.IsSound, SoundTable.Original, SoundTable.served}
+use Rattle.table_rules.specs.{declared.rows.RoutedBlock.RoutedBlock, Exact.IsFree, Exact.wall_of, Exact.walled, Made.IsTableMadeOf, Pairs.AreJoinedRows, Pairs.AreRoutesOf, Pairs.others}
+use Rattle.table_rules.specs.{Pairs.pieces_of, Pairs.row_by, Rows.GoesBy, Rows.HasNoNewKeys, Rows.KeepsRoutes, Rows.by_row, Rows.first_with, Rows.takes_key, Shortened.AreLeft, Shortened.IsShorterOf}
+use Rattle.table_rules.specs.Shortened.{few, fewer, many, no_fewer}
+use Rattle.table_rules.proofs.{Faithful.is_served, Faithful.keeps, Faithful.made_is_sound, FirstRows.first_hit, FirstRows.first_next, Joins.AreApart, Joins.of_others, Joins.piece_goes}
+use Rattle.table_rules.proofs.{Joins.piece_is_missed, Joins.to_others, Sounds.GoesWhere, Sounds.all_go, Walls.all_match, Walls.found_holds}
 
 -- what is so of the covered rows and of the joined ones is so of the shorter
 pub shorter_has : (P : List RoutedBlock → Type 0) (target : ℕ) (own pieces covered new : List RoutedBlock) → IsShorterOf target own pieces covered new → P covered
@@ -125,9 +111,3 @@ module _ (room : ℕ) (given : List RoutedBlock) (route : Route) (table : List R
 
   pub no_more_joined : HasNoNewKeys given joined
   no_more_joined = joined_has_no_more room given route table made joined are_joined
-
--- no more pieces are of other routes than there are
-pub others_fewer : (route : Route) (pieces : List RoutedBlock) → length (others route pieces) ≤ length pieces
-others_fewer route pieces =
-    let test = λ (p : RoutedBlock). not (goes_by route p) in
-    omega (arith, length-filter test pieces, count_by-le-length test pieces)

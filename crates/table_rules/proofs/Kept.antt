@@ -1,22 +1,13 @@
 -- The rows that default routing does not replace send the packets of all.
 use Rattle.std.proofs.Common.{◌≡◌, ℕ, suc, ◌^◌, ◌<◌, ◌≤◌, inl, inr, List, ◌∷◌, length, get_or, map, None, sym, ap, ◌∙◌, subst, arith}
-use Rattle.std.specs.Prelude.{All}
-use Rattle.std.specs.List.{cons_option}
-use Rattle.std.proofs.lemmas.Bool.{cases_lt}
-use Rattle.std.proofs.lemmas.List.Elements.{All-nil, All-cons, All-map}
-use Rattle.std.proofs.lemmas.Option.{get_or_from_slice_get, slice_get_within}
+use Rattle.std.specs.{Prelude.All, List.cons_option}
+use Rattle.std.proofs.lemmas.{Bool.cases_lt, List.Elements.All-nil, List.Elements.All-cons, List.Elements.All-map, Option.get_or_from_slice_get, Option.slice_get_within}
 use Rattle.spin_base.proofs.Pairs.{All-flat_map}
-use Rattle.spin_base.specs.declared.blocks.Block.{Block}
-use Rattle.spin_base.specs.declared.chips.Port.{Port}
-use Rattle.spin_base.specs.declared.routes.Route.{Route}
-use Rattle.tern_word.specs.declared.tables.Alias.{Alias}
-use Rattle.tern_word.specs.declared.tables.Row.{Row}
-use Rattle.tern_word.specs.Ternary.{Matches}
-use Rattle.tern_word.specs.SoundTable.{IsSound, Original, served, served_by}
+use Rattle.spin_base.specs.declared.{blocks.Block.Block, chips.Port.Port, routes.Route.Route}
+use Rattle.tern_word.specs.{declared.tables.Alias.Alias, declared.tables.Row.Row, Ternary.Matches, SoundTable.IsSound, SoundTable.Original, SoundTable.served, SoundTable.served_by}
 use Rattle.cover_merge.specs.Merge.{rows_at}
 use Rattle.default_routes.specs.KeptRows.{AreKept, IsStrippable, KeptFrom, ends, goes, stays}
-use Rattle.table_rules.specs.declared.rows.RoutedBlock.{RoutedBlock}
-use Rattle.table_rules.specs.Rows.{LeaveBy, by_default, by_row, first_with, routed}
+use Rattle.table_rules.specs.{declared.rows.RoutedBlock.RoutedBlock, Rows.LeaveBy, Rows.by_default, Rows.by_row, Rows.first_with, Rows.routed}
 use Rattle.table_rules.proofs.FirstRows.{first_hit, first_miss, none_first}
 
 -- where no row has the key, none is the first

@@ -1,22 +1,13 @@
 -- One piece more, one row more.
-use Rattle.std.proofs.Common.{◌≡◌, ℕ, ◌+◌, ◌-◌, ◌<◌, ◌≤◌, ◌==◌, inl, inr, true, false, List, [], ◌∷◌, ◌++◌, length, get_or, map, take, drop, Some, None, refl, sym, ap, ◌∙◌, subst, arith}
-use Rattle.std.proofs.lemmas.Bool.{eq-eqb}
-use Rattle.std.proofs.lemmas.Bool.Decides.{eqb_tells}
-use Rattle.std.proofs.lemmas.List.{drop_all, drop_more, map_push, take_more}
-use Rattle.std.proofs.lemmas.List.Edits.{length-insert}
-use Rattle.std.proofs.lemmas.Option.{slice_get-get_or}
+use Rattle.std.proofs.Common.{◌≡◌, ℕ, ◌+◌, ◌-◌, ◌<◌, ◌≤◌, ◌==◌, true, false, List, [], ◌∷◌, ◌++◌, length, get_or, map, take, drop, Some, None, refl, sym, ap, ◌∙◌, subst, arith}
+use Rattle.std.proofs.lemmas.{Bool.eq-eqb, Bool.Decides.eqb_tells, List.drop_all, List.drop_more, List.map_push, List.take_more, List.Edits.length-insert, Option.slice_get-get_or}
 use Rattle.std.specs.Prelude.{All}
 use Rattle.spin_base.specs.declared.blocks.Block.{Block}
-use Rattle.tern_word.specs.declared.tables.Row.{Row}
-use Rattle.tern_word.specs.Ternary.{generality}
-use Rattle.cover_merge.specs.Merge.{place_for, PassesDown, rows_at}
-use Rattle.cover_merge.specs.Covering.{Covers}
+use Rattle.tern_word.specs.{declared.tables.Row.Row, Ternary.generality}
+use Rattle.cover_merge.specs.{Merge.place_for, Merge.PassesDown, Merge.rows_at, Covering.Covers}
 use Rattle.cover_merge.proofs.Positions.{place_for-le, rows_at-push}
 use Rattle.block_cuts.specs.Cuts.{cut}
-use Rattle.table_rules.specs.declared.rows.RoutedBlock.{RoutedBlock}
-use Rattle.table_rules.specs.Rows.{routed}
-use Rattle.table_rules.specs.Pairs.{pieces_of}
-use Rattle.table_rules.specs.Shortened.{AreLeft, IsCoveredFrom, IsShortFrom, IsShorterOf}
+use Rattle.table_rules.specs.{declared.rows.RoutedBlock.RoutedBlock, Rows.routed, Pairs.pieces_of, Shortened.AreLeft, Shortened.IsCoveredFrom, Shortened.IsShortFrom, Shortened.IsShorterOf}
 use Rattle.table_rules.specs.Made.{HasTooManyPieces, IsTableFrom, IsTableMadeOf, IsRowAdded, StandsBefore, row_blocks, done, here, later, more, piece_row, with_row, with_rows}
 
 -- ---- pieces as rows
@@ -73,10 +64,7 @@ module _ (left : ℕ) (given : List RoutedBlock) (i : ℕ) (rows : List Row) whe
 -- ---- what the code tests
 
 eqb_is : (n : ℕ) → true ≡ (n == 0) → n ≡ 0
-eqb_is n is = elim (eqb_tells n 0) [
-  | inl same ↦ same.1
-  | inr other ↦ let no : true ≡ false = is ∙ other.0 in absurd cc
-]
+eqb_is n is = grind (arith, eqb_tells n 0)
 
 pub no_pieces : (pieces : List Block) → true ≡ (length pieces == 0) → pieces ≡ []
 no_pieces [] is = refl

@@ -1,44 +1,24 @@
 -- Behind a wall no key is new: the rows of its route have all keys, and those before them have none of the wall's.
-use Rattle.std.proofs.Common.{◌≡◌, ℕ, take-append-drop, length-take, ◌-◌, ◌<◌, ◌≤◌, ◌^◌, ◌==◌, Bool, true, false, cond, inl, inr, List, [], ◌∷◌, ◌++◌, length, get_or, take, drop, map, Option, Some, None, refl, sym, ap, ◌∙◌, subst, length-append, arith}
-use Rattle.std.specs.Prelude.{All, AllPairs, nat_lt, bit_and, bit_xor, fold, nat_le, not, slice_get}
-use Rattle.std.specs.Int.{bit_at, bit_not, w32}
-use Rattle.std.specs.List.{Contains, cons_option, position, position_or_len}
-use Rattle.std.specs.Option.{option_or}
-use Rattle.std.proofs.lemmas.Bool.{ltb-false}
-use Rattle.std.proofs.lemmas.Bool.Decides.{eqb_tells, nat_tests}
-use Rattle.std.proofs.lemmas.List.{take_all}
-use Rattle.std.proofs.lemmas.List.Elements.{All-nil, All-append, All-cons, All-drop, All-head, All-map, All-tail, All-take, Contains-append_cases, Contains-append_left, Contains-append_right}
-use Rattle.std.proofs.lemmas.List.Folds.{find-append}
-use Rattle.std.proofs.lemmas.List.Sums.{sum_by-append, take_while-cons}
-use Rattle.std.specs.List.Sorted.{IsPermutation}
-use Rattle.std.proofs.lemmas.Nat.{and_le_l, and_le_r}
-use Rattle.std.proofs.lemmas.Nat.Bits.{bit_at-zero}
-use Rattle.std.proofs.lemmas.Option.{none-some, same_Some}
-use Rattle.spin_base.proofs.Pairs.{All-flat_map, AllPairs-head, AllPairs-left}
-use Rattle.spin_base.proofs.Places.{All-at}
-use Rattle.spin_base.specs.declared.chips.Port.{Port}
-use Rattle.spin_base.specs.declared.blocks.Block.{Block}
-use Rattle.spin_base.specs.declared.routes.Route.{Route}
-use Rattle.tern_word.specs.declared.tables.Row.{Row}
-use Rattle.tern_word.specs.declared.tables.Alias.{Alias}
-use Rattle.tern_word.specs.Ternary.{Intersects, Matches, all_keys, generality, merge_two}
+use Rattle.std.proofs.Common.{◌≡◌, ℕ, take-append-drop, length-take, ◌-◌, ◌<◌, ◌≤◌, ◌^◌, ◌==◌, Bool, true, false, cond, inl, inr, List, [], ◌∷◌, ◌++◌, length, get_or, take, drop, map, Option, Some}
+use Rattle.std.proofs.Common.{None, refl, sym, ap, ◌∙◌, subst, length-append, arith}
+use Rattle.std.specs.{Prelude.All, Prelude.AllPairs, Prelude.nat_lt, Prelude.bit_and, Prelude.bit_xor, Prelude.fold, Prelude.nat_le, Prelude.not, Prelude.slice_get, Int.bit_at, Int.bit_not, Int.w32}
+use Rattle.std.specs.{List.Contains, List.cons_option, List.position, List.position_or_len, Option.option_or, List.Sorted.IsPermutation}
+use Rattle.std.proofs.lemmas.{Bool.ltb-false, Bool.Decides.eqb_tells, Bool.Decides.nat_tests, List.take_all, List.Elements.All-nil, List.Elements.All-append, List.Elements.All-cons}
+use Rattle.std.proofs.lemmas.List.Elements.{All-drop, All-head, All-map, All-tail, All-take, Contains-append_cases, Contains-append_left, Contains-append_right}
+use Rattle.std.proofs.lemmas.{List.Folds.find-append, List.Sums.sum_by-append, List.Sums.take_while-cons, Nat.and_le_l, Nat.and_le_r, Nat.Bits.bit_at-zero, Option.none-some, Option.same_Some}
+use Rattle.spin_base.proofs.{Pairs.All-flat_map, Pairs.AllPairs-head, Pairs.AllPairs-left, Places.All-at}
+use Rattle.spin_base.specs.declared.{chips.Port.Port, blocks.Block.Block, routes.Route.Route}
+use Rattle.tern_word.specs.{declared.tables.Row.Row, declared.tables.Alias.Alias, Ternary.Intersects, Ternary.Matches, Ternary.all_keys, Ternary.generality, Ternary.merge_two}
 use Rattle.tern_word.specs.SoundTable.{HoldsItsAliases, IsSound, Misses, Original, served, served_by}
 use Rattle.tern_word.proofs.BlockLaws.{generality-mono}
-use Rattle.cover_merge.specs.Merge.{after, has_row, insert_place, kept, merge_rows, merged_row, place_for, rows_at}
-use Rattle.cover_merge.specs.Covering.{Covers, merged, short, stuck}
-use Rattle.cover_merge.proofs.Lists.{All-picked}
-use Rattle.cover_merge.proofs.Positions.{All-has, rows_at-from}
-use Rattle.table_rules.specs.declared.rows.RoutedBlock.{RoutedBlock}
-use Rattle.table_rules.specs.Exact.{IsCoveredWithin, IsFree, IsShortWithin, rows_before, wall_of, walled}
-use Rattle.table_rules.specs.Pairs.{others, pieces_of}
-use Rattle.table_rules.specs.Shortened.{IsShorterOf}
-use Rattle.table_rules.specs.Made.{IsTableFrom, IsTableMadeOf, IsRowAdded, StandsBefore, done, in_pieces, left_out, more, piece_row, whole, whole_row}
-use Rattle.table_rules.specs.Rows.{HasNoNewKeys, KeepsRoutes, first_with, takes_key}
-use Rattle.table_rules.specs.Shortened.{AreLeft}
-use Rattle.table_rules.proofs.Faithful.{IsServed, is_served, sent_on}
-use Rattle.table_rules.proofs.Kept.{kept_within, none_of}
-use Rattle.table_rules.proofs.FirstRows.{first_hit, first_miss, first_next, has_tells}
-use Rattle.table_rules.proofs.Sounds.{all_insert, all_with_rows, tail_sound}
+use Rattle.cover_merge.specs.{Merge.after, Merge.has_row, Merge.insert_place, Merge.kept, Merge.merge_rows, Merge.merged_row, Merge.place_for, Merge.rows_at, Covering.Covers, Covering.merged}
+use Rattle.cover_merge.specs.Covering.{short, stuck}
+use Rattle.cover_merge.proofs.{Lists.All-picked, Positions.All-has, Positions.rows_at-from}
+use Rattle.table_rules.specs.{declared.rows.RoutedBlock.RoutedBlock, Exact.IsCoveredWithin, Exact.IsFree, Exact.IsShortWithin, Exact.rows_before, Exact.wall_of, Exact.walled, Pairs.others}
+use Rattle.table_rules.specs.{Pairs.pieces_of, Shortened.IsShorterOf, Shortened.AreLeft, Made.IsTableFrom, Made.IsTableMadeOf, Made.IsRowAdded, Made.StandsBefore, Made.done, Made.in_pieces}
+use Rattle.table_rules.specs.{Made.left_out, Made.more, Made.piece_row, Made.whole, Made.whole_row, Rows.HasNoNewKeys, Rows.KeepsRoutes, Rows.first_with, Rows.takes_key}
+use Rattle.table_rules.proofs.{Faithful.IsServed, Faithful.is_served, Faithful.sent_on, Kept.kept_within, Kept.none_of, FirstRows.first_hit, FirstRows.first_miss, FirstRows.first_next}
+use Rattle.table_rules.proofs.{FirstRows.has_tells, Sounds.all_insert, Sounds.all_with_rows, Sounds.tail_sound}
 
 -- ---- blocks of all keys
 
@@ -255,11 +235,7 @@ module _ (bits : ℕ) (rows : List Row) (o : Option ℕ) (is : o ≡ position (�
 
 module _ (target room : ℕ) (given : List RoutedBlock) (route : Route) (table rows : List Row) (sets : List (List ℕ)) (long : target < length given) (free : IsFree given route.bits) (made : IsTableMadeOf room (walled given route) table) (covers : Covers target table sets rows) where
   within : IsCoveredWithin target room given route rows
-  within = record {
-    long = long;
-    free = free;
-    covered = record { long = omega (arith, long, length-append given (wall_of route ∷ [])); table = table; made = made; sets = sets; covered = covers };
-  }
+  within = grind (arith, length-append given (wall_of route ∷ []))
 
   module _ (list before : List Row) (left : List RoutedBlock) (same : list ≡ rows) (is : before ≡ rows_before route.bits list) (are : AreLeft before left) where
     before_wall : AreLeft (rows_before route.bits rows) left

@@ -1,16 +1,11 @@
 -- Routes by their weights are the routes of the pieces, by weight.
 use Rattle.std.proofs.Common.{◌≡◌, ℕ, ◌+◌, ◌<◌, ◌%◌, ◌^◌, ◌↔◌, inl, inr, List, [], ◌∷◌, ◌++◌, length, get_or, map, take, drop, refl, sym, ap, ◌∙◌, subst, arith}
-use Rattle.std.specs.Prelude.{AllPairs, count_by}
-use Rattle.std.specs.List.{Contains}
-use Rattle.std.proofs.lemmas.List.{map_push, take_more}
-use Rattle.std.proofs.lemmas.Nat.{mod_low}
-use Rattle.spin_base.proofs.Members.{Among, Contains-map, Contains-unmap, among_contains, among_map, contains_among}
-use Rattle.spin_base.proofs.Pairs.{AllPairs-from_map}
-use Rattle.spin_base.proofs.Places.{All-each}
+use Rattle.std.specs.{Prelude.AllPairs, Prelude.count_by, List.Contains}
+use Rattle.std.proofs.lemmas.{List.map_push, List.take_more, Nat.mod_low}
+use Rattle.spin_base.proofs.{Members.Among, Members.Contains-map, Members.Contains-unmap, Members.among_contains, Members.among_map, Members.contains_among, Pairs.AllPairs-from_map, Places.All-each}
 use Rattle.spin_base.proofs.RouteBits.{same_route}
 use Rattle.spin_base.specs.declared.routes.Route.{Route}
-use Rattle.table_rules.specs.declared.rows.RoutedBlock.{RoutedBlock}
-use Rattle.table_rules.specs.Pairs.{AreRoutesOf, goes_by, weight_of}
+use Rattle.table_rules.specs.{declared.rows.RoutedBlock.RoutedBlock, Pairs.AreRoutesOf, Pairs.goes_by, Pairs.weight_of}
 
 module _ (pieces : List RoutedBlock) where
   abbrev weigh : RoutedBlock → ℕ

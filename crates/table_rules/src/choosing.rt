@@ -18,7 +18,6 @@ pub(crate) fn shorter_of(
     own: &[RoutedBlock],
     pieces: &[RoutedBlock],
 ) -> Result<Seq<RoutedBlock>, Memory>
-    requires { length own.now ≤ length pieces.now }
     ensures { IfOk result (IsShorterOf target own.now pieces.now covered) }
 {
     if covered.len() <= target as usize {

@@ -16,7 +16,6 @@ pub(crate) fn joined_rows(
     own: &[RoutedBlock],
     pieces: &[RoutedBlock],
 ) -> Result<Seq<RoutedBlock>, Memory>
-    requires few { length own.now ≤ 2048 }
     ensures { IfOk result (AreJoinedRows own.now pieces.now) }
 {
     let routes = routes_of(alloc, own)?;

@@ -1,5 +1,6 @@
 // Shorter rows that have no new keys.
 ghost use Rattle.std.specs.Prelude.{◌≡◌, ◌==◌, ◌<◌, ◌≤◌, ◌^◌, [], IfOk, IfSome, MatchOption, length, position};
+ghost use Rattle.std.proofs.Props.{props};
 ghost use Rattle.table_rules.specs.Exact.{AreTooManyWithin, HasAllRoutes, IsFree, IsShortenedWithin, rows_before, wall_of, walled};
 ghost use Rattle.table_rules.specs.Made.{HasTooManyPieces, IsTableMadeOf};
 ghost use Rattle.table_rules.specs.Rows.{HasNoNewKeys, KeepsRoutes};
@@ -39,7 +40,14 @@ pub fn shorten_within(
         return Ok(Some(same));
     }
     match free_route(alloc, given, ROUTES)? {
-        Some(route) => within_wall(alloc, given, route, target, room),
+        Some(route) => {
+            let given = WalledRows {
+                rows: given,
+                target,
+                route,
+            };
+            within_wall(alloc, given, room)
+        }
         None => {
             let same = copy(alloc, given)?;
             Ok(Some(same))
@@ -47,26 +55,34 @@ pub fn shorten_within(
     }
 }
 
-// The rows of the table that is covered with a wall of this route.
+// Rows of which there are more than `target`, and the route of a wall behind them, which none of them has.
+#[derive(Clone, Copy)]
+struct WalledRows<'a> {
+    rows: &'a [RoutedBlock],
+    target: u32,
+    route: Route,
+    ghost long: { target < length rows.now },
+    ghost free: { IsFree rows.now route.bits } by { Prim.hlevel props },
+}
+
+// The rows of the table that is covered with its wall.
 fn within_wall(
     alloc: Global,
-    given: &[RoutedBlock],
-    route: Route,
-    target: u32,
+    given: WalledRows,
     room: u32,
 ) -> Result<Option<Seq<RoutedBlock>>, Memory>
-    requires long { target < length given.now }
-    requires free { IsFree given.now route.bits }
-    ensures rows { IfOk result (λ new. MatchOption new (AreTooManyWithin target room given.now)
-        (IsShortenedWithin target room given.now)) }
-    ensures routes { IfOk result (λ new. IfSome new (KeepsRoutes given.now)) }
-    ensures keys { IfOk result (λ new. IfSome new (HasNoNewKeys given.now)) }
-    ensures few { IfOk result (λ new. IfSome new (λ rows. length rows ≤ length given.now)) }
+    ensures rows { IfOk result (λ new. MatchOption new
+        (AreTooManyWithin given.entry.target room given.entry.rows.now)
+        (IsShortenedWithin given.entry.target room given.entry.rows.now)) }
+    ensures routes { IfOk result (λ new. IfSome new (KeepsRoutes given.entry.rows.now)) }
+    ensures keys { IfOk result (λ new. IfSome new (HasNoNewKeys given.entry.rows.now)) }
+    ensures few { IfOk result
+        (λ new. IfSome new (λ rows. length rows ≤ length given.entry.rows.now)) }
 {
-    let walled = walled(alloc, given, route)?;
+    let walled = walled(alloc, given.rows, given.route)?;
     match made_table(alloc, walled.as_slice(), room)? {
         Some(table) => {
-            let rows = covered_within(alloc, given, route, table, target, room)?;
+            let rows = covered_within(alloc, given, table, room)?;
             Ok(Some(rows))
         }
         None => Ok(None),
@@ -98,21 +114,22 @@ fn wall(route: Route) -> RoutedBlock
 // fewer, and else those given.
 fn covered_within(
     alloc: Global,
-    given: &[RoutedBlock],
-    route: Route,
+    given: WalledRows,
     table: Table,
-    target: u32,
     room: u32,
 ) -> Result<Seq<RoutedBlock>, Memory>
-    requires long { target < length given.now }
-    requires free { IsFree given.now route.bits }
-    requires made { IsTableMadeOf room (walled given.now route) table.rows }
+    requires made { IsTableMadeOf room (walled given.rows.now given.route) table.rows }
     requires few { length table.rows < 2 ^ 32 }
-    ensures rows { IfOk result (IsShortenedWithin target room given.now) }
-    ensures routes { IfOk result (KeepsRoutes given.now) }
-    ensures keys { IfOk result (HasNoNewKeys given.now) }
-    ensures few { IfOk result (λ rows. length rows ≤ length given.now) }
+    ensures rows { IfOk result (IsShortenedWithin given.entry.target room given.entry.rows.now) }
+    ensures routes { IfOk result (KeepsRoutes given.entry.rows.now) }
+    ensures keys { IfOk result (HasNoNewKeys given.entry.rows.now) }
+    ensures few { IfOk result (λ rows. length rows ≤ length given.entry.rows.now) }
 {
+    let WalledRows {
+        rows,
+        target,
+        route,
+    } = given;
     let pieces = pieces_of(alloc, table.rows.as_slice())?;
     let all = pieces.as_slice();
     let rest = others(alloc, route, all)?;
@@ -122,10 +139,10 @@ fn covered_within(
     let before = rows_before(covering, route.bits);
     let left = rows_left(alloc, before)?;
     let shorter = shorter_of(alloc, target, left, own, all)?;
-    if shorter.len() < given.len() {
+    if shorter.len() < rows.len() {
         return Ok(shorter);
     }
-    copy(alloc, given)
+    copy(alloc, rows)
 }
 
 // The rows before the first whose route has these bits.

@@ -1,14 +1,9 @@
 -- One table more, and what its entries keep.
 use Rattle.std.proofs.Common.{◌≡◌, ℕ, ◌+◌, ◌<◌, ◌≤◌, Bool, true, false, cond, List, [], ◌∷◌, ◌++◌, length, get_or, take, map, Option, Some, None, refl, sym, ap, ◌∙◌, subst, arith}
 use Rattle.std.specs.Prelude.{IfSome, MatchOption, find}
-use Rattle.std.proofs.lemmas.List.{length-map, take_all, take_more}
-use Rattle.std.proofs.lemmas.Option.{none-some, same_Some}
-use Rattle.spin_base.specs.declared.blocks.Entry.{Entry}
-use Rattle.spin_base.specs.declared.chips.Port.{Port}
-use Rattle.spin_base.specs.declared.routes.Route.{Route}
-use Rattle.spin_base.specs.Lookup.{matches}
-use Rattle.table_rules.specs.declared.rows.RoutedBlock.{RoutedBlock}
-use Rattle.table_rules.specs.Rows.{LeaveBy, HasNoNewKeys, KeepsRoutes, by_default, by_row, first_with, takes_key}
+use Rattle.std.proofs.lemmas.{List.length-map, List.take_all, List.take_more, Option.none-some, Option.same_Some}
+use Rattle.spin_base.specs.{declared.blocks.Entry.Entry, declared.chips.Port.Port, declared.routes.Route.Route, Lookup.matches}
+use Rattle.table_rules.specs.{declared.rows.RoutedBlock.RoutedBlock, Rows.LeaveBy, Rows.HasNoNewKeys, Rows.KeepsRoutes, Rows.by_default, Rows.by_row, Rows.first_with, Rows.takes_key}
 use Rattle.table_readers.specs.declared.asking.GivenTable.{GivenTable}
 use Rattle.table_text.specs.declared.writing.ShortTable.{ShortTable}
 use Rattle.tables_top.specs.Shorter.{AreBeside, AreShortRows, AreShorter, AreTooManyPieces, GoOut, IsShorterTable, KeepsTable, as_given, by_entry, entry_at, more, none, short_at, shortened, straight}

@@ -1,10 +1,8 @@
 -- The bits that entries have in common.
 use Rattle.std.proofs.Common.{◌≡◌, ℕ, ◌+◌, ◌-◌, ◌%◌, ◌^◌, ◌<◌, eqb, min, Bool, true, false, bit_and, ◌≢◌, refl, sym, ap, ◌∙◌, arith}
-use Rattle.std.proofs.lemmas.Bool.{eqb-false, eqb-true}
-use Rattle.std.proofs.lemmas.Nat.{and_assoc, and_comm, and_le_l, xor_lt}
-use Rattle.std.proofs.lemmas.Nat.Bits.{bit_at-lt, bit_at_and, bit_at_not, bit_at_xor, same_from_bits_below}
-use Rattle.std.specs.Int.{bit_at, bit_not, w32}
-use Rattle.std.specs.Int.Bits.{and_self, bit_xor}
+use Rattle.std.proofs.lemmas.{Bool.eqb-false, Bool.eqb-true, Nat.and_assoc, Nat.and_comm, Nat.and_le_l, Nat.xor_lt, Nat.Bits.bit_at-lt, Nat.Bits.bit_at_and, Nat.Bits.bit_at_not, Nat.Bits.bit_at_xor}
+use Rattle.std.proofs.lemmas.Nat.Bits.{same_from_bits_below}
+use Rattle.std.specs.Int.{bit_at, bit_not, w32, Bits.and_self, Bits.bit_xor}
 
 -- the bits where two numbers agree
 abbrev alike : ℕ → ℕ → ℕ
@@ -45,8 +43,7 @@ apart x y a b same other = differ a b (λ equal. eqb-false x y other (same equal
 pub apart_from_others : (key common value mask x : ℕ)
     → eqb (bit_and key (bit_and (bit_and common mask) x)) (bit_and value (bit_and (bit_and common mask) x)) ≡ false
     → eqb (bit_and key common) value ≡ false
-apart_from_others key common value mask x = apart _ _ (bit_and key common) value
-    (λ is. spread key common mask x ∙ ap (λ n. bit_and (bit_and n mask) x) (is ∙ sym (within key common value is)) ∙ sym (spread value common mask x))
+apart_from_others key common value mask x = grind (arith, bit_and key common, spread key common mask x, spread value common mask x, apart, within)
 
 -- and one that an entry matches has those where the entry agrees with them
 pub apart_from_entry : (key common value mask e : ℕ) → value < 2 ^ 32 → e < 2 ^ 32

@@ -1,8 +1,6 @@
 -- What is known of groups, and of blocks of eight of them.
 use Rattle.std.proofs.Common.{◌≡◌, ◌≢◌, ℕ, ◌+◌, ◌-◌, ◌*◌, ◌/◌, ◌<◌, ◌≤◌, eqb, Bool, true, false, List, length, get_or, set, bit_and, replicate, refl, sym, ap, ◌∙◌, subst, arith, inl, inr}
-use Rattle.std.proofs.lemmas.Bool.{cases_lt, eqb-false, eqb-true}
-use Rattle.std.proofs.lemmas.List.{get_or-replicate, get_or-set_other}
-use Rattle.std.proofs.lemmas.Grind.{get_or-set_at}
+use Rattle.std.proofs.lemmas.{Bool.cases_lt, Bool.eqb-false, Bool.eqb-true, List.get_or-replicate, List.get_or-set_other, Grind.get_or-set_at}
 use Rattle.std.specs.Int.Bits.{and_zero_r}
 use Rattle.tcam_find.specs.Memory.{Misses, TellOfGroups}
 
@@ -19,14 +17,10 @@ through_block {P} from at r before here k behind lt =
 
 module _ (common values : List ℕ) (i c v : ℕ) (in_common : i < length common) (in_values : i < length values) where
   pub at_set : (k key : ℕ) → k ≡ i → eqb (bit_and key (get_or (set common i c) k 0)) (get_or (set values i v) k 0) ≡ eqb (bit_and key c) v
-  at_set k key same =
-      ap (λ n. eqb (bit_and key n) (get_or (set values i v) k 0)) (get_or-set_at common i k c 0 same in_common)
-      ∙ ap (λ n. eqb (bit_and key c) n) (get_or-set_at values i k v 0 same in_values)
+  at_set k key same = grind (arith, get_or (set values i v) k 0, get_or-set_at common i k c 0 same in_common, bit_and key c, get_or-set_at values i k v 0 same in_values)
 
   off_set : (k key : ℕ) → k ≢ i → eqb (bit_and key (get_or (set common i c) k 0)) (get_or (set values i v) k 0) ≡ eqb (bit_and key (get_or common k 0)) (get_or values k 0)
-  off_set k key other =
-      ap (λ n. eqb (bit_and key n) (get_or (set values i v) k 0)) (get_or-set_other common i k c 0 other)
-      ∙ ap (λ n. eqb (bit_and key (get_or common k 0)) n) (get_or-set_other values i k v 0 other)
+  off_set k key other = grind (arith, get_or (set values i v) k 0, get_or-set_other common i k c 0 other, bit_and key (get_or common k 0), get_or common k 0, get_or-set_other values i k v 0 other)
 
   -- a key that misses them has missed what stood there
   pub missed_before : ((key : ℕ) → eqb (bit_and key c) v ≡ false → Misses common values i key)
@@ -63,8 +57,7 @@ pub blocks_passed : (common values block_common block_values : List ℕ) (from b
     → TellOfGroups common values block_common block_values
     → ((b : ℕ) → from / 8 ≤ b → b < block → Misses block_common block_values b key)
     → (i : ℕ) → from ≤ i → i < 8 * block → Misses common values i key
-blocks_passed common values block_common block_values from block key few tell passed i behind before =
-    tell i key (omega (arith, few, before)) (passed (i / 8) (omega (arith, behind)) (omega (arith, before)))
+blocks_passed common values block_common block_values from block key few tell passed i behind before = grind arith
 
 -- the blocks of an empty memory
 pub blocks_empty : TellOfGroups (replicate 136 0) (replicate 136 0xffff_ffff) (replicate 24 0) (replicate 24 0xffff_ffff)

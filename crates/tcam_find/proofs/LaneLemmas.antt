@@ -1,11 +1,9 @@
 -- From the mask of eight comparisons to the entries that were compared.
 use Rattle.std.proofs.Common.{◌≡◌, ℕ, ◌+◌, ◌-◌, ◌%◌, ◌^◌, ◌<◌, ◌≤◌, eqb, cond, Bool, true, false, not, List, map, length, get_or, take, drop, replicate, bit_and, sym, ap, ◌∙◌, arith}
-use Rattle.std.proofs.lemmas.Bool.{not-true, not-false}
-use Rattle.std.proofs.lemmas.List.{map-id, length-take-le, length-drop, length-replicate, get_or-take, get_or-drop, get_or-replicate}
-use Rattle.std.proofs.lemmas.List.Sums.{prefix_len-le-length, prefix_len_passes, prefix_len_stops}
-use Rattle.std.proofs.lemmas.Simd.{mask_l-mod, length-chunk, length-zip2, get_or-chunk, get_or-zip2, first_set_mask_l, tops_compared}
-use Rattle.std.specs.Int.{w32}
-use Rattle.std.specs.List.{prefix_len}
+use Rattle.std.proofs.lemmas.{Bool.not-true, Bool.not-false, List.map-id, List.length-take-le, List.length-drop, List.length-replicate, List.get_or-take, List.get_or-drop, List.get_or-replicate}
+use Rattle.std.proofs.lemmas.{List.Sums.prefix_len-le-length, List.Sums.prefix_len_passes, List.Sums.prefix_len_stops, Simd.mask_l-mod, Simd.length-chunk, Simd.length-zip2, Simd.get_or-chunk}
+use Rattle.std.proofs.lemmas.Simd.{get_or-zip2, first_set_mask_l, tops_compared}
+use Rattle.std.specs.{Int.w32, List.prefix_len}
 use lib.Lanes.{chunk, zip2, mask_l, top}
 use Rattle.tcam_find.specs.Lanes.{first_set}
 
@@ -20,11 +18,7 @@ long row at room =
     length-chunk 0 8 (take (at + 8 - at) (drop at row)) (omega arith)
 
 lane : (row : List ℕ) (at k : ℕ) → k < 8 → get_or (lanes row at) k 0 ≡ get_or row (at + k) 0
-lane row at k inside =
-    get_or-chunk 0 8 (take (at + 8 - at) (drop at row)) k 0 inside
-    ∙ (let e : 0 + k ≡ k = omega arith in ap (λ j. get_or (take (at + 8 - at) (drop at row)) j 0) e)
-    ∙ get_or-take (at + 8 - at) (drop at row) k 0 (omega arith)
-    ∙ get_or-drop at row k 0
+lane row at k inside = grind (arith, get_or-chunk 0 8 (take (at + 8 - at) (drop at row)) k 0 inside, get_or-take (at + 8 - at) (drop at row) k 0 (omega arith), get_or-drop at row k 0, get_or)
 
 module _ (keys masks : List ℕ) (at key r : ℕ) (in_keys : at + 8 ≤ length keys) (in_masks : at + 8 ≤ length masks)
     (found : r ≡ first_set (mask_l (map (top 31) (zip2 (λ a b. cond (eqb a b) (2 ^ 32 - 1) 0) (zip2 bit_and (replicate 8 key) (lanes masks at)) (lanes keys at))) % 2 ^ 64)) where

@@ -1,21 +1,16 @@
 -- The entries of a memory, which stand in groups of eight.
-use Rattle.std.proofs.Common.{◌≡◌, ℕ, ◌+◌, ◌*◌, ◌/◌, ◌<◌, ◌≤◌, eqb, Bool, true, false, List, [], ◌∷◌, ◌++◌, length, get_or, set, replicate, bit_and, refl, sym, ap, ◌∙◌, subst, arith, zero, suc, Some, None, slice_get, ◌-◌, inl, inr}
-use Rattle.std.proofs.lemmas.Bool.{cases_lt, eqb-false, eqb-true}
-use Rattle.std.proofs.lemmas.List.{length-replicate, length-append, length-set, length_push, append_assoc, get_or-replicate, replicate-append-replicate, set-append_left, set-append_right}
-use Rattle.std.proofs.lemmas.Grind.{flat_map-append}
-use Rattle.std.proofs.lemmas.Option.{slice_get-get_or, slice_get_within}
-use Rattle.std.proofs.lemmas.List.Elements.{All-cons, All-head, All-nil, All-replicate, All-set, All-tail}
+use Rattle.std.proofs.Common.{◌≡◌, ℕ, ◌+◌, ◌*◌, ◌/◌, ◌<◌, ◌≤◌, eqb, Bool, true, false, List, [], ◌∷◌, ◌++◌, length, get_or, set, replicate, bit_and, refl, sym, ap, ◌∙◌, subst, arith, zero, suc, Some}
+use Rattle.std.proofs.Common.{None, slice_get, ◌-◌, inl, inr}
+use Rattle.std.proofs.lemmas.{Bool.cases_lt, Bool.eqb-false, Bool.eqb-true, List.length-replicate, List.length-append, List.length-set, List.set_past, List.length_push, List.append_assoc}
+use Rattle.std.proofs.lemmas.{List.get_or-replicate, List.replicate-append-replicate, List.set-append_left, List.set-append_right, Grind.flat_map-append, Option.slice_get-get_or}
+use Rattle.std.proofs.lemmas.{Option.slice_get_within, List.Elements.All-cons, List.Elements.All-head, List.Elements.All-nil, List.Elements.All-replicate, List.Elements.All-set}
+use Rattle.std.proofs.lemmas.List.Elements.{All-tail}
 use Rattle.std.specs.Int.Bits.{and_zero_r}
 use Rattle.spin_base.proofs.Places.{set-slice_get, slice_get-append_left, slice_get-push_cases, slice_get-set_other, slice_get-set_same}
-use Rattle.spin_base.specs.declared.routes.Route.{Route}
-use Rattle.spin_base.specs.declared.chips.Port.{Port}
-use Rattle.spin_base.specs.declared.blocks.Entry.{Entry}
-use Rattle.spin_base.specs.declared.sizes.TheConstants.{ROUTER_ENTRIES}
-use Rattle.spin_base.specs.Lookup.{default_route, lookup, matches}
-use Rattle.spin_base.specs.Outputs.{nothing}
-use Rattle.tcam_find.specs.declared.groups.Group.{Group}
-use Rattle.tcam_find.specs.Lanes.{first_route}
-use Rattle.tcam_find.specs.Memory.{AreLengthened, HaveInCommon, Misses, NoneMatches, entries_held, entries_in, entries_of, entries_of_groups, empty_memory, unused}
+use Rattle.spin_base.specs.{declared.routes.Route.Route, declared.chips.Port.Port, declared.blocks.Entry.Entry, declared.sizes.TheConstants.ROUTER_ENTRIES, Lookup.default_route, Lookup.lookup}
+use Rattle.spin_base.specs.{Lookup.matches, Outputs.nothing}
+use Rattle.tcam_find.specs.{declared.groups.Group.Group, Lanes.first_route, Memory.AreLengthened, Memory.HaveInCommon, Memory.Misses, Memory.NoneMatches, Memory.entries_held, Memory.entries_in}
+use Rattle.tcam_find.specs.Memory.{entries_of, entries_of_groups, empty_memory, unused}
 
 pub length-entries_of : (keys masks : List ℕ) (routes : List Route) → length masks ≡ length keys → length routes ≡ length keys
     → length (entries_of keys masks routes) ≡ length keys
@@ -32,8 +27,7 @@ get-entries_of [] masks routes i d inside m r = absurd (omega arith)
 get-entries_of (k ∷ ks) [] routes i d inside m r = cc
 get-entries_of (k ∷ ks) (m ∷ ms) [] i d inside e r = cc
 get-entries_of (k ∷ ks) (m ∷ ms) (o ∷ os) zero d inside e r = refl
-get-entries_of (k ∷ ks) (m ∷ ms) (o ∷ os) (suc i) d inside e r =
-    get-entries_of ks ms os i d (omega arith) (omega arith) (omega arith)
+get-entries_of (k ∷ ks) (m ∷ ms) (o ∷ os) (suc i) d inside e r = grind (arith, get-entries_of ks ms os i d (omega arith) (omega arith) (omega arith))
 
 pub set-entries_of : (keys masks : List ℕ) (routes : List Route) (i : ℕ) (e : Entry)
     → length masks ≡ length keys → length routes ≡ length keys
@@ -42,8 +36,7 @@ set-entries_of [] masks routes i e m r = refl
 set-entries_of (k ∷ ks) [] routes i e m r = cc
 set-entries_of (k ∷ ks) (m ∷ ms) [] i e p r = cc
 set-entries_of (k ∷ ks) (m ∷ ms) (o ∷ os) zero e p r = refl
-set-entries_of (k ∷ ks) (m ∷ ms) (o ∷ os) (suc i) e p r =
-    ap (λ es. record { key = k; mask = m; route = o } ∷ es) (set-entries_of ks ms os i e (omega arith) (omega arith))
+set-entries_of (k ∷ ks) (m ∷ ms) (o ∷ os) (suc i) e p r = grind (arith, set-entries_of ks ms os i e (omega arith) (omega arith))
 
 entries_of-replicate : (n key mask : ℕ) (route : Route)
     → entries_of (replicate n key) (replicate n mask) (replicate n route) ≡ replicate n (record { key = key; mask = mask; route = route })
@@ -61,8 +54,7 @@ unused_matches key = ap (λ n. eqb n 0xffff_ffff) (and_zero_r key)
 -- ---- eight entries
 
 pub length_in : (g : Group) → length (entries_in g) ≡ 8
-length_in g =
-    length-entries_of g.keys g.masks g.routes (omega (arith, g.eight, g.masked)) (omega (arith, g.eight, g.routed)) ∙ g.eight
+length_in g = grind (arith, length-entries_of g.keys g.masks g.routes (omega (arith, g.eight, g.masked)) (omega (arith, g.eight, g.routed)))
 
 -- the first place whose key and mask match decides
 pub route_found : (keys masks : List ℕ) (routes : List Route) (key : ℕ) (i : ℕ) (d : Route)
@@ -109,9 +101,7 @@ length_groups (g ∷ gs) = length-append (entries_in g) (entries_of_groups gs) �
 get_behind : (xs ys : List Entry) (n j : ℕ) (e : Entry) → length xs ≡ n → slice_get ys j ≡ Some e → slice_get (xs ++ ys) (n + j) ≡ Some e
 get_behind [] ys n j e long got = let at : n + j ≡ j = omega (arith, long) in rw at got
 get_behind (x ∷ xs) ys zero j e long got = absurd (omega (arith, long))
-get_behind (x ∷ xs) ys (suc n) j e long got =
-    let at : suc n + j ≡ suc (n + j) = omega arith in
-    rw at (get_behind xs ys n j e (omega (arith, long)) got)
+get_behind (x ∷ xs) ys (suc n) j e long got = grind (arith, get_behind xs ys n j e (omega (arith, long)) got)
 
 -- an entry of a group is one of all
 pub get_in_groups : (gs : List Group) (i j : ℕ) (g : Group) (e : Entry)
@@ -130,16 +120,9 @@ pub set_in_groups : (gs : List Group) (i j : ℕ) (g h : Group) (e : Entry)
     → slice_get gs i ≡ Some g → j < 8 → entries_in h ≡ set (entries_in g) j e
     → entries_of_groups (set gs i h) ≡ set (entries_of_groups gs) (8 * i + j) e
 set_in_groups [] i j g h e got inside put = cc
-set_in_groups (x ∷ xs) zero j g h e got inside put =
-    let same : g ≡ x = cc in
-    let at : j ≡ 8 * 0 + j = omega arith in
-    ap (λ es. es ++ entries_of_groups xs) (put ∙ ap (λ it. set (entries_in it) j e) same)
-    ∙ sym (set-append_left (entries_in x) (entries_of_groups xs) j e (omega (arith, inside, length_in x)))
-    ∙ ap (λ n. set (entries_in x ++ entries_of_groups xs) n e) at
+set_in_groups (x ∷ xs) zero j g h e got inside put = grind (arith, set-append_left (entries_in x) (entries_of_groups xs) j e (omega (arith, inside, length_in x)), length_in x)
 set_in_groups (x ∷ xs) (suc i) j g h e got inside put =
-    let at : 8 * suc i + j - 8 ≡ 8 * i + j = omega arith in
-    ap (λ es. entries_in x ++ es) (set_in_groups xs i j g h e got inside put ∙ ap (λ n. set (entries_of_groups xs) n e) (sym at))
-    ∙ sym (set-append_right (entries_in x) (entries_of_groups xs) 8 (8 * suc i + j) e (length_in x) (omega arith))
+    grind (arith, set_in_groups xs i j g h e got inside put, set-append_right (entries_in x) (entries_of_groups xs) 8 (8 * suc i + j) e (length_in x) (omega arith), length_in x)
 
 -- entries of which none matches are passed over
 pass : (xs ys : List Entry) (key : ℕ) (port : Port) → NoneMatches key xs → lookup ys key port ≡ lookup (xs ++ ys) key port
@@ -161,10 +144,7 @@ pub lookup_found : (gs : List Group) (tail : List Entry) (i key : ℕ) (port : P
     → ((k : ℕ) (x : Group) → k < i → slice_get gs k ≡ Some x → NoneMatches key (entries_in x))
     → Some r ≡ first_route (entries_in g) key → r ≡ lookup (entries_of_groups gs ++ tail) key port
 lookup_found [] tail i key port g r got before routed = cc
-lookup_found (x ∷ xs) tail zero key port g r got before routed =
-    let same : g ≡ x = cc in
-    hit (entries_in x) (entries_of_groups xs ++ tail) key port r (routed ∙ ap (λ it. first_route (entries_in it) key) same)
-    ∙ ap (λ es. lookup es key port) (sym (append_assoc (entries_in x) (entries_of_groups xs) tail))
+lookup_found (x ∷ xs) tail zero key port g r got before routed = grind (arith, append_assoc (entries_in x) (entries_of_groups xs) tail, hit)
 lookup_found (x ∷ xs) tail (suc i) key port g r got before routed =
     lookup_found xs tail i key port g r got (λ k y lt there. before (suc k) y (omega (arith, lt)) there) routed
     ∙ pass (entries_in x) (entries_of_groups xs ++ tail) key port (before 0 x (omega arith) refl)
@@ -190,13 +170,13 @@ lookup_none (x ∷ xs) n key port none =
 pub passed_over : (gs : List Group) (group next key : ℕ)
     → ((i : ℕ) (x : Group) → i < group → slice_get gs i ≡ Some x → NoneMatches key (entries_in x))
     → ((x : Group) → slice_get gs group ≡ Some x → NoneMatches key (entries_in x))
-    → ((i : ℕ) (x : Group) → group + 1 ≤ i → i < next → slice_get gs i ≡ Some x → NoneMatches key (entries_in x))
+    → ((i : ℕ) (x : Group) → 1 ≤ i → group + 1 ≤ i → i < next → slice_get gs i ≡ Some x → NoneMatches key (entries_in x))
     → (i : ℕ) (x : Group) → i < next → slice_get gs i ≡ Some x → NoneMatches key (entries_in x)
 passed_over gs group next key before here others i x early got =
     elim (cases_lt i group) [
       | inl less ↦ before i x less got
       | inr late ↦ elim (cases_lt group i) [
-        | inl more ↦ others i x (omega (arith, more)) early got
+        | inl more ↦ others i x (omega (arith, more)) (omega (arith, more)) early got
         | inr equal ↦ (let same : i ≡ group = omega (arith, late, equal) in here x (ap (slice_get gs) (sym same) ∙ got))
       ]
     ]
@@ -210,9 +190,7 @@ passed_all gs group key past before i x got = before i x (omega (arith, past, sl
 -- ---- the memory of these groups
 
 pub length_held : (gs : List Group) → length gs ≤ 128 → length (entries_held gs) ≡ 1024
-length_held gs few =
-    length-append (entries_of_groups gs) (replicate (1024 - 8 * length gs) unused)
-    ∙ omega (arith, few, length_groups gs, length-replicate (1024 - 8 * length gs) unused)
+length_held gs few = grind (arith, length-append (entries_of_groups gs) (replicate (1024 - 8 * length gs) unused), length_groups gs, length-replicate (1024 - 8 * length gs) unused)
 
 pub empty_is : (gs : List Group) → gs ≡ [] → entries_held gs ≡ empty_memory
 unfolding empty_memory
@@ -259,11 +237,7 @@ held_more gs g short is =
 
 pub common_more : (gs : List Group) (g : Group) (common values : List ℕ) → entries_in g ≡ replicate 8 unused
     → HaveInCommon gs common values → HaveInCommon (gs ++ g ∷ []) common values
-common_more gs g common values is others i key x behind got miss = elim (slice_get-push_cases gs g x i got) [
-  | inl before ↦ others i key x behind before.1 miss
-  | inr last ↦
-      (subst (NoneMatches key) (sym is ∙ ap entries_in last.1) (All-replicate (λ e. matches e key ≡ false) 8 unused (unused_matches key)))
-]
+common_more gs g common values is others i key x behind got miss = grind (arith, slice_get-push_cases gs g x i got, unused_matches key, All-replicate)
 
 pub group_of_unused : (route : Route) → route ≡ nothing
     → entries_of (replicate 8 0xffff_ffff) (replicate 8 0) (replicate 8 route) ≡ replicate 8 unused
@@ -297,16 +271,16 @@ common_cleared gs common values i j g h got put others =
     common_after gs common values common values i j g h unused got put others (λ k key miss. miss) (λ key miss. unused_matches key)
 
 -- an entry behind the groups is unused as it is
-pub clear_behind : (gs : List Group) (k : ℕ) → length gs ≤ k / 8 → k < 1024 → entries_held gs ≡ set (entries_held gs) k unused
-clear_behind gs k behind below = sym (set-slice_get (entries_held gs) k unused (get_behind_groups gs k behind below))
+pub clear_behind : (gs : List Group) (k : ℕ) → length gs ≤ 128 → length gs ≤ k / 8 → entries_held gs ≡ set (entries_held gs) k unused
+clear_behind gs k few behind =
+    elim (cases_lt k 1024) [
+      | inl below ↦ sym (set-slice_get (entries_held gs) k unused (get_behind_groups gs k behind below))
+      | inr past ↦ sym (set_past (entries_held gs) k unused (rw (length_held gs few) past))
+    ]
 
 pub lengthened_none : (gs : List Group) → AreLengthened gs gs
 lengthened_none gs = record { few = λ few. few; held = refl; others = λ common values knows. knows }
 
 pub lengthened_more : (old gs : List Group) (g : Group) → length gs < 128 → entries_in g ≡ replicate 8 unused
     → AreLengthened old gs → AreLengthened old (gs ++ g ∷ [])
-lengthened_more old gs g short is so_far = record {
-  few = λ few. omega (arith, short, length_push gs g);
-  held = held_more gs g short is ∙ so_far.held;
-  others = λ common values knows. common_more gs g common values is (so_far.others common values knows);
-}
+lengthened_more old gs g short is so_far = grind (arith, length_push gs g, held_more gs g short is, common_more)

@@ -22,7 +22,7 @@ pub(crate) struct Group {
 }
 
 impl Group {
-    ghost use Rattle.std.specs.Prelude.{◌≡◌, ◌<◌, Some, length, replicate, slice_get, slice_set, vec_capacity};
+    ghost use Rattle.std.specs.Prelude.{◌≡◌, ◌<◌, ◌/◌, ◌%◌, Some, length, replicate, slice_get, slice_set, vec_capacity};
     ghost use Rattle.tcam_find.specs.Lanes.{first_route};
     ghost use Rattle.tcam_find.specs.Memory.{entries_in, unused};
     ghost use Rattle.tcam_find.specs.declared.groups.Group.{Group};
@@ -38,33 +38,32 @@ impl Group {
         }
     }
 
-    /// Puts an entry at a place of one of the groups.
-    pub(crate) fn put(groups: &mut Vec<Group>, group: usize, lane: usize, e: Entry)
-        requires inside { group < length groups.old.items }
-        requires within { lane < 8 }
-        ensures one { (g : Group) → slice_get groups.old.items group ≡ Some g
-            → (h : Group) × (entries_in h ≡ slice_set (entries_in g) lane e)
-            × (groups.new.items ≡ slice_set groups.old.items group h) }
+    /// Puts an entry at a place of the groups.
+    pub(crate) fn put(groups: &mut Vec<Group>, place: usize, e: Entry)
+        requires { place / 8 < length groups.old.items }
+        ensures one { (g : Group) → slice_get groups.old.items (place / 8) ≡ Some g
+            → (h : Group) × (entries_in h ≡ slice_set (entries_in g) (place % 8) e)
+            × (groups.new.items ≡ slice_set groups.old.items (place / 8) h) }
         ensures room { vec_capacity groups.new ≡ vec_capacity groups.old }
     {
-        groups[group].set(lane, e);
+        groups[place / LANES].set(place, e);
     }
 
-    /// Puts an entry at a place of the group.
-    fn set(&mut self, lane: usize, e: Entry)
-        requires { lane < 8 }
-        ensures { entries_in self.new ≡ slice_set (entries_in self.old) lane e }
+    /// Puts an entry into the group, at a place of the groups that it has.
+    fn set(&mut self, place: usize, e: Entry)
+        ensures { entries_in self.new ≡ slice_set (entries_in self.old) (place % 8) e }
     {
+        let lane = place % LANES;
         self.keys[lane] = e.key;
         self.masks[lane] = e.mask;
         self.routes[lane] = e.route;
     }
 
-    /// The entry at a place of the group.
-    pub(crate) fn entry(&self, lane: usize) -> Entry
-        requires { lane < 8 }
-        ensures { slice_get (entries_in self.now) lane ≡ Some result }
+    /// The group's entry at a place of the groups that it has.
+    pub(crate) fn entry(&self, place: usize) -> Entry
+        ensures { slice_get (entries_in self.now) (place % 8) ≡ Some result }
     {
+        let lane = place % LANES;
         Entry {
             key: self.keys[lane],
             mask: self.masks[lane],

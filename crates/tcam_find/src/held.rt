@@ -42,9 +42,8 @@ impl Held {
         Ok(Held { groups, known })
     }
 
-    /// The same groups, with at least the room of another that has none.
+    /// The same groups, with at least the room of another.
     pub(crate) fn with_room_of(self, other: Held) -> Held
-        requires { other.groups.items ≡ [] }
         ensures same { result.groups.items ≡ self.groups.items }
         ensures room { vec_capacity other.groups ≤ vec_capacity result.groups }
     {
@@ -64,29 +63,26 @@ impl Held {
     {
         let group = place / LANES;
         lengthen(&mut self.groups, group + 1);
-        Group::put(&mut self.groups, group, place % LANES, e);
+        Group::put(&mut self.groups, place, e);
         put_known(&mut self.known, group, e);
     }
 
     /// Makes the entry at a place unused, as it is behind the groups.
     pub(crate) fn clear(&mut self, place: usize)
-        requires { place < 1024 }
         ensures { entries_held self.new.groups.items
             ≡ slice_set (entries_held self.old.groups.items) place unused }
     {
-        let group = place / LANES;
-        if group >= self.groups.len() {
+        if place / LANES >= self.groups.len() {
             return;
         }
-        Group::put(&mut self.groups, group, place % LANES, unused());
+        Group::put(&mut self.groups, place, unused());
     }
 }
 
 // Puts groups of unused entries behind the others, until there are so many. There is room for them.
 pub(crate) fn lengthen(groups: &mut Vec<Group>, count: usize)
-    requires few { count ≤ 128 }
-    requires room { count ≤ vec_capacity groups.old }
-    ensures same { AreLengthened groups.old.items groups.new.items }
+    requires { count ≤ vec_capacity groups.old }
+    ensures same { count ≤ 128 → AreLengthened groups.old.items groups.new.items }
     ensures long { count ≤ length groups.new.items }
     ensures room { vec_capacity groups.new ≡ vec_capacity groups.old }
 {
@@ -95,9 +91,8 @@ pub(crate) fn lengthen(groups: &mut Vec<Group>, count: usize)
     }
 }
 
-// The groups, with at least the room of a list that has none.
+// The groups, with at least the room of another list.
 pub(crate) fn roomier(groups: Vec<Group>, spare: Vec<Group>) -> Vec<Group>
-    requires { spare.items ≡ [] }
     ensures same { result.items ≡ groups.items }
     ensures room { vec_capacity spare ≤ vec_capacity result }
 {
@@ -105,6 +100,7 @@ pub(crate) fn roomier(groups: Vec<Group>, spare: Vec<Group>) -> Vec<Group>
         return groups;
     }
     let mut spare = spare;
+    spare.clear();
     for group in groups.as_slice() {
         spare.push_reserved(*group);
     }

@@ -79,7 +79,6 @@ impl Known {
     // The first group from `from` on whose block the key doesn't miss, or one behind the `used` first.
     #[inline(always)]
     fn next_block(&self, from: usize, used: usize, key: u32) -> usize
-        requires { used ≤ 128 }
         ensures ahead { from ≤ result }
         ensures others { (i : ℕ) → from ≤ i → i < result
             → Misses self.now.common self.now.values i key }
@@ -87,15 +86,23 @@ impl Known {
         if from >= used {
             return from;
         }
-        let ahead = next_place(
-            &self.block_common,
-            &self.block_values,
-            from / LANES,
-            BLOCKS,
-            key,
-        );
-        let block = ahead.min(BLOCKS);
+        let block = self.block_from(from / LANES, key).min(BLOCKS);
         from.max(LANES * block)
+    }
+
+    // The first block from `from` on that the key doesn't miss, and one behind all where it misses each.
+    fn block_from(&self, from: usize, key: u32) -> usize
+        ensures { (i : ℕ) → from ≤ i → i < result
+            → Misses self.now.block_common self.now.block_values i key }
+    {
+        for eight in 0..BLOCKS.saturating_sub(from).div_ceil(LANES) {
+            let at = from + LANES * eight;
+            let ahead = first_match(&self.block_values, &self.block_common, at, key);
+            if ahead < LANES {
+                return at + ahead;
+            }
+        }
+        BLOCKS
     }
 }
 
@@ -139,36 +146,16 @@ pub(crate) fn put_known(known: &mut Option<Box<Known>>, group: usize, e: Entry)
 /// The first group from `from` on, behind the first, that the key doesn't miss, or one behind the `used` first.
 #[inline(always)]
 pub(crate) fn next_group(known: &Option<Box<Known>>, from: usize, used: usize, key: u32) -> usize
-    requires begun { 1 ≤ from }
-    requires few { used ≤ 128 }
+    requires { used ≤ 128 }
     ensures ahead { from ≤ result }
     ensures others { (gs : List Group) → IfSome known.now (λ k. HaveInCommon gs k.value.common k.value.values)
-        → (i : ℕ) (g : Group) → from ≤ i → i < result → slice_get gs i ≡ Some g
+        → (i : ℕ) (g : Group) → 1 ≤ i → from ≤ i → i < result → slice_get gs i ≡ Some g
         → NoneMatches key (entries_in g) }
 {
     match known {
         Some(known) => known.next_group(from, used, key),
         None => from,
     }
-}
-
-/// The first place from `from` on where the key has the values of the bits, and `end` or more where it has them at none before.
-fn next_place(common: &[u32], values: &[u32], from: usize, end: usize, key: u32) -> usize
-    requires begun { from ≤ end }
-    requires in_common { end + 8 ≤ length common.now }
-    requires in_values { end + 8 ≤ length values.now }
-    ensures ahead { from ≤ result }
-    ensures others { (i : ℕ) → from ≤ i → i < result
-        → (bit_and key (slice_index common.now i) == slice_index values.now i) ≡ false }
-{
-    for block in 0..(end - from).div_ceil(LANES) {
-        let at = from + LANES * block;
-        let ahead = first_match(values, common, at, key);
-        if ahead < LANES {
-            return at + ahead;
-        }
-    }
-    end
 }
 
 /// The values of the bits that two have in common, and these bits: one has the values `value` of the bits `common`, the other `more` of

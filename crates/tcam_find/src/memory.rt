@@ -63,9 +63,8 @@ impl Tcam {
         held
     }
 
-    /// Makes the entry at a place below 1,024 unused. It takes no memory.
+    /// Makes the entry at a place unused. It takes no memory.
     pub fn clear(&mut self, place: u32)
-        requires { place < ROUTER_ENTRIES }
         ensures one { self.new ≡ slice_set self.old place unused }
         ensures size { length self.new ≡ ROUTER_ENTRIES }
     {
@@ -80,7 +79,7 @@ impl Tcam {
     {
         let group = place as usize / LANES;
         if group < self.held.groups.len() {
-            self.held.groups[group].entry(place as usize % LANES)
+            self.held.groups[group].entry(place as usize)
         } else {
             unused()
         }

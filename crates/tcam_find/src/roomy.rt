@@ -16,14 +16,13 @@ pub struct Room {
 }
 
 impl Model for Room {
-    ghost use Rattle.std.specs.Prelude.{ℕ, ◌≡◌, ◌≤◌, ◌*◌, [], vec_capacity};
+    ghost use Rattle.std.specs.Prelude.{ℕ, ◌≤◌, ◌*◌, vec_capacity};
 
     ghost Value = { ℕ };
 
     ghost view = { λ r. r.rows };
 
-    ghost invariant = { λ r. (r.held.groups.items ≡ []) × (r.rows ≤ 8 * vec_capacity r.held.groups)
-        × (r.rows ≤ 1024) };
+    ghost invariant = { λ r. (r.rows ≤ 8 * vec_capacity r.held.groups) × (r.rows ≤ 1024) };
 }
 
 impl Room {

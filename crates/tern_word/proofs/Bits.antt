@@ -1,9 +1,7 @@
 -- Numbers by their bits: a number within a mask, and the number of ones.
 use Rattle.std.proofs.Common.{◌≡◌, ℕ, zero, suc, ◌/◌, ◌%◌, ◌^◌, ◌<◌, ◌≤◌, min, sym, ap, ◌∙◌, arith}
-use Rattle.std.specs.Prelude.{bit_and, count_ones}
-use Rattle.std.specs.Int.{bit_at}
-use Rattle.std.proofs.Math.Nat.{pow-suc}
-use Rattle.std.proofs.lemmas.Nat.Bits.{bit_at_lowest, bit_at-suc, bit_at_and, bit_at_above, same_from_bits}
+use Rattle.std.specs.{Prelude.bit_and, Prelude.count_ones, Int.bit_at}
+use Rattle.std.proofs.{Math.Nat.pow-suc, lemmas.Nat.Bits.bit_at_lowest, lemmas.Nat.Bits.bit_at-suc, lemmas.Nat.Bits.bit_at_and, lemmas.Nat.Bits.bit_at_above, lemmas.Nat.Bits.same_from_bits}
 use lib.Count.{ones_step, ones-le}
 
 -- the bits of n under the mask m are those of k

@@ -1,19 +1,15 @@
 -- Laws of blocks: what they want, which meet, merges, generality.
-use Rattle.std.proofs.Props.{props}
+use Rattle.std.proofs.{Props.props, lemmas.Grind.fold-append, lemmas.List.take_more, lemmas.Bool.cases_lt, lemmas.Nat.and_le_r, lemmas.Nat.or_lt, lemmas.Nat.xor_lt, lemmas.Nat.shr_split}
+use Rattle.std.proofs.{lemmas.Nat.shr_high, lemmas.Nat.pow_pos, lemmas.Nat.pow_below, Math.Nat.lt_of_le_of_lt, Math.Nat.mod-lt, lemmas.List.Elements.All-nil, lemmas.List.Elements.All-cons}
+use Rattle.std.proofs.lemmas.{List.Elements.All-head, List.Elements.All-tail, Nat.Bits.bit_at_and, Nat.Bits.bit_at_or, Nat.Bits.bit_at_xor, Nat.Bits.bit_at_not, Nat.Bits.bit_at-lt}
+use Rattle.std.proofs.lemmas.Nat.Bits.{bit_at_above, bit_at-zero, same_from_bits, and_high_mask}
 use lib.Count.{ones-le}
-use Rattle.std.proofs.lemmas.Grind.{fold-append}
-use Rattle.std.proofs.lemmas.List.{take_more}
-use Rattle.std.proofs.lemmas.Bool.{cases_lt}
-use Rattle.std.proofs.Common.{length, ◌≡◌, ℕ, ◌+◌, ◌-◌, ◌*◌, ◌/◌, ◌%◌, ◌^◌, ◌<◌, ◌≤◌, ◌↔◌, ◌⊎◌, min, refl, sym, ap, ◌∙◌, subst, inl, inr, List, [], ◌∷◌, ◌++◌, take, drop, get_or, take_all, length-take, length-drop, get_or-take, get_or-drop, add_comm, arith}
-use Rattle.std.specs.Prelude.{bit_and, bit_or, bit_xor, All, fold}
-use Rattle.std.specs.Int.{bit_at, bit_not, w32}
-use Rattle.std.proofs.lemmas.Nat.{and_le_r, or_lt, xor_lt, shr_split, shr_high, pow_pos, pow_below}
-use Rattle.std.proofs.Math.Nat.{lt_of_le_of_lt, mod-lt}
-use Rattle.std.proofs.lemmas.List.Elements.{All-nil, All-cons, All-head, All-tail}
-use Rattle.std.proofs.lemmas.Nat.Bits.{bit_at_and, bit_at_or, bit_at_xor, bit_at_not, bit_at-lt, bit_at_above, bit_at-zero, same_from_bits, and_high_mask}
+use Rattle.std.proofs.Common.{length, ◌≡◌, ℕ, ◌+◌, ◌-◌, ◌*◌, ◌/◌, ◌%◌, ◌^◌, ◌<◌, ◌≤◌, ◌↔◌, ◌⊎◌, min, refl, sym, ap, ◌∙◌, subst, inl, inr, List, [], ◌∷◌, ◌++◌, take, drop, get_or, take_all}
+use Rattle.std.proofs.Common.{length-take, length-drop, get_or-take, get_or-drop, add_comm, arith}
+use Rattle.std.specs.{Prelude.bit_and, Prelude.bit_or, Prelude.bit_xor, Prelude.All, Prelude.fold, Int.bit_at, Int.bit_not, Int.w32}
 use Rattle.spin_base.specs.declared.blocks.Block.{Block}
-use Rattle.tern_word.specs.MergeFits.{merge_mask, merge_key}
-use Rattle.tern_word.specs.Ternary.{Matches, Intersects, LiesIn, Wants, IsMergeOf, generality, merge_two, merge_of}
+use Rattle.tern_word.specs.{MergeFits.merge_mask, MergeFits.merge_key, Ternary.Matches, Ternary.Intersects, Ternary.LiesIn, Ternary.Wants, Ternary.IsMergeOf, Ternary.generality, Ternary.merge_two}
+use Rattle.tern_word.specs.Ternary.{merge_of}
 use Rattle.tern_word.proofs.Bits.{bits_of_and, and_from_bits, no_high_bit, ones_mono}
 
 -- a bit is 0 or 1
@@ -49,9 +45,7 @@ abbrev pub AgreeAt : Block → Block → ℕ → Type 0
 AgreeAt a b i = min (min ((bit_at a.key i + bit_at b.key i) % 2) (bit_at a.mask i)) (bit_at b.mask i) ≡ 0
 
 agree_bits : (a b : Block) (i : ℕ) → bit_at (bit_and (bit_and (bit_xor a.key b.key) a.mask) b.mask) i ≡ min (min ((bit_at a.key i + bit_at b.key i) % 2) (bit_at a.mask i)) (bit_at b.mask i)
-agree_bits a b i =
-    bit_at_and (bit_and (bit_xor a.key b.key) a.mask) b.mask i
-    ∙ ap (λ x. min x (bit_at b.mask i)) (bit_at_and (bit_xor a.key b.key) a.mask i ∙ ap (λ x. min x (bit_at a.mask i)) (bit_at_xor a.key b.key i))
+agree_bits a b i = grind (arith, bit_at_and (bit_and (bit_xor a.key b.key) a.mask) b.mask i, bit_at_and (bit_xor a.key b.key) a.mask i, bit_at_xor a.key b.key i)
 
 -- a block's key is below 2 ^ 32
 pub key_small : (b : Block) → b.key < 2 ^ 32
@@ -124,20 +118,11 @@ module _ (a b : Block) (i : ℕ) where
   -- the merge of two blocks wants what both want
   pub merge_two-wants : (v : ℕ) → Wants (merge_two a b) i v → (Wants a i v) × (Wants b i v)
   unfolding merge_two
-  merge_two-wants v w =
-      let cares : bit_at a.mask i ≡ 1 = omega (arith, mask_bits, w.cares, bit_at-lt a.mask i) in
-      let differ = differ_bits (no_high_bit a.mask i a.small cares) in
-      let cares_b : bit_at b.mask i ≡ 1 = omega (arith, mask_bits, w.cares, bit_at-lt b.mask i) in
-      let value : bit_at a.key i ≡ v = omega (arith, key_bits, w.cares, w.value, bit_at-lt a.key i) in
-      let value_b : bit_at b.key i ≡ v = omega (arith, value, mask_bits, differ, w.cares, bit_at-lt a.key i, bit_at-lt b.key i) in
-      (record { cares = cares; value = value }, record { cares = cares_b; value = value_b })
+  merge_two-wants v w = grind (arith, mask_bits, bit_at-lt, differ_bits, no_high_bit, key_bits)
 
   pub wants-merge_two : (v : ℕ) → Wants a i v → Wants b i v → Wants (merge_two a b) i v
   unfolding merge_two
-  wants-merge_two v wa wb =
-      let differ = differ_bits (no_high_bit a.mask i a.small wa.cares) in
-      let cares : bit_at (merge_mask a b) i ≡ 1 = omega (arith, mask_bits, differ, wa.cares, wb.cares, wa.value, wb.value, bit_at-lt a.key i) in
-      record { cares = cares; value = omega (arith, key_bits, cares, wa.value, bit_at-lt a.key i) }
+  wants-merge_two v wa wb = grind (arith, differ_bits (no_high_bit a.mask i a.small wa.cares), no_high_bit a.mask i a.small wa.cares, mask_bits, bit_at-lt a.key i, key_bits)
 
 -- the merge of a block and others wants what all want
 fold_wants : (bs : List Block) (b : Block) (i v : ℕ) → Wants (fold merge_two b bs) i v → (Wants b i v) × (All (λ c. Wants c i v) bs)
@@ -232,11 +217,7 @@ module _ (e place : ℕ) (fits : e ≤ 32) (aligned : place % 2 ^ e ≡ 0) (smal
       masked = and_high_mask 32 e fits k key_small
 
       near : place ≤ k → k < place + 2 ^ e → k / 2 ^ e * 2 ^ e ≡ place
-      near from to =
-          let q = place / 2 ^ e in
-          let k_is : k ≡ q * 2 ^ e + (k - place) = omega (arith, whole) in
-          let same : k / 2 ^ e ≡ q = ap (λ x. x / 2 ^ e) k_is ∙ shr_high q e (k - place) (omega arith) in
-          ap (λ x. x * 2 ^ e) same ∙ whole
+      near from to = grind (arith, whole, shr_high (place / 2 ^ e) e (k - place) (omega arith))
 
 -- a power of two up to 2 ^ 32 has an exponent up to 32
 pub exponent_le : (e : ℕ) → 2 ^ e ≤ 2 ^ 32 → e ≤ 32

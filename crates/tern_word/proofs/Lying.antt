@@ -1,14 +1,10 @@
 -- When the keys of one block all lie in another.
 use Rattle.std.proofs.Common.{◌≡◌, ℕ, ◌-◌, ◌^◌, ◌<◌, min, max, ap, ◌∙◌, arith, inl, inr}
-use Rattle.std.specs.Prelude.{bit_and, bit_or}
-use Rattle.std.specs.Int.{bit_at, bit_not, w32}
-use Rattle.std.proofs.lemmas.Bool.{cases_lt}
-use Rattle.std.proofs.lemmas.Nat.{or_lt}
-use Rattle.std.proofs.lemmas.Nat.Bits.{bit_at_or, bit_at_not, bit_at-lt, bit_at_above}
+use Rattle.std.specs.{Prelude.bit_and, Prelude.bit_or, Int.bit_at, Int.bit_not, Int.w32}
+use Rattle.std.proofs.lemmas.{Bool.cases_lt, Nat.or_lt, Nat.Bits.bit_at_or, Nat.Bits.bit_at_not, Nat.Bits.bit_at-lt, Nat.Bits.bit_at_above}
 use Rattle.spin_base.specs.declared.blocks.Block.{Block}
 use Rattle.tern_word.specs.Ternary.{Matches, LiesIn}
-use Rattle.tern_word.proofs.Bits.{bits_of_and, and_from_bits}
-use Rattle.tern_word.proofs.BlockLaws.{key_small}
+use Rattle.tern_word.proofs.{Bits.bits_of_and, Bits.and_from_bits, BlockLaws.key_small}
 
 pub lies_from_masks : (inner outer : Block) → bit_and inner.mask outer.mask ≡ outer.mask → bit_and inner.key outer.mask ≡ outer.key → LiesIn inner outer
 lies_from_masks inner outer masks keys k small m =

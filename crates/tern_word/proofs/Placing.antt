@@ -1,8 +1,6 @@
 -- A table is sound where each of its rows is well placed.
 use Rattle.std.proofs.Common.{ℕ, ◌<◌, List, length, arith}
-use Rattle.tern_word.specs.declared.tables.Row.{Row}
-use Rattle.tern_word.specs.SoundTable.{IsSound}
-use Rattle.tern_word.specs.Placed.{IsWellPlaced}
+use Rattle.tern_word.specs.{declared.tables.Row.Row, SoundTable.IsSound, Placed.IsWellPlaced}
 
 pub placed_from_sound : (rows : List Row) → IsSound rows → (at : ℕ) → at < length rows → IsWellPlaced rows at
 placed_from_sound rows sound at inside = (

@@ -1,15 +1,9 @@
-use Rattle.std.proofs.Common.{subst, sym, ◌<◌, ◌≤◌, ℕ, List}
-use Rattle.std.specs.List.{All, AllPairs}
-use Rattle.app_loads.specs.Regions.{chip_count}
+use Rattle.std.proofs.Common.{arith}
 use Rattle.app_loads.proofs.RowClaims.{rows_counted_in, places_inside}
 use Rattle.app_loads.proofs.claims.claim_rows.Goals as goal
 
 pub invariant_of-indices : goal.invariant_of-indices
-invariant_of-indices c = record {
-  inside = subst (All (λ i. i < chip_count c.args.machine.now)) (sym c.deref.ensures.value)
-      (places_inside c.args.machine.now c.args.nets.now c.in_ok-chips.chips.items c.requires c.in_ok-chips.ensures.same);
-  sorted = subst (λ (l : List ℕ). AllPairs (λ a b. a ≤ b) l) (sym c.deref.ensures.value) c.in_ok-chips.ensures.sorted;
-}
+invariant_of-indices c = grind (arith, places_inside c.args.machine.now c.args.nets.now c.in_ok-chips.chips.items c.requires c.in_ok-chips.ensures.same)
 
 pub returns : goal.returns
 returns c =

@@ -1,16 +1,12 @@
-use Rattle.std.proofs.Common.{◌∙◌, ◌++◌, ◌∷◌, ap, subst, sym, List}
+use Rattle.std.proofs.Common.{arith}
 use Rattle.std.proofs.lemmas.{List.take_all, Option.slice_get-get_or}
-use Rattle.std.specs.List.{All, flat_map}
-use Rattle.machine_desc.specs.declared.trees.Edge.{Edge}
-use Rattle.machine_desc.specs.Live.{index_of, IsInside}
+use Rattle.machine_desc.specs.Live.{index_of}
 use Rattle.app_loads.specs.Counting.{end_places}
 use Rattle.app_loads.proofs.RowClaims.{edges_in, ends_more}
 use Rattle.app_loads.proofs.claims.push_tree.Goals as goal
 
 pub push_end-requires : goal.push_end-requires
-push_end-requires c =
-    subst (λ (l : List Edge). All (λ (e : Edge). IsInside c.args.machine.now e.chip) l) (sym c.as_slice-edge-items.ensures) (edges_in c.args.machine.now c.args.net.now c.requires)
-    c.loop-edge.edge-index _ c.loop-edge-test.true
+push_end-requires c = grind (arith, edges_in c.args.machine.now c.args.net.now c.requires)
 
 pub loop-edge-preserved : goal.loop-edge-preserved
 loop-edge-preserved c =
@@ -19,7 +15,4 @@ loop-edge-preserved c =
     (slice_get-get_or c.as_slice-edge-items.result.now c.loop-edge.edge-index _ c.loop-edge-test.true) c.loop-edge.invariant c.in_ok-push_end.ensures
 
 pub returns : goal.returns
-returns c =
-    c.loop-edge.invariant
-    ∙ ap (λ (l : List Edge). c.args.chips.now.items ++ index_of c.args.machine.now c.args.net.now.tree.root ∷ flat_map (end_places c.args.machine.now) l)
-    (take_all c.loop-edge.edge-index c.as_slice-edge-items.result.now c.loop-edge-test.false ∙ c.as_slice-edge-items.ensures)
+returns c = grind (arith, take_all c.loop-edge.edge-index c.as_slice-edge-items.result.now c.loop-edge-test.false)

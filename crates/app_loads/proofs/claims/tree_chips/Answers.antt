@@ -1,9 +1,8 @@
 use Rattle.std.proofs.Common.{◌∙◌, ap, subst, sym, arith, take, List, [], ◌++◌, Some, ℕ}
 use Rattle.std.proofs.lemmas.{List.flat_map_more, List.take_all, List.Sorted.IsNonDecreasingBy-from_sort, Option.slice_get-get_or}
-use Rattle.std.specs.List.{flat_map, Sorted.IsPermutation}
+use Rattle.std.specs.List.{flat_map}
 use Rattle.spin_base.proofs.Places.{take_more_at}
-use Rattle.app_loads.specs.Counting.{HasTree, tree_places}
-use Rattle.app_loads.specs.declared.plans.AppNet.{AppNet}
+use Rattle.app_loads.specs.{Counting.HasTree, Counting.tree_places, declared.plans.AppNet.AppNet}
 use Rattle.app_loads.proofs.claims.tree_chips.Goals as goal
 
 pub push_tree-requires : goal.push_tree-requires
@@ -19,9 +18,7 @@ loop-net-preserved c =
     ∙ (ap (λ l. l ++ f net) c.loop-net.invariant ∙ (flat_map_more f [] (take i c.args.nets.now) net ∙ ap (flat_map f) (sym (take_more_at c.args.nets.now i net at))))
 
 pub returns-clause-same : goal.returns-clause-same
-returns-clause-same c =
-    subst (λ (l : List ℕ). IsPermutation l c.sort_unstable.new.self.items)
-    (c.loop-net.invariant ∙ ap (flat_map (tree_places c.args.machine.now)) (take_all c.loop-net.net-index c.args.nets.now c.loop-net-test.false)) c.sort_unstable.ensures.permutation
+returns-clause-same c = grind (arith, take_all c.loop-net.net-index c.args.nets.now c.loop-net-test.false)
 
 pub returns-clause-sorted : goal.returns-clause-sorted
 returns-clause-sorted c i j d before within =

@@ -1,13 +1,11 @@
-use Rattle.std.proofs.Common.{◌∙◌, ap, refl, subst, sym}
-use Rattle.mesh_core.specs.State.{State}
-use Rattle.app_loads.specs.{Earlier.with_earlier, Grouping.all_grouped, Running.AreAlikeInBlocks}
+use Rattle.std.proofs.Common.{arith, ◌∙◌, refl}
+use Rattle.app_loads.specs.{Earlier.with_earlier, Grouping.all_grouped}
 use Rattle.app_loads.proofs.Kept.{moved_as, same_mesh}
 use Rattle.mesh_drain.proofs.Senders.{moved_of_reached}
 use Rattle.app_loads.proofs.drains.drain_known_from.Goals as goal
 
 pub send_each-requires-clause-alike : goal.send_each-requires-clause-alike
-send_each-requires-clause-alike c =
-    subst (λ u. AreAlikeInBlocks u c.args.apps.now) (sym (ap (λ (s : State). s.setup) c.keep.ensures.mesh ∙ ap (λ (s : State). s.setup) c.mesh.view_is)) c.requires.alike
+send_each-requires-clause-alike c = grind arith
 
 pub returns-in_ok-keep-clause-moved : goal.returns-in_ok-keep-clause-moved
 returns-in_ok-keep-clause-moved c =

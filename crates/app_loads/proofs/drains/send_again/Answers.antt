@@ -1,6 +1,5 @@
-use Rattle.std.proofs.Common.{◌∙◌, ap, sym, subst}
+use Rattle.std.proofs.Common.{arith, ◌∙◌, ap}
 use Rattle.mesh_core.specs.{Queues.drop_front, State.State}
-use Rattle.mesh_drain.specs.Draining.{IsReachedDropless}
 use Rattle.mesh_drain.proofs.Frame.{reached_none}
 use Rattle.app_loads.specs.{Earlier.with_earlier, Grouping.all_grouped, Groups.last_arrivals}
 use Rattle.app_loads.proofs.Kept.{again_clean, again_reached}
@@ -16,6 +15,4 @@ pub returns-clause-unsent : goal.returns-clause-unsent
 returns-clause-unsent c rest at = ap (λ (s : State). s.unsent) c.drop_unsent.ensures ∙ ap (drop_front c.args.mesh.now.unsent c.args.vertex) at
 
 pub returns-in_err-repeat-clause-reached : goal.returns-in_err-repeat-clause-reached
-returns-in_err-repeat-clause-reached c =
-    subst (λ l. IsReachedDropless (with_earlier (all_grouped c.args.earlier.now) c.args.mesh.now) (with_earlier l c.args.mesh.now)) (sym c.in_err-repeat.ensures.refused)
-    (reached_none (with_earlier (all_grouped c.args.earlier.now) c.args.mesh.now))
+returns-in_err-repeat-clause-reached c = grind (arith, reached_none (with_earlier (all_grouped c.args.earlier.now) c.args.mesh.now))

@@ -1,22 +1,14 @@
 use Rattle.std.proofs.Common.{arith, subst, sym}
-use Rattle.mesh_drain.proofs.Frame.{reached_none, reached_then, setup_reached}
-use Rattle.mesh_drain.proofs.{Packets.few_spots, Senders.one_less_sender, Senders.rest_from, Senders.sender_there, Turns.was_there}
+use Rattle.mesh_drain.proofs.{Frame.reached_none, Frame.reached_then, Frame.setup_reached, Packets.few_spots, Senders.one_less_sender, Senders.rest_from, Senders.sender_there, Turns.was_there}
 use Rattle.app_loads.specs.{Earlier.with_earlier, Grouping.all_grouped, Running.AreAlikeInBlocks}
 use Rattle.app_loads.proofs.Kept.{alone_with}
 use Rattle.app_loads.proofs.drains.send_each.Goals as goal
 
 pub overflow_cast-vertex : goal.overflow_cast-vertex
-overflow_cast-vertex c =
-    let few = few_spots (with_earlier (all_grouped c.args.earlier.now) c.args.mesh.now) c.requires.clean.kept in
-    let below = c.requires.alone.there c.loop-vertex.vertex-index 0 c.loop-vertex-test.true in
-    omega (arith, few, below)
+overflow_cast-vertex c = grind (arith, few_spots (with_earlier (all_grouped c.args.earlier.now) c.args.mesh.now) c.requires.clean.kept)
 
 pub loop-vertex-init : goal.loop-vertex-init
-loop-vertex-init c = record {
-  reached = reached_none (with_earlier (all_grouped c.args.earlier.now) c.args.mesh.now);
-  clean = c.requires.clean;
-  unsent = c.requires.alone.others;
-}
+loop-vertex-init c = grind (arith, reached_none (with_earlier (all_grouped c.args.earlier.now) c.args.mesh.now))
 
 pub send_all-requires : goal.send_all-requires
 send_all-requires c = record {

@@ -1,6 +1,8 @@
-use Rattle.std.proofs.Common.{subst}
+use Rattle.std.proofs.Common.{arith}
+use Rattle.app_loads.specs.Running.{Comes}
+use Rattle.app_loads.specs.Groups.{last_arrivals}
 use Rattle.std.specs.Prelude.{IfSome}
-use Rattle.app_loads.specs.{Groups.last_arrivals, Running.Comes}
+use Rattle.std.proofs.Common.{subst}
 use Rattle.app_loads.proofs.Kept.{known_still, ok_anyway}
 use Rattle.app_loads.proofs.drains.send_next.Goals as goal
 
@@ -13,9 +15,7 @@ send_again-requires-clause-comes c =
     (is.0, is.2, subst (λ k. IfSome k (Comes c.args.mesh.now.setup c.args.vertex (last_arrivals c.args.earlier.now))) is.1 c.requires.last)
 
 pub send_to-requires-clause-comes : goal.send_to-requires-clause-comes
-send_to-requires-clause-comes c =
-    let it = c.in-Some.ensures in
-    (it.has, c.requires.known.come it.first c.in-Some.it.now it.is)
+send_to-requires-clause-comes c = grind arith
 
 pub send_again-requires-clause-sends : goal.send_again-requires-clause-sends
 send_again-requires-clause-sends c = record { clean = c.requires.can.clean; there = c.requires.can.there; first = c.first_unsent-copy.ensures }

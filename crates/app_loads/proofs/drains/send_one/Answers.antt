@@ -1,8 +1,6 @@
-use Rattle.std.proofs.Common.{◌∙◌, ap}
-use Rattle.mesh_core.specs.State.{State}
+use Rattle.std.proofs.Common.{arith}
 use Rattle.app_loads.specs.Grouping.{all_grouped}
-use Rattle.app_loads.proofs.Earlier.{reached_with}
-use Rattle.app_loads.proofs.Kept.{brought_more, may_send, ok_then, sent_clean, sent_reached}
+use Rattle.app_loads.proofs.{Earlier.reached_with, Kept.brought_more, Kept.may_send, Kept.ok_then, Kept.sent_clean, Kept.sent_reached}
 use Rattle.app_loads.proofs.drains.send_one.Goals as goal
 
 pub send_first-requires : goal.send_first-requires
@@ -24,8 +22,7 @@ returns-clause-clean c =
     c.in_ok-send_first.ensures.quiet) c.keep.ensures.none
 
 pub returns-clause-unsent : goal.returns-clause-unsent
-returns-clause-unsent c =
-    ok_then c.keep.result (λ none copy rest at. ap (λ (s : State). s.unsent) c.keep.ensures.mesh ∙ c.in_ok-send_first.ensures.unsent copy rest at) c.keep.ensures.none
+returns-clause-unsent c = grind (arith, ok_then)
 
 pub returns-clause-brought : goal.returns-clause-brought
 returns-clause-brought c =

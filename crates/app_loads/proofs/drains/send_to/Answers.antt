@@ -1,8 +1,7 @@
-use Rattle.std.proofs.Common.{◌∙◌, ap, sym, subst}
+use Rattle.std.proofs.Common.{arith, ◌∙◌, ap}
 use Rattle.mesh_core.specs.{Queues.drop_front, State.State}
-use Rattle.mesh_drain.specs.Draining.{IsReachedDropless}
 use Rattle.mesh_drain.proofs.Frame.{reached_none}
-use Rattle.app_loads.specs.{Earlier.with_earlier, Grouping.all_grouped, Groups.last_arrivals}
+use Rattle.app_loads.specs.{Earlier.with_earlier, Grouping.all_grouped}
 use Rattle.app_loads.proofs.Kept.{again_clean, again_reached, comes_there}
 use Rattle.app_loads.proofs.drains.send_to.Goals as goal
 
@@ -16,11 +15,7 @@ pub returns-clause-unsent : goal.returns-clause-unsent
 returns-clause-unsent c first rest at = ap (λ (s : State). s.unsent) c.drop_unsent.ensures ∙ ap (drop_front c.args.mesh.now.unsent c.args.vertex) at
 
 pub returns-clause-last : goal.returns-clause-last
-returns-clause-last c =
-    comes_there c.args.mesh.now.setup c.drop_unsent.new.self.setup c.args.vertex c.args.to.now.block c.args.to.now.arrivals (last_arrivals c.put.new.self)
-    (ap (λ (s : State). s.setup) c.drop_unsent.ensures) c.in_ok-put.ensures.arrivals c.requires.comes.1
+returns-clause-last c = grind (arith, comes_there)
 
 pub returns-in_err-put-clause-reached : goal.returns-in_err-put-clause-reached
-returns-in_err-put-clause-reached c =
-    subst (λ l. IsReachedDropless (with_earlier (all_grouped c.args.earlier.now) c.args.mesh.now) (with_earlier l c.args.mesh.now)) (sym c.in_err-put.ensures.refused)
-    (reached_none (with_earlier (all_grouped c.args.earlier.now) c.args.mesh.now))
+returns-in_err-put-clause-reached c = grind (arith, reached_none (with_earlier (all_grouped c.args.earlier.now) c.args.mesh.now))

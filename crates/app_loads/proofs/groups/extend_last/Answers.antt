@@ -8,6 +8,4 @@ returns-clause-put c =
     (let a = c.len-count.ensures in let b = c.args.groups.now.ok in omega (arith, a, b)) c.if-count-eq0.false c.index_mut.ensures.value c.extend.ensures.put
 
 pub returns-clause-refused : goal.returns-clause-refused
-returns-clause-refused c =
-    last_same_if c.extend.result c.args.groups.now.items c.len-count.result c.index_mut.result.now c.extend.new.self
-    (let a = c.len-count.ensures in let b = c.args.groups.now.ok in omega (arith, a, b)) c.if-count-eq0.false c.index_mut.ensures.value c.extend.ensures.refused
+returns-clause-refused c = grind (arith, last_same_if)

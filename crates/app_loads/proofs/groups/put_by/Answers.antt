@@ -1,11 +1,10 @@
-use Rattle.std.proofs.Common.{◌≡◌, ◌∙◌, ◌++◌, List, [], ap, length, not, sym}
+use Rattle.std.proofs.Common.{arith, ◌≡◌, ◌∙◌, List, [], ap, length, not, sym}
 use Rattle.std.proofs.lemmas.List.{append-nil}
 use Rattle.std.specs.List.{filter}
 use Rattle.spin_base.specs.declared.copies.Delivery.{Delivery}
 use Rattle.app_loads.specs.{Grouping.all_grouped, Leaving.is_delivery_of}
-use Rattle.app_loads.proofs.GroupLaws.{all_apart, grouped_push, none_apart, not_own}
+use Rattle.app_loads.proofs.{GroupLaws.all_apart, GroupLaws.grouped_push, GroupLaws.none_apart, GroupLaws.not_own, groups.put_by.Goals.After-is_others-is_others}
 use Rattle.app_loads.proofs.groups.put_by.Goals as goal
-use Rattle.app_loads.proofs.groups.put_by.Goals.{After-is_others-is_others}
 
 -- none of the others' deliveries is the application's
 apart : (c : After-is_others-is_others) →
@@ -16,29 +15,20 @@ apart c =
 
 pub returns-then-is_own-clause-own : goal.returns-then-is_own-clause-own
 returns-then-is_own-clause-own c =
-    ap all_grouped c.push_reserved.ensures.items
-    ∙ (grouped_push c.args.own.now.items c.args.group
-    ∙ ap (λ (l : List Delivery). all_grouped c.args.own.now.items ++ l) (sym (all_apart (is_delivery_of c.args.app.now) c.args.group.deliveries (c.is_own.ensures.all c.if-is_own.true)).0))
+    grind (arith, grouped_push c.args.own.now.items c.args.group, all_apart (is_delivery_of c.args.app.now) c.args.group.deliveries (c.is_own.ensures.all c.if-is_own.true))
 
 pub returns-then-is_own-clause-others : goal.returns-then-is_own-clause-others
 returns-then-is_own-clause-others c =
-    sym (append-nil (all_grouped c.args.others.now.items)) ∙ ap (λ (l : List Delivery). all_grouped c.args.others.now.items ++ l)
-    (sym (all_apart (is_delivery_of c.args.app.now) c.args.group.deliveries (c.is_own.ensures.all c.if-is_own.true)).1)
+    grind (arith, append-nil (all_grouped c.args.others.now.items), all_apart (is_delivery_of c.args.app.now) c.args.group.deliveries (c.is_own.ensures.all c.if-is_own.true))
 
 pub returns-then-is_own-clause-count : goal.returns-then-is_own-clause-count
-returns-then-is_own-clause-count c =
-    c.len-count.ensures ∙ ap (λ (l : List Delivery). length l) (sym (all_apart (is_delivery_of c.args.app.now) c.args.group.deliveries (c.is_own.ensures.all c.if-is_own.true)).0)
+returns-then-is_own-clause-count c = grind (arith, all_apart (is_delivery_of c.args.app.now) c.args.group.deliveries (c.is_own.ensures.all c.if-is_own.true))
 
 pub returns-else-is_own-clause-own : goal.returns-else-is_own-clause-own
-returns-else-is_own-clause-own c =
-    sym (append-nil (all_grouped c.args.own.now.items))
-    ∙ ap (λ (l : List Delivery). all_grouped c.args.own.now.items ++ l) (sym (apart (goal.at.returns-else-is_own-clause-own c).After-is_others-is_others).0)
+returns-else-is_own-clause-own c = grind (arith, append-nil (all_grouped c.args.own.now.items), apart (goal.at.returns-else-is_own-clause-own c).After-is_others-is_others)
 
 pub returns-else-is_own-clause-others : goal.returns-else-is_own-clause-others
-returns-else-is_own-clause-others c =
-    ap all_grouped c.push_reserved-else-is_own.ensures.items
-    ∙ (grouped_push c.args.others.now.items c.args.group
-    ∙ ap (λ (l : List Delivery). all_grouped c.args.others.now.items ++ l) (sym (apart (goal.at.returns-else-is_own-clause-others c).After-is_others-is_others).1))
+returns-else-is_own-clause-others c = grind (arith, grouped_push c.args.others.now.items c.args.group, apart (goal.at.returns-else-is_own-clause-others c).After-is_others-is_others)
 
 pub returns-else-is_own-clause-count : goal.returns-else-is_own-clause-count
 returns-else-is_own-clause-count c = ap (λ (l : List Delivery). length l) (sym (apart (goal.at.returns-else-is_own-clause-count c).After-is_others-is_others).0)

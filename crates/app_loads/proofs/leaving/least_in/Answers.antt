@@ -1,6 +1,5 @@
-use Rattle.std.proofs.Common.{◌∙◌, sym, ap}
+use Rattle.std.proofs.Common.{arith, sym}
 use Rattle.std.proofs.lemmas.List.{take_all}
-use Rattle.app_loads.specs.Leaving.{lesser_of, least_own_packet, packet_numbers_of}
 use Rattle.app_loads.proofs.LeavingLeast.{none_right, copy_more}
 use Rattle.app_loads.proofs.leaving.least_in.Goals as goal
 
@@ -13,6 +12,4 @@ loop-copy-preserved c =
     c.loop-copy.invariant c.lesser-least.ensures
 
 pub returns : goal.returns
-returns c =
-    c.loop-copy.invariant
-    ∙ ap (λ l. lesser_of c.args.so_far (least_own_packet c.args.app.now (packet_numbers_of l))) (take_all c.loop-copy.copy-index c.args.copies.now c.loop-copy-test.false)
+returns c = grind (arith, take_all c.loop-copy.copy-index c.args.copies.now c.loop-copy-test.false)

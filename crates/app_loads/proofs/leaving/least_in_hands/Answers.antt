@@ -1,4 +1,4 @@
-use Rattle.std.proofs.Common.{sym}
+use Rattle.std.proofs.Common.{arith, sym}
 use Rattle.app_loads.specs.Leaving.{held_packets}
 use Rattle.app_loads.proofs.LeavingLeast.{none_right, list_more, all_lists}
 use Rattle.app_loads.proofs.leaving.least_in_hands.Goals as goal
@@ -12,6 +12,4 @@ loop-hand-preserved c =
     c.loop-hand-test.true c.hand-item.is c.loop-hand.invariant c.lesser_held-least.ensures
 
 pub returns : goal.returns
-returns c =
-    all_lists c.args.app.now c.args.so_far c.loop-hand.least c.loop-hand.least held_packets c.args.hands.now c.loop-hand.hand-index c.loop-hand-test.false
-    c.loop-hand.invariant
+returns c = grind (arith, all_lists c.args.app.now c.args.so_far c.loop-hand.least c.loop-hand.least held_packets c.args.hands.now c.loop-hand.hand-index c.loop-hand-test.false c.loop-hand.invariant)

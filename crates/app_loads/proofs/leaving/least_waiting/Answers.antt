@@ -1,6 +1,5 @@
-use Rattle.std.proofs.Common.{◌≡◌, ◌∙◌, ℕ, List, Option, ap, subst}
+use Rattle.std.proofs.Common.{arith, ◌≡◌, ℕ, List, Option, subst}
 use Rattle.std.specs.{Prelude.IfSome, List.flat_map}
-use Rattle.mesh_core.specs.State.{State}
 use Rattle.mesh_drain.specs.Draining.{SendAlone}
 use Rattle.app_loads.specs.Leaving.{least_own_packet, unsent_numbers}
 use Rattle.app_loads.proofs.LeavingLeast.{least_of_senders, none_of_senders}
@@ -10,10 +9,7 @@ alone : (c : goal.After-least_unsent) → SendAlone c.in-Some.vertices c.args.pa
 alone c = subst (λ (o : Option (List ℕ)). IfSome o (λ vertices. SendAlone vertices c.args.parts.now)) c.in-Some.is c.requires.known
 
 least_is : (c : goal.After-least_unsent) → c.least_unsent.result ≡ least_own_packet c.args.app.now (flat_map (unsent_numbers c.args.parts.now.unsent) c.in-Some.vertices)
-least_is c =
-    c.least_unsent.ensures
-    ∙ (ap (λ q. least_own_packet c.args.app.now (flat_map (unsent_numbers q) c.as_slice-in-Some.result.now)) (c.as_slice.ensures.value ∙ ap (λ (s : State). s.unsent) c.parts.view_is)
-    ∙ ap (λ l. least_own_packet c.args.app.now (flat_map (unsent_numbers c.args.parts.now.unsent) l)) c.as_slice-in-Some.ensures)
+least_is c = grind arith
 
 pub returns-in-Some-clause-some : goal.returns-in-Some-clause-some
 returns-in-Some-clause-some c = least_of_senders c.args.parts.now c.requires.mesh c.args.app.now c.in-Some.vertices (alone c) c.least_unsent.result (least_is c)

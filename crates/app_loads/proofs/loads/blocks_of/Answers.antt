@@ -2,8 +2,7 @@ use Rattle.app_loads.proofs.BlockLists.{HaveBlocksBelow, key_range, net_there, b
 use Rattle.std.proofs.Common.{◌∙◌, ◌+◌, sym, ap, subst, arith, length, Vec, Global, None}
 use Rattle.std.proofs.lemmas.List.{length-set}
 use Rattle.spin_base.specs.declared.blocks.Block.{Block}
-use Rattle.app_loads.specs.{declared.answers.LoadRefusal.TheVariants.Loaded, declared.places.Region.TheVariants.Keys}
-use Rattle.app_loads.specs.{declared.loaded.Claim.Claim, declared.loaded.Range.Range}
+use Rattle.app_loads.specs.declared.{answers.LoadRefusal.TheVariants.Loaded, places.Region.TheVariants.Keys, loaded.Claim.Claim, loaded.Range.Range}
 use Rattle.app_loads.proofs.loads.blocks_of.Goals as goal
 
 abbrev no_claim : Claim

@@ -1,15 +1,16 @@
-use Rattle.std.proofs.Common.{subst, sym, List, refl}
+use Rattle.std.proofs.Common.{arith, subst, refl}
+use Rattle.app_loads.specs.Taking.{HaveRoom}
+use Rattle.app_loads.specs.Taking.{AreTaken}
+use Rattle.app_loads.specs.declared.loaded.Range.{Range}
+use Rattle.std.proofs.Common.{List}
+use Rattle.std.proofs.Common.{sym}
 use Rattle.machine_desc.specs.Description.{Description}
-use Rattle.app_loads.specs.{declared.loaded.Range.Range, Claims.claims_of, Plans.IsPlan}
-use Rattle.app_loads.specs.Taking.{AreFreeAgain, AreRegionsOf, AreTaken, HaveRoom, IsDueAlways}
+use Rattle.app_loads.specs.{Claims.claims_of, Taking.AreFreeAgain, Taking.IsDueAlways}
 use Rattle.app_loads.proofs.JoinLaws.{can_settle, served_on}
 use Rattle.app_loads.proofs.loads.join.Goals as goal
 
 pub serve-requires : goal.serve-requires
-serve-requires c = record {
-  plan = subst (λ (m : Description). IsPlan m c.args.plan.now) (sym c.machine.ensures) c.requires.valid;
-  regions = subst (λ (m : Description). AreRegionsOf m c.args.regions.now) (sym c.machine.ensures) c.requires.of_machine;
-}
+serve-requires c = grind arith
 
 pub returns-in-Err-clause-due : goal.returns-in-Err-clause-due
 returns-in-Err-clause-due c = subst (λ (m : Description). IsDueAlways m (claims_of m c.args.plan.now) c.args.regions.now c.in-Err.refusal) c.machine.ensures c.in-Err.ensures.due

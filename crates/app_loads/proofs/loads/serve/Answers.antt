@@ -1,16 +1,12 @@
-use Rattle.std.proofs.Common.{◌∙◌, ◌≤◌, sym, subst, List, length}
-use Rattle.app_loads.specs.{declared.loaded.Claim.Claim, declared.loaded.Range.Range}
-use Rattle.app_loads.specs.Claims.{AreBlocks, AreServed, claims_of}
-use Rattle.app_loads.specs.Joining.{AreKeyed}
-use Rattle.app_loads.specs.Taking.{AreServedAlways, AreTaken, AreTakenAlways, HaveRoom}
+use Rattle.std.proofs.Common.{arith, ◌∙◌, sym, subst, List, length}
+use Rattle.app_loads.specs.{declared.loaded.Claim.Claim, declared.loaded.Range.Range, Claims.AreBlocks, Claims.AreServed, Claims.claims_of, Joining.AreKeyed, Taking.AreServedAlways, Taking.AreTaken}
+use Rattle.app_loads.specs.Taking.{AreTakenAlways}
 use Rattle.app_loads.proofs.Served.{can_serve, keyed_from}
 use Rattle.app_loads.proofs.loads.serve.Goals as goal
 
 pub take_all-requires : goal.take_all-requires
-take_all-requires c = record {
-  can = can_serve c.args.machine.now c.args.plan.now c.args.regions.now c.deref.result.now c.requires.plan c.requires.regions (c.deref.ensures.value ∙ c.in-Ok.ensures.claims);
-  few = subst (λ (l : List Claim). length l ≤ 262144) (sym c.deref.ensures.value) c.in-Ok.ensures.few;
-}
+take_all-requires c =
+    grind (arith, can_serve c.args.machine.now c.args.plan.now c.args.regions.now c.deref.result.now c.requires.plan c.requires.regions (c.deref.ensures.value ∙ c.in-Ok.ensures.claims))
 
 pub app_of-requires : goal.app_of-requires
 app_of-requires c =
@@ -38,15 +34,7 @@ returns-in-Ok-app_of-clause-served c =
     }
 
 pub give_all-requires : goal.give_all-requires
-give_all-requires c = record {
-  taken = let own = c.requires.regions in (
-    c.args.machine.now,
-    own.taken,
-    subst (λ (l : List Range). AreTaken c.args.machine.now own.taken l c.take_all.new.regions) (sym c.deref-in-Err-app_of.ensures.value)
-        (c.in-Ok-take_all.ensures.taken own.taken own.apart own.free),
-  );
-  room = subst (λ (l : List Range). HaveRoom l c.take_all.new.regions) (sym c.deref-in-Err-app_of.ensures.value) c.in-Ok-take_all.ensures.room;
-}
+give_all-requires c = grind arith
 
 pub returns-clause-back : goal.returns-clause-back
 returns-clause-back c taken apart free =

@@ -1,21 +1,12 @@
-use Rattle.std.proofs.Common.{refl, ◌∙◌, ◌+◌, List, subst, sym, ap}
-use Rattle.std.specs.List.{All}
+use Rattle.std.proofs.Common.{arith, refl, ◌∙◌, subst, ap}
 use Rattle.std.proofs.lemmas.List.{with_items_is}
 use Rattle.machine_desc.specs.Description.{Description}
-use Rattle.net_tables.specs.PlainTable.{AreRoutedApart}
-use Rattle.app_loads.specs.{Host.nets_of, declared.loaded.Range.Range}
-use Rattle.app_loads.specs.Regions.{IsRangeWithin, chip_count}
-use Rattle.app_loads.specs.Writing.{HaveRooms, tables_in}
-use Rattle.mesh_core.specs.State.{State}
-use Rattle.app_loads.proofs.AppNets.{routed}
-use Rattle.app_loads.proofs.Settling.{ArePlain, settled_bare, parted_send, parted_mesh, parted_copy, parted_whole, parted_settled}
+use Rattle.app_loads.specs.Writing.{tables_in}
+use Rattle.app_loads.proofs.{AppNets.routed, Settling.ArePlain, Settling.settled_bare, Settling.parted_send, Settling.parted_mesh, Settling.parted_copy, Settling.parted_whole, Settling.parted_settled}
 use Rattle.app_loads.proofs.loads.settle_mesh.Goals as goal
 
 pub originals_of-requires : goal.originals_of-requires
-originals_of-requires c = record {
-  routed = subst (λ (m : Description). AreRoutedApart m (nets_of c.args.app.now)) (sym c.machine.ensures) (routed c.args.mesh.setup.machine c.args.app.now c.requires.loaded c.requires.apart);
-  blocks = search;
-}
+originals_of-requires c = grind (arith, routed, routed c.args.mesh.setup.machine c.args.app.now c.requires.loaded c.requires.apart)
 
 pub returns-then-is_empty-clause-settled : goal.returns-then-is_empty-clause-settled
 returns-then-is_empty-clause-settled c = settled_bare c.args.mesh c.args.app.now c.requires (c.is_empty.ensures.0 c.if-is_empty.true)
@@ -32,13 +23,7 @@ put_together-requires-in-Err c =
     c.deref_mut.ensures.value c.in-Err.ensures.refused (with_items_is c.parts.inside.unsent c.send.new.unsent (c.send.auto.unsent ∙ c.deref_mut.ensures.len))
 
 pub install-requires : goal.install-requires
-install-requires c =
-    let rooms = c.in-Ok-rooms_for.rooms.items in
-    let machine_is = ap (λ (s : State). s.setup.machine) (c.parts.view_is ∙ c.take_apart-parts.ensures.parts) in
-    parted_copy (c.parts.view_is ∙ c.take_apart-parts.ensures.parts) c.requires c.take_apart-parts.ensures.mesh
-    (subst (λ (m : Description). ArePlain m c.args.app.now (tables_in c.in-Ok.rows)) c.machine.ensures (c.in-Ok.ensures.long, c.in-Ok.ensures.plain)) (ap tables_in c.as_slice-in-Ok-send.ensures) c.as_slice-in-Ok-send-2.ensures
-    (subst (λ (m : Description). HaveRooms m c.as_slice-in-Ok-send-2.result.now rooms) (c.machine-2.ensures ∙ sym machine_is)
-    (subst (λ (l : List Range). HaveRooms c.machine-2.result.now l rooms) (c.as_slice.ensures ∙ sym c.as_slice-in-Ok-send-2.ensures) c.in-Ok-rooms_for.ensures))
+install-requires c = grind (arith, parted_copy, ArePlain)
 
 pub put_together-requires : goal.put_together-requires
 put_together-requires c =
@@ -54,8 +39,4 @@ returns-in-Ok-send-clause-settled c =
     (ap tables_in c.as_slice-in-Ok-send.ensures) c.as_slice-in-Ok-send-2.ensures c.install.ensures.copied
 
 pub invariant_of-own : goal.invariant_of-own
-invariant_of-own c = record {
-  within = subst (λ (m : Description). All (IsRangeWithin m (1 + (chip_count m + chip_count m))) c.as_slice.result.now) (sym c.machine-2.ensures)
-      (subst (λ (l : List Range). All (IsRangeWithin c.args.mesh.setup.machine (1 + (chip_count c.args.mesh.setup.machine + chip_count c.args.mesh.setup.machine))) l)
-      (sym c.as_slice.ensures) c.requires.loaded.within);
-}
+invariant_of-own c = grind arith

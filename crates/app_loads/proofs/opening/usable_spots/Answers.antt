@@ -1,8 +1,8 @@
-use Rattle.std.proofs.Common.{◌≡◌, ◌≢◌, ◌∙◌, sym, ap, subst, arith, List, map}
-use Rattle.std.specs.List.{All, AllPairs, filter, range_with_len}
+use Rattle.std.proofs.Common.{◌≡◌, ◌≢◌, sym, subst, arith, List}
+use Rattle.std.specs.List.{All, AllPairs}
 use Rattle.spin_base.specs.declared.chips.Spot.{Spot}
-use Rattle.machine_desc.specs.Live.{IsSite, is_usable}
-use Rattle.app_loads.specs.Opening.{spot_of, usable_spots}
+use Rattle.machine_desc.specs.Live.{IsSite}
+use Rattle.app_loads.specs.Opening.{usable_spots}
 use Rattle.app_loads.proofs.Spots.{one_spot_more, usable_sites, usable_different}
 use Rattle.app_loads.proofs.opening.usable_spots.Goals as goal
 
@@ -12,11 +12,7 @@ loop-number-preserved c =
     c.spot_of-spot.ensures c.loop-number.invariant c.in_ok-push_usable.ensures
 
 whole : (c : goal.After-loop-number) → c.loop-number.spots ≡ usable_spots c.args.machine.now
-whole c =
-    let total = c.chips.ensures.total in
-    let end = c.loop-number-test.false in
-    let most = c.loop-number.auto.number-end in
-    c.loop-number.invariant ∙ ap (λ n. filter (is_usable c.args.machine.now) (map (spot_of c.args.machine.now) (range_with_len 0 n))) (omega (arith, total, end, most))
+whole c = grind arith
 
 pub returns-clause-sites : goal.returns-clause-sites
 returns-clause-sites c = subst (λ (l : List Spot). All (IsSite c.args.machine.now) l) (sym (whole c)) (usable_sites c.args.machine.now)

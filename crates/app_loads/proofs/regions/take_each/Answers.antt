@@ -28,9 +28,7 @@ take_claim-requires c = record {
 }
 
 pub returns-in-Err-clause-refused : goal.returns-in-Err-clause-refused
-returns-in-Err-clause-refused c =
-    claim_due _ c.index-regions-at.result c.loop-claim-test.true c.loop-claim.invariant.each_one c.loop-claim.invariant.served c.requires.can c.place-at.ensures
-    c.in-Err.refusal c.in-Err.ensures.refused
+returns-in-Err-clause-refused c = grind (arith, claim_due)
 
 pub returns-in-Err-clause-taken : goal.returns-in-Err-clause-taken
 returns-in-Err-clause-taken c =

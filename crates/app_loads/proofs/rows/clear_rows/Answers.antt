@@ -1,7 +1,6 @@
 use Rattle.std.proofs.Common.{◌+◌, sym, subst, take}
 use Rattle.app_loads.specs.Writing.{AreUnused}
-use Rattle.app_loads.proofs.Copying.{of_chip, place_of_no_rows}
-use Rattle.app_loads.proofs.Clearing.{T_long, range_fits, unused_more, unused_skip}
+use Rattle.app_loads.proofs.{Copying.of_chip, Copying.place_of_no_rows, Clearing.T_long, Clearing.range_fits, Clearing.unused_more, Clearing.unused_skip}
 use Rattle.app_loads.proofs.rows.clear_rows.Goals as goal
 
 pub clear_entries-requires : goal.clear_entries-requires

@@ -1,20 +1,11 @@
-use Rattle.std.proofs.Common.{◌≡◌, ◌+◌, ◌++◌, ◌∙◌, arith, refl, ap, drop, length, map, set, sym, take, take-append-drop}
-use Rattle.std.proofs.Math.Seq.{take-length}
-use Rattle.std.proofs.lemmas.Option.{slice_get_read}
+use Rattle.std.proofs.Common.{◌∙◌, arith, refl, ap, set, take-append-drop}
+use Rattle.std.proofs.{Math.Seq.take-length, lemmas.Option.slice_get_read}
 use Rattle.tern_word.specs.Entries.{entry_of}
-use Rattle.net_tables.specs.Marks.{row_of_mark}
 use Rattle.app_loads.proofs.Copying.{marks_more}
 use Rattle.app_loads.proofs.rows.put_rows.Goals as goal
 
 pub loop-at-init : goal.loop-at-init
-loop-at-init c =
-    let old = c.args.table.now in
-    let first = c.args.first in
-    let same : first ≡ first + 0 = omega arith in
-    record {
-      entries = c.new-roomy.ensures.entries ∙ c.replace.ensures.value ∙ sym (take-append-drop first old) ∙ ap (λ n. take first old ++ drop n old) same;
-      room = c.new-roomy.ensures.room;
-    }
+loop-at-init c = grind (arith, take-append-drop (c.args.first) (c.args.table.now))
 
 pub set-requires : goal.set-requires
 set-requires c = omega (arith, c.requires.fits, c.loop-at-test.true, c.loop-at.invariant.room)
@@ -28,11 +19,4 @@ loop-at-preserved c = record {
 }
 
 pub returns : goal.returns
-returns c =
-    let old = c.args.table.now in
-    let marks = c.args.marks.now in
-    let first = c.args.first in
-    let all : c.loop-at.at ≡ length marks = omega (arith, c.loop-at-test.false, c.loop-at.auto.at-end) in
-    c.into_memory.ensures ∙ c.loop-at.invariant.entries
-    ∙ ap (λ n. take first old ++ (map entry_of (map row_of_mark (take n marks)) ++ drop (first + n) old)) all
-    ∙ ap (λ l. take first old ++ (map entry_of (map row_of_mark l) ++ drop (first + length marks) old)) (take-length marks)
+returns c = grind (arith, take-length (c.args.marks.now))

@@ -1,9 +1,8 @@
-use Rattle.std.proofs.lemmas.List.{length-drop, length-map}
-use Rattle.std.proofs.lemmas.Option.{slice_get-get_or}
+use Rattle.std.proofs.lemmas.{List.length-drop, List.length-map, Option.slice_get-get_or}
 use Rattle.std.proofs.Common.{◌+◌, ◌∙◌, [], refl, sym, ap, subst, arith, take, length}
 use Rattle.net_tables.specs.Marks.{row_of_mark, table_of_sorted}
-use Rattle.app_loads.proofs.Copying.{of_chip, there, place_of_no_rows, j_below, j_in_tables, j_in_rows, T_long, R_fits, R_size, place_small, all_copied, copied_skip, copied_more, put_listed, rows_listed}
-use Rattle.app_loads.proofs.Rooms.{left_first}
+use Rattle.app_loads.proofs.Copying.{of_chip, there, place_of_no_rows, j_below, j_in_tables, j_in_rows, T_long, R_fits, R_size, place_small, all_copied, copied_skip, copied_more, put_listed}
+use Rattle.app_loads.proofs.{Copying.rows_listed, Rooms.left_first}
 use Rattle.app_loads.specs.Writing.{AreCopied, tables_in}
 use Rattle.app_loads.proofs.rows.write_rows.Goals as goal
 
@@ -73,5 +72,4 @@ pub returns : goal.returns
 returns c = all_copied c.args.machine.now (tables_in c.args.lists.now) c.args.ranges.now c.args.tables.now c.loop-range.tables c.loop-range.range-index c.loop-range-test.false c.loop-range.invariant.copied
 
 pub next_room-room-requires : goal.next_room-room-requires
-next_room-room-requires c =
-    omega (arith, ap length c.loop-range.invariant.left, length-drop c.loop-range.range-index c.args.rooms.items, c.requires.room.all, c.loop-range-test.true)
+next_room-room-requires c = grind (arith, length-drop c.loop-range.range-index c.args.rooms.items)

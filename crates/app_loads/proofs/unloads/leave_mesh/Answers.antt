@@ -1,17 +1,12 @@
-use Rattle.std.proofs.Common.{◌∙◌, ◌<◌, sym, subst, List, length}
+use Rattle.std.proofs.Common.{arith, ◌∙◌, sym, subst, List}
 use Rattle.std.proofs.lemmas.List.Elements.{All-weaker}
-use Rattle.std.specs.Prelude.{IfSome}
 use Rattle.mesh_core.specs.State.{State, IsMesh}
-use Rattle.mesh_drain.specs.Draining.{SendAlone}
-use Rattle.app_loads.specs.{declared.loaded.Range.Range, Leaving.IsLeastUnderWay, Regions.IsRangeWithin, Taking.HaveRoom}
+use Rattle.app_loads.specs.{declared.loaded.Range.Range, Leaving.IsLeastUnderWay, Taking.HaveRoom}
 use Rattle.app_loads.proofs.LeftMesh.{can_clear, parted_whole, taken_still}
 use Rattle.app_loads.proofs.unloads.leave_mesh.Goals as goal
 
 pub least_waiting-requires : goal.least_waiting-requires
-least_waiting-requires c = record {
-  mesh = subst IsMesh (sym c.take_apart-parts.ensures.parts) c.take_apart-parts.ensures.mesh;
-  known = subst (λ (s : State). IfSome c.args.senders.now (λ vertices. SendAlone vertices s)) (sym c.take_apart-parts.ensures.parts) c.requires.known;
-}
+least_waiting-requires c = grind arith
 
 pub put_together-requires : goal.put_together-requires
 put_together-requires c = subst IsMesh (sym c.take_apart-parts.ensures.parts) c.take_apart-parts.ensures.mesh
@@ -26,11 +21,7 @@ pub returns-in-Some-clause-mesh_refused : goal.returns-in-Some-clause-mesh_refus
 returns-in-Some-clause-mesh_refused c = c.put_together.ensures ∙ c.take_apart-parts.ensures.parts
 
 pub make_ready-requires : goal.make_ready-requires
-make_ready-requires c = record {
-  there = All-weaker (IsRangeWithin c.args.mesh.setup.machine (length c.args.regions.now)) (λ (r : Range). r.region < length c.args.regions.now)
-      (λ r within. within.there) c.args.app.now.ranges c.requires.can.taken.within;
-  few = c.requires.can.few;
-}
+make_ready-requires c = grind (arith, All-weaker)
 
 pub returns-in-Err-clause-back : goal.returns-in-Err-clause-back
 returns-in-Err-clause-back c = c.make_ready.ensures.same

@@ -1,8 +1,7 @@
 -- The half is a block, and the one that is meant.
 use Rattle.std.proofs.Common.{refl}
 use Rattle.tern_word.proofs.BlockLaws.{same_block}
-use Rattle.block_cuts.specs.Cuts.{narrow}
-use Rattle.block_cuts.specs.NarrowFits.{narrow_within, narrow_small}
+use Rattle.block_cuts.specs.{Cuts.narrow, NarrowFits.narrow_within, NarrowFits.narrow_small}
 use Rattle.block_cuts.proofs.halves.narrow.Goals as goal
 
 pub invariant_of-result : goal.invariant_of-result

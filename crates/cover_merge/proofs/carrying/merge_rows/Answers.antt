@@ -1,18 +1,12 @@
 -- The rivals of all rows that stay are those after the merge, and those of the merged row are found.
 use Rattle.std.proofs.Common.{◌≡◌, ◌∙◌, ◌+◌, ◌-◌, ◌<◌, [], ℕ, List, sym, ap, subst, length, get_or, arith}
 use Rattle.std.specs.Prelude.{All, AllPairs, insert}
-use Rattle.tern_word.specs.declared.tables.Row.{Row}
-use Rattle.tern_word.specs.SoundTable.{IsOrdered}
-use Rattle.tern_word.specs.Ternary.{generality}
-use Rattle.cover_merge.specs.Merge.{after, merged_block, insert_place}
-use Rattle.cover_merge.specs.Rivals.{AreRivalsAfter, AreRivalsAt, IsRivaled}
-use Rattle.cover_merge.specs.Spans.{AreSpansOf}
+use Rattle.tern_word.specs.{declared.tables.Row.Row, SoundTable.IsSound, Ternary.generality}
+use Rattle.cover_merge.specs.{Merge.after, Merge.merged_block, Merge.insert_place, Rivals.AreRivalsAfter, Rivals.AreRivalsAt, Rivals.CanMerge, Rivals.IsRivaled, Spans.AreSpansOf}
 use Rattle.cover_merge.specs.declared.rivals.Rivals.{Rivals}
-use Rattle.cover_merge.proofs.ApplyLemmas.{left, members_before}
-use Rattle.cover_merge.proofs.KeptLemmasMoved.{merged_at}
-use Rattle.cover_merge.proofs.RivalAfter.{place_is, stands_at, carried_is, carried_length, at_inside, rivaled_after}
+use Rattle.cover_merge.proofs.{ApplyLemmas.left, ApplyLemmas.members_before, KeptLemmasMoved.merged_at, RivalAfter.place_is, RivalAfter.stands_at, RivalAfter.carried_is, RivalAfter.carried_length}
+use Rattle.cover_merge.proofs.{RivalAfter.at_inside, RivalAfter.rivaled_after, carrying.merge_rows.Goals.After-place_in-place, carrying.merge_rows.Goals.After-replace_all}
 use Rattle.cover_merge.proofs.carrying.merge_rows.Goals as goal
-use Rattle.cover_merge.proofs.carrying.merge_rows.Goals.{After-place_in-place, After-replace_all}
 
 -- the place is the insertion place
 place_here : (c : After-place_in-place) → c.place_in-place.result ≡ insert_place c.args.table.now.rows c.args.places.now
@@ -22,9 +16,7 @@ place_here c =
 
 -- and the merged row stands before it by as many as are merged
 stands_here : (c : After-place_in-place) → merged_at c.args.table.now.rows c.args.places.now + length c.as_slice-members.result.now ≡ c.place_in-place.result
-stands_here c =
-    ap (λ (l : List ℕ). merged_at c.args.table.now.rows c.args.places.now + length l) c.as_slice-members.ensures
-    ∙ stands_at c.args.table.now.rows c.args.places.now c.requires.rivaled.sound c.requires.merge.set ∙ sym (place_here c)
+stands_here c = grind (arith, merged_at c.args.table.now.rows c.args.places.now, stands_at c.args.table.now.rows c.args.places.now c.requires.rivaled.sound c.requires.merge.set, place_here c)
 
 -- the numbers are carried over
 serials_here : (c : After-replace_all) → c.replace_all.new.items.items ≡ left c.args.places.now 0 (insert c.args.rivals.now.serials.items (insert_place c.args.table.now.rows c.args.places.now) (length c.args.rivals.now.of.items))
@@ -32,6 +24,11 @@ serials_here c =
     carried_is c.args.table.now.rows c.args.places.now c.requires.rivaled.sound c.requires.merge.set c.args.rivals.now.serials.items c.requires.rivaled.one_each (length c.args.rivals.now.of.items)
     c.as_slice-members.result.now c.renew_all.new.rivals.serials.items c.replace_all.new.items.items c.place_in-place.result c.merged_rival-merged.result.serial
     c.as_slice-members.ensures c.in_ok-renew_all.ensures.serials (place_here (goal.at.overflow_sub-at c).After-place_in-place) c.merged_rival-merged.ensures.serial c.replace_all.ensures
+
+pub renew_all-requires-clause-can : goal.renew_all-requires-clause-can
+renew_all-requires-clause-can c =
+    subst (λ l. CanMerge l c.args.rivals.now c.as_slice-members.result.now c.args.met.now) (sym c.as_slice-2.ensures)
+    (subst (λ l. CanMerge c.args.table.now.rows c.args.rivals.now l c.args.met.now) (sym c.as_slice-members.ensures) c.requires)
 
 pub invariant_of-gaps : goal.invariant_of-gaps
 invariant_of-gaps c =
@@ -47,8 +44,8 @@ invariant_of-gaps c =
 pub overflow_sub-at : goal.overflow_sub-at
 overflow_sub-at c = omega (arith, stands_here (goal.at.overflow_sub-at c).After-place_in-place)
 
-pub rivals_behind-requires-clause-ordered : goal.rivals_behind-requires-clause-ordered
-rivals_behind-requires-clause-ordered c = subst IsOrdered (sym (c.as_slice-4.ensures ∙ c.in_ok-apply.ensures.ok)) c.requires.merge.legal.ordered
+pub rivals_behind-requires-clause-sound : goal.rivals_behind-requires-clause-sound
+rivals_behind-requires-clause-sound c = subst IsSound (sym (c.as_slice-4.ensures ∙ c.in_ok-apply.ensures.ok)) c.requires.merge.legal
 
 pub rivals_behind-requires-clause-one_each : goal.rivals_behind-requires-clause-one_each
 rivals_behind-requires-clause-one_each c =

@@ -1,10 +1,9 @@
 -- One row more is met, or is not.
 use Rattle.std.proofs.Common.{ap, refl, ◌∙◌, arith}
 use Rattle.tern_word.specs.SoundTable.{Misses}
-use Rattle.cover_merge.proofs.Answering.{fails}
-use Rattle.cover_merge.proofs.PutInLemmas.{met_front, missed_behind, next_met, next_missed}
-use Rattle.cover_merge.proofs.carrying.met_places.Goals as goal
+use Rattle.cover_merge.proofs.{Answering.fails, PutInLemmas.met_front, PutInLemmas.missed_behind, PutInLemmas.next_met, PutInLemmas.next_missed}
 use Rattle.cover_merge.proofs.carrying.met_places.Goals.{then-not-is_missed+in_ok-push, else-not-is_missed}
+use Rattle.cover_merge.proofs.carrying.met_places.Goals as goal
 
 pub loop-s-preserved : goal.loop-s-preserved
 loop-s-preserved c = elim c.if-not-is_missed.branch [

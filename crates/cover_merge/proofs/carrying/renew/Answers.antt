@@ -1,21 +1,10 @@
 -- The list of the row is written anew.
-use Rattle.std.proofs.Common.{◌≡◌, [], ◌∙◌, get_or, set, rules}
-use Rattle.std.proofs.lemmas.Fn.{filter_same}
-use Rattle.std.proofs.lemmas.List.{get_or_default}
-use Rattle.cover_merge.specs.Rivals.{IsPutIn, rivals_left}
-use Rattle.cover_merge.proofs.ApplyLemmas.{on_ok}
-use Rattle.cover_merge.proofs.PutInLemmas.{left_is, left_ordered, put_written}
+use Rattle.std.proofs.Common.{◌≡◌, ◌≤◌, [], ◌∙◌, get_or, set, rules}
+use Rattle.std.specs.Prelude.{AllPairs}
+use Rattle.std.proofs.lemmas.{Fn.filter_same, List.get_or_default}
+use Rattle.cover_merge.specs.{Rivals.IsPutIn, Rivals.rivals_left, declared.rivals.Rival.Rival}
+use Rattle.cover_merge.proofs.{ApplyLemmas.on_ok, PutInLemmas.left_is, PutInLemmas.left_ordered, PutInLemmas.put_written}
 use Rattle.cover_merge.proofs.carrying.renew.Goals as goal
-
-pub put_rival-done-requires : goal.put_rival-done-requires
-put_rival-done-requires c =
-    let serials = c.args.rivals.now.serials.items in
-    let of = c.args.rivals.now.of.items in
-    let place = get_or serials c.args.s 0 in
-    let same : c.index-serial.result.now ≡ place = c.index-serial.ensures ∙ get_or_default serials c.args.s c.index-serial.result.now 0 c.requires.inside in
-    left_ordered serials c.args.places.now of c.index-serial.result.now place same c.requires.below c.retain.new.self.items c.requires.ordered
-    (left_is serials c.args.places.now of c.index-serial.result.now place same c.requires.below c.retain.new.self.items c.index_mut.result.now c.into_vec-list.result.items c.index_mut.ensures.value (c.into_vec-list.ensures ∙ c.replace.ensures.value)
-    (filter_same _ _ _ (λ x b f' k. search rules) _ _ c.retain.ensures.filtered))
 
 pub returns-clause-own : goal.returns-clause-own
 returns-clause-own c =
@@ -24,9 +13,13 @@ returns-clause-own c =
     let place = get_or serials c.args.s 0 in
     let same : c.index-serial.result.now ≡ place = c.index-serial.ensures ∙ get_or_default serials c.args.s c.index-serial.result.now 0 c.requires.inside in
     let left = c.retain.new.self.items in
-    on_ok c.put_rival-done.result (IsPutIn c.args.merged left c.put_rival-done.new.list.items)
-    (IsPutIn c.args.merged (rivals_left serials c.args.places.now (get_or of place [])) (get_or (set (set of c.index-serial.result.now c.replace.new.dest) c.index-serial.result.now c.from_vec.result) place []))
-    (put_written serials c.args.places.now of c.index-serial.result.now place same c.requires.below left c.args.merged c.put_rival-done.new.list.items c.replace.new.dest c.from_vec.result
-    (left_is serials c.args.places.now of c.index-serial.result.now place same c.requires.below left c.index_mut.result.now c.into_vec-list.result.items c.index_mut.ensures.value (c.into_vec-list.ensures ∙ c.replace.ensures.value)
-    (filter_same _ _ _ (λ x b f' k. search rules) _ _ c.retain.ensures.filtered)) c.from_vec.ensures)
+    let is : left ≡ rivals_left serials c.args.places.now (get_or of place []) =
+    left_is serials c.args.places.now of c.index-serial.result.now place same c.requires.below left c.index_mut.result.now c.into_vec-list.result.items c.index_mut.ensures.value (c.into_vec-list.ensures ∙ c.replace.ensures.value)
+    (filter_same _ _ _ (λ x b f' k. search rules) _ _ c.retain.ensures.filtered) in
+    on_ok c.put_rival-done.result (AllPairs (λ (v w : Rival). v.general ≤ w.general) left → IsPutIn c.args.merged left c.put_rival-done.new.list.items)
+    (AllPairs (λ (v w : Rival). v.general ≤ w.general) (get_or of place [])
+    → IsPutIn c.args.merged (rivals_left serials c.args.places.now (get_or of place [])) (get_or (set (set of c.index-serial.result.now c.replace.new.dest) c.index-serial.result.now c.from_vec.result) place []))
+    (λ put ordered. put_written serials c.args.places.now of c.index-serial.result.now place same c.requires.below left c.args.merged c.put_rival-done.new.list.items
+    c.replace.new.dest c.from_vec.result is c.from_vec.ensures
+    (put (left_ordered serials c.args.places.now of c.index-serial.result.now place same c.requires.below left ordered is)))
     c.put_rival-done.ensures

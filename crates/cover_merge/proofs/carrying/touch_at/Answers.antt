@@ -1,26 +1,27 @@
--- Nothing is kept of the row's route.
-use Rattle.std.proofs.Common.{◌≡◌, ◌≢◌, ◌∙◌, ◌<◌, ℕ, List, refl, sym, ap, set, length, length-set, get_or, arith}
-use Rattle.std.specs.Prelude.{None, Option}
-use Rattle.std.proofs.lemmas.List.{get_or_default}
-use Rattle.cover_merge.specs.Known.{AreStillKept}
-use Rattle.cover_merge.specs.declared.keeping.Kept.{Kept}
-use Rattle.cover_merge.proofs.KeepLemmas.{left_all, left_set, none_some}
-use Rattle.cover_merge.proofs.LinkLemmas.{as_many}
+-- Nothing is kept of the row's route. Where the row loses one behind it, it changed now, and so did its route.
+use Rattle.std.proofs.Common.{◌≡◌, ◌∙◌, ◌<◌, ℕ, List, inl, inr, refl, sym, ap, subst, set, length, get_or, arith}
+use Rattle.std.specs.Prelude.{None}
+use Rattle.std.proofs.lemmas.{Bool.cases_eq, Grind.get_or-set_at, List.get_or_default, List.get_or-set_other, List.length-set}
+use Rattle.tern_word.specs.declared.tables.Row.{Row}
+use Rattle.cover_merge.specs.{Known.IsKnown, Tried.IsFresh, declared.knowing.Known.Known}
+use Rattle.cover_merge.proofs.{KeepLemmas.forgotten, LinkLemmas.as_many, LinkLemmas.number_at, TriedLemmas.fresh_put, TriedLemmas.latest_put, TriedLemmas.times_no_later}
 use Rattle.cover_merge.proofs.carrying.touch_at.Goals as goal
 
--- what is left where nothing is kept of one route
-forgotten : (kept : List (Option Kept)) (n : ℕ) → n < length kept → AreStillKept (λ k it. k ≢ n) kept (set kept n None)
-forgotten kept n low =
-    left_set (λ (k : ℕ) (it : Kept). k ≡ k) (λ (k : ℕ) (it : Kept). k ≢ n) kept kept _ n None low refl (left_all (λ (k : ℕ) (it : Kept). k ≡ k) kept (λ k it is. refl)) (λ k it apart same. apart) (λ it is. absurd (none_some it is))
+-- the number that was read is that of the row's route
+number_is : (rows : List Row) (known : Known) (s n : ℕ) → IsKnown rows known → s < length rows → n ≡ get_or known.numbers.items s n
+    → (n ≡ get_or known.numbers.items s 0) × (n < length known.routes.items)
+number_is rows known s n old inside is =
+    let counted : s < length known.numbers.items = omega (arith, as_many known.routes.items rows known.numbers.items old.numbers, inside) in
+    let same : n ≡ get_or known.numbers.items s 0 = is ∙ get_or_default known.numbers.items s n 0 counted in
+    (same, omega (arith, same, old.numbers.below s 0 counted))
 
-pub change_at-requires-clause-known : goal.change_at-requires-clause-known
-change_at-requires-clause-known c =
-    let rows = c.args.merge.rows.now in
+pub returns-then-not-loses-clause-known : goal.returns-then-not-loses-clause-known
+returns-then-not-loses-clause-known c =
     let known = c.args.known.now in
     let old = c.requires.known.told in
     let n = c.index.result.now in
-    let counted : c.args.s < length known.numbers.items = omega (arith, as_many known.routes.items rows known.numbers.items old.numbers, c.requires.inside) in
-    let low : n < length known.kept.items = omega (arith, c.index.ensures ∙ get_or_default known.numbers.items c.args.s n 0 counted, old.one_route, old.numbers.below c.args.s 0 counted) in record {
+    let number = number_is c.args.merge.rows.now known c.args.s n old c.requires.inside c.index.ensures in
+    let low : n < length known.kept.items = omega (arith, old.one_route, number.1) in record {
       told = record {
         rivaled = old.rivaled;
         one_each = old.one_each;
@@ -34,26 +35,60 @@ change_at-requires-clause-known c =
       marks = c.requires.known.marks;
     }
 
+pub returns-then-not-loses-clause-left : goal.returns-then-not-loses-clause-left
+returns-then-not-loses-clause-left c =
+    let known = c.args.known.now in
+    let old = c.requires.known.told in
+    let n = c.index.result.now in
+    let number = number_is c.args.merge.rows.now known c.args.s n old c.requires.inside c.index.ensures in
+    let left = forgotten known.kept.items n (omega (arith, old.one_route, number.1)) in record {
+      one_each = left.one_each;
+      each = λ k it is. let told = left.each k it is in (told.0, λ same. told.1 (same ∙ sym number.0));
+    }
+
 pub returns : goal.returns
 returns c =
     let rows = c.args.merge.rows.now in
     let known = c.args.known.now in
     let old = c.requires.known.told in
+    let marks = c.requires.known.marks in
+    let gs = known.times.items in
+    let s = c.args.s in
     let n = c.index.result.now in
-    let now = c.change_at.ensures in
-    let counted : c.args.s < length known.numbers.items = omega (arith, as_many known.routes.items rows known.numbers.items old.numbers, c.requires.inside) in
-    let n_is : n ≡ get_or known.numbers.items c.args.s 0 = c.index.ensures ∙ get_or_default known.numbers.items c.args.s n 0 counted in
-    let low : n < length known.kept.items = omega (arith, n_is, old.one_route, old.numbers.below c.args.s 0 counted) in
-    let left = forgotten known.kept.items n low in record {
-      known = now.known;
-      touched = now.touched;
-      times = now.times;
-      rivals = now.rivals;
-      same = record { numbers = now.same.numbers; routes = now.same.routes };
+    let now = c.args.now in
+    let g = c.changed.result in
+    let number = number_is rows known s n old c.requires.inside c.index.ensures in
+    let inside : s < length gs = omega (arith, old.one_each, c.requires.inside) in
+    let low : n < length known.latest.items = omega (arith, old.one_time, number.1) in
+    let left = forgotten known.kept.items n (omega (arith, old.one_route, number.1)) in
+    let fresh : IsFresh now g = c.changed.ensures in record {
+      known = record {
+        told = record {
+          rivaled = old.rivaled;
+          one_each = length-set gs s g ∙ old.one_each;
+          one_time = length-set known.latest.items n now ∙ old.one_time;
+          latest = times_no_later known.routes.items (set known.latest.items n now) rows gs now marks.bound s g inside
+              (λ d. omega (arith, fresh.changed, get_or-set_at known.latest.items n n now 0 refl low, ap (λ m. get_or (set known.latest.items n now) m 0) (number.0 ∙ number_at known.routes.items rows known.numbers.items old.numbers s d c.requires.inside)))
+              (latest_put known.routes.items known.latest.items rows gs now marks.bound n low old.latest);
+          once = old.once;
+          numbers = old.numbers;
+          one_route = length-set known.kept.items n None ∙ old.one_route;
+          kept = λ k it within is. old.kept k it within (left.each k it is).0;
+        };
+        marks = fresh_put now rows gs s g inside marks fresh;
+      };
+      touched = record {
+        own = λ e. inr (subst (IsFresh now) (sym (get_or-set_at gs s s g e refl inside)) fresh);
+        others = λ k e apart. get_or-set_other gs s k g e apart;
+      };
+      times = λ k is. elim (cases_eq k n) [
+        | inl same ↦ get_or-set_at known.latest.items n k now 0 same low
+        | inr apart ↦ get_or-set_other known.latest.items n k now 0 apart ∙ is
+      ];
+      rivals = refl;
+      same = record { numbers = refl; routes = refl };
       left = record {
-        one_each = ap length now.kept ∙ left.one_each;
-        each = λ k it is.
-            let told = left.each k it (ap (λ l. get_or l k None) (sym now.kept) ∙ is) in
-            (told.0, λ same. told.1 (same ∙ sym n_is));
+        one_each = left.one_each;
+        each = λ k it is. let told = left.each k it is in (told.0, λ same. told.1 (same ∙ sym number.0));
       };
     }

@@ -1,45 +1,50 @@
 -- The first row with a partner is the first of the first pair.
-use Rattle.std.proofs.Common.{◌∙◌, ℕ, ◌<◌, refl, sym, ap, set, subst, length, length-set, get_or, arith}
+use Rattle.std.proofs.Common.{◌≡◌, ◌∙◌, ℕ, ◌<◌, refl, sym, ap, set, subst, length, length-set, get_or, arith}
 use Rattle.std.specs.Prelude.{MatchOption}
 use borrow.Author.Count.{below_more}
-use Rattle.cover_merge.specs.Tried.{AreChangesFrom}
-use Rattle.cover_merge.specs.Covering.{IsLegalPair, IsFirstPartner}
-use Rattle.cover_merge.proofs.ChooseLemmas.{first_found, no_pair}
-use Rattle.cover_merge.proofs.LinkLemmas.{as_many, number_at}
-use Rattle.cover_merge.proofs.TriedLemmas.{marked_put, times_no_later, newer_kept, settled_none}
+use Rattle.std.proofs.lemmas.List.{get_or_default}
+use Rattle.cover_merge.specs.{declared.times.Times.Times, Tried.AreChangesFrom, Tried.AreNoLater, Tried.AreTried, Covering.IsLegalPair, Covering.IsFirstPartner}
+use Rattle.cover_merge.proofs.{ChooseLemmas.first_found, ChooseLemmas.no_pair, LinkLemmas.as_many, LinkLemmas.number_at, TriedLemmas.marked_put, TriedLemmas.times_no_later, TriedLemmas.newer_kept}
+use Rattle.cover_merge.proofs.TriedLemmas.{settled_none}
 use Rattle.cover_merge.proofs.choosing.first_pair.Goals as goal
 
-pub is_settled-requires-clause-one_each : goal.is_settled-requires-clause-one_each
-is_settled-requires-clause-one_each c =
-    let old = c.loop-i.invariant.known.told in as_many c.loop-i.known.routes.items c.args.rows.now c.loop-i.known.numbers.items old.numbers ∙ sym old.one_each
-
-pub is_settled-requires-clause-below : goal.is_settled-requires-clause-below
-is_settled-requires-clause-below c k d within = omega (arith, c.loop-i.invariant.known.told.numbers.below k d within, c.loop-i.invariant.known.told.one_time)
-
-pub is_settled-requires-clause-inside : goal.is_settled-requires-clause-inside
-is_settled-requires-clause-inside c = omega (arith, c.loop-i.invariant.known.told.one_each, c.loop-i-test.true)
-
-pub loop-i-preserved-then-is_settled : goal.loop-i-preserved-then-is_settled
-loop-i-preserved-then-is_settled c =
+pub loop-i-preserved-then-index : goal.loop-i-preserved-then-index
+loop-i-preserved-then-index c =
     let rows = c.args.rows.now in
     let known = c.loop-i.known in
     let old = c.loop-i.invariant in
+    let told = old.known.told in
     let i = c.loop-i.i in
-    let inside : i < length rows = omega (arith, c.loop-i-test.true) in record {
+    let n = c.index.result.now in
+    let was = c.index-in-loop-i-2.result.now in
+    let inside : i < length rows = omega (arith, c.loop-i-test.true) in
+    let counted : i < length known.numbers.items = omega (arith, as_many known.routes.items rows known.numbers.items told.numbers, inside) in
+    let same : n ≡ get_or known.numbers.items i 0 = c.index.ensures ∙ get_or_default known.numbers.items i n 0 counted in
+    let low : n < length known.latest.items = omega (arith, same, told.one_time, told.numbers.below i 0 counted) in
+    let late : c.index-in-loop-i.result.now ≡ get_or known.latest.items n 0 = c.index-in-loop-i.ensures ∙ get_or_default known.latest.items n c.index-in-loop-i.result.now 0 low in
+    let timed : i < length known.times.items = omega (arith, told.one_each, inside) in
+    let tried : (e : Times) → was.tried ≡ (get_or known.times.items i e).tried =
+    λ e. ap (λ (x : Times). x.tried) (c.index-in-loop-i-2.ensures ∙ get_or_default known.times.items i was e timed) in record {
       none = below_more (λ a. (b : ℕ) → IsLegalPair rows a b → ⊥) i old.none
-          (settled_none known.routes.items known.latest.items rows known.times.items i old.known.told.one_each old.known.marks.tried old.known.told.latest
-          (λ d e. omega (arith, c.is_settled.ensures c.if-is_settled.true e, ap (λ n. get_or known.latest.items n 0) (number_at known.routes.items rows known.numbers.items old.known.told.numbers i d inside))));
+          (settled_none known.routes.items known.latest.items rows known.times.items i told.one_each old.known.marks.tried told.latest
+          (λ d e. omega (arith, c.if-index.true, late, tried e, ap (λ m. get_or known.latest.items m 0) (same ∙ number_at known.routes.items rows known.numbers.items told.numbers i d inside))));
       known = old.known;
-      routes = old.routes;
       changes = old.changes;
     }
 
+pub invariant_of-table : goal.invariant_of-table
+invariant_of-table c = let it = c.loop-i.invariant.known.told.rivaled in record { few = it.few; sound = it.sound; one_each = it.one_each; below = it.below; rivaled = ∣ it ∣₁ }
+
+pub partner-requires-clause-tried : goal.partner-requires-clause-tried
+partner-requires-clause-tried c = subst (AreTried c.args.rows.now) (sym c.deref.ensures.value) c.loop-i.invariant.known.marks.tried
+
 pub partner-requires-clause-changes : goal.partner-requires-clause-changes
-partner-requires-clause-changes c d =
+partner-requires-clause-changes c =
     let rows = c.args.rows.now in
     let ready = c.in_ok-make_ready.ensures in
-    subst (AreChangesFrom (get_or rows c.loop-i.i d).route.bits 0 rows c.loop-i.known.times.items c.args.links.now.next.items) (sym c.deref.ensures.value)
-    (record { one_each = c.loop-i.invariant.known.told.one_each; nexts = c.requires.links.next; newer = ready.own d; places = ready.changes.places })
+    subst (AreChangesFrom c.loop-i.i 0 rows c.deref.result.now c.args.links.now.next.items) (sym c.deref-in-loop-i.ensures.value)
+    (subst (λ l. AreChangesFrom c.loop-i.i 0 rows l c.args.links.now.next.items c.make_ready.new.changes.newer.items) (sym c.deref.ensures.value)
+    (record { inside = c.loop-i-test.true; one_each = c.loop-i.invariant.known.told.one_each; nexts = ready.changes.linked.links.next; newer = ready.own; places = ready.changes.places }))
 
 pub returns-in-Some-clause-found : goal.returns-in-Some-clause-found
 returns-in-Some-clause-found c =
@@ -54,33 +59,49 @@ loop-i-preserved c =
     let gs = known.times.items in
     let i = c.loop-i.i in
     let g = c.marked.result in
-    let was = c.index.result.now in
+    let was = c.index-in-loop-i-3.result.now in
+    let read = c.index-in-loop-i-3.ensures in
     let mark = c.marked.ensures in
     let old = c.loop-i.invariant in
     let told = old.known.told in
     let ready = c.in_ok-make_ready.ensures.changes in
     let inside : i < length gs = omega (arith, told.one_each, c.loop-i-test.true) in
-    let none : (b : ℕ) → IsLegalPair rows i b → ⊥ = subst (λ o. MatchOption o ((b : ℕ) → IsLegalPair rows i b → ⊥) (λ j. IsFirstPartner rows i j)) c.in_default.is c.partner.ensures in record {
+    let none : (b : ℕ) → IsLegalPair rows i b → ⊥ = subst (λ o. MatchOption o ((b : ℕ) → IsLegalPair rows i b → ⊥) (λ j. IsFirstPartner rows i j)) c.in_default.is c.partner.ensures in
+    let as_long : length (set gs i g) ≡ length rows = length-set gs i g ∙ told.one_each in
+    let latest : AreNoLater known.routes.items known.latest.items rows (set gs i g) =
+    times_no_later known.routes.items known.latest.items rows gs c.args.now old.known.marks.bound i g inside
+    (λ d. omega (arith, mark.changed, ap (λ x. x.changed) read, told.latest i d was inside)) told.latest in record {
       none = below_more (λ a. (b : ℕ) → IsLegalPair rows a b → ⊥) i old.none none;
       known = record {
         told = record {
           rivaled = told.rivaled;
-          one_each = length-set gs i g ∙ told.one_each;
+          one_each = as_long;
           one_time = told.one_time;
-          latest = times_no_later known.routes.items known.latest.items rows gs c.args.now old.known.marks.bound i g inside
-              (λ d. omega (arith, mark.changed, ap (λ x. x.changed) c.index.ensures, told.latest i d was inside)) told.latest;
+          latest = latest;
           once = told.once;
           numbers = told.numbers;
           one_route = told.one_route;
           kept = told.kept;
         };
-        marks = marked_put c.args.now rows gs i g inside old.known.marks was c.index.ensures mark none;
+        marks = marked_put c.args.now rows gs i g inside old.known.marks was read mark none;
       };
-      routes = old.routes;
       changes = record {
+        linked = record {
+          known = record {
+            rivaled = told.rivaled;
+            one_each = as_long;
+            one_time = told.one_time;
+            latest = latest;
+            once = told.once;
+            numbers = told.numbers;
+            one_route = told.one_route;
+            kept = told.kept;
+          };
+          links = ready.linked.links;
+        };
         places = ready.places;
         one_each = ready.one_each;
-        newer = λ k e low is. newer_kept c.args.now (get_or known.routes.items k 0) rows gs (set gs i g) c.make_ready.new.changes.newer.items i g was inside c.index.ensures refl mark (ready.newer k e low is);
+        newer = λ k e low is. newer_kept c.args.now (get_or known.routes.items k 0) rows gs (set gs i g) c.make_ready.new.changes.newer.items i g was inside read refl mark (ready.newer k e low is);
       };
     }
 

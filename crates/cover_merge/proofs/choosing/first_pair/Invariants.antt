@@ -1,13 +1,11 @@
 -- No row passed is the first of a legal pair, and all is still known.
-use Rattle.std.proofs.Common.{◌≡◌, ℕ, ◌<◌}
-use Rattle.cover_merge.specs.Covering.{IsLegalPair}
-use Rattle.cover_merge.specs.Known.{IsKnownAt, AreChanges}
+use Rattle.std.proofs.Common.{ℕ, ◌<◌}
+use Rattle.cover_merge.specs.{Covering.IsLegalPair, Known.IsKnownAt, Known.AreChanges}
 use Rattle.cover_merge.proofs.choosing.first_pair.Given as goal
 
 abbrev pub invariant-loop-i : goal.invariant-loop-i
 invariant-loop-i l = record {
   none : (a : ℕ) → a < l.i → (b : ℕ) → IsLegalPair l.rows a b → ⊥;
   known : IsKnownAt l.now l.rows l.known;
-  routes : l.known.routes.items ≡ l.fn.known.routes.items;
-  changes : AreChanges l.rows l.known.times.items l.known.routes.items l.changes;
+  changes : AreChanges l.rows l.known l.links l.changes;
 }

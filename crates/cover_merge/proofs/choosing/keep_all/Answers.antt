@@ -1,14 +1,13 @@
 -- Of one route more something is kept.
-use Rattle.std.proofs.Common.{◌≡◌, ◌<◌, ◌∙◌, List, ap, get_or, length, refl, subst, arith}
-use Rattle.std.specs.Prelude.{Option, Some, None}
-use Rattle.std.proofs.lemmas.List.{length-set}
-use Rattle.cover_merge.specs.declared.keeping.Kept.{Kept}
+use Rattle.std.proofs.Common.{◌<◌, ◌∙◌, ap, length, refl, sym, arith}
+use Rattle.std.specs.Prelude.{Some, None}
+use Rattle.std.proofs.lemmas.List.{get_or_default, length-set}
 use Rattle.cover_merge.proofs.KeepLemmas.{all_known, all_more, fresh_more, kept_put}
 use Rattle.cover_merge.proofs.choosing.keep_all.Goals as goal
 
 pub loop-c-init : goal.loop-c-init
 loop-c-init c = record {
-  told = c.requires.known;
+  linked = c.requires;
   times = refl;
   routes = refl;
   all = λ k less. absurd (omega (arith, less));
@@ -18,11 +17,13 @@ loop-c-init c = record {
 pub loop-c-preserved-then-is_known : goal.loop-c-preserved-then-is_known
 loop-c-preserved-then-is_known c =
     let old = c.loop-c.invariant in
-    let kept = c.loop-c.known.kept.items in record {
-      told = old.told;
+    let kept = c.loop-c.known.kept.items in
+    let is = c.if-is_known.ensures in
+    let inside : c.loop-c.c < length kept = omega (arith, old.linked.known.one_route, c.loop-c-test.true, c.len-c-end.ensures, ap length old.routes) in record {
+      linked = old.linked;
       times = old.times;
       routes = old.routes;
-      all = all_known kept c.loop-c.c (subst (λ (l : List (Option Kept)). (it : Kept) × (get_or l c.loop-c.c None ≡ Some it)) c.deref.ensures.value c.if-is_known.ensures) old.all;
+      all = all_known kept c.loop-c.c (is.0, get_or_default kept c.loop-c.c None _ inside ∙ sym c.index.ensures ∙ is.1) old.all;
       fresh = old.fresh;
     }
 
@@ -35,16 +36,20 @@ loop-c-preserved c =
     let own = c.in_ok-set.field-0 in
     let it = own.kept in
     let told = c.in_ok-set.ensures in
-    let inside : c.loop-c.c < length known.kept.items = omega (arith, old.told.one_route, c.loop-c-test.true, c.len-c-end.ensures, ap length old.routes) in record {
-      told = record {
-        one_each = old.told.one_each;
-        rivaled = old.told.rivaled;
-        one_time = old.told.one_time;
-        latest = old.told.latest;
-        once = old.told.once;
-        numbers = old.told.numbers;
-        one_route = length-set known.kept.items c.loop-c.c (Some it) ∙ old.told.one_route;
-        kept = kept_put routes rows known.kept.items c.loop-c.c it inside (record { set = own.set; refined = told.refined; size_is = told.size }) old.told.kept;
+    let was = old.linked.known in
+    let inside : c.loop-c.c < length known.kept.items = omega (arith, was.one_route, c.loop-c-test.true, c.len-c-end.ensures, ap length old.routes) in record {
+      linked = record {
+        known = record {
+          one_each = was.one_each;
+          rivaled = was.rivaled;
+          one_time = was.one_time;
+          latest = was.latest;
+          once = was.once;
+          numbers = was.numbers;
+          one_route = length-set known.kept.items c.loop-c.c (Some it) ∙ was.one_route;
+          kept = kept_put routes rows known.kept.items c.loop-c.c it inside (record { set = own.set; refined = told.refined; size_is = told.size }) was.kept;
+        };
+        links = old.linked.links;
       };
       times = old.times;
       routes = old.routes;
@@ -52,5 +57,10 @@ loop-c-preserved c =
       fresh = fresh_more routes rows c.loop-c.c own.set it.outer it.low told.refined c.loop-c.fresh _ c.renew_fresh.ensures old.fresh;
     }
 
-pub returns-clause-all : goal.returns-clause-all
-returns-clause-all c k inside = c.loop-c.invariant.all k (omega (arith, inside, c.loop-c-test.false, c.len-c-end.ensures, ap length c.loop-c.invariant.routes))
+pub returns-clause-kept : goal.returns-clause-kept
+returns-clause-kept c =
+    let so_far = c.loop-c.invariant in record {
+      linked = so_far.linked;
+      all = λ k inside. so_far.all k (omega (arith, inside, c.loop-c-test.false, c.len-c-end.ensures, ap length so_far.routes));
+      fresh = so_far.fresh;
+    }

@@ -1,13 +1,12 @@
 -- Of each route passed something is kept.
 use Rattle.std.proofs.Common.{◌≡◌, ◌<◌, ℕ, get_or}
 use Rattle.std.specs.Prelude.{Some, None}
-use Rattle.cover_merge.specs.Known.{IsFreshlyRefined, IsKnown}
-use Rattle.cover_merge.specs.declared.keeping.Kept.{Kept}
+use Rattle.cover_merge.specs.{Known.IsFreshlyRefined, Known.IsLinked, declared.keeping.Kept.Kept}
 use Rattle.cover_merge.proofs.choosing.keep_all.Given as goal
 
 abbrev pub invariant-loop-c : goal.invariant-loop-c
 invariant-loop-c l = record {
-  told : IsKnown l.rows l.known;
+  linked : IsLinked l.rows l.known l.links;
   times : l.known.times.items ≡ l.fn.known.times.items;
   routes : l.known.routes.items ≡ l.fn.known.routes.items;
   fresh : IsFreshlyRefined l.known.routes.items l.rows l.fresh;

@@ -2,23 +2,20 @@
 use Rattle.std.proofs.Common.{◌≡◌, ◌<◌, ◌∙◌, true, sym, ap, subst, length, length-set, get_or, arith}
 use Rattle.std.proofs.lemmas.List.{get_or_default}
 use Rattle.tern_word.specs.declared.tables.Row.{Row}
-use Rattle.cover_merge.specs.Links.{IsFirstOfRoute}
-use Rattle.cover_merge.specs.Tried.{AreNewerOf}
-use Rattle.cover_merge.proofs.LinkLemmas.{as_many, route_of}
-use Rattle.cover_merge.proofs.TriedLemmas.{newer_ready}
-use Rattle.cover_merge.proofs.choosing.make_ready.Goals.{After-index, After-index-then-not-index}
+use Rattle.cover_merge.specs.{Links.IsFirstOfRoute, Tried.AreNewerOf}
+use Rattle.cover_merge.proofs.{LinkLemmas.as_many, LinkLemmas.route_of, TriedLemmas.newer_ready, choosing.make_ready.Goals.After-index, choosing.make_ready.Goals.After-index-then-not-index}
 use Rattle.cover_merge.proofs.choosing.make_ready.Goals as goal
 
 -- the number of the row's route
 number : (c : After-index) → get_or c.args.known.now.numbers.items c.args.i 0 ≡ c.index.result.now
 number c =
-    let known = c.requires.known in
+    let known = c.requires.changes.linked.known in
     let many = as_many c.args.known.now.routes.items c.args.rows.now c.args.known.now.numbers.items known.numbers in
     get_or_default c.args.known.now.numbers.items c.args.i 0 c.index.result.now (omega (arith, many, c.requires.inside)) ∙ sym c.index.ensures
 
 low : (c : After-index) → c.index.result.now < length c.args.known.now.routes.items
 low c =
-    let known = c.requires.known in
+    let known = c.requires.changes.linked.known in
     let many = as_many c.args.known.now.routes.items c.args.rows.now c.args.known.now.numbers.items known.numbers in
     omega (arith, number c, known.numbers.below c.args.i 0 (omega (arith, many, c.requires.inside)))
 
@@ -26,13 +23,13 @@ low c =
 bits : (c : After-index) (d : Row) → get_or c.args.known.now.routes.items c.index.result.now 0 ≡ (get_or c.args.rows.now c.args.i d).route.bits
 bits c d =
     let routes = c.args.known.now.routes.items in
-    ap (λ n. get_or routes n 0) (sym (number c)) ∙ route_of routes c.args.rows.now c.args.known.now.numbers.items c.requires.known.numbers c.args.i d c.requires.inside
+    ap (λ n. get_or routes n 0) (sym (number c)) ∙ route_of routes c.args.rows.now c.args.known.now.numbers.items c.requires.changes.linked.known.numbers c.args.i d c.requires.inside
 
 -- the place is that of its first row
 first : (c : After-index-then-not-index) → c.index.result.now < length c.args.known.now.routes.items → IsFirstOfRoute c.args.rows.now (get_or c.args.known.now.routes.items c.index.result.now 0) c.index-then-not-index.result.now
 first c inside =
     let heads = c.args.links.now.heads.items in
-    let links = c.requires.links in
+    let links = c.requires.changes.linked.links in
     subst (IsFirstOfRoute c.args.rows.now (get_or c.args.known.now.routes.items c.index.result.now 0))
     (get_or_default heads c.index.result.now 0 c.index-then-not-index.result.now (omega (arith, links.one_each, inside)) ∙ sym c.index-then-not-index.ensures) (links.head c.index.result.now inside)
 
@@ -47,9 +44,10 @@ returns-in_ok-find_newer-clause-changes c =
     let begins = first (goal.at.returns-in_ok-find_newer-clause-changes c).After-index-then-not-index within in
     let found = c.in_ok-find_newer.ensures in
     let own : AreNewerOf (get_or routes number 0) 0 rows gs c.find_newer.new.newer.items = subst (λ l. AreNewerOf (get_or routes number 0) 0 rows l c.find_newer.new.newer.items) c.deref.ensures.value (found.own (get_or routes number 0) begins) in record {
+      linked = old.linked;
       places = found.one_each;
       one_each = length-set c.args.changes.now.ready.items number true ∙ old.one_each;
-      newer = newer_ready routes rows gs c.args.changes.now.ready.items c.args.changes.now.newer.items c.find_newer.new.newer.items number c.requires.known.once old.one_each within own
+      newer = newer_ready routes rows gs c.args.changes.now.ready.items c.args.changes.now.newer.items c.find_newer.new.newer.items number c.requires.changes.linked.known.once old.one_each within own
           (λ j d in_rows other. found.others (get_or routes number 0) j d begins in_rows other) old.newer;
     }
 

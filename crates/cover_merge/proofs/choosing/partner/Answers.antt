@@ -1,67 +1,48 @@
 -- The first row of the route that may pair is the first partner.
-use Rattle.std.proofs.Common.{◌<◌, ◌∙◌, ◌∷◌, [], length, get_or, refl, sym, subst, arith}
-use Rattle.tern_word.specs.declared.tables.Row.{Row}
-use Rattle.cover_merge.specs.Merge.{merge_rows, IsLegal}
-use Rattle.cover_merge.specs.Covering.{IsLegalPair}
-use Rattle.cover_merge.specs.Tried.{AreTried, AreChangesFrom}
-use Rattle.cover_merge.proofs.Answering.{fails}
-use Rattle.cover_merge.proofs.ChooseLemmas.{pair_made, partner_found, no_partner}
-use Rattle.cover_merge.proofs.TriedLemmas.{skipped_none, each_on}
-use Rattle.cover_merge.proofs.choosing.partner.Goals.{After-as_slice-times}
+use Rattle.std.proofs.Common.{◌<◌, ◌∙◌, ◌∷◌, [], length, refl, sym, subst, arith}
+use Rattle.cover_merge.specs.{Merge.IsLegal, Covering.IsLegalPair, Tried.AreNewerOf}
+use Rattle.cover_merge.proofs.{Answering.fails, ChooseLemmas.pair_made, ChooseLemmas.partner_found, ChooseLemmas.no_partner, TriedLemmas.skipped_none, TriedLemmas.each_on}
 use Rattle.cover_merge.proofs.choosing.partner.Goals as goal
-
--- the changes of the route, by the times as they are lent
-changes : (c : After-as_slice-times) (d : Row) → AreChangesFrom (get_or c.args.rows.now c.args.i d).route.bits 0 c.args.rows.now c.as_slice-times.result.now c.args.links.now.next.items c.args.newer.now
-changes c d = subst (λ l. AreChangesFrom (get_or c.args.rows.now c.args.i d).route.bits 0 c.args.rows.now l c.args.links.now.next.items c.args.newer.now) (sym c.as_slice-times.ensures.value) (c.requires.changes d)
-
-tried : (c : After-as_slice-times) → AreTried c.args.rows.now c.as_slice-times.result.now
-tried c = subst (AreTried c.args.rows.now) (sym c.as_slice-times.ensures.value) c.requires.tried
-
-pub invariant_of-table : goal.invariant_of-table
-invariant_of-table c = let it = c.requires.rivaled in record { few = it.few; sound = it.sound; one_each = it.one_each; below = it.below; rivaled = ∣ it ∣₁ }
 
 pub tried_at-tried-requires : goal.tried_at-tried-requires
 tried_at-tried-requires c =
-    let one_each = (changes (goal.at.tried_at-tried-requires c).After-as_slice-times (merge_rows [])).one_each in
-    omega (arith, one_each, c.requires.inside)
-
-pub next_to_try-j-requires-clause-changes : goal.next_to_try-j-requires-clause-changes
-next_to_try-j-requires-clause-changes c = changes (goal.at.next_to_try-j-requires-clause-changes c).After-as_slice-times
+    omega (arith, c.requires.changes.one_each, c.requires.changes.inside)
 
 pub loop-j-init : goal.loop-j-init
 loop-j-init c =
-    let before = (goal.at.loop-j-init c).After-as_slice-times in
     let next = c.next_to_try-j.ensures in record {
       behind = next.behind;
       same = next.same;
-      none = skipped_none c.args.rows.now c.as_slice-times.result.now c.args.i c.args.i c.next_to_try-j.result c.tried_at-tried.result (changes before (merge_rows [])).one_each (tried before) (omega arith) (λ d within. refl) c.tried_at-tried.ensures next;
+      none = skipped_none c.args.table.rows.now c.args.times.now c.args.i c.args.i c.next_to_try-j.result c.tried_at-tried.result c.requires.changes.one_each c.requires.tried (omega arith) (λ d within. refl) c.tried_at-tried.ensures next;
     }
 
 pub is_legal_pair-requires : goal.is_legal_pair-requires
 is_legal_pair-requires c =
-    let rows = c.args.rows.now in
+    let rows = c.args.table.rows.now in
     let inside : c.loop-j.j < length rows = omega (arith, c.loop-j-test.true) in
     pair_made rows c.args.i c.loop-j.j c.loop-j.invariant.behind inside (λ d. c.loop-j.invariant.same d inside)
 
 pub returns-then-is_legal_pair : goal.returns-then-is_legal_pair
 returns-then-is_legal_pair c =
-    let rows = c.args.rows.now in
+    let rows = c.args.table.rows.now in
     let inside : c.loop-j.j < length rows = omega (arith, c.loop-j-test.true) in
     let set = pair_made rows c.args.i c.loop-j.j c.loop-j.invariant.behind inside (λ d. c.loop-j.invariant.same d inside) in
     partner_found rows c.args.i c.loop-j.j c.loop-j.invariant.none (record { set = set; legal = c.is_legal_pair.ensures.0 c.if-is_legal_pair.true })
 
-pub next_to_try-j-requires-in-loop-j-clause-changes : goal.next_to_try-j-requires-in-loop-j-clause-changes
-next_to_try-j-requires-in-loop-j-clause-changes c d =
-    let rows = c.args.rows.now in
-    let inside : c.loop-j.j < length rows = omega (arith, c.loop-j-test.true) in
-    subst (λ b. AreChangesFrom b 0 rows c.as_slice-times.result.now c.args.links.now.next.items c.args.newer.now) (sym (c.loop-j.invariant.same d inside))
-    (changes (goal.at.next_to_try-j-requires-in-loop-j-clause-changes c).After-as_slice-times d)
+pub next_to_try-j-requires-in-loop-j : goal.next_to_try-j-requires-in-loop-j
+next_to_try-j-requires-in-loop-j c =
+    let its = c.requires.changes in record {
+      inside = c.loop-j-test.true;
+      one_each = its.one_each;
+      nexts = its.nexts;
+      newer = λ d. subst (λ b. AreNewerOf b 0 c.args.table.rows.now c.args.times.now c.args.newer.now) (sym (c.loop-j.invariant.same d c.loop-j-test.true)) (its.newer d);
+      places = its.places;
+    }
 
 pub loop-j-preserved : goal.loop-j-preserved
 loop-j-preserved c =
-    let before = (goal.at.loop-j-preserved c).After-as_slice-times in
-    let rows = c.args.rows.now in
-    let gs = c.as_slice-times.result.now in
+    let rows = c.args.table.rows.now in
+    let gs = c.args.times.now in
     let i = c.args.i in
     let j = c.loop-j.j in
     let x = c.next_to_try-j-in-loop-j.result in
@@ -71,8 +52,8 @@ loop-j-preserved c =
       behind = omega (arith, old.behind, next.behind);
       same = λ d within. next.same d within ∙ old.same d inside;
       none = each_on (λ b. IsLegalPair rows i b → ⊥) i j x old.none (λ pair. fails (IsLegal rows (i ∷ j ∷ [])) c.is_legal_pair.result c.is_legal_pair.ensures c.if-is_legal_pair.false pair.legal)
-          (skipped_none rows gs i j x c.tried_at-tried.result (changes before (merge_rows [])).one_each (tried before) (omega (arith, old.behind)) old.same c.tried_at-tried.ensures next);
+          (skipped_none rows gs i j x c.tried_at-tried.result c.requires.changes.one_each c.requires.tried (omega (arith, old.behind)) old.same c.tried_at-tried.ensures next);
     }
 
 pub returns : goal.returns
-returns c = no_partner c.args.rows.now c.args.i c.loop-j.j (omega (arith, c.loop-j-test.false)) c.loop-j.invariant.none
+returns c = no_partner c.args.table.rows.now c.args.i c.loop-j.j (omega (arith, c.loop-j-test.false)) c.loop-j.invariant.none

@@ -1,8 +1,7 @@
 -- So far the places of the rows of the route before the place at hand, which is of the route too.
 use Rattle.std.proofs.Common.{◌≡◌, ◌-◌, ◌<◌, ℕ, length, get_or, take}
 use Rattle.tern_word.specs.declared.tables.Row.{Row}
-use Rattle.cover_merge.specs.Covering.{places_of}
-use Rattle.cover_merge.specs.Links.{IsFirstOfRoute}
+use Rattle.cover_merge.specs.{Covering.places_of, Links.IsFirstOfRoute}
 use Rattle.cover_merge.proofs.choosing.places_from.Given as goal
 
 abbrev pub invariant-loop-place : goal.invariant-loop-place

@@ -1,9 +1,7 @@
 -- All that is known is carried over, but for the rivals of rows.
 use Rattle.std.proofs.Common.{◌≡◌, ◌∙◌, ap, sym, subst, length, get_or}
-use Rattle.cover_merge.specs.Merge.{after}
-use Rattle.cover_merge.specs.Known.{AreRoutesKept, AreStillKept, IsApart}
-use Rattle.cover_merge.specs.Links.{AreNumbers, IsEachOnce, place_of_route}
-use Rattle.cover_merge.specs.Tried.{AreNoLater}
+use Rattle.cover_merge.specs.{Merge.after, Known.AreRoutesKept, Known.AreStillKept, Known.IsApart, Links.AreNumbers, Links.IsEachOnce, Links.place_of_route, Tried.AreNoLater, Tried.AreTouched}
+use Rattle.cover_merge.specs.Tried.{AreTriedUpTo}
 use Rattle.cover_merge.proofs.KeepLemmas.{kept_over}
 use Rattle.cover_merge.proofs.covering.carry_over.Goals as goal
 
@@ -34,7 +32,8 @@ returns c =
         kept = subst (λ r. AreRoutesKept r (after rows places) f.kept.items) (sym (same.routes ∙ c.touch.ensures.same.routes))
             (kept_over first.routes.items rows first.numbers.items first.kept.items t.kept.items f.kept.items places c.args.merge.block start.once start.numbers start.rivaled.sound c.args.merge.legal start.kept c.touch.ensures.left
             (subst (λ n. AreStillKept (λ k it. (k ≡ get_or n (get_or places 0 0) 0 → ⊥) × (IsApart c.args.merge.block it)) t.kept.items f.kept.items) c.touch.ensures.same.numbers same.left));
-        marks = c.carry_times.ensures.marks;
+        marks = c.carry_times.ensures.marks (subst (AreTriedUpTo c.args.now rows) (sym same.times) c.touch.ensures.known.marks)
+            (subst (AreTouched places c.args.now rows) (sym same.times) c.touch.ensures.touched);
       };
       rivals = same.rivals ∙ c.touch.ensures.rivals;
     }

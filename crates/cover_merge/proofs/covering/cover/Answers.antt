@@ -1,36 +1,20 @@
 -- Each round makes a chosen merge, which is legal.
-use Rattle.std.proofs.Common.{◌≡◌, ◌<◌, ◌≤◌, ◌^◌, ◌++◌, ◌∷◌, [], ap, length, length-append, sym, subst, inr, ◌⊎◌, arith}
-use Rattle.std.specs.Prelude.{MatchOption}
-use Rattle.std.specs.List.Sorted.{IsPermutation}
+use Rattle.std.proofs.Common.{◌≡◌, ◌<◌, ◌≤◌, ◌++◌, ◌∷◌, [], length, length-append, sym, subst, inr, ◌⊎◌, arith}
+use Rattle.std.specs.{Prelude.MatchOption, List.Sorted.IsPermutation}
 use Rattle.tern_word.specs.SoundTable.{IsSound, served}
-use Rattle.cover_merge.specs.Covering.{Covers, IsChosen, HasNoChosen, HasNoLegalPair, HasRoutesOf}
-use Rattle.cover_merge.specs.Merges.{sets_of}
-use Rattle.cover_merge.specs.Merge.{after}
-use Rattle.cover_merge.specs.Known.{IsKnownAt}
-use Rattle.cover_merge.specs.Tried.{AreTriedUpTo}
-use Rattle.cover_merge.proofs.TriedLemmas.{marked_later}
-use Rattle.cover_merge.proofs.CoverLemmas.{IsCoveredSoFar, chosen_shorter, so_far_first, so_far_more, covered_short, covered_stuck}
+use Rattle.cover_merge.specs.{Covering.Covers, Covering.IsChosen, Covering.HasNoChosen, Covering.HasNoLegalPair, Covering.HasRoutesOf, Merges.sets_of, Merge.after, Tried.AreTriedUpTo}
+use Rattle.cover_merge.proofs.{TriedLemmas.marked_later, CoverLemmas.IsCoveredSoFar, CoverLemmas.chosen_shorter, CoverLemmas.so_far_first, CoverLemmas.so_far_more, CoverLemmas.covered_short}
+use Rattle.cover_merge.proofs.CoverLemmas.{covered_stuck}
 use Rattle.cover_merge.proofs.covering.cover.Goals as goal
 
 pub invariant_of-sound : goal.invariant_of-sound
-invariant_of-sound c = record {
-  few = subst (λ l. length l < 2 ^ 32) (sym c.as_slice-rows.ensures) c.requires.few;
-  sound = subst IsSound (sym c.as_slice-rows.ensures) c.requires.sound;
-}
+invariant_of-sound c = grind arith
 
 pub merging-init : goal.merging-init
-merging-init c = record {
-  so_far = subst (IsCoveredSoFar c.args.target c.args.table.rows c.args.table.rows) (sym c.new-merges.ensures) (so_far_first c.args.target c.args.table.rows c.requires.few c.requires.sound);
-  known = subst (λ n. IsKnownAt n c.args.table.rows c.in_ok-known.known) (sym (ap length c.new-merges.ensures)) (subst (λ l. IsKnownAt 0 l c.in_ok-known.known) c.as_slice-rows.ensures c.in_ok-known.ensures);
-}
+merging-init c = grind (arith, IsCoveredSoFar c.args.target c.args.table.rows c.args.table.rows, so_far_first c.args.target c.args.table.rows c.requires.few c.requires.sound)
 
 pub merging-smaller : goal.merging-smaller
-merging-smaller c =
-    let rows = c.merging.table.rows in
-    let chosen : IsChosen rows c.in-Some.places = subst (λ o. MatchOption o (HasNoChosen rows) (IsChosen rows)) c.in-Some.is c.in_ok-places.ensures.found in
-    let next : c.merge_next.new.table.rows ≡ after rows c.in-Some.places =
-    subst (λ o. MatchOption o (c.merge_next.new.table.rows ≡ rows) (λ p. c.merge_next.new.table.rows ≡ after rows p)) c.in-Some.is c.in_ok-places.ensures.table in
-    chosen_shorter rows c.merge_next.new.table.rows c.in-Some.places c.merging.invariant.so_far.sound chosen next
+merging-smaller c = grind (arith, chosen_shorter)
 
 pub merging-preserved : goal.merging-preserved
 merging-preserved c =
@@ -67,6 +51,4 @@ returns-in-None c =
     }
 
 pub returns-clause-covered : goal.returns-clause-covered
-returns-clause-covered c =
-    let enough : length c.merging.table.rows ≤ c.args.target = omega (arith, c.len.ensures) in
-    covered_short c.args.target c.args.table.rows c.merging.table.rows c.merging.merges c.merging.invariant.so_far enough
+returns-clause-covered c = grind (arith, covered_short c.args.target c.args.table.rows c.merging.table.rows c.merging.merges c.merging.invariant.so_far (omega (arith, c.len.ensures)))

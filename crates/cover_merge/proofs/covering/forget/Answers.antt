@@ -2,8 +2,7 @@
 use Rattle.std.proofs.Common.{◌≡◌, ◌<◌, ◌∙◌, length, get_or, sym, arith}
 use Rattle.std.proofs.lemmas.List.{get_or_default}
 use Rattle.cover_merge.specs.Known.{IsApart}
-use Rattle.cover_merge.proofs.KeepLemmas.{left_twice}
-use Rattle.cover_merge.proofs.LinkLemmas.{as_many}
+use Rattle.cover_merge.proofs.{KeepLemmas.left_twice, LinkLemmas.as_many}
 use Rattle.cover_merge.proofs.covering.forget.Goals as goal
 
 pub returns-clause-left : goal.returns-clause-left

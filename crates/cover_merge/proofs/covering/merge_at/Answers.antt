@@ -1,13 +1,9 @@
 -- What was carried over is known of the table after the merge, whose rivals are those that were renewed.
 use Rattle.std.proofs.Common.{◌≡◌, ◌∙◌, ◌<◌, ◌^◌, ℕ, List, refl, ap, sym, subst, length, arith}
 use Rattle.std.specs.Prelude.{All, AllPairs}
-use Rattle.tern_word.specs.declared.tables.Row.{Row}
-use Rattle.cover_merge.specs.declared.knowing.Known.{Known}
-use Rattle.tern_word.specs.Ternary.{generality}
-use Rattle.tern_word.specs.SoundTable.{IsSound}
-use Rattle.cover_merge.specs.Merge.{IsLegal, IsMergeSet, after, insert_place, merged_block, place_for}
-use Rattle.cover_merge.specs.Known.{IsCarried}
-use Rattle.cover_merge.specs.Rivals.{AreMet, IsRivaled}
+use Rattle.tern_word.specs.{declared.tables.Row.Row, Ternary.generality, SoundTable.IsSound}
+use Rattle.cover_merge.specs.{declared.knowing.Known.Known, Merge.IsLegal, Merge.IsMergeSet, Merge.after, Merge.insert_place, Merge.merged_block, Merge.place_for, Known.IsCarried, Rivals.AreMet}
+use Rattle.cover_merge.specs.Rivals.{IsRivaled}
 use Rattle.cover_merge.proofs.ApplyLemmas.{both_ok, members_before}
 use Rattle.cover_merge.proofs.covering.merge_at.Goals as goal
 
@@ -43,18 +39,15 @@ carried : (now : ℕ) (rows read table : List Row) (places members : List ℕ) (
 carried now rows read table places members known is_read is_members is_table =
     subst (λ l. IsCarried now l known) (ap (λ l. after l members) is_read ∙ ap (after rows) is_members ∙ sym is_table)
 
-pub merge_rows-requires-clause-rivaled : goal.merge_rows-requires-clause-rivaled
-merge_rows-requires-clause-rivaled c = subst (IsRivaled c.args.table.now.rows) (sym c.carry_over.ensures.rivals) c.requires.known.told.rivaled
-
-pub merge_rows-requires-clause-merge : goal.merge_rows-requires-clause-merge
-merge_rows-requires-clause-merge c = record { set = c.requires.merge.0; legal = c.requires.merge.1; block = refl }
-
-pub merge_rows-requires-clause-met : goal.merge_rows-requires-clause-met
-merge_rows-requires-clause-met c =
-    let rows = c.args.table.now.rows in
-    subst (AreMet (merged_block rows c.args.places.now) rows) (sym c.deref-2.ensures.value)
-    (subst (λ b. AreMet b rows c.in_ok-met.met.items) (c.merged_block-block.ensures ∙ ap (λ l. merged_block l c.as_slice-members.result.now) c.as_slice-rows.ensures ∙ ap (merged_block rows) c.as_slice-members.ensures)
-    (subst (λ l. AreMet c.merged_block-block.result l c.in_ok-met.met.items) c.as_slice-rows.ensures c.in_ok-met.ensures))
+pub merge_rows-requires : goal.merge_rows-requires
+merge_rows-requires c =
+    let rows = c.args.table.now.rows in record {
+      rivaled = subst (IsRivaled rows) (sym c.carry_over.ensures.rivals) c.requires.known.told.rivaled;
+      merge = record { set = c.requires.merge.0; legal = c.requires.merge.1; block = refl };
+      met = subst (AreMet (merged_block rows c.args.places.now) rows) (sym c.deref-2.ensures.value)
+          (subst (λ b. AreMet b rows c.in_ok-met.met.items) (c.merged_block-block.ensures ∙ ap (λ l. merged_block l c.as_slice-members.result.now) c.as_slice-rows.ensures ∙ ap (merged_block rows) c.as_slice-members.ensures)
+          (subst (λ l. AreMet c.merged_block-block.result l c.in_ok-met.met.items) c.as_slice-rows.ensures c.in_ok-met.ensures));
+    }
 
 pub returns-clause-known : goal.returns-clause-known
 returns-clause-known c =

@@ -2,17 +2,13 @@
 use Rattle.std.proofs.Common.{rules, ◌≡◌, ◌∙◌, length, refl, sym, subst, arith}
 use Rattle.std.specs.Prelude.{All, Option, None}
 use Rattle.std.proofs.lemmas.List.Elements.{All-replicate}
-use Rattle.cover_merge.specs.declared.keeping.Kept.{Kept}
-use Rattle.cover_merge.specs.Links.{AreNumbers}
-use Rattle.cover_merge.specs.Tried.{IsFresh}
-use Rattle.cover_merge.proofs.KeepLemmas.{none_some, inside_some}
-use Rattle.cover_merge.proofs.TriedLemmas.{fresh_marked}
+use Rattle.cover_merge.specs.{declared.keeping.Kept.Kept, Links.AreNumbers, Tried.IsFresh}
+use Rattle.cover_merge.proofs.{KeepLemmas.none_some, KeepLemmas.inside_some, TriedLemmas.fresh_marked}
 use Rattle.cover_merge.proofs.knowing.known_of.Goals as goal
 
 -- no row was tried
 fresh : (c : goal.In_ok-latest) → All (IsFresh 0) c.in_ok-times.times.items
-fresh c =
-    subst (All (IsFresh 0)) (sym (c.in_ok-times.ensures.items_if_clones_equal (λ y h. search rules))) (All-replicate (IsFresh 0) (length c.args.table.rows.now) c.changed.result c.changed.ensures)
+fresh c = grind (arith, All-replicate (IsFresh 0) (length c.args.table.rows.now) c.changed.result c.changed.ensures)
 
 -- nothing is kept
 none : (c : goal.In_ok-latest) → All (λ (o : Option Kept). o ≡ None) c.in_ok-kept.kept.items

@@ -1,7 +1,6 @@
 -- The merge has the number of its first row.
 use Rattle.std.proofs.Common.{sym, subst, arith}
-use Rattle.cover_merge.specs.Merge.{after}
-use Rattle.cover_merge.specs.Links.{AreNumbers}
+use Rattle.cover_merge.specs.{Merge.after, Links.AreNumbers}
 use Rattle.cover_merge.proofs.LinkLemmas.{numbers_after}
 use Rattle.cover_merge.proofs.links.carry_numbers.Goals as goal
 

@@ -1,16 +1,11 @@
 -- The spans that were read are those of the row.
 use Rattle.std.proofs.Common.{◌∙◌, get_or, sym, ap, subst, arith}
-use Rattle.std.proofs.{Math.Logic.∥∥₁_elim, Props.props}
+use Rattle.std.proofs.{Math.Logic.∥∥₁_elim, Props.props, lemmas.List.get_or_default}
 use Rattle.std.specs.Prelude.{All}
-use Rattle.std.proofs.lemmas.List.{get_or_default}
 use Rattle.spin_base.specs.declared.blocks.Block.{Block}
-use Rattle.tern_word.specs.declared.tables.Alias.{Alias}
-use Rattle.tern_word.specs.declared.tables.Row.{Row}
-use Rattle.tern_word.specs.Ternary.{Intersects}
-use Rattle.cover_merge.specs.Refinement.{IsFirstMet}
-use Rattle.cover_merge.specs.Spans.{AreSpansOf}
-use Rattle.cover_merge.proofs.Answering.{fails}
-use Rattle.cover_merge.proofs.SpanLemmas.{met_at, row_missed, spans_read, spans_there}
+use Rattle.tern_word.specs.{declared.tables.Alias.Alias, declared.tables.Row.Row, Ternary.Intersects}
+use Rattle.cover_merge.specs.{Refinement.IsFirstMet, Spans.AreSpansOf}
+use Rattle.cover_merge.proofs.{Answering.fails, SpanLemmas.met_at, SpanLemmas.row_missed, SpanLemmas.spans_read, SpanLemmas.spans_there}
 use Rattle.cover_merge.proofs.meeting.first_met_in.Goals as goal
 
 pub returns-then-not-intersects : goal.returns-then-not-intersects

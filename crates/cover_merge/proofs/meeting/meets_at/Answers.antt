@@ -1,9 +1,7 @@
 -- The row stands at the place of its generality or behind it, so the block would have to miss it.
 use Rattle.std.proofs.Common.{◌∙◌, ◌<◌, ap, length, subst, sym, arith}
 use Rattle.std.specs.Prelude.{All}
-use Rattle.tern_word.specs.declared.tables.Alias.{Alias}
-use Rattle.tern_word.specs.declared.tables.Row.{Row}
-use Rattle.tern_word.specs.Ternary.{Intersects}
+use Rattle.tern_word.specs.{declared.tables.Alias.Alias, declared.tables.Row.Row, Ternary.Intersects}
 use Rattle.cover_merge.proofs.RivalLemmas.{behind_place}
 use Rattle.cover_merge.proofs.meeting.meets_at.Goals as goal
 

@@ -1,8 +1,7 @@
 -- The block meets the alias that was found, so it does not pass.
 use Rattle.std.proofs.Common.{subst, sym}
 use Rattle.cover_merge.specs.Merge.{PassesDown, place_for}
-use Rattle.cover_merge.proofs.Answering.{answers_no}
-use Rattle.cover_merge.proofs.Determined.{met_fails}
+use Rattle.cover_merge.proofs.{Answering.answers_no, Determined.met_fails}
 use Rattle.cover_merge.proofs.meeting.passes_behind.Goals as goal
 
 pub returns-in-Some : goal.returns-in-Some

@@ -1,28 +1,21 @@
 -- One place more does not fail.
 use Rattle.std.proofs.Common.{◌≡◌, ◌<◌, ◌+◌, ℕ, true, length, refl, sym, subst, arith}
 use Rattle.std.specs.Prelude.{All}
-use Rattle.std.proofs.lemmas.List.{take_rest}
-use Rattle.std.proofs.lemmas.List.Elements.{All-drop}
+use Rattle.std.proofs.lemmas.List.{take_rest, Elements.All-drop}
 use Rattle.cover_merge.specs.Merge.{has_row, place_for}
-use Rattle.cover_merge.proofs.RefineLemmas.{none_fails}
-use Rattle.cover_merge.proofs.SiftLemmas.{member_alike, member_inside, member_passes}
+use Rattle.cover_merge.proofs.{RefineLemmas.none_fails, SiftLemmas.member_alike, SiftLemmas.member_inside, SiftLemmas.member_passes}
 use Rattle.cover_merge.proofs.refining.all_pass.Goals as goal
 
-pub passes-requires-clause-inside : goal.passes-requires-clause-inside
-passes-requires-clause-inside c = member_inside c.args.table.rows.now c.args.set.now c.requires c.loop-k.k _ _ (omega (arith, c.loop-k-test.true)) refl
-
-pub passes-requires-clause-one_route : goal.passes-requires-clause-one_route
-passes-requires-clause-one_route c r less found =
+pub passes-requires : goal.passes-requires
+passes-requires c =
+    let rows = c.args.table.rows.now in
     let xs = c.args.set.now in
     let k = c.loop-k.k in
-    member_alike c.args.table.rows.now xs c.requires k _ _ (omega (arith, c.loop-k-test.true)) refl r less (subst (λ l. has_row l r ≡ true) (take_rest xs (k + 1)) found)
-
-pub passes-requires-clause-in_range : goal.passes-requires-clause-in_range
-passes-requires-clause-in_range c =
-    let xs = c.args.set.now in
-    let k = c.loop-k.k in
-    let P : ℕ → Type 0 = λ s. s < length c.args.table.rows.now in
-    subst (All P) (sym (take_rest xs (k + 1))) (All-drop P (k + 1) xs c.requires.in_range)
+    let P : ℕ → Type 0 = λ s. s < length rows in record {
+      inside = member_inside rows xs c.requires k _ _ (omega (arith, c.loop-k-test.true)) refl;
+      one_route = λ r less found. member_alike rows xs c.requires k _ _ (omega (arith, c.loop-k-test.true)) refl r less (subst (λ l. has_row l r ≡ true) (take_rest xs (k + 1)) found);
+      in_range = subst (All P) (sym (take_rest xs (k + 1))) (All-drop P (k + 1) xs c.requires.in_range);
+    }
 
 pub loop-k-preserved : goal.loop-k-preserved
 loop-k-preserved c =

@@ -1,16 +1,11 @@
 -- A refinement within bounds is a refinement.
-use Rattle.std.proofs.Common.{◌≡◌, ◌<◌, ◌^◌, ◌⊎◌, [], length, sym, subst}
-use Rattle.tern_word.specs.SoundTable.{IsSound}
+use Rattle.std.proofs.Common.{arith, ◌≡◌, ◌⊎◌, [], sym, subst}
 use Rattle.cover_merge.specs.Merge.{IsOneRoute, IsMergeSet, IsLegal}
-use Rattle.cover_merge.specs.Refinement.{Refines}
 use Rattle.cover_merge.proofs.KeptLemmas.{forgets}
 use Rattle.cover_merge.proofs.refining.refine.Goals as goal
 
 pub invariant_of-sound : goal.invariant_of-sound
-invariant_of-sound c = record {
-  few = subst (λ l. length l < 2 ^ 32) (sym c.as_slice-rows.ensures) c.requires.few;
-  sound = subst IsSound (sym c.as_slice-rows.ensures) c.requires.sound;
-}
+invariant_of-sound c = grind arith
 
 pub invariant_of-rivaled : goal.invariant_of-rivaled
 invariant_of-rivaled c = let it = c.in_ok-rivals.ensures in record { few = it.few; sound = it.sound; one_each = it.one_each; below = it.below; rivaled = ∣ it ∣₁ }
@@ -20,9 +15,7 @@ refine_within-requires c = subst (λ l. IsOneRoute l c.args.places) (sym c.as_sl
 
 pub returns-clause-refined : goal.returns-clause-refined
 returns-clause-refined c =
-    let found = c.in_ok-set.field-0 in
-    subst (λ l. Refines l c.args.places found.set) c.as_slice-rows.ensures
-    (forgets c.as_slice-rows.result.now found.kept.outer found.kept.low c.args.places found.set c.in_ok-set.ensures.refined)
+    grind (arith, forgets c.as_slice-rows.result.now (c.in_ok-set.field-0).kept.outer (c.in_ok-set.field-0).kept.low c.args.places (c.in_ok-set.field-0).set c.in_ok-set.ensures.refined)
 
 pub returns-clause-legal : goal.returns-clause-legal
 returns-clause-legal c =

@@ -2,11 +2,9 @@
 use Rattle.std.proofs.Common.{◌≡◌, ◌<◌, ◌≤◌, ◌∙◌, length, inr, sym, subst, arith}
 use Rattle.std.specs.Prelude.{MatchOption}
 use Rattle.spin_base.specs.declared.blocks.Block.{Block}
-use Rattle.cover_merge.specs.Merge.{IsOneRoute, PassesUpCheck, merged_block}
-use Rattle.cover_merge.specs.Kept.{IsGone, RefinesWithin}
-use Rattle.cover_merge.proofs.KeptLemmasSteps.{gone_empty, gone_start, gone_up}
-use Rattle.cover_merge.proofs.KeepLemmas.{turn_down, turn_legal}
-use Rattle.cover_merge.proofs.RefineLemmas.{one_route_after, legal_here}
+use Rattle.cover_merge.specs.{Merge.IsOneRoute, Merge.PassesUpCheck, Merge.merged_block, Kept.IsGone, Kept.RefinesWithin}
+use Rattle.cover_merge.proofs.{KeptLemmasSteps.gone_empty, KeptLemmasSteps.gone_start, KeptLemmasSteps.gone_up, KeepLemmas.turn_down, KeepLemmas.turn_legal, RefineLemmas.one_route_after}
+use Rattle.cover_merge.proofs.RefineLemmas.{legal_here}
 use Rattle.cover_merge.proofs.refining.refine_within.Goals as goal
 
 pub refining-init : goal.refining-init
@@ -14,6 +12,14 @@ refining-init c = record {
   set = subst (IsOneRoute c.args.table.rows.now) (sym c.into_vec-set.ensures) c.requires;
   gone = subst (λ l. IsGone c.args.table.rows.now c.args.places l c.all_keys-outer.result 33) (sym c.into_vec-set.ensures) (gone_start c.args.table.rows.now c.args.places c.all_keys-outer.result 33 (omega arith));
 }
+
+pub narrow-requires : goal.narrow-requires
+narrow-requires c =
+    let rows = c.args.table.rows.now in
+    let left = c.sifted.new.set.items in
+    let sifted : (2 ≤ length left) × (c.in-Some.merged ≡ merged_block rows left) × (PassesUpCheck rows left) =
+    subst (λ o. MatchOption o (length left < 2) (λ (m : Block). (2 ≤ length left) × (m ≡ merged_block rows left) × (PassesUpCheck rows left))) c.in-Some.is c.in_ok-merged.ensures.sifted.found_is in
+    record { set = record { set = c.in_ok-merged.ensures.sifted.one_route; two = sifted.0 }; merged = sifted.1; up = sifted.2 }
 
 pub returns-then-narrow-clause-refined : goal.returns-then-narrow-clause-refined
 returns-then-narrow-clause-refined c =
@@ -59,10 +65,4 @@ refining-preserved c = record {
 
 pub returns-clause-refined : goal.returns-clause-refined
 returns-clause-refined c =
-    let rows = c.args.table.rows.now in
-    let made = c.with_bounds-2.result in
-    let less : length c.refining.set.items < 2 = omega (arith, c.len.ensures, c.refining-test.false) in
-    subst (λ n. RefinesWithin rows made.kept.outer n c.args.places made.set) (sym c.with_bounds-2.ensures.low)
-    (subst (λ b. RefinesWithin rows b c.refining.low c.args.places made.set) (sym c.with_bounds-2.ensures.outer)
-    (subst (RefinesWithin rows c.refining.outer c.refining.low c.args.places) (sym (c.with_bounds-2.ensures.set ∙ c.clear.ensures.items))
-    (gone_empty rows c.args.places c.refining.set.items c.refining.outer c.refining.low c.refining.invariant.gone less)))
+    grind (arith, gone_empty (c.args.table.rows.now) c.args.places c.refining.set.items c.refining.outer c.refining.low c.refining.invariant.gone (omega (arith, c.len.ensures, c.refining-test.false)))

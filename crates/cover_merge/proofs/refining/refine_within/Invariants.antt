@@ -1,7 +1,6 @@
 -- Steps within the bounds lead from the places at the start to those now.
 use Rattle.std.proofs.Common.{length}
-use Rattle.cover_merge.specs.Merge.{IsOneRoute}
-use Rattle.cover_merge.specs.Kept.{IsGone}
+use Rattle.cover_merge.specs.{Merge.IsOneRoute, Kept.IsGone}
 use Rattle.cover_merge.proofs.refining.refine_within.Given as goal
 
 abbrev pub invariant-refining : goal.invariant-refining

@@ -2,16 +2,13 @@
 use Rattle.std.proofs.Common.{◌≡◌, ◌<◌, ◌≤◌, ◌+◌, ◌-◌, ◌++◌, ◌↔◌, ℕ, List, IsTrue, true, take, drop, ap, sym, subst, refl, ◌∙◌, length, length-set, length-take, get_or, set, arith}
 use Rattle.std.specs.Prelude.{All}
 use Rattle.std.proofs.lemmas.List.{take_all, take-append-drop, take_rest, take-set-le}
-use Rattle.cover_merge.proofs.Lists.{All-right}
-use Rattle.tern_word.specs.Ternary.{generality}
-use Rattle.cover_merge.specs.Merge.{IsOneRoute, PassesUp, PassesUpCheck, has_row, merged_block, place_for}
-use Rattle.cover_merge.specs.Kept.{LeadsWithin}
-use Rattle.cover_merge.specs.Refinement.{AreMerges, IsLastFailing}
-use Rattle.cover_merge.proofs.KeptLemmasSteps.{leads_on, sift_leads}
-use Rattle.cover_merge.proofs.RefineLemmas.{last_more, none_fails}
-use Rattle.cover_merge.proofs.SiftLemmas.{all_pass, alike_behind, begins_less, begins_twice, kept_now, last_within, left_many, out_count, out_in_range, out_last, out_now, sift_behind, sift_one, up_of}
-use Rattle.cover_merge.proofs.refining.sift.Goals as goal
+use Rattle.cover_merge.proofs.{Lists.All-right, KeptLemmasSteps.leads_on, KeptLemmasSteps.sift_leads, RefineLemmas.last_more, RefineLemmas.none_fails, SiftLemmas.all_pass, SiftLemmas.alike_behind}
+use Rattle.cover_merge.proofs.SiftLemmas.{begins_less, begins_twice, kept_now, last_within, left_many, out_count, out_in_range, out_last, out_now, sift_behind, sift_one, up_of}
 use Rattle.cover_merge.proofs.refining.sift.Goals.{then-loop-i-test+else-i-len-ge2, else-loop-i-test}
+use Rattle.tern_word.specs.Ternary.{generality}
+use Rattle.cover_merge.specs.{Merge.IsOneRoute, Merge.PassesUp, Merge.PassesUpCheck, Merge.has_row, Merge.merged_block, Merge.place_for, Kept.LeadsWithin, Refinement.AreMerges}
+use Rattle.cover_merge.specs.Refinement.{IsLastFailing}
+use Rattle.cover_merge.proofs.refining.sift.Goals as goal
 
 -- the slice of what stands from a place on
 rest_of : (n : ℕ) (ys xs : List ℕ) → ys ≡ xs → take (length ys - n) (drop n ys) ≡ drop n xs
@@ -43,26 +40,20 @@ loop-i-init c =
       leads = λ outer low. subst (LeadsWithin rows outer low xs) (sym whole) (LeadsWithin.stands xs);
     }
 
-pub passes-requires-clause-inside : goal.passes-requires-clause-inside
-passes-requires-clause-inside c =
-    let old = c.loop-i.invariant in
-    last_within c.args.table.rows.now c.loop-i.set.items c.loop-i.i c.loop-i.kept c.loop-i-test.true old.gap old.within old.set c.index.result.now c.index.ensures
-
 pub index-requires : goal.index-requires
 index-requires c = omega (arith, c.loop-i-test.true, c.loop-i.invariant.gap, c.loop-i.invariant.within)
 
-pub passes-requires-clause-one_route : goal.passes-requires-clause-one_route
-passes-requires-clause-one_route c r less found =
+pub passes-requires : goal.passes-requires
+passes-requires c =
+    let rows = c.args.table.rows.now in
     let xs = c.loop-i.set.items in
     let old = c.loop-i.invariant in
-    alike_behind c.args.table.rows.now xs c.loop-i.i c.loop-i.kept c.loop-i-test.true old.gap old.within old.set c.index.result.now c.index.ensures r less
-    (subst (λ l. has_row l r ≡ true) (rest_of c.loop-i.kept c.deref-in-loop-i.result.now xs c.deref-in-loop-i.ensures.value) found)
-
-pub passes-requires-clause-in_range : goal.passes-requires-clause-in_range
-passes-requires-clause-in_range c =
-    let xs = c.loop-i.set.items in
-    subst (All (λ s. s < length c.args.table.rows.now)) (sym (rest_of c.loop-i.kept c.deref-in-loop-i.result.now xs c.deref-in-loop-i.ensures.value))
-    (All-right (λ s. s < length c.args.table.rows.now) (take c.loop-i.i xs) (drop c.loop-i.kept xs) c.loop-i.invariant.set.in_range)
+    let rest = rest_of c.loop-i.kept c.deref-in-loop-i.result.now xs c.deref-in-loop-i.ensures.value in record {
+      inside = last_within rows xs c.loop-i.i c.loop-i.kept c.loop-i-test.true old.gap old.within old.set c.index.result.now c.index.ensures;
+      one_route = λ r less found.
+          alike_behind rows xs c.loop-i.i c.loop-i.kept c.loop-i-test.true old.gap old.within old.set c.index.result.now c.index.ensures r less (subst (λ l. has_row l r ≡ true) rest found);
+      in_range = subst (All (λ s. s < length rows)) (sym rest) (All-right (λ s. s < length rows) (take c.loop-i.i xs) (drop c.loop-i.kept xs) old.set.in_range);
+    }
 
 pub loop-i-preserved-then-passes : goal.loop-i-preserved-then-passes
 loop-i-preserved-then-passes c =
@@ -157,12 +148,7 @@ loop-i-preserved c =
     }
 
 pub returns-then-len-lt2-clause-sifted : goal.returns-then-len-lt2-clause-sifted
-returns-then-len-lt2-clause-sifted c =
-    let rows = c.args.table.rows.now in record {
-      one_route = subst (IsOneRoute rows) (sym c.take_out_run.ensures) c.loop-i.invariant.set;
-      steps = λ outer low. subst (LeadsWithin rows outer low c.args.set.now.items) (sym c.take_out_run.ensures) (c.loop-i.invariant.leads outer low);
-      found_is = omega (arith, c.len-2.ensures, c.if-len-lt2.true);
-    }
+returns-then-len-lt2-clause-sifted c = grind arith
 
 pub returns-clause-sifted : goal.returns-clause-sifted
 returns-clause-sifted c =

@@ -2,8 +2,7 @@
 use Rattle.std.proofs.Common.{◌≡◌, ◌<◌, ◌≤◌, ◌++◌, ℕ, length, get_or, take, drop}
 use Rattle.spin_base.specs.declared.blocks.Block.{Block}
 use Rattle.tern_word.specs.Ternary.{generality}
-use Rattle.cover_merge.specs.Merge.{IsOneRoute, PassesUp, merged_block, place_for}
-use Rattle.cover_merge.specs.Kept.{LeadsWithin}
+use Rattle.cover_merge.specs.{Merge.IsOneRoute, Merge.PassesUp, Merge.merged_block, Merge.place_for, Kept.LeadsWithin}
 use Rattle.cover_merge.proofs.refining.sift.Given as goal
 
 abbrev pub invariant-loop-i : goal.invariant-loop-i

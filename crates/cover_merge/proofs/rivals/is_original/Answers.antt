@@ -1,7 +1,6 @@
 -- The first alias that was read has the row's key and mask.
 use Rattle.std.proofs.Common.{◌≡◌, ◌∙◌, ◌==◌, ◌&&◌, true, ap, sym}
-use Rattle.std.specs.Option.{option_copied}
-use Rattle.std.specs.Prelude.{slice_get}
+use Rattle.std.specs.{Option.option_copied, Prelude.slice_get}
 use Rattle.std.proofs.lemmas.Bool.{and_parts, eqb-true}
 use Rattle.cover_merge.proofs.rivals.is_original.Goals as goal
 

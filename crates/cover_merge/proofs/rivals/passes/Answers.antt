@@ -1,12 +1,10 @@
 -- Rivals decide, in order of generality.
 use Rattle.std.proofs.Common.{◌∙◌, get_or, refl, sym, ap}
 use Rattle.std.proofs.{Math.Logic.∥∥₁_elim, Props.props}
-use Rattle.cover_merge.specs.declared.rivals.Rival.{Rival}
-use Rattle.cover_merge.specs.Merge.{PassesUp, place_for}
-use Rattle.cover_merge.specs.Rivals.{AreRivalsAt, IsRivaled, is_at_one}
-use Rattle.cover_merge.proofs.Answering.{answers_no}
-use Rattle.cover_merge.proofs.RivalLemmas.{all_passed, away_refuses, other_refuses, passed_more, rest_pass, rivals_read}
-use Rattle.cover_merge.proofs.rivals.passes.Goals.{After-as_slice-list, then-rival-bits-via-then-rival-bits, then-rival-bits-via-else-rival-bits+then-not-is_at_one}
+use Rattle.cover_merge.specs.{declared.rivals.Rival.Rival, Merge.PassesUp, Merge.place_for, Rivals.AreRivalsAt, Rivals.IsRivaled, Rivals.is_at_one}
+use Rattle.cover_merge.proofs.{Answering.answers_no, RivalLemmas.all_passed, RivalLemmas.away_refuses, RivalLemmas.other_refuses, RivalLemmas.passed_more, RivalLemmas.rest_pass}
+use Rattle.cover_merge.proofs.{RivalLemmas.rivals_read, rivals.passes.Goals.After-as_slice-list, rivals.passes.Goals.then-rival-bits-via-then-rival-bits}
+use Rattle.cover_merge.proofs.rivals.passes.Goals.{then-rival-bits-via-else-rival-bits+then-not-is_at_one}
 use Rattle.cover_merge.proofs.rivals.passes.Goals as goal
 
 abbrev none : Rival

@@ -1,7 +1,6 @@
 -- Each rival that was passed is at one of the places.
 use Rattle.std.proofs.Common.{◌≡◌, ◌<◌, ℕ, true, get_or}
-use Rattle.cover_merge.specs.declared.rivals.Rival.{Rival}
-use Rattle.cover_merge.specs.Rivals.{is_at_one}
+use Rattle.cover_merge.specs.{declared.rivals.Rival.Rival, Rivals.is_at_one}
 use Rattle.cover_merge.proofs.rivals.passes.Given as goal
 
 abbrev pub invariant-loop-k : goal.invariant-loop-k

@@ -17,7 +17,7 @@ loop-r-preserved c =
     elim c.if-not-is_missed.branch [
       | then-not-is_missed+in_ok-push w ↦
           let a = w.index-rows-r-then-not-is_missed in
-          rivals_more rows c.args.serials.now s r c.loop-r.list c.loop-r.invariant c.requires.ordered w.rival_of.result c.if-not-is_missed.list behind
+          rivals_more rows c.args.serials.now s r c.loop-r.list c.loop-r.invariant c.requires.sound.ordered w.rival_of.result c.if-not-is_missed.list behind
           (rival_read rows c.args.serials.now r a.result w.rival_of.result c.loop-r-test.true a.is w.rival_of.ensures.serial w.rival_of.ensures.general w.rival_of.ensures.bits)
           (met_read rows s r c.index-rows-s.result c.index-rows-r.result c.is_missed.result c.requires.inside c.loop-r-test.true c.index-rows-s.is c.is_missed.ensures w.if-not-is_missed.true)
           (w.list-is ∙ w.in_ok-push.ensures.ok)

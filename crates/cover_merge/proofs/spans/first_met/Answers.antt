@@ -3,20 +3,14 @@ use Rattle.std.proofs.Common.{◌+◌, ◌*◌, length, subst, arith}
 use Rattle.std.specs.Prelude.{MatchOption}
 use Rattle.tern_word.specs.Ternary.{Intersects}
 use Rattle.cover_merge.specs.Spans.{IsFirstAt, IsFreeUpTo}
-use Rattle.cover_merge.proofs.Answering.{fails}
-use Rattle.cover_merge.proofs.SpanLemmas.{first_behind, free_more, free_span, rest_tells}
+use Rattle.cover_merge.proofs.{Answering.fails, SpanLemmas.first_behind, SpanLemmas.free_more, SpanLemmas.free_span, SpanLemmas.rest_tells}
 use Rattle.cover_merge.proofs.spans.first_met.Goals as goal
 
 pub loop-k-init : goal.loop-k-init
 loop-k-init c i a begins ends meets = omega (arith, ends)
 
 pub loop-k-preserved-then-not-intersects : goal.loop-k-preserved-then-not-intersects
-loop-k-preserved-then-not-intersects c =
-    let k = c.loop-k.k in
-    let span = c.index-spans-k.result in
-    free_more c.args.block c.args.aliases.now 0 (k * 32) ((k + 1) * 32) c.loop-k.invariant
-    (free_span c.args.block c.args.aliases.now c.args.spans.now c.requires k span c.loop-k-test.true
-    (subst (λ b. Intersects c.args.block b → ⊥) c.index-spans-k.is (fails (Intersects c.args.block span) c.intersects.result c.intersects.ensures c.if-not-intersects.true)))
+loop-k-preserved-then-not-intersects c = grind (arith, fails (Intersects c.args.block (c.index-spans-k.result)) c.intersects.result c.intersects.ensures c.if-not-intersects.true, free_more, free_span)
 
 pub returns-in-Some : goal.returns-in-Some
 returns-in-Some c =

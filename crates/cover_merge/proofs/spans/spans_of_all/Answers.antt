@@ -5,10 +5,7 @@ use Rattle.cover_merge.proofs.SpanLemmas.{spans_put}
 use Rattle.cover_merge.proofs.spans.spans_of_all.Goals as goal
 
 pub loop-s-init : goal.loop-s-init
-loop-s-init c = record {
-  many = ap length c.in_ok-spans.ensures.items;
-  each = λ s d less. absurd (omega (arith, less));
-}
+loop-s-init c = grind arith
 
 pub loop-s-preserved : goal.loop-s-preserved
 loop-s-preserved c =

@@ -1,13 +1,9 @@
 -- A table that is short enough is covered.
 use Rattle.std.proofs.Common.{◌≤◌, List, length, get_or, sym, subst, inl, arith}
-use Rattle.std.proofs.lemmas.List.Elements.{Contains-get_or}
-use Rattle.std.proofs.lemmas.List.Sorted.{IsPermutation-refl}
+use Rattle.std.proofs.lemmas.List.{Elements.Contains-get_or, Sorted.IsPermutation-refl}
 use Rattle.spin_base.proofs.Members.{Contains-map}
-use Rattle.tern_word.specs.declared.tables.Row.{Row}
-use Rattle.tern_word.specs.SoundTable.{served}
-use Rattle.cover_merge.specs.declared.covering.Merge.{Merge}
-use Rattle.cover_merge.specs.Covering.{Covers, short}
-use Rattle.cover_merge.specs.Merges.{sets_of}
+use Rattle.tern_word.specs.{declared.tables.Row.Row, SoundTable.served}
+use Rattle.cover_merge.specs.{declared.covering.Merge.Merge, Covering.Covers, Covering.short, Merges.sets_of}
 use Rattle.default_routes.proofs.shortening.cover_long.Goals as goal
 
 pub returns-clause-covered : goal.returns-clause-covered

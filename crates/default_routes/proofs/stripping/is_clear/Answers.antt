@@ -1,8 +1,7 @@
 -- Rows that are apart are clear.
 use Rattle.std.proofs.Common.{sym, subst, MatchBool}
 use Rattle.std.specs.Prelude.{All}
-use Rattle.tern_word.specs.declared.tables.Row.{Row}
-use Rattle.tern_word.specs.SoundTable.{Misses}
+use Rattle.tern_word.specs.{declared.tables.Row.Row, SoundTable.Misses}
 use Rattle.cover_merge.specs.Merge.{rows_at}
 use Rattle.default_routes.proofs.stripping.is_clear.Goals as goal
 

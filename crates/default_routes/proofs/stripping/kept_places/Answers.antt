@@ -1,18 +1,13 @@
 -- Each turn leaves a row out, or keeps its place.
 use Rattle.std.proofs.Common.{◌-◌, length, sym, subst, arith}
 use Rattle.std.specs.Prelude.{All}
-use Rattle.tern_word.specs.declared.tables.Row.{Row}
-use Rattle.tern_word.specs.SoundTable.{Misses}
+use Rattle.tern_word.specs.{declared.tables.Row.Row, SoundTable.Misses}
 use Rattle.cover_merge.specs.Merge.{rows_at}
 use Rattle.default_routes.proofs.StripLemmas.{kept_goes, kept_stays, in_range_more, none_kept, in_range_none, later_clear}
 use Rattle.default_routes.proofs.stripping.kept_places.Goals as goal
 
 pub loop-i-init : goal.loop-i-init
-loop-i-init c = record {
-  within = omega arith;
-  in_range = in_range_none (length c.args.rows.now) c.new-kept.result.items c.new-kept.ensures.items;
-  kept = none_kept c.args.rows.now c.new-kept.result.items c.new-kept.ensures.items;
-}
+loop-i-init c = grind (arith, in_range_none (length c.args.rows.now) c.new-kept.result.items c.new-kept.ensures.items, none_kept c.args.rows.now c.new-kept.result.items c.new-kept.ensures.items)
 
 pub loop-i-preserved-in-Continue-1 : goal.loop-i-preserved-in-Continue-1
 loop-i-preserved-in-Continue-1 c = record {

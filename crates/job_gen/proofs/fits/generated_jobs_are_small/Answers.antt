@@ -1,6 +1,5 @@
 -- The laws, as the lemmas say them.
-use Rattle.job_gen.proofs.FewRows.{few_rows}
-use Rattle.job_gen.proofs.Fitting.{gen_machine, gen_vertices, gen_nets, gen_packets, gen_queue, gen_events}
+use Rattle.job_gen.proofs.{FewRows.few_rows, Fitting.gen_machine, Fitting.gen_vertices, Fitting.gen_nets, Fitting.gen_packets, Fitting.gen_queue, Fitting.gen_events}
 use Rattle.job_gen.proofs.fits.generated_jobs_are_small.Goals as goal
 
 pub returns : goal.returns

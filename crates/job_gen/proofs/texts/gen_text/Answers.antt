@@ -1,7 +1,5 @@
-use Rattle.std.proofs.Common.{◌≤◌, length, ap, ◌∙◌, sym, subst}
-use Rattle.job_text.specs.Json.{json_of}
-use Rattle.job_gen.proofs.LengthLemmas.{text_short}
-use Rattle.job_gen.proofs.TextLemmas.{value_drawn, text_written, text_read}
+use Rattle.std.proofs.Common.{arith, ◌≤◌, length, ◌∙◌, sym, subst}
+use Rattle.job_gen.proofs.{LengthLemmas.text_short, TextLemmas.value_drawn, TextLemmas.text_written, TextLemmas.text_read}
 use Rattle.job_gen.proofs.texts.gen_text.Goals as goal
 
 pub returns-clause-text : goal.returns-clause-text
@@ -13,6 +11,4 @@ pub returns-clause-few : goal.returns-clause-few
 returns-clause-few c = subst (λ bytes. length bytes ≤ 16777216) (sym (returns-clause-text c)) (text_short c.args.n)
 
 pub returns-clause-reads_back : goal.returns-clause-reads_back
-returns-clause-reads_back c =
-    ap json_of c.from_vec.ensures
-    ∙ text_read c.in_ok-bytes.bytes.items _ c.args.n (value_drawn _ c.in_ok-job.job c.args.n c.in_ok-value.ensures c.in_ok-job.ensures) c.in_ok-bytes.ensures.utf8 c.in_ok-bytes.ensures.reads_back
+returns-clause-reads_back c = grind (arith, text_read, value_drawn)

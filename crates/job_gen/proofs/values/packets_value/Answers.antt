@@ -1,4 +1,4 @@
-use Rattle.std.proofs.Common.{ap, ◌∙◌}
+use Rattle.std.proofs.Common.{arith, ap, ◌∙◌}
 use Rattle.serde_json.specs.Data.{array}
 use Rattle.serde_json.proofs.Views.{view-Array}
 use Rattle.job_gen.specs.Values.{packet_data}
@@ -6,9 +6,7 @@ use Rattle.job_gen.proofs.ValueLemmas.{mapped_push, mapped_all}
 use Rattle.job_gen.proofs.values.packets_value.Goals as goal
 
 pub loop-packet-preserved : goal.loop-packet-preserved
-loop-packet-preserved c =
-    mapped_push packet_data c.loop-packet.packet-index c.args.packets.now _ c.loop-packet.values.items c.push.new.self.items c.in_ok-value.value
-    c.loop-packet-test.true c.in_ok-push.ensures.items c.in_ok-value.ensures c.loop-packet.invariant
+loop-packet-preserved c = grind (arith, mapped_push)
 
 pub returns : goal.returns
 returns c = view-Array c.loop-packet.values

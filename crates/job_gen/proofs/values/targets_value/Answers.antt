@@ -1,4 +1,4 @@
-use Rattle.std.proofs.Common.{ap, ◌∙◌}
+use Rattle.std.proofs.Common.{arith, ap, ◌∙◌}
 use Rattle.serde_json.specs.Data.{array}
 use Rattle.serde_json.proofs.Views.{view-Array}
 use Rattle.job_gen.specs.Values.{name_data}
@@ -6,9 +6,7 @@ use Rattle.job_gen.proofs.ValueLemmas.{mapped_push, mapped_all}
 use Rattle.job_gen.proofs.values.targets_value.Goals as goal
 
 pub loop-target-preserved : goal.loop-target-preserved
-loop-target-preserved c =
-    mapped_push name_data c.loop-target.target-index c.args.targets.now _ c.loop-target.values.items c.push.new.self.items c.in_ok-value.value
-    c.loop-target-test.true c.in_ok-push.ensures.items c.in_ok-value.ensures c.loop-target.invariant
+loop-target-preserved c = grind (arith, mapped_push)
 
 pub returns : goal.returns
 returns c = view-Array c.loop-target.values ∙ ap array (mapped_all name_data c.loop-target.target-index c.args.targets.now c.loop-target.values.items c.loop-target-test.false c.loop-target.invariant)

@@ -1,9 +1,8 @@
-use Rattle.std.proofs.Common.{◌≡◌, ◌∙◌, map, refl, ap, sym, arith}
+use Rattle.std.proofs.Common.{◌≡◌, ◌∙◌, length, map, refl, ap, sym, arith}
 use Rattle.std.proofs.lemmas.List.{nil_from_length}
+use Rattle.std.proofs.{Math.Logic.∥∥₁_elim, Props.props}
 use Rattle.serde_json.specs.View.{view}
-use Rattle.job_readers.specs.GraphPart.{vertex_names_of}
-use Rattle.job_readers.specs.Items.{items_faults}
-use Rattle.job_readers.specs.RunPart.{events_faults, events_value}
+use Rattle.job_readers.specs.{GraphPart.vertex_names_of, Items.items_faults, RunPart.events_faults, RunPart.events_value}
 use Rattle.job_readers.proofs.events.events.Goals as goal
 
 pub returns-then-is_empty-clause-read : goal.returns-then-is_empty-clause-read
@@ -15,5 +14,8 @@ returns-then-is_empty-clause-read c =
 pub returns-clause-read : goal.returns-clause-read
 unfolding events_faults events_value
 returns-clause-read c =
-    let names : c.in_ok-names.names ≡ vertex_names_of c.args.graph.now.vertices = c.in_ok-names.ensures ∙ ap vertex_names_of c.as_slice.ensures in
+    let names : c.in_ok-names.names ≡ vertex_names_of c.args.valid.now.graph.now.vertices = c.in_ok-names.ensures ∙ ap vertex_names_of c.as_slice.ensures in
     rw (c.in_ok-items.ensures.0, ← names, ← c.in_ok-items.ensures.1) c.each_item.ensures.read
+
+pub names_of_vertices-requires : goal.names_of_vertices-requires
+names_of_vertices-requires c = ∥∥₁_elim c.args.valid.now.valid (hlevel props) (λ valid. omega (arith, valid.few_vertices, ap length c.as_slice.ensures))

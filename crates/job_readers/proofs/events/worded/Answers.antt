@@ -1,10 +1,10 @@
-use Rattle.std.proofs.Common.{refl, ap, sym, ◌∙◌, map, Some, None}
+use Rattle.std.proofs.Common.{arith, refl, ap, sym, ◌∙◌, map, Some, None}
 use Rattle.std.proofs.lemmas.Result.{err_from_is_err_and}
 use Rattle.serde_json.specs.View.{view}
 use Rattle.spin_base.specs.declared.copies.Event.TheVariants as events
 use Rattle.job_text.specs.Paths.{path_text}
-use Rattle.job_readers.specs.RunPart.{port_of_event, out_of_event}
-use Rattle.job_readers.specs.declared.events.Verb.TheVariants.{Inject, Take, Send, Dump, Collect}
+use Rattle.job_readers.specs.{RunPart.port_of_event, RunPart.out_of_event, declared.events.Verb.TheVariants.Inject, declared.events.Verb.TheVariants.Take, declared.events.Verb.TheVariants.Send}
+use Rattle.job_readers.specs.declared.events.Verb.TheVariants.{Dump, Collect}
 use Rattle.job_readers.proofs.VerbSteps.{verb_reads, verb_fails}
 use Rattle.job_readers.proofs.events.worded.Goals as goal
 
@@ -14,9 +14,7 @@ returns-in_err-vertex_of-in-Some-Inject-clause-read c =
     rw (p.1, p.2) (verb_fails c.args.vertices.now (path_text c.args.path.now) c.args.word.now (map view c.args.rest.now) (Some Inject) (ap Some (sym c.in-Some-Inject.field-0-is) ∙ c.in-Some-Inject.ensures) c.in_err-vertex_of-in-Some-Inject.field-0.0 c.in_err-vertex_of-in-Some-Inject.ensures.read)
 
 pub returns-in_err-vertex_of-in-Some-Inject-clause-valid : goal.returns-in_err-vertex_of-in-Some-Inject-clause-valid
-returns-in_err-vertex_of-in-Some-Inject-clause-valid c =
-    let p = err_from_is_err_and c.from_residual.result c.from_residual.ensures.1 in
-    rw p.1 tt
+returns-in_err-vertex_of-in-Some-Inject-clause-valid c = grind (arith, err_from_is_err_and c.from_residual.result c.from_residual.ensures.1)
 
 pub returns-in_ok-vertex_of-in-Some-Inject-clause-read : goal.returns-in_ok-vertex_of-in-Some-Inject-clause-read
 returns-in_ok-vertex_of-in-Some-Inject-clause-read c =
@@ -32,9 +30,7 @@ returns-in_err-chip-in-Some-Take-clause-read c =
     rw (p.1, p.2) (verb_fails c.args.vertices.now (path_text c.args.path.now) c.args.word.now (map view c.args.rest.now) (Some Take) (ap Some (sym c.in-Some-Take.field-0-is) ∙ c.in-Some-Take.ensures) c.in_err-chip-in-Some-Take.field-0.0 c.in_err-chip-in-Some-Take.ensures.chip)
 
 pub returns-in_err-chip-in-Some-Take-clause-valid : goal.returns-in_err-chip-in-Some-Take-clause-valid
-returns-in_err-chip-in-Some-Take-clause-valid c =
-    let p = err_from_is_err_and c.from_residual-in_err-chip-in-Some-Take.result c.from_residual-in_err-chip-in-Some-Take.ensures.1 in
-    rw p.1 tt
+returns-in_err-chip-in-Some-Take-clause-valid c = grind (arith, err_from_is_err_and c.from_residual-in_err-chip-in-Some-Take.result c.from_residual-in_err-chip-in-Some-Take.ensures.1)
 
 pub returns-in_ok-chip-in-Some-Take-clause-read : goal.returns-in_ok-chip-in-Some-Take-clause-read
 unfolding port_of_event
@@ -49,9 +45,7 @@ returns-in_err-chip-in-Some-Send-clause-read c =
     rw (p.1, p.2) (verb_fails c.args.vertices.now (path_text c.args.path.now) c.args.word.now (map view c.args.rest.now) (Some Send) (ap Some (sym c.in-Some-Send.field-0-is) ∙ c.in-Some-Send.ensures) c.in_err-chip-in-Some-Send.field-0.0 c.in_err-chip-in-Some-Send.ensures.chip)
 
 pub returns-in_err-chip-in-Some-Send-clause-valid : goal.returns-in_err-chip-in-Some-Send-clause-valid
-returns-in_err-chip-in-Some-Send-clause-valid c =
-    let p = err_from_is_err_and c.from_residual-in_err-chip-in-Some-Send.result c.from_residual-in_err-chip-in-Some-Send.ensures.1 in
-    rw p.1 tt
+returns-in_err-chip-in-Some-Send-clause-valid c = grind (arith, err_from_is_err_and c.from_residual-in_err-chip-in-Some-Send.result c.from_residual-in_err-chip-in-Some-Send.ensures.1)
 
 pub returns-in_ok-chip-in-Some-Send-clause-read : goal.returns-in_ok-chip-in-Some-Send-clause-read
 unfolding out_of_event
@@ -69,9 +63,7 @@ returns-in_err-chip-in-Some-Dump-clause-read c =
     rw (p.1, p.2) (verb_fails c.args.vertices.now (path_text c.args.path.now) c.args.word.now (map view c.args.rest.now) (Some Dump) (ap Some (sym c.in-Some-Dump.field-0-is) ∙ c.in-Some-Dump.ensures) c.in_err-chip-in-Some-Dump.field-0.0 c.in_err-chip-in-Some-Dump.ensures.chip)
 
 pub returns-in_err-chip-in-Some-Dump-clause-valid : goal.returns-in_err-chip-in-Some-Dump-clause-valid
-returns-in_err-chip-in-Some-Dump-clause-valid c =
-    let p = err_from_is_err_and c.from_residual-in_err-chip-in-Some-Dump.result c.from_residual-in_err-chip-in-Some-Dump.ensures.1 in
-    rw p.1 tt
+returns-in_err-chip-in-Some-Dump-clause-valid c = grind (arith, err_from_is_err_and c.from_residual-in_err-chip-in-Some-Dump.result c.from_residual-in_err-chip-in-Some-Dump.ensures.1)
 
 pub returns-in_ok-chip-in-Some-Dump-clause-read : goal.returns-in_ok-chip-in-Some-Dump-clause-read
 unfolding out_of_event
@@ -91,8 +83,7 @@ returns-in_err-vertex_of-in-Some-Collect-clause-read c =
 
 pub returns-in_err-vertex_of-in-Some-Collect-clause-valid : goal.returns-in_err-vertex_of-in-Some-Collect-clause-valid
 returns-in_err-vertex_of-in-Some-Collect-clause-valid c =
-    let p = err_from_is_err_and c.from_residual-in_err-vertex_of-in-Some-Collect.result c.from_residual-in_err-vertex_of-in-Some-Collect.ensures.1 in
-    rw p.1 tt
+    grind (arith, err_from_is_err_and c.from_residual-in_err-vertex_of-in-Some-Collect.result c.from_residual-in_err-vertex_of-in-Some-Collect.ensures.1)
 
 pub returns-in_ok-vertex_of-in-Some-Collect-clause-read : goal.returns-in_ok-vertex_of-in-Some-Collect-clause-read
 returns-in_ok-vertex_of-in-Some-Collect-clause-read c =

@@ -1,17 +1,10 @@
 use Rattle.std.proofs.Common.{refl, ◌≡◌, [], ◌∷◌, ◌++◌, length, map, ap, sym, subst, ◌∙◌, arith, length-append}
-use Rattle.std.proofs.lemmas.List.Elements.{All-push}
-use Rattle.std.proofs.lemmas.Result.{err_from_is_err_and}
+use Rattle.std.proofs.lemmas.{List.Elements.All-push, Result.err_from_is_err_and}
 use Rattle.serde_json.specs.View.{view}
-use Rattle.app_graph.specs.declared.graphs.Net.{Net}
-use Rattle.app_graph.specs.ValidGraph.{IsValidNet, HasSendingSource}
-use Rattle.job_text.specs.Reading.{IsFirstFault}
-use Rattle.job_text.specs.Paths.{path_text, item_at}
-use Rattle.job_readers.specs.Items.{following_faults}
-use Rattle.job_readers.specs.Places.{name_place_in}
-use Rattle.job_readers.specs.GraphPart.{net_value, next_net_faults}
-use Rattle.job_readers.proofs.Named.{net_is_new}
-use Rattle.job_readers.proofs.ItemSteps.{values-more, values-all}
-use Rattle.job_readers.proofs.FollowingSteps.{following-more, following-fail, following-none}
+use Rattle.app_graph.specs.{declared.graphs.Net.Net, ValidGraph.IsValidNet, ValidGraph.HasSendingSource}
+use Rattle.job_text.specs.{Reading.IsFirstFault, Paths.path_text, Paths.item_at}
+use Rattle.job_readers.specs.{Items.following_faults, Places.name_place_in, GraphPart.net_value, GraphPart.next_net_faults}
+use Rattle.job_readers.proofs.{Named.net_is_new, ItemSteps.values-more, ItemSteps.values-all, FollowingSteps.following-more, FollowingSteps.following-fail, FollowingSteps.following-none}
 use Rattle.job_readers.proofs.GraphSteps.{next_net, net_name, net_names_more, blocks_more, apart_more}
 use Rattle.job_readers.proofs.graph_parts.each_net.Goals as goal
 

@@ -3,8 +3,7 @@ use Rattle.std.specs.Prelude.{All, AllPairs}
 use Rattle.serde_json.specs.View.{view}
 use Rattle.app_graph.specs.ValidGraph.{IsValidNet, AreFixedApart, HasSendingSource}
 use Rattle.job_text.specs.Paths.{path_text}
-use Rattle.job_readers.specs.Items.{following_faults}
-use Rattle.job_readers.specs.GraphPart.{net_value, next_net_faults, net_names, fixed_blocks_of}
+use Rattle.job_readers.specs.{Items.following_faults, GraphPart.net_value, GraphPart.next_net_faults, GraphPart.net_names, GraphPart.fixed_blocks_of}
 use Rattle.job_readers.proofs.graph_parts.each_net.Given as goal
 
 abbrev pub invariant-loop-i : goal.invariant-loop-i

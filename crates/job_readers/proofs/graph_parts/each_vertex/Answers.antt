@@ -1,17 +1,10 @@
 use Rattle.std.proofs.Common.{refl, ◌≡◌, [], ◌∷◌, ◌++◌, map, ap, sym, subst, ◌∙◌, arith, length-append}
-use Rattle.std.proofs.lemmas.List.Elements.{All-push}
-use Rattle.std.proofs.lemmas.Result.{err_from_is_err_and}
+use Rattle.std.proofs.lemmas.{List.Elements.All-push, Result.err_from_is_err_and}
 use Rattle.serde_json.specs.View.{view}
-use Rattle.app_graph.specs.declared.graphs.Vertex.{Vertex}
-use Rattle.app_graph.specs.ValidGraph.{IsValidVertex}
-use Rattle.job_text.specs.Reading.{IsFirstFault}
-use Rattle.job_text.specs.Paths.{path_text, item_at}
-use Rattle.job_readers.specs.Items.{following_faults}
-use Rattle.job_readers.specs.Places.{name_place_in}
-use Rattle.job_readers.specs.GraphPart.{vertex_value, next_vertex_faults}
-use Rattle.job_readers.proofs.Named.{vertex_is_new}
-use Rattle.job_readers.proofs.ItemSteps.{values-more, values-all}
-use Rattle.job_readers.proofs.FollowingSteps.{following-more, following-fail, following-none}
+use Rattle.app_graph.specs.{declared.graphs.Vertex.Vertex, ValidGraph.IsValidVertex}
+use Rattle.job_text.specs.{Reading.IsFirstFault, Paths.path_text, Paths.item_at}
+use Rattle.job_readers.specs.{Items.following_faults, Places.name_place_in, GraphPart.vertex_value, GraphPart.next_vertex_faults}
+use Rattle.job_readers.proofs.{Named.vertex_is_new, ItemSteps.values-more, ItemSteps.values-all, FollowingSteps.following-more, FollowingSteps.following-fail, FollowingSteps.following-none}
 use Rattle.job_readers.proofs.GraphSteps.{next_vertex, vertex_name, names_more, devices_more, different_more}
 use Rattle.job_readers.proofs.graph_parts.each_vertex.Goals as goal
 

@@ -3,8 +3,7 @@ use Rattle.std.specs.Prelude.{All, AllPairs}
 use Rattle.serde_json.specs.View.{view}
 use Rattle.app_graph.specs.ValidGraph.{IsValidVertex, HaveDifferentDevices}
 use Rattle.job_text.specs.Paths.{path_text}
-use Rattle.job_readers.specs.Items.{following_faults}
-use Rattle.job_readers.specs.GraphPart.{vertex_value, next_vertex_faults, vertex_names_of, devices_of}
+use Rattle.job_readers.specs.{Items.following_faults, GraphPart.vertex_value, GraphPart.next_vertex_faults, GraphPart.vertex_names_of, GraphPart.devices_of}
 use Rattle.job_readers.proofs.graph_parts.each_vertex.Given as goal
 
 abbrev pub invariant-loop-i : goal.invariant-loop-i

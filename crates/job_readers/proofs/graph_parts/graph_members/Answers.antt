@@ -1,13 +1,8 @@
-use Rattle.std.proofs.Common.{◌≡◌, true, sym, subst}
-use Rattle.std.specs.List.{list_all}
-use Rattle.job_text.specs.Fields.{is_name}
+use Rattle.std.proofs.Common.{arith}
 use Rattle.job_text.specs.Paths.{path_text}
 use Rattle.serde_json.specs.View.{view}
-use Rattle.job_readers.specs.GraphPart.{vertex_names_of}
 use Rattle.job_readers.proofs.KnownNames.{vertices_known}
 use Rattle.job_readers.proofs.graph_parts.graph_members.Goals as goal
 
 pub nets_among-requires-clause-known : goal.nets_among-requires-clause-known
-nets_among-requires-clause-known c =
-    subst (λ vs. list_all is_name (vertex_names_of vs) ≡ true) (sym c.in_ok-vertices.ensures.read.1)
-    (vertices_known c.args.version (path_text c.args.path.now) (view c.args.graph.now) c.in_ok-vertices.ensures.read.0)
+nets_among-requires-clause-known c = grind (arith, vertices_known c.args.version (path_text c.args.path.now) (view c.args.graph.now) c.in_ok-vertices.ensures.read.0)

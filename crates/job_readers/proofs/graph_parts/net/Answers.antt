@@ -1,5 +1,4 @@
-use Rattle.std.proofs.Common.{◌≡◌, ℕ, ◌<◌, List, length, ap, subst, ◌∙◌, arith}
-use Rattle.std.specs.Prelude.{All}
+use Rattle.std.proofs.Common.{◌≡◌, ℕ, List, length, ap, ◌∙◌, arith}
 use Rattle.std.proofs.lemmas.List.{length-map}
 use Rattle.app_graph.specs.declared.graphs.Vertex.{Vertex}
 use Rattle.job_readers.specs.GraphPart.{vertex_names_of}
@@ -10,13 +9,4 @@ unfolding vertex_names_of
 as_many vs names named = ap length named ∙ length-map vs (λ (v : Vertex). v.name)
 
 pub returns-clause-valid : goal.returns-clause-valid
-returns-clause-valid c =
-    let keys = c.in_ok-keys.ensures.within (omega arith, omega arith) in
-    record {
-      source = c.in_ok-source.ensures.below;
-      some_target = c.in_ok-targets.ensures.some;
-      targets = subst (λ n. All (λ t. t < n) c.in_ok-targets.targets) (as_many c.args.among.now.vertices.now c.args.among.now.names.now c.args.among.now.named) c.in_ok-targets.ensures.below;
-      some_key = keys.0;
-      few_keys = keys.1;
-      fixed = c.in_ok-fixed.ensures.fixed;
-    }
+returns-clause-valid c = grind (arith, as_many c.args.among.now.vertices.now c.args.among.now.names.now c.args.among.now.named)

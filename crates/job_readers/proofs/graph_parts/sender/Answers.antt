@@ -1,16 +1,14 @@
-use Rattle.std.proofs.Common.{◌≡◌, ℕ, ◌<◌, List, length, Some, ap, sym, subst, ◌∙◌}
+use Rattle.std.proofs.Common.{arith, ◌≡◌, ℕ, ◌<◌, List, length, Some, sym}
 use Rattle.std.proofs.lemmas.List.{length-map}
 use Rattle.app_graph.specs.declared.graphs.Vertex.{Vertex}
-use Rattle.job_readers.specs.Places.{name_place_in}
-use Rattle.job_readers.specs.GraphPart.{vertex_names_of}
+use Rattle.job_readers.specs.{Places.name_place_in, GraphPart.vertex_names_of}
 use Rattle.job_readers.proofs.PlaceSteps.{place_in-below}
 use Rattle.job_readers.proofs.graph_parts.sender.Goals as goal
 
 -- the place of a vertex's name is a place of the vertices
 place_below : (vs : List Vertex) (names : List (List ℕ)) (s : List ℕ) (i : ℕ) → names ≡ vertex_names_of vs → Some i ≡ name_place_in names s → i < length vs
 unfolding vertex_names_of
-place_below vs names s i named at =
-    subst (λ n. i < n) (ap length named ∙ length-map vs (λ (v : Vertex). v.name)) (place_in-below names s i (sym at))
+place_below vs names s i named at = grind (arith, place_in-below names s i (sym at), length-map)
 
 pub get-requires : goal.get-requires
 get-requires c = place_below c.args.among.now.vertices.now c.args.among.now.names.now c.args.said.now c.in_ok-i.i c.args.among.now.named c.in_ok-i.ensures

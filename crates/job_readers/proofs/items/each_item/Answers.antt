@@ -1,7 +1,5 @@
 use Rattle.std.proofs.Common.{refl, ◌∙◌, ap, length, map, arith}
-use Rattle.std.proofs.lemmas.List.{length-map}
-use Rattle.std.proofs.lemmas.List.Elements.{All-push}
-use Rattle.std.proofs.lemmas.Result.{err_from_is_err_and}
+use Rattle.std.proofs.lemmas.{List.length-map, List.Elements.All-push, Result.err_from_is_err_and}
 use Rattle.serde_json.specs.View.{view}
 use Rattle.job_text.specs.Paths.{path_text, item_at}
 use Rattle.job_readers.specs.Items.{items_faults}

@@ -1,19 +1,29 @@
-use Rattle.std.proofs.Common.{◌-◌, length, arith, ap}
-use Rattle.app_graph.specs.ValidGraph.{IsValidNet}
+use Rattle.std.proofs.Common.{◌≡◌, ℕ, ◌-◌, ◌<◌, ◌≤◌, Some, length, slice_get, arith, ap}
+use Rattle.std.proofs.{Math.Logic.∥∥₁_elim, Props.props}
+use Rattle.app_graph.specs.declared.graphs.Graph.{Graph}
+use Rattle.app_graph.specs.declared.graphs.Net.{Net}
+use Rattle.app_graph.specs.ValidGraph.{IsValidGraph, IsValidNet}
 use Rattle.app_graph.proofs.Keys.{keys_of-at}
 use Rattle.job_readers.proofs.RunSteps.{holds_at}
 use Rattle.job_readers.proofs.run_parts.last_key.Goals as goal
 
+keys_at : (graph : Graph) (i : ℕ) (net : Net) → ∥ IsValidGraph graph ∥₁ → i < length graph.nets → slice_get graph.nets i ≡ Some net → (1 ≤ net.keys) × (net.keys ≤ 4294967296)
+keys_at graph i net one below at =
+    ∥∥₁_elim one (hlevel props) (λ valid.
+    let it = holds_at (IsValidNet (length graph.vertices)) graph.nets i net valid.nets below at in (it.some_key, it.few_keys))
+
+pub overflow_sub-result : goal.overflow_sub-result
+overflow_sub-result c = (keys_at c.args.valid.now.graph.now c.args.net c.get.result.now c.args.valid.now.valid c.requires c.get.ensures).0
+
 pub returns-clause-last : goal.returns-clause-last
-returns-clause-last c =
-    ap (λ k. k - 1) (keys_of-at c.args.graph.now.nets c.args.net c.get.result.now c.get.ensures)
+returns-clause-last c = ap (λ k. k - 1) (keys_of-at c.args.valid.now.graph.now.nets c.args.net c.get.result.now c.get.ensures)
 
 pub returns-clause-key : goal.returns-clause-key
 returns-clause-key c =
-    let valid = holds_at (IsValidNet (length c.args.graph.now.vertices)) c.args.graph.now.nets c.args.net c.get.result.now c.requires.valid.nets c.requires.below c.get.ensures in
-    omega (arith, valid.some_key, keys_of-at c.args.graph.now.nets c.args.net c.get.result.now c.get.ensures)
+    let keys = keys_at c.args.valid.now.graph.now c.args.net c.get.result.now c.args.valid.now.valid c.requires c.get.ensures in
+    omega (arith, keys.0, keys_of-at c.args.valid.now.graph.now.nets c.args.net c.get.result.now c.get.ensures)
 
 pub returns-clause-small : goal.returns-clause-small
 returns-clause-small c =
-    let valid = holds_at (IsValidNet (length c.args.graph.now.vertices)) c.args.graph.now.nets c.args.net c.get.result.now c.requires.valid.nets c.requires.below c.get.ensures in
-    omega (arith, valid.some_key, valid.few_keys)
+    let keys = keys_at c.args.valid.now.graph.now c.args.net c.get.result.now c.args.valid.now.valid c.requires c.get.ensures in
+    omega (arith, keys.0, keys.1)

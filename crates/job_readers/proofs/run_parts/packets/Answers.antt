@@ -1,5 +1,6 @@
-use Rattle.std.proofs.Common.{map, refl, ap, sym, ◌∙◌, arith}
+use Rattle.std.proofs.Common.{length, map, refl, ap, sym, ◌∙◌, arith}
 use Rattle.std.proofs.lemmas.List.{nil_from_length}
+use Rattle.std.proofs.{Math.Logic.∥∥₁_elim, Props.props}
 use Rattle.serde_json.specs.View.{view}
 use Rattle.job_readers.specs.Items.{items_faults}
 use Rattle.job_readers.specs.RunPart.{packets_faults, packets_value}
@@ -14,3 +15,6 @@ returns-then-is_empty-clause-read c =
 pub returns-clause-read : goal.returns-clause-read
 unfolding packets_faults packets_value
 returns-clause-read c = rw (c.in_ok-items.ensures.read.0, ← c.in_ok-items.ensures.read.1) c.each_item.ensures.read
+
+pub names_of_nets-requires : goal.names_of_nets-requires
+names_of_nets-requires c = ∥∥₁_elim c.args.valid.now.valid (hlevel props) (λ valid. omega (arith, valid.few_nets, ap length c.as_slice.ensures))

@@ -1,3 +1,5 @@
+use Rattle.std.proofs.Common.{arith}
+use Rattle.std.proofs.{Math.Logic.∥∥₁_elim, Props.props}
 use Rattle.std.proofs.lemmas.Result.{err_from_is_err_and}
 use Rattle.job_readers.specs.RunPart.{run_members_faults}
 use Rattle.job_readers.proofs.Firsts.{fails_before, fails_later}
@@ -50,3 +52,6 @@ returns-in_err-events-clause-read c =
     let e = c.in_err-events.field-0.0 in
     rw (p.1, p.2) (fails_later e _ _ c.in_ok-queue.ensures.read.0 (fails_later e _ _ c.in_ok-patience.ensures.read.0 (fails_later e _ _ c.in_ok-workers.ensures.read.0 (fails_later e _ _ c.in_ok-turns.ensures.read.0 (
     fails_later e _ _ c.in_ok-target.ensures.read.0 (fails_later e _ _ c.in_ok-packets.ensures.read.0 (fails_before e _ _ c.in_err-events.ensures.read)))))))
+
+pub overflow_cast-vertices : goal.overflow_cast-vertices
+overflow_cast-vertices c = record { fits = ∥∥₁_elim c.args.valid.now.valid (hlevel props) (λ valid. omega (arith, valid.few_vertices)) }

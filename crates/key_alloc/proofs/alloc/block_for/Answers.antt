@@ -8,7 +8,7 @@ returns-in-Some-clause-free c taken state among =
     taken_again taken c.in-Some.block c.args.free.now state (subst (λ o. IfSome o (Contains taken)) c.in-Some.is among)
 
 pub returns-in-None-clause-free : goal.returns-in-None-clause-free
-returns-in-None-clause-free c = free_in c.args.net.now c.args.free.now _ c.least_block.result c.least_block.ensures.free
+returns-in-None-clause-free c = free_in c.args.keyed.net.now c.args.free.now _ c.least_block.result c.least_block.ensures.free
 
 pub returns-in-None-clause-right : goal.returns-in-None-clause-right
-returns-in-None-clause-right c = right_in c.args.net.now c.args.free.now c.in-None.is c.least_block.result c.least_block.ensures.least
+returns-in-None-clause-right c = right_in c.args.keyed.net.now c.args.free.now c.in-None.is c.least_block.result c.least_block.ensures.least

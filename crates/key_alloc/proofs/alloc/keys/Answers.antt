@@ -1,10 +1,7 @@
 use Rattle.std.proofs.Common.{refl, arith, sym, ap, ◌∙◌, ◌≡◌, ◌++◌, ◌∷◌, [], subst, slice_get, length}
-use Rattle.std.proofs.lemmas.Option.{slice_get_read}
-use Rattle.std.proofs.lemmas.List.{length_push, append_assoc}
-use Rattle.key_alloc.specs.KeyBlocks.{AreFirstBlocks, fixed_of}
-use Rattle.key_alloc.specs.FreeKeys.{AreKeysFreeBeside}
-use Rattle.key_alloc.proofs.FixedBlocks.{have_fixed, fixed_among}
-use Rattle.key_alloc.proofs.Growing.{one_more, blocks_apart, keys_enough}
+use Rattle.std.proofs.lemmas.{Option.slice_get_read, List.length_push, List.append_assoc}
+use Rattle.key_alloc.specs.{KeyBlocks.AreFirstBlocks, KeyBlocks.fixed_of, FreeKeys.AreKeysFreeBeside}
+use Rattle.key_alloc.proofs.{FixedBlocks.have_fixed, FixedBlocks.fixed_among, Growing.one_more, Growing.blocks_apart, Growing.keys_enough}
 use Rattle.key_alloc.proofs.alloc.keys.Goals as goal
 
 pub returns-in_default-clause-keys_out : goal.returns-in_default-clause-keys_out

@@ -1,20 +1,17 @@
-use Rattle.std.proofs.Common.{◌<◌, arith}
-use Rattle.spin_base.specs.Links.{dir_number}
+use Rattle.std.proofs.Common.{arith}
 use Rattle.machine_desc.proofs.Same.{below_six}
-use Rattle.link_detours.proofs.Waving.{best_step, next_link}
-use Rattle.link_detours.proofs.Searching.{dir_number_at}
+use Rattle.link_detours.proofs.{Waving.best_step, Waving.next_link, Searching.dir_number_at}
 use Rattle.link_detours.proofs.detours.last_link.Goals as goal
 
 pub returns-in-Some-clause-found : goal.returns-in-Some-clause-found
 returns-in-Some-clause-found c =
-    best_step c.args.front.ground.machine.now c.args.front.set.now c.args.at c.loop-dir.dir-index _ (dir_number_at c.loop-dir.dir-index _ c.loop-dir-test.true)
+    best_step c.args.here.front.ground.machine.now c.args.here.front.set.now c.args.here.chip c.loop-dir.dir-index _ (dir_number_at c.loop-dir.dir-index _ c.loop-dir-test.true)
     c.in-Some.ensures.found c.loop-dir.invariant
 
 pub loop-dir-preserved : goal.loop-dir-preserved
 loop-dir-preserved c =
-    next_link c.args.front.ground.machine.now c.args.front.set.now c.args.at c.loop-dir.dir-index _ (dir_number_at c.loop-dir.dir-index _ c.loop-dir-test.true)
+    next_link c.args.here.front.ground.machine.now c.args.here.front.set.now c.args.here.chip c.loop-dir.dir-index _ (dir_number_at c.loop-dir.dir-index _ c.loop-dir-test.true)
     c.in_default.ensures.none c.loop-dir.invariant
 
 pub returns-clause-none : goal.returns-clause-none
-returns-clause-none c = λ e step.
-    let from = c.loop-dir.invariant e step in let six : dir_number e.dir < 6 = below_six e.dir in omega (arith, from, six)
+returns-clause-none c = grind (arith, below_six)

@@ -1,9 +1,6 @@
 use Rattle.std.proofs.Common.{◌≡◌, ℕ, List, ◌++◌, length}
-use Rattle.machine_desc.specs.declared.trees.Edge.{Edge}
-use Rattle.machine_desc.specs.Live.{IsInside}
-use Rattle.machine_desc.specs.RoutingTree.{IsTreeChip}
-use Rattle.link_detours.specs.Repair.{IsTreeLevel, IsDetour}
-use Rattle.link_detours.specs.Waves.{AreWaves}
+use Rattle.machine_desc.specs.{declared.trees.Edge.Edge, Live.IsInside, RoutingTree.IsTreeChip}
+use Rattle.link_detours.specs.{Repair.IsTreeLevel, Repair.IsDetour, Waves.AreWaves}
 use Rattle.link_detours.proofs.Putting.{TellsTree}
 use Rattle.link_detours.proofs.detours.walk_back.Given as goal
 
@@ -11,16 +8,16 @@ use Rattle.link_detours.proofs.detours.walk_back.Given as goal
 -- completes it
 abbrev pub invariant-back : goal.invariant-back
 invariant-back l = record {
-  inside : IsInside l.ground.machine.now l.at;
+  inside : IsInside l.aim.ground.machine.now l.at;
   count : ℕ;
-  waves : AreWaves l.ground.machine.now (IsTreeChip l.ground.machine.now l.fn.root l.fn.whole.items) count l.left;
-  level : IsTreeLevel l.ground.machine.now l.fn.root l.fn.whole.items l.at count;
-  long : length l.tree ≡ l.ground.machine.now.width;
-  chips : TellsTree l.ground.machine.now l.fn.root l.whole.items l.tree;
+  waves : AreWaves l.aim.ground.machine.now (IsTreeChip l.aim.ground.machine.now l.aim.root l.fn.whole.items) count l.left;
+  level : IsTreeLevel l.aim.ground.machine.now l.aim.root l.fn.whole.items l.at count;
+  long : length l.tree ≡ l.aim.ground.machine.now.width;
+  chips : TellsTree l.aim.ground.machine.now l.aim.root l.whole.items l.tree;
   done : List Edge;
   added : l.whole.items ≡ l.fn.whole.items ++ done;
-  way : (rest : List Edge) → IsDetour l.ground.machine.now l.fn.root l.fn.whole.items l.at rest →
-      IsDetour l.ground.machine.now l.fn.root l.fn.whole.items l.fn.target (done ++ rest);
+  way : (rest : List Edge) → IsDetour l.aim.ground.machine.now l.aim.root l.fn.whole.items l.at rest →
+      IsDetour l.aim.ground.machine.now l.aim.root l.fn.whole.items l.aim.target (done ++ rest);
 }
 
 abbrev pub decreases-back : goal.decreases-back

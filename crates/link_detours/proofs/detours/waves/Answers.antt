@@ -1,23 +1,22 @@
 use Rattle.std.proofs.Common.{◌≡◌, suc, length, refl, sym, ap, ◌∙◌, subst, arith, rules}
-use Rattle.std.proofs.lemmas.Bool.{false≢true}
-use Rattle.std.proofs.lemmas.Nat.{mul-le}
+use Rattle.std.proofs.lemmas.{Bool.false≢true, Nat.mul-le}
 use Rattle.link_detours.specs.Waves.{IsIn, IsWave}
-use Rattle.link_detours.proofs.Naming.{all_named, none_grew, spread_but}
-use Rattle.link_detours.proofs.Waving.{first_wave, next_wave, dry, level_is, off_wave, sum_rises, added_words}
+use Rattle.link_detours.proofs.{Naming.all_named, Naming.none_grew, Naming.spread_but, Waving.first_wave, Waving.next_wave, Waving.dry, Waving.level_is, Waving.off_wave, Waving.sum_rises}
+use Rattle.link_detours.proofs.Waving.{added_words}
 use Rattle.link_detours.proofs.detours.waves.Goals as goal
 
 pub overflow_mul-tree : goal.overflow_mul-tree
 overflow_mul-tree c =
-    let most = mul-le (length c.args.tree.set.now) c.chips.result 64 4096 (omega (arith, c.args.tree.long, c.width.ensures.size.width_to_64))
+    let most = mul-le (length c.args.target.front.set.now) c.chips.result 64 4096 (omega (arith, c.args.target.front.long, c.width.ensures.size.width_to_64))
     c.chips.ensures.few in omega (arith, most)
 
 pub spreading-init : goal.spreading-init
 spreading-init c = record {
   count = 0;
   waves = c.in_ok-waves.ensures.items;
-  wave = subst (λ s. IsWave c.args.tree.ground.machine.now (IsIn c.args.tree.set.now) 0 s) (sym (c.deref_mut-last.ensures.value ∙ c.in_ok-words.ensures.items))
-      (first_wave c.args.tree.ground.machine.now (IsIn c.args.tree.set.now) c.args.tree.set.now c.args.tree.long (λ x. (λ b. b, λ b. b)));
-  near = all_named c.args.tree.ground.machine.now c.deref_mut-last.result.now c.width.ensures.size.width_to_64;
+  wave = subst (λ s. IsWave c.args.target.front.ground.machine.now (IsIn c.args.target.front.set.now) 0 s) (sym (c.deref_mut-last.ensures.value ∙ c.in_ok-words.ensures.items))
+      (first_wave c.args.target.front.ground.machine.now (IsIn c.args.target.front.set.now) c.args.target.front.set.now c.args.target.front.long (λ x. (λ b. b, λ b. b)));
+  near = all_named c.args.target.front.ground.machine.now c.deref_mut-last.result.now c.width.ensures.size.width_to_64;
   off = λ k below. absurd (omega (arith, below));
 }
 
@@ -34,20 +33,20 @@ spread-grown-requires-clause-same c =
 
 pub spreading-preserved : goal.spreading-preserved
 spreading-preserved c =
-    let off_last : IsIn c.spreading.last c.args.target → ⊥ = λ bit. false≢true (sym c.spreading-test.true ∙ c.has.ensures.1 bit) in record {
+    let off_last : IsIn c.spreading.last c.args.target.chip → ⊥ = λ bit. false≢true (sym c.spreading-test.true ∙ c.has.ensures.1 bit) in record {
       count = suc c.spreading.invariant.count;
       waves = (c.spreading.waves.items, c.spreading.last, c.in_ok-extend_from_slice.ensures.items, c.spreading.invariant.waves, c.spreading.invariant.wave);
-      wave = next_wave c.args.tree.ground.machine.now (IsIn c.args.tree.set.now) c.spreading.invariant.count c.spreading.last c.spread-grown.new.next
+      wave = next_wave c.args.target.front.ground.machine.now (IsIn c.args.target.front.set.now) c.spreading.invariant.count c.spreading.last c.spread-grown.new.next
           c.spreading.invariant.wave (c.spread-grown.auto.next ∙ c.spreading.invariant.wave.long) c.spread-grown.ensures.spread;
-      near = spread_but c.args.tree.ground.machine.now c.spreading.last c.spread-grown.new.next c.spread-grown.result c.near_columns-near.result
+      near = spread_but c.args.target.front.ground.machine.now c.spreading.last c.spread-grown.new.next c.spread-grown.result c.near_columns-near.result
           (λ x inside by. (c.spread-grown.ensures.spread x inside).1 by) c.spread-grown.ensures.grown (rw c.width.ensures.value at c.near_columns-near.ensures);
-      off = off_wave c.args.tree.ground.machine.now (IsIn c.args.tree.set.now) c.spreading.invariant.count c.spreading.last c.args.target c.requires
+      off = off_wave c.args.target.front.ground.machine.now (IsIn c.args.target.front.set.now) c.spreading.invariant.count c.spreading.last c.args.target.chip c.args.target.inside
           c.spreading.invariant.wave off_last;
     }
 
 pub spreading-smaller : goal.spreading-smaller
 spreading-smaller c =
-    sum_rises c.args.tree.ground.machine.now c.spreading.last c.spread-grown.new.next c.spreading.invariant.wave.long
+    sum_rises c.args.target.front.ground.machine.now c.spreading.last c.spread-grown.new.next c.spreading.invariant.wave.long
     (c.spread-grown.auto.next ∙ c.spreading.invariant.wave.long) c.spread-grown.ensures.fits c.spread-grown.ensures.rises
     (λ same. let none : c.spread-grown.result ≡ 0 = c.spread-grown.ensures.grew (sym same) in omega (arith, c.if-grown-eq0.false, none))
 
@@ -56,16 +55,16 @@ returns-then-grown-eq0-clause-cut_off c = λ n by.
     let same : c.spread-grown.new.next ≡ c.spreading.last =
     sym (none_grew c.spreading.last c.spread-grown.new.next c.spread-grown.result (sym c.spread-grown.auto.next)
     (omega (arith, c.if-grown-eq0.true)) c.spread-grown.ensures.grown) in
-    let bit : IsIn c.spreading.last c.args.target =
-    dry c.args.tree.ground.machine.now (IsIn c.args.tree.set.now) c.spreading.last c.spread-grown.new.next
+    let bit : IsIn c.spreading.last c.args.target.chip =
+    dry c.args.target.front.ground.machine.now (IsIn c.args.target.front.set.now) c.spreading.last c.spread-grown.new.next
     (λ x inside start. (c.spreading.invariant.wave.told x inside).1 (0, omega arith, (x, start, refl))) same
-    c.spread-grown.ensures.spread n c.args.target c.requires by in
+    c.spread-grown.ensures.spread n c.args.target.chip c.args.target.inside by in
     false≢true (sym c.spreading-test.true ∙ c.has.ensures.1 bit)
 
 pub returns-clause-waves : goal.returns-clause-waves
 returns-clause-waves c = (
   c.spreading.invariant.count,
   c.spreading.invariant.waves,
-  level_is c.args.tree.ground.machine.now (IsIn c.args.tree.set.now) c.spreading.invariant.count c.spreading.last c.args.target c.requires
+  level_is c.args.target.front.ground.machine.now (IsIn c.args.target.front.set.now) c.spreading.invariant.count c.spreading.last c.args.target.chip c.args.target.inside
       c.spreading.invariant.wave (c.has.ensures.0 c.spreading-test.false) c.spreading.invariant.off,
 )

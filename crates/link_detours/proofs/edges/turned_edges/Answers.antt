@@ -1,6 +1,5 @@
-use Rattle.link_detours.proofs.Tabling.{turned_some, turned_none}
+use Rattle.link_detours.proofs.{Tabling.turned_some, Tabling.turned_none, edges.turned_edges.Goals.in-Some+in_ok-push, edges.turned_edges.Goals.in_default}
 use Rattle.link_detours.proofs.edges.turned_edges.Goals as goal
-use Rattle.link_detours.proofs.edges.turned_edges.Goals.{in-Some+in_ok-push, in_default}
 
 pub loop-edge-preserved : goal.loop-edge-preserved
 loop-edge-preserved c = elim c.match-far.branch [

@@ -1,23 +1,21 @@
 use Rattle.std.specs.List.{All, filter, filter_map}
-use Rattle.machine_desc.specs.declared.trees.Edge.{Edge}
-use Rattle.machine_desc.specs.Live.{IsInside}
+use Rattle.machine_desc.specs.{declared.trees.Edge.Edge, Live.IsInside}
 use Rattle.link_detours.specs.Usable.{is_marked, other_end_of}
 use Rattle.std.proofs.lemmas.List.Elements.{All-filter}
-use Rattle.link_detours.proofs.Turning.{turned_inside, left_leads}
+use Rattle.link_detours.proofs.{Turning.turned_inside, Turning.left_leads, prunes.pruned.Goals.After-deref-4}
 use Rattle.link_detours.proofs.prunes.pruned.Goals as goal
-use Rattle.link_detours.proofs.prunes.pruned.Goals.{After-deref-4}
 
 pub invariant_of-links : goal.invariant_of-links
 invariant_of-links c = record {
-  inside = rw (c.deref.ensures.value, c.in_ok-turned.ensures) (turned_inside c.args.whole.machine.now c.args.whole.list.now c.args.whole.inside);
+  inside = rw (c.deref.ensures.value, c.in_ok-turned.ensures) (turned_inside c.args.whole.edges.machine.now c.args.whole.edges.list.now c.args.whole.edges.inside);
 }
 
 -- the edges that were reached begin inside the grid
-wanted_inside : (c : After-deref-4) → All (λ e. IsInside c.args.whole.machine.now e.chip)
-    (filter (λ e. is_marked c.args.whole.machine.now c.in_ok-marks.marks.items e.chip) (filter_map (other_end_of c.args.whole.machine.now) c.args.whole.list.now))
+wanted_inside : (c : After-deref-4) → All (λ e. IsInside c.args.whole.edges.machine.now e.chip)
+    (filter (λ e. is_marked c.args.whole.edges.machine.now c.in_ok-marks.marks.items e.chip) (filter_map (other_end_of c.args.whole.edges.machine.now) c.args.whole.edges.list.now))
 wanted_inside c =
-    All-filter (λ (e : Edge). is_marked c.args.whole.machine.now c.in_ok-marks.marks.items e.chip) (λ (e : Edge). IsInside c.args.whole.machine.now e.chip)
-    (filter_map (other_end_of c.args.whole.machine.now) c.args.whole.list.now) (turned_inside c.args.whole.machine.now c.args.whole.list.now c.args.whole.inside)
+    All-filter (λ (e : Edge). is_marked c.args.whole.edges.machine.now c.in_ok-marks.marks.items e.chip) (λ (e : Edge). IsInside c.args.whole.edges.machine.now e.chip)
+    (filter_map (other_end_of c.args.whole.edges.machine.now) c.args.whole.edges.list.now) (turned_inside c.args.whole.edges.machine.now c.args.whole.edges.list.now c.args.whole.edges.inside)
 
 pub invariant_of-found : goal.invariant_of-found
 invariant_of-found c = record {
@@ -28,12 +26,12 @@ invariant_of-found c = record {
 pub invariant_of-kept : goal.invariant_of-kept
 invariant_of-kept c = record {
   inside = rw (c.deref-5.ensures.value, c.in_ok-left.ensures, c.deref-4.ensures.value, c.in_ok-wanted.ensures, c.deref-3.ensures.value, c.deref.ensures.value, c.in_ok-turned.ensures)
-      (turned_inside c.args.whole.machine.now _ (wanted_inside (goal.at.invariant_of-kept c).After-deref-4));
+      (turned_inside c.args.whole.edges.machine.now _ (wanted_inside (goal.at.invariant_of-kept c).After-deref-4));
 }
 
 pub returns-clause-left : goal.returns-clause-left
 returns-clause-left c = λ e.
-    let leads = left_leads c.args.whole.machine.now c.args.whole.list.now c.args.whole.inside c.in_ok-table.table.items c.args.targets.now
+    let leads = left_leads c.args.whole.edges.machine.now c.args.whole.edges.list.now c.args.whole.edges.inside c.in_ok-table.table.items c.args.whole.targets.now
     c.in_ok-marks.marks.items
     (rw (c.deref.ensures.value, c.in_ok-turned.ensures) at c.in_ok-table.ensures.flags)
     (rw c.deref-2.ensures.value at c.in_ok-marks.ensures.reached) e in

@@ -2,8 +2,7 @@ use Rattle.std.proofs.Common.{◌≡◌, ◌<◌, ◌↔◌, Some, refl, subst, 
 use Rattle.std.specs.Int.{bit_at}
 use Rattle.machine_desc.specs.Live.{IsLiveLink, x_step, y_step, stepped}
 use Rattle.machine_desc.proofs.Far.{inside_from}
-use Rattle.link_detours.proofs.RoadBits.{chip_of_column}
-use Rattle.link_detours.proofs.Spreading.{leading_told}
+use Rattle.link_detours.proofs.{RoadBits.chip_of_column, Spreading.leading_told}
 use Rattle.link_detours.proofs.sets.leading.Goals as goal
 
 pub returns : goal.returns

@@ -4,9 +4,7 @@ use Rattle.link_detours.proofs.TurnedWords.{up_inside, up_round}
 use Rattle.link_detours.proofs.sets.up.Goals as goal
 
 pub overflow_sub-result : goal.overflow_sub-result
-overflow_sub-result c =
-    let few : c.args.ring.size - 1 < 64 = omega arith in
-    omega (arith, one_shl (c.args.ring.size - 1) 64 few, pow_pos (c.args.ring.size - 1))
+overflow_sub-result c = grind (arith, one_shl (c.args.ring.size - 1) 64 (omega arith), pow_pos (c.args.ring.size - 1))
 
 pub returns-clause-inside : goal.returns-clause-inside
 returns-clause-inside c = λ y more.

@@ -1,9 +1,8 @@
 use Rattle.std.proofs.Common.{◌≡◌, true, Some, rules}
-use Rattle.std.proofs.lemmas.List.{take_all}
+use Rattle.std.proofs.lemmas.List.{take_all, Elements.All-more}
 use Rattle.machine_desc.specs.RoutingTree.{end_of}
 use Rattle.link_detours.specs.Usable.{is_marked}
 use Rattle.spin_base.specs.declared.chips.Chip.{Chip}
-use Rattle.std.proofs.lemmas.List.Elements.{All-more}
 use Rattle.link_detours.proofs.trims.ends_are_marked.Goals as goal
 
 pub loop-edge-preserved : goal.loop-edge-preserved

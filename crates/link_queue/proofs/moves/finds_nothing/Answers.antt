@@ -1,7 +1,6 @@
 use Rattle.std.proofs.Common.{sym, subst, refl}
 use Rattle.crossbeam_queue.specs.Fifo.{Forks}
-use Rattle.link_queue.specs.TheRule.{Kept}
-use Rattle.link_queue.specs.Steps.{none_noted, blank}
+use Rattle.link_queue.specs.{TheRule.Kept, Steps.none_noted, Steps.blank}
 use Rattle.link_queue.proofs.StepLemmas.{sees_empty, notes_none, whole_taken, whole_length}
 use Rattle.link_queue.proofs.moves.finds_nothing.Goals as goal
 

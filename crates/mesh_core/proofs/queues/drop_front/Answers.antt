@@ -3,5 +3,5 @@ use Rattle.std.proofs.lemmas.Option.{slice_get-get_or}
 use Rattle.mesh_core.proofs.QueueLists.{drop_front-popped}
 use Rattle.mesh_core.proofs.queues.drop_front.Goals as goal
 
-pub returns : goal.returns
-returns c = drop_front-popped _ _ _ _ _ (slice_get-get_or _ _ _ c.requires) c.pop.ensures.items c.pop.ensures.none
+pub returns-then-place-queues : goal.returns-then-place-queues
+returns-then-place-queues c = drop_front-popped _ _ _ _ _ (slice_get-get_or _ _ _ c.if-place-queues.true) c.pop.ensures.items c.pop.ensures.none

@@ -1,7 +1,6 @@
 -- No edge so far leads into the chip.
 use Rattle.std.proofs.Common.{◌≢◌, ℕ, ◌<◌, Some, get_or}
-use Rattle.machine_desc.specs.declared.trees.Edge.{Edge}
-use Rattle.machine_desc.specs.RoutingTree.{end_of}
+use Rattle.machine_desc.specs.{declared.trees.Edge.Edge, RoutingTree.end_of}
 use Rattle.mesh_core.proofs.whereabouts.edge_into.Given as goal
 
 abbrev pub invariant-loop-edge : goal.invariant-loop-edge

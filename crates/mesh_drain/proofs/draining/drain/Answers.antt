@@ -1,8 +1,6 @@
 use Rattle.std.proofs.Common.{◌∙◌, ap}
 use Rattle.mesh_core.specs.State.{State}
-use Rattle.mesh_drain.proofs.Frame.{dumped_reached}
-use Rattle.mesh_drain.proofs.Moving.{after_moved, after_setup, moved_then, kept_moved}
-use Rattle.mesh_drain.proofs.Vertices.{drops_none, drops_then}
+use Rattle.mesh_drain.proofs.{Frame.dumped_reached, Moving.after_moved, Moving.after_setup, Moving.moved_then, Moving.kept_moved, Vertices.drops_none, Vertices.drops_then}
 use Rattle.mesh_drain.proofs.draining.drain.Goals as goal
 
 pub send_each-requires : goal.send_each-requires

@@ -1,12 +1,9 @@
 use Rattle.std.proofs.Common.{arith}
-use Rattle.mesh_drain.proofs.Frame.{reached_then, kept_reached}
-use Rattle.mesh_drain.proofs.{Packets.few_spots, Senders.moved_of_reached, Senders.one_less_sender, Senders.rest_from, Senders.sender_there, Turns.was_there}
+use Rattle.mesh_drain.proofs.{Frame.reached_then, Frame.kept_reached, Packets.few_spots, Senders.moved_of_reached, Senders.one_less_sender, Senders.rest_from, Senders.sender_there, Turns.was_there}
 use Rattle.mesh_drain.proofs.draining.drain_from.Goals as goal
 
 pub overflow_cast-vertex : goal.overflow_cast-vertex
-overflow_cast-vertex c =
-    let below = c.requires.alone.there c.loop-vertex.vertex-index 0 c.loop-vertex-test.true in
-    omega (arith, few_spots c.args.mesh.now c.requires.kept, below)
+overflow_cast-vertex c = grind (arith, few_spots c.args.mesh.now c.requires.kept)
 
 pub send_all-requires : goal.send_all-requires
 send_all-requires c = record {

@@ -1,10 +1,8 @@
-use Rattle.std.proofs.Common.{◌+◌, drop, ap, ◌∙◌, subst, arith}
+use Rattle.std.proofs.Common.{◌+◌, drop, subst, arith}
 use Rattle.std.proofs.lemmas.List.{drop_all}
-use Rattle.mesh_core.specs.State.{State}
 use Rattle.spin_base.specs.declared.copies.Event.TheVariants.{Take}
 use Rattle.mesh_drain.specs.UnderWay.{IsServing}
-use Rattle.mesh_drain.proofs.Frame.{onward_by, onward_then, unsent_stays}
-use Rattle.mesh_drain.proofs.{Packets.serving_done, Turns.taken_serving, Turns.taken_less, Turns.outs_left}
+use Rattle.mesh_drain.proofs.{Frame.onward_by, Frame.onward_then, Packets.serving_done, Turns.taken_serving, Turns.taken_less, Turns.outs_left}
 use Rattle.mesh_drain.proofs.draining.go_on.Goals as goal
 
 pub loop-out-init : goal.loop-out-init
@@ -12,7 +10,6 @@ loop-out-init c = record {
   reached = onward_by c.args.mesh.now c.step.new.self (Take c.args.at.chip c.args.at.port) tt c.in_ok-step.ensures.moves;
   serving = taken_serving c.args.mesh.now c.step.new.self c.args.waiting.now.items c.args.at c.in_ok-outs.outs.items c.as_slice-out-items.result.now
       c.in_ok-step.ensures.moves c.requires c.in_ok-outs.ensures c.as_slice-out-items.ensures.value;
-  unsent = ap (λ (s : State). s.unsent) c.in_ok-step.ensures.moves ∙ unsent_stays c.args.mesh.now (Take c.args.at.chip c.args.at.port) tt;
   less = taken_less c.args.mesh.now c.step.new.self c.args.waiting.now.items c.args.waiting.now.items c.args.at c.in_ok-step.ensures.moves c.requires;
 }
 
@@ -28,12 +25,12 @@ pub loop-out-preserved : goal.loop-out-preserved
 loop-out-preserved c =
     let os = c.as_slice-out-items.result.now in
     let i = c.loop-out.out-index in
+    let then' = c.in_ok-serve.ensures.served (drop (i + 1) os)
+    (subst (IsServing c.loop-out.mesh c.loop-out.waiting.items c.args.at.chip) (outs_left os i _ c.loop-out-test.true) c.loop-out.invariant.serving) in
     record {
       reached = onward_then c.args.mesh.now c.loop-out.mesh c.serve.new.mesh c.loop-out.invariant.reached c.serve.ensures.reached;
-      serving = c.in_ok-serve.ensures.served (drop (i + 1) os)
-          (subst (IsServing c.loop-out.mesh c.loop-out.waiting.items c.args.at.chip) (outs_left os i _ c.loop-out-test.true) c.loop-out.invariant.serving);
-      unsent = c.in_ok-serve.ensures.unsent ∙ c.loop-out.invariant.unsent;
-      less = let now = c.in_ok-serve.ensures.less in let before = c.loop-out.invariant.less in omega (arith, now, before);
+      serving = then'.0;
+      less = let now = then'.1 in let before = c.loop-out.invariant.less in omega (arith, now, before);
     }
 
 pub returns-clause-under_way : goal.returns-clause-under_way

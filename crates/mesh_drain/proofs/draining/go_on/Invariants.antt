@@ -1,4 +1,4 @@
-use Rattle.std.proofs.Common.{◌≡◌, ◌≤◌, drop}
+use Rattle.std.proofs.Common.{◌≤◌, drop}
 use Rattle.mesh_drain.specs.{Draining.IsReachedOnward, UnderWay.work, UnderWay.IsServing}
 use Rattle.mesh_drain.proofs.draining.go_on.Given as goal
 
@@ -7,6 +7,5 @@ abbrev pub invariant-loop-out : goal.invariant-loop-out
 invariant-loop-out l = record {
   reached : IsReachedOnward l.fn.mesh l.mesh;
   serving : IsServing l.mesh l.waiting.items l.at.chip (drop l.out-index l.out-items);
-  unsent : l.mesh.unsent ≡ l.fn.mesh.unsent;
   less : work l.mesh l.waiting.items ≤ work l.fn.mesh l.fn.waiting.items;
 }

@@ -1,14 +1,10 @@
-use Rattle.mesh_drain.proofs.Frame.{reached_none, reached_then, kept_reached}
-use Rattle.mesh_drain.proofs.Turns.{one_less, all_sent_there, as_before, there_still, was_there, is_none, is_some'}
+use Rattle.std.proofs.Common.{arith}
+use Rattle.mesh_drain.proofs.{Frame.reached_none, Frame.reached_then, Frame.kept_reached, Turns.one_less, Turns.all_sent_there, Turns.as_before, Turns.there_still, Turns.was_there, Turns.is_none}
+use Rattle.mesh_drain.proofs.Turns.{is_some'}
 use Rattle.mesh_drain.proofs.draining.send_all.Goals as goal
 
 pub packets-init : goal.packets-init
-packets-init c = record {
-  reached = reached_none c.args.mesh.now;
-  quiet = c.requires.may.quiet;
-  none = c.requires.none;
-  unsent = as_before c.args.mesh.now c.args.vertex;
-}
+packets-init c = grind (arith, reached_none c.args.mesh.now, as_before c.args.mesh.now c.args.vertex)
 
 pub unsent-requires : goal.unsent-requires
 unsent-requires c = there_still c.args.mesh.now c.packets.mesh c.args.vertex c.packets.invariant.reached c.requires.exists
@@ -43,5 +39,4 @@ returns-clause-unsent c =
     (was_there c.args.mesh.now c.args.vertex c.requires.may.kept c.requires.exists) c.packets.invariant.unsent.1 c.unsent.ensures (is_none c.unsent.result.now c.packets-test.ensures)
 
 pub returns-in_err-send_packet-clause-reached : goal.returns-in_err-send_packet-clause-reached
-returns-in_err-send_packet-clause-reached c =
-    reached_then c.args.mesh.now c.packets.mesh c.send_packet.new.mesh c.packets.invariant.reached c.send_packet.ensures.reached
+returns-in_err-send_packet-clause-reached c = grind (arith, reached_then c.args.mesh.now c.packets.mesh c.send_packet.new.mesh c.packets.invariant.reached c.send_packet.ensures.reached)

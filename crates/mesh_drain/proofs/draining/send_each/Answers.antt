@@ -1,6 +1,5 @@
 use Rattle.std.proofs.Common.{◌<◌, ◌≤◌, length, ap, arith, subst}
-use Rattle.mesh_drain.proofs.{Frame.reached_then, Frame.kept_reached, Packets.few_spots}
-use Rattle.mesh_drain.proofs.Turns.{there_still, was_there, one_vertex_more, at_rest}
+use Rattle.mesh_drain.proofs.{Frame.reached_then, Frame.kept_reached, Packets.few_spots, Turns.there_still, Turns.was_there, Turns.one_vertex_more, Turns.at_rest}
 use Rattle.mesh_drain.proofs.draining.send_each.Goals as goal
 
 pub overflow_cast-vertex : goal.overflow_cast-vertex
@@ -36,5 +35,4 @@ returns-clause-at_rest c =
     (subst (λ l. length l ≤ c.loop-vertex.vertex) c.spots-count.ensures c.loop-vertex-test.false) c.loop-vertex.invariant.sent
 
 pub returns-in_err-send_all-clause-reached : goal.returns-in_err-send_all-clause-reached
-returns-in_err-send_all-clause-reached c =
-    reached_then c.args.mesh.now c.loop-vertex.mesh c.send_all.new.mesh c.loop-vertex.invariant.reached c.send_all.ensures.reached
+returns-in_err-send_all-clause-reached c = grind (arith, reached_then c.args.mesh.now c.loop-vertex.mesh c.send_all.new.mesh c.loop-vertex.invariant.reached c.send_all.ensures.reached)

@@ -1,3 +1,4 @@
+use Rattle.std.proofs.Common.{arith}
 use Rattle.mesh_drain.proofs.{Again.brought, Turns.on_both}
 use Rattle.mesh_drain.proofs.draining.send_first.Goals as goal
 
@@ -5,6 +6,4 @@ pub send_packet-requires-clause-can : goal.send_packet-requires-clause-can
 send_packet-requires-clause-can c = record { may = c.requires.may; none = c.new-waiting.ensures.items; exists = c.requires.there }
 
 pub returns-clause-brought : goal.returns-clause-brought
-returns-clause-brought c =
-    on_both c.send_packet.result c.send_packet.ensures.onward c.send_packet.ensures.quiet (λ onward quiet copy rest first.
-    brought c.args.mesh.now c.send_packet.new.mesh c.args.vertex copy rest c.requires.may c.requires.there first onward quiet)
+returns-clause-brought c = grind (arith, on_both, brought)

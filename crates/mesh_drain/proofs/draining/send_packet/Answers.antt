@@ -1,8 +1,8 @@
-use Rattle.std.proofs.Common.{◌∙◌, rules}
+use Rattle.std.proofs.Common.{◌∙◌, refl, rules}
 use Rattle.spin_base.specs.declared.copies.Event.TheVariants.{Inject}
 use Rattle.mesh_core.specs.Step.{after_event}
-use Rattle.mesh_drain.proofs.Frame.{dropless, onward_none, onward_then, reached_by, reached_then, sent_dropless}
-use Rattle.mesh_drain.proofs.Turns.{begins, begins_unsent, ends_quiet, popped_smaller}
+use Rattle.mesh_drain.proofs.{Frame.dropless, Frame.onward_none, Frame.onward_then, Frame.onward_unsent, Frame.reached_by, Frame.reached_then, Frame.sent_dropless, Turns.begins, Turns.begins_unsent}
+use Rattle.mesh_drain.proofs.Turns.{ends_quiet, popped_smaller}
 use Rattle.mesh_drain.proofs.draining.send_packet.Goals as goal
 
 pub loop-next-init : goal.loop-next-init
@@ -10,14 +10,12 @@ loop-next-init c = record {
   onward = onward_none (after_event c.args.mesh.now (Inject c.args.vertex)) c.step.new.self c.in_ok-step.ensures.moves;
   under_way = begins c.args.mesh.now c.step.new.self c.args.vertex c.args.waiting.now.items c.push.new.self.items c.spots.result.now _
       c.requires.can.may.kept c.requires.can.may.quiet c.requires.can.exists c.requires.some c.in_ok-step.ensures.moves c.spots.ensures c.requires.can.none c.in_ok-push.ensures.items;
-  unsent = begins_unsent c.args.mesh.now c.step.new.self c.args.vertex c.requires.can.may.kept c.requires.can.may.quiet c.requires.can.exists c.in_ok-step.ensures.moves;
 }
 
 pub loop-next-preserved : goal.loop-next-preserved
 loop-next-preserved c = record {
   onward = onward_then (after_event c.args.mesh.now (Inject c.args.vertex)) c.loop-next.mesh c.go_on.new.mesh c.loop-next.invariant.onward c.go_on.ensures.reached;
   under_way = c.in_ok-go_on.ensures.under_way;
-  unsent = λ copy rest first. c.in_ok-go_on.ensures.unsent ∙ c.loop-next.invariant.unsent copy rest first;
 }
 
 pub loop-next-smaller : goal.loop-next-smaller
@@ -29,6 +27,12 @@ returns-clause-reached c = sent_dropless c.args.mesh.now c.loop-next.mesh c.args
 
 pub returns-clause-quiet : goal.returns-clause-quiet
 returns-clause-quiet c = ends_quiet c.loop-next.mesh c.loop-next.waiting.items c.loop-next.invariant.under_way (search rules)
+
+pub returns-clause-unsent : goal.returns-clause-unsent
+returns-clause-unsent c = λ copy rest first.
+    onward_unsent (after_event c.args.mesh.now (Inject c.args.vertex)) c.loop-next.mesh c.loop-next.invariant.onward
+    ∙ begins_unsent c.args.mesh.now (after_event c.args.mesh.now (Inject c.args.vertex)) c.args.vertex
+    c.requires.can.may.kept c.requires.can.may.quiet c.requires.can.exists refl copy rest first
 
 pub returns-in_err-push-clause-reached : goal.returns-in_err-push-clause-reached
 returns-in_err-push-clause-reached c = reached_by c.args.mesh.now c.step.new.self (Inject c.args.vertex) tt c.in_ok-step.ensures.moves

@@ -1,8 +1,7 @@
-use Rattle.std.proofs.Common.{ap, ◌∙◌, arith, length, refl}
+use Rattle.std.proofs.Common.{ap, arith, length, refl}
 use Rattle.mesh_core.specs.{State.State, Step.after_event}
-use Rattle.spin_base.specs.declared.copies.Event.TheVariants.{Send, Collect}
-use Rattle.mesh_drain.proofs.{Frame.onward_by, Frame.onward_then, Frame.unsent_stays, Packets.few_in_mesh, Steps.kept_after}
-use Rattle.mesh_drain.proofs.Turns.{on_ok, link_served, core_served, nowhere_served}
+use Rattle.spin_base.specs.declared.copies.Event.TheVariants.{Send}
+use Rattle.mesh_drain.proofs.{Frame.onward_by, Frame.onward_then, Packets.few_in_mesh, Steps.kept_after, Turns.on_ok, Turns.link_served, Turns.core_served, Turns.nowhere_served}
 use Rattle.mesh_drain.proofs.draining.serve.Goals as goal
 
 pub overflow_cast-vertex : goal.overflow_cast-vertex
@@ -18,19 +17,8 @@ returns-in-Input-clause-reached c = onward_by c.args.mesh.now c.step.new.self (S
 pub returns-in-Input-clause-served : goal.returns-in-Input-clause-served
 returns-in-Input-clause-served c =
     on_ok c.wait_beyond.result c.wait_beyond.ensures (λ more. λ rest u.
-    (link_served c.args.mesh.now c.step.new.self c.args.waiting.now.items c.args.chip c.args.out c.in_ok-step.ensures.moves
-    c.in-Input.field-0 c.in-Input.ensures.queue c.step.new.self.setup.machine refl c.wait_beyond.new.waiting.items more rest u).0)
-
-pub returns-in-Input-clause-unsent : goal.returns-in-Input-clause-unsent
-returns-in-Input-clause-unsent c =
-    on_ok c.wait_beyond.result c.wait_beyond.ensures (λ more.
-    ap (λ (s : State). s.unsent) c.in_ok-step.ensures.moves ∙ unsent_stays c.args.mesh.now (Send c.args.chip c.args.out) tt)
-
-pub returns-in-Input-clause-less : goal.returns-in-Input-clause-less
-returns-in-Input-clause-less c =
-    on_ok c.wait_beyond.result c.wait_beyond.ensures (λ more.
-    (link_served c.args.mesh.now c.step.new.self c.args.waiting.now.items c.args.chip c.args.out c.in_ok-step.ensures.moves
-    c.in-Input.field-0 c.in-Input.ensures.queue c.step.new.self.setup.machine refl c.wait_beyond.new.waiting.items more c.requires.0 c.requires.1).1)
+    link_served c.args.mesh.now c.step.new.self c.args.waiting.now.items c.args.chip c.args.out c.in_ok-step.ensures.moves
+    c.in-Input.field-0 c.in-Input.ensures.queue c.step.new.self.setup.machine refl c.wait_beyond.new.waiting.items more rest u)
 
 pub returns-in-Core-clause-reached : goal.returns-in-Core-clause-reached
 returns-in-Core-clause-reached c =
@@ -40,20 +28,8 @@ returns-in-Core-clause-reached c =
 pub returns-in-Core-clause-served : goal.returns-in-Core-clause-served
 returns-in-Core-clause-served c =
     on_ok c.collect.result c.collect.ensures.taken (λ last. λ rest u.
-    (core_served c.args.mesh.now c.step.new.self c.args.waiting.now.items c.args.chip c.args.out c.in_ok-step.ensures.moves
-    c.in-Core.vertex c.in-Core.ensures.queue c.collect.new.mesh last rest u).0)
-
-pub returns-in-Core-clause-unsent : goal.returns-in-Core-clause-unsent
-returns-in-Core-clause-unsent c =
-    on_ok c.collect.result c.collect.ensures.taken (λ last.
-    ap (λ (s : State). s.unsent) last ∙ (unsent_stays c.step.new.self (Collect c.in-Core.vertex) tt
-    ∙ (ap (λ (s : State). s.unsent) c.in_ok-step.ensures.moves ∙ unsent_stays c.args.mesh.now (Send c.args.chip c.args.out) tt)))
-
-pub returns-in-Core-clause-less : goal.returns-in-Core-clause-less
-returns-in-Core-clause-less c =
-    on_ok c.collect.result c.collect.ensures.taken (λ last.
-    (core_served c.args.mesh.now c.step.new.self c.args.waiting.now.items c.args.chip c.args.out c.in_ok-step.ensures.moves
-    c.in-Core.vertex c.in-Core.ensures.queue c.collect.new.mesh last c.requires.0 c.requires.1).1)
+    core_served c.args.mesh.now c.step.new.self c.args.waiting.now.items c.args.chip c.args.out c.in_ok-step.ensures.moves
+    c.in-Core.vertex c.in-Core.ensures.queue c.collect.new.mesh last rest u)
 
 pub returns-in-Nowhere-clause-reached : goal.returns-in-Nowhere-clause-reached
 returns-in-Nowhere-clause-reached c = onward_by c.args.mesh.now c.step.new.self (Send c.args.chip c.args.out) tt c.in_ok-step.ensures.moves
@@ -62,11 +38,3 @@ pub returns-in-Nowhere-clause-served : goal.returns-in-Nowhere-clause-served
 returns-in-Nowhere-clause-served c = λ rest u.
     absurd (nowhere_served c.args.mesh.now c.step.new.self c.args.waiting.now.items c.args.chip c.args.out c.in_ok-step.ensures.moves
     c.in-Nowhere.ensures.queue rest u)
-
-pub returns-in-Nowhere-clause-unsent : goal.returns-in-Nowhere-clause-unsent
-returns-in-Nowhere-clause-unsent c = ap (λ (s : State). s.unsent) c.in_ok-step.ensures.moves ∙ unsent_stays c.args.mesh.now (Send c.args.chip c.args.out) tt
-
-pub returns-in-Nowhere-clause-less : goal.returns-in-Nowhere-clause-less
-returns-in-Nowhere-clause-less c =
-    absurd (nowhere_served c.args.mesh.now c.step.new.self c.args.waiting.now.items c.args.chip c.args.out c.in_ok-step.ensures.moves
-    c.in-Nowhere.ensures.queue c.requires.0 c.requires.1)

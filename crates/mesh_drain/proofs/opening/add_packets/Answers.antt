@@ -1,8 +1,9 @@
-use Rattle.std.proofs.Common.{◌+◌, ◌<◌, length, sym, ap, subst, None, arith}
+use Rattle.std.proofs.Common.{◌+◌, ◌<◌, refl, sym, subst, None, arith}
 use Rattle.std.proofs.lemmas.Option.{get_or_from_slice_get}
 use Rattle.std.specs.List.{slice_index_or}
 use Rattle.spin_base.specs.declared.copies.Packet.{Packet}
 use Rattle.machine_desc.specs.declared.nets.NetPlan.{NetPlan}
+use Rattle.mesh_core.specs.Opened.{first_copy}
 use Rattle.mesh_drain.proofs.{Opened.known, Opened.listed_source, Opened.grows, Packets.few_in_mesh}
 use Rattle.mesh_drain.proofs.opening.add_packets.Goals as goal
 
@@ -11,48 +12,43 @@ loop-number-init c = record { opened = c.requires.none_yet }
 
 pub bounds-nets-net : goal.bounds-nets-net
 bounds-nets-net c =
-    (known c.args.mesh.now.setup.spots c.args.nets.now c.args.packets.now c.requires.listed.of_nets c.requires.listed.sources c.loop-number.number _ c.loop-number-test.true).net_within
+    (known c.args.mesh.now.setup.spots c.args.nets.now c.args.packets.now c.requires.listed.can.of_nets c.requires.listed.can.sources c.loop-number.number _ c.loop-number-test.true).net_within
 
 pub bounds-nets-net-in-loop-number : goal.bounds-nets-net-in-loop-number
-bounds-nets-net-in-loop-number c =
-    (known c.args.mesh.now.setup.spots c.args.nets.now c.args.packets.now c.requires.listed.of_nets c.requires.listed.sources c.loop-number.number _ c.loop-number-test.true).net_within
+bounds-nets-net-in-loop-number c _ =
+    (known c.args.mesh.now.setup.spots c.args.nets.now c.args.packets.now c.requires.listed.can.of_nets c.requires.listed.can.sources c.loop-number.number _ c.loop-number-test.true).net_within
 
-pub first_copy-copy-requires : goal.first_copy-copy-requires
-first_copy-copy-requires c =
+pub overflow_add-copy : goal.overflow_add-copy
+overflow_add-copy c =
     let d : Packet = record { net = 0; index = 0; payload = None } in
-    let k = known c.args.mesh.now.setup.spots c.args.nets.now c.args.packets.now c.requires.listed.of_nets c.requires.listed.sources c.loop-number.number d c.loop-number-test.true in
+    let k = known c.args.mesh.now.setup.spots c.args.nets.now c.args.packets.now c.requires.listed.can.of_nets c.requires.listed.can.sources c.loop-number.number d c.loop-number-test.true in
     let p : Packet = slice_index_or c.args.packets.now c.loop-number.number d in
-    subst (λ (n : NetPlan). n.block.key + p.index < 4294967296) (sym (get_or_from_slice_get c.args.nets.now p.net k.net c.index-nets-net.result k.is_net)) k.fits
+    let fits = subst (λ (n : NetPlan). n.block.key + p.index < 4294967296) (sym (get_or_from_slice_get c.args.nets.now p.net k.net c.index-nets-net.result k.is_net)) k.fits in
+    omega (arith, fits)
 
 pub bounds-sources-net : goal.bounds-sources-net
 bounds-sources-net c =
     let d : Packet = record { net = 0; index = 0; payload = None } in
-    let k = known c.args.mesh.now.setup.spots c.args.nets.now c.args.packets.now c.requires.listed.of_nets c.requires.listed.sources c.loop-number.number d c.loop-number-test.true in
+    let k = known c.args.mesh.now.setup.spots c.args.nets.now c.args.packets.now c.requires.listed.can.of_nets c.requires.listed.can.sources c.loop-number.number d c.loop-number-test.true in
     (listed_source c.args.mesh.now.setup.spots c.args.nets.now c.args.sources.now (slice_index_or c.args.packets.now c.loop-number.number d) 0 c.requires.listed.vertices k).0
 
 pub overflow_cast-sources : goal.overflow_cast-sources
 overflow_cast-sources c =
     let d : Packet = record { net = 0; index = 0; payload = None } in
-    let k = known c.args.mesh.now.setup.spots c.args.nets.now c.args.packets.now c.requires.listed.of_nets c.requires.listed.sources c.loop-number.number d c.loop-number-test.true in
+    let k = known c.args.mesh.now.setup.spots c.args.nets.now c.args.packets.now c.requires.listed.can.of_nets c.requires.listed.can.sources c.loop-number.number d c.loop-number-test.true in
     let source = (listed_source c.args.mesh.now.setup.spots c.args.nets.now c.args.sources.now (slice_index_or c.args.packets.now c.loop-number.number d) 0 c.requires.listed.vertices k).1 in
     omega (arith, source, k.below, few_in_mesh c.args.mesh.now c.every_mesh_is_one.ensures)
-
-pub add-requires-clause-exists : goal.add-requires-clause-exists
-add-requires-clause-exists c =
-    let d : Packet = record { net = 0; index = 0; payload = None } in
-    let k = known c.args.mesh.now.setup.spots c.args.nets.now c.args.packets.now c.requires.listed.of_nets c.requires.listed.sources c.loop-number.number d c.loop-number-test.true in
-    let source = (listed_source c.args.mesh.now.setup.spots c.args.nets.now c.args.sources.now (slice_index_or c.args.packets.now c.loop-number.number d) 0 c.requires.listed.vertices k).1 in
-    let same = ap (λ s. length s.setup.spots) c.loop-number.invariant.opened in
-    omega (arith, source, k.below, same)
 
 pub loop-number-preserved : goal.loop-number-preserved
 loop-number-preserved c =
     let d : Packet = record { net = 0; index = 0; payload = None } in
-    let k = known c.args.mesh.now.setup.spots c.args.nets.now c.args.packets.now c.requires.listed.of_nets c.requires.listed.sources c.loop-number.number d c.loop-number-test.true in
+    let p : Packet = slice_index_or c.args.packets.now c.loop-number.number d in
+    let n : NetPlan = slice_index_or c.args.nets.now p.net c.index-nets-net.result in
+    let k = known c.args.mesh.now.setup.spots c.args.nets.now c.args.packets.now c.requires.listed.can.of_nets c.requires.listed.can.sources c.loop-number.number d c.loop-number-test.true in
     record {
       opened = grows c.args.mesh.now.setup c.args.nets.now c.args.packets.now c.loop-number.number d c.index-nets-net.result
-          (slice_index_or c.args.sources.now (slice_index_or c.args.packets.now c.loop-number.number d).net 0) c.first_copy-copy.result c.loop-number.mesh c.add.new.self
-          k c.loop-number-test.true c.loop-number.invariant.opened c.first_copy-copy.ensures
-          (listed_source c.args.mesh.now.setup.spots c.args.nets.now c.args.sources.now (slice_index_or c.args.packets.now c.loop-number.number d) 0 c.requires.listed.vertices k).1
+          (slice_index_or c.args.sources.now p.net 0) (first_copy c.loop-number.number n p) c.loop-number.mesh c.add.new.self
+          k c.loop-number-test.true c.loop-number.invariant.opened refl
+          (listed_source c.args.mesh.now.setup.spots c.args.nets.now c.args.sources.now p 0 c.requires.listed.vertices k).1
           c.in_ok-add.ensures.ok;
     }

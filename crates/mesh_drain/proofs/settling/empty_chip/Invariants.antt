@@ -1,12 +1,11 @@
-use Rattle.mesh_drain.specs.Draining.{AreCollected, DropsAtNoVertex, IsAfter}
-use Rattle.mesh_drain.specs.UnderWay.{weight_in}
+use Rattle.mesh_drain.specs.{Draining.AreCollected, Draining.DropsAtNoVertex, Draining.IsAfter, UnderWay.weight_in}
 use Rattle.mesh_drain.proofs.settling.empty_chip.Given as goal
 
 abbrev pub invariant-events : goal.invariant-events
 invariant-events l = record {
   after : IsAfter l.fn.mesh l.mesh;
-  links : DropsAtNoVertex l.fn.mesh l.mesh;
-  collected : AreCollected l.mesh;
+  links : AreCollected l.fn.mesh → DropsAtNoVertex l.fn.mesh l.mesh;
+  collected : AreCollected l.fn.mesh → AreCollected l.mesh;
 }
 
 -- what the marks weigh

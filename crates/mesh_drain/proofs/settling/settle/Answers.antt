@@ -1,8 +1,7 @@
 use Rattle.std.proofs.Common.{arith}
 use Rattle.mesh_core.specs.Expected.{NothingWaits}
-use Rattle.mesh_drain.proofs.Frame.{dumped_reached}
-use Rattle.mesh_drain.proofs.Moving.{after_moved, after_setup, after_then, after_lighter, mesh_after, moved_none, moved_on, moved_then, waits_somewhere}
-use Rattle.mesh_drain.proofs.Vertices.{drops_none, drops_then, quiet_still}
+use Rattle.mesh_drain.proofs.{Frame.dumped_reached, Moving.after_moved, Moving.after_setup, Moving.after_then, Moving.after_lighter, Moving.mesh_after, Moving.moved_none, Moving.moved_on}
+use Rattle.mesh_drain.proofs.{Moving.moved_then, Moving.waits_somewhere, Vertices.drops_none, Vertices.drops_then, Vertices.quiet_still}
 use Rattle.mesh_drain.proofs.settling.settle.Goals as goal
 
 pub returns-in_err-empty_cores-clause-moved : goal.returns-in_err-empty_cores-clause-moved
@@ -25,39 +24,36 @@ pub sweeps-smaller : goal.sweeps-smaller
 sweeps-smaller c =
     let mesh = mesh_after c.sweeps.mesh c.move_on.new.mesh c.every_mesh_is_one.ensures c.move_on.ensures.after in
     let all = after_lighter c.move_on.new.mesh c.sweep.new.mesh mesh c.sweep.ensures.after in
-    omega (arith, c.in_ok-move_on.ensures.lighter, all)
+    omega (arith, c.in_ok-move_on.ensures.lighter c.in-Some.ensures.some, all)
 
 pub sweeps-preserved : goal.sweeps-preserved
 sweeps-preserved c =
     let none : NothingWaits c.args.mesh.now → ⊥ = λ quiet. waits_somewhere c.sweeps.mesh c.in-Some.at c.in-Some.ensures.some (c.sweeps.invariant.still quiet) in
     let after = after_then c.sweeps.mesh c.move_on.new.mesh c.sweep.new.mesh c.move_on.ensures.after c.sweep.ensures.after in
-    let links = drops_then c.sweeps.mesh c.move_on.new.mesh c.sweep.new.mesh (after_setup c.sweeps.mesh c.move_on.new.mesh c.move_on.ensures.after) c.move_on.ensures.links c.sweep.ensures.links in
+    let links = drops_then c.sweeps.mesh c.move_on.new.mesh c.sweep.new.mesh (after_setup c.sweeps.mesh c.move_on.new.mesh c.move_on.ensures.after)
+    (c.move_on.ensures.links c.sweeps.invariant.collected) (c.sweep.ensures.links (c.in_ok-move_on.ensures.collected c.sweeps.invariant.collected)) in
     record {
       moved = moved_on c.args.mesh.now c.sweeps.mesh c.sweep.new.mesh c.sweeps.invariant.moved none after;
       links = drops_then c.args.mesh.now c.sweeps.mesh c.sweep.new.mesh (after_setup c.args.mesh.now c.sweeps.mesh (after_moved c.args.mesh.now c.sweeps.mesh c.sweeps.invariant.moved))
           c.sweeps.invariant.links links;
-      collected = c.in_ok-sweep.ensures.collected;
+      collected = c.in_ok-sweep.ensures.collected (c.in_ok-move_on.ensures.collected c.sweeps.invariant.collected);
       still = λ quiet. absurd (none quiet);
     }
 
 pub returns-in_err-move_on-clause-moved : goal.returns-in_err-move_on-clause-moved
-returns-in_err-move_on-clause-moved c =
-    moved_on c.args.mesh.now c.sweeps.mesh c.move_on.new.mesh c.sweeps.invariant.moved
-    (λ quiet. waits_somewhere c.sweeps.mesh c.in-Some.at c.in-Some.ensures.some (c.sweeps.invariant.still quiet)) c.move_on.ensures.after
+returns-in_err-move_on-clause-moved c = grind (arith, moved_on, waits_somewhere)
 
 pub returns-in_err-move_on-clause-links : goal.returns-in_err-move_on-clause-links
 returns-in_err-move_on-clause-links c =
     drops_then c.args.mesh.now c.sweeps.mesh c.move_on.new.mesh (after_setup c.args.mesh.now c.sweeps.mesh (after_moved c.args.mesh.now c.sweeps.mesh c.sweeps.invariant.moved))
-    c.sweeps.invariant.links c.move_on.ensures.links
+    c.sweeps.invariant.links (c.move_on.ensures.links c.sweeps.invariant.collected)
 
 pub returns-in_err-sweep-clause-moved : goal.returns-in_err-sweep-clause-moved
-returns-in_err-sweep-clause-moved c =
-    moved_on c.args.mesh.now c.sweeps.mesh c.sweep.new.mesh c.sweeps.invariant.moved
-    (λ quiet. waits_somewhere c.sweeps.mesh c.in-Some.at c.in-Some.ensures.some (c.sweeps.invariant.still quiet))
-    (after_then c.sweeps.mesh c.move_on.new.mesh c.sweep.new.mesh c.move_on.ensures.after c.sweep.ensures.after)
+returns-in_err-sweep-clause-moved c = grind (arith, after_then c.sweeps.mesh c.move_on.new.mesh c.sweep.new.mesh c.move_on.ensures.after c.sweep.ensures.after, moved_on, waits_somewhere)
 
 pub returns-in_err-sweep-clause-links : goal.returns-in_err-sweep-clause-links
 returns-in_err-sweep-clause-links c =
-    let links = drops_then c.sweeps.mesh c.move_on.new.mesh c.sweep.new.mesh (after_setup c.sweeps.mesh c.move_on.new.mesh c.move_on.ensures.after) c.move_on.ensures.links c.sweep.ensures.links in
+    let links = drops_then c.sweeps.mesh c.move_on.new.mesh c.sweep.new.mesh (after_setup c.sweeps.mesh c.move_on.new.mesh c.move_on.ensures.after)
+    (c.move_on.ensures.links c.sweeps.invariant.collected) (c.sweep.ensures.links (c.in_ok-move_on.ensures.collected c.sweeps.invariant.collected)) in
     drops_then c.args.mesh.now c.sweeps.mesh c.sweep.new.mesh (after_setup c.args.mesh.now c.sweeps.mesh (after_moved c.args.mesh.now c.sweeps.mesh c.sweeps.invariant.moved))
     c.sweeps.invariant.links links

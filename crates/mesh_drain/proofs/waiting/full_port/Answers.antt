@@ -1,10 +1,6 @@
-use Rattle.std.proofs.Common.{◌*◌, ap, arith}
-use Rattle.machine_desc.specs.Description.{Description}
+use Rattle.std.proofs.Common.{arith}
 use Rattle.mesh_drain.proofs.Ports.{no_input}
 use Rattle.mesh_drain.proofs.waiting.full_port.Goals as goal
 
 pub returns-clause-none : goal.returns-clause-none
-returns-clause-none c =
-    let total = c.chips-index-end.ensures.total in
-    let area = ap (λ (m : Description). m.width * m.height) c.machine-machine.ensures in
-    no_input c.args.mesh.now c.loop-index.index c.every_mesh_is_one.ensures.input_lists (omega (arith, total, area, c.loop-index-test.false)) c.loop-index.invariant
+returns-clause-none c = grind (arith, no_input)

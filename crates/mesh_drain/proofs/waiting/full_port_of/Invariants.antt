@@ -1,7 +1,6 @@
 use Rattle.std.proofs.Common.{◌≡◌, ◌<◌, ℕ, [], Some}
 use Rattle.std.specs.List.{slice_get}
-use Rattle.spin_base.specs.declared.chips.Port.TheVariants.{Link, Local}
-use Rattle.spin_base.specs.Links.{dir_at}
+use Rattle.spin_base.specs.{declared.chips.Port.TheVariants.Link, declared.chips.Port.TheVariants.Local, Links.dir_at}
 use Rattle.mesh_core.specs.State.{queue_at}
 use Rattle.mesh_drain.proofs.waiting.full_port_of.Given as goal
 

@@ -1,4 +1,4 @@
-use Rattle.std.proofs.Common.{ap, ◌∙◌, List}
+use Rattle.std.proofs.Common.{arith, ap, ◌∙◌, List}
 use Rattle.std.specs.List.{slice_get}
 use Rattle.spin_base.specs.declared.routes.Out.{Out}
 use Rattle.mesh_core.specs.State.{Hand}
@@ -11,6 +11,4 @@ returns-clause-some c =
     (c.copied.ensures ∙ (c.first.ensures.value ∙ ap (λ (l : List Out). slice_get l 0) (c.as_slice.ensures.value ∙ ap (λ (h : Hand). h.outs) c.branch.view_is)))
 
 pub returns-clause-none : goal.returns-clause-none
-returns-clause-none c =
-    next_none c.args.router.mesh.now c.args.router.chip c.in_ok-hand.field-0.now c.copied.result c.every_mesh_is_one.ensures c.in_ok-hand.ensures
-    (c.copied.ensures ∙ (c.first.ensures.value ∙ ap (λ (l : List Out). slice_get l 0) (c.as_slice.ensures.value ∙ ap (λ (h : Hand). h.outs) c.branch.view_is)))
+returns-clause-none c = grind (arith, next_none)

@@ -5,30 +5,17 @@ use Rattle.std.specs.Prelude.{IfErr}
 use Rattle.mesh_core.specs.State.{Setup, State}
 use Rattle.mesh_run.specs.Layouts.{IsLayoutOf}
 use Rattle.mesh_round.specs.{RoundFlow.HasRounds, Reinjecting.HasPasses}
-use Rattle.mesh_round.proofs.FirstBack.{first_goes_back}
-use Rattle.mesh_round.proofs.Passes.{passes_keep_mesh, passes_then, rounds_pass, rounds_no_more}
+use Rattle.mesh_round.proofs.{FirstBack.first_goes_back, Passes.passes_keep_mesh, Passes.passes_then, Passes.rounds_pass, Passes.rounds_no_more}
 use Rattle.mesh_round.proofs.reinjecting.pass_on.Goals as goal
 
 pub returns-in_err-parts-clause-refused : goal.returns-in_err-parts-clause-refused
-returns-in_err-parts-clause-refused g c =
-    let was : IfErr c.from_residual.result (λ b. HasRounds c.args.pace.patience c.args.pace.turns c.args.parts b.0) = search rules in
-    IfErr-weaker c.from_residual.result (λ b. HasRounds c.args.pace.patience c.args.pace.turns c.args.parts b.0)
-    (λ b. HasPasses c.args.pace.patience c.args.pace.turns c.args.parts b.0)
-    (λ b rounds. rounds_pass c.args.pace.patience c.args.pace.turns c.args.parts b.0 rounds) was
+returns-in_err-parts-clause-refused g c = grind (arith, IfErr-weaker, rounds_pass)
 
 pub passes-init : goal.passes-init
-passes-init g c = record {
-  passes = rounds_pass c.args.pace.patience c.args.pace.turns c.args.parts c.in_ok-parts.parts c.in_ok-parts.ensures.rounds.rounds;
-  ready = c.in_ok-parts.ensures.ready;
-  at_rest = c.in_ok-parts.ensures.at_rest;
-}
+passes-init g c = grind (arith, rounds_pass c.args.pace.patience c.args.pace.turns c.args.parts c.in_ok-parts.parts c.in_ok-parts.ensures.rounds.rounds)
 
 pub returns-in_err-filled-clause-refused : goal.returns-in_err-filled-clause-refused
-returns-in_err-filled-clause-refused g c =
-    let was : IfErr c.from_residual-in_err-filled.result (λ b. (patience turns : ℕ) → HasPasses patience turns c.passes.parts b.0) = search rules in
-    IfErr-weaker c.from_residual-in_err-filled.result (λ b. (patience turns : ℕ) → HasPasses patience turns c.passes.parts b.0)
-    (λ b. HasPasses c.args.pace.patience c.args.pace.turns c.args.parts b.0)
-    (λ b back. passes_then c.args.pace.patience c.args.pace.turns c.args.parts c.passes.parts b.0 c.passes.invariant.passes (back c.args.pace.patience c.args.pace.turns)) was
+returns-in_err-filled-clause-refused g c = grind (arith, IfErr-weaker, passes_then)
 
 pub run_on-requires-in-passes-clause-layout : goal.run_on-requires-in-passes-clause-layout
 run_on-requires-in-passes-clause-layout g c κs within =

@@ -1,8 +1,7 @@
 -- Each copy that is put back leaves less to be done.
-use Rattle.std.proofs.Common.{◌<◌, ◌∙◌, refl, sym, subst, inl, inr}
+use Rattle.std.proofs.Common.{arith, ◌<◌, ◌∙◌, refl, sym, subst, inl, inr}
 use Rattle.mesh_core.specs.State.{State}
-use Rattle.mesh_round.specs.{Work.work_in, OnThreads.MayGoOn}
-use Rattle.mesh_round.specs.Reinjecting.{HasPasses, none, put_back}
+use Rattle.mesh_round.specs.{Work.work_in, OnThreads.MayGoOn, Reinjecting.HasPasses, Reinjecting.none, Reinjecting.put_back}
 use Rattle.mesh_round.proofs.{PutBackParts.ready_back, PutBackWork.put_back_lighter, PutBackWork.still_less}
 use Rattle.mesh_round.proofs.reinjecting.put_all_back.Goals as goal
 
@@ -17,8 +16,7 @@ pub returns-in-Idle-clause-ready : goal.returns-in-Idle-clause-ready
 returns-in-Idle-clause-ready c = subst MayGoOn (sym c.in_ok-next.ensures.moves) (ready_back c.copies.mesh c.copies.invariant.ready)
 
 pub copies-smaller : goal.copies-smaller
-copies-smaller c =
-    subst (λ (s : State). work_in s < work_in c.copies.mesh) (sym c.in_ok-next.ensures.moves) (put_back_lighter c.copies.mesh (sym c.in_ok-next.ensures.answer ∙ c.in-Moved.is))
+copies-smaller c = grind (arith, put_back_lighter c.copies.mesh (sym c.in_ok-next.ensures.answer ∙ c.in-Moved.is))
 
 pub copies-preserved : goal.copies-preserved
 copies-preserved c =

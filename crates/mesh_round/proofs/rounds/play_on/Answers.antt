@@ -4,10 +4,9 @@ use Rattle.std.specs.Prelude.{IfOk}
 use Rattle.mesh_core.specs.State.{State}
 use Rattle.mesh_run.specs.Raised.{IsRaisedFrom, PlaysTo}
 use Rattle.mesh_round.specs.OnThreads.{LeadsByRound, MayGoOn}
-use Rattle.mesh_round.proofs.Played.{IsLaw, answers, at_pace, leads, leads_at_rest, ready_after, refuses, stood_still}
-use Rattle.mesh_round.proofs.rounds.play_on.Given.{Over}
-use Rattle.mesh_round.proofs.rounds.play_on.Goals as goal
+use Rattle.mesh_round.proofs.{Played.IsLaw, Played.answers, Played.at_pace, Played.leads, Played.leads_at_rest, Played.ready_after, Played.refuses, Played.stood_still, rounds.play_on.Given.Over}
 use Rattle.mesh_round.proofs.rounds.play_on.Goals.{In-Ok-false, In-Ok-true}
+use Rattle.mesh_round.proofs.rounds.play_on.Goals as goal
 
 -- ---- no memory
 

@@ -1,12 +1,11 @@
 -- Rounds that moved a copy are counted; those that moved none left the mesh as it was.
-use Rattle.std.proofs.Common.{rules, ◌≡◌, ◌∙◌, true, false, sym, subst}
+use Rattle.std.proofs.Common.{arith, rules, ◌≡◌, ◌∙◌, true, false, sym, subst}
 use Rattle.std.proofs.lemmas.Result.{IfErr-weaker}
 use Rattle.std.specs.Prelude.{IfErr}
 use Rattle.mesh_round.specs.{RoundFlow.none, OnThreads.MayGoOn, Bound.HasMovingRounds}
 use Rattle.mesh_round.proofs.Played.{IsLaw, IsReached, answers, at_pace, begins, moved_on, refuses, rests_where_none, stood_on}
-use Rattle.mesh_round.proofs.rounds.run_on.Given.{Over}
+use Rattle.mesh_round.proofs.rounds.run_on.{Given.Over, Goals.In-Ok-false}
 use Rattle.mesh_round.proofs.rounds.run_on.Goals as goal
-use Rattle.mesh_round.proofs.rounds.run_on.Goals.{In-Ok-false}
 
 pub returns-in_err-raised-clause-refused : goal.returns-in_err-raised-clause-refused
 returns-in_err-raised-clause-refused g c =
@@ -16,8 +15,7 @@ returns-in_err-raised-clause-refused g c =
     (λ b same. subst rounds (sym same) (record { rounds = none; each = tt })) was
 
 pub loop-init : goal.loop-init
-loop-init g c =
-    (begins c.args.pace.patience c.args.pace.turns c.args.parts c.in_ok-raised.raised c.requires.ready c.in_ok-raised.ensures.raised, c.in_ok-raised.ensures.pace)
+loop-init g c = grind (arith, begins c.args.pace.patience c.args.pace.turns c.args.parts c.in_ok-raised.raised c.requires.ready c.in_ok-raised.ensures.raised)
 
 pub play-requires-after_bounds : goal.play-requires-after_bounds
 play-requires-after_bounds g c κs within = let is = c.loop.invariant.0 in (is.mesh, is.ready.mesh, is.raised)

@@ -1,7 +1,7 @@
 -- Where nothing waits, or no layout is made, there was no round.
-use Rattle.std.proofs.Common.{◌∙◌, ℕ, sym, subst}
-use Rattle.mesh_core.specs.{Expected.IsAtRest, State.State}
-use Rattle.mesh_round.specs.{Bound.HasMovingRounds, Bound.LeadsSoon, RoundFlow.HasNoHand, RoundFlow.HasRounds, RoundFlow.none}
+use Rattle.std.proofs.Common.{arith, ◌∙◌, ℕ, sym, subst}
+use Rattle.mesh_core.specs.State.{State}
+use Rattle.mesh_round.specs.{Bound.HasMovingRounds, RoundFlow.HasNoHand, RoundFlow.HasRounds, RoundFlow.none}
 use Rattle.mesh_round.proofs.Resting.{rests}
 use Rattle.mesh_round.proofs.rounds.run_out.Goals as goal
 
@@ -14,16 +14,11 @@ returns-then-is_at_rest-clause-rounds g c =
     subst (HasRounds p.patience p.turns c.args.mesh) (sym (c.put_together.ensures ∙ c.take_apart-parts.ensures.parts)) none
 
 pub returns-then-is_at_rest-clause-soon : goal.returns-then-is_at_rest-clause-soon
-returns-then-is_at_rest-clause-soon g c =
-    let p = c.args.pace in
-    let m = c.args.mesh in
-    subst (LeadsSoon p.patience p.turns m) (sym (c.put_together.ensures ∙ c.take_apart-parts.ensures.parts))
-    (c.rounds_that_move_copies_are_few.ensures p.patience p.turns m m c.take_apart-parts.ensures.mesh (no_rounds p.patience p.turns m))
+returns-then-is_at_rest-clause-soon g c = grind (arith, no_rounds (c.args.pace).patience (c.args.pace).turns (c.args.mesh))
 
 pub returns-then-is_at_rest-clause-at_rest : goal.returns-then-is_at_rest-clause-at_rest
 returns-then-is_at_rest-clause-at_rest g c =
-    let no_hand = subst HasNoHand (sym c.take_apart-parts.ensures.parts) c.requires in
-    subst IsAtRest (sym c.put_together.ensures) (rests c.take_apart-parts.result (sym c.is_at_rest.ensures ∙ c.if-is_at_rest.true) no_hand)
+    grind (arith, rests c.take_apart-parts.result (sym c.is_at_rest.ensures ∙ c.if-is_at_rest.true) (subst HasNoHand (sym c.take_apart-parts.ensures.parts) c.requires))
 
 pub returns-in-Err-clause-refused : goal.returns-in-Err-clause-refused
 returns-in-Err-clause-refused g c =
@@ -31,9 +26,4 @@ returns-in-Err-clause-refused g c =
     subst (HasRounds p.patience p.turns c.args.mesh) (sym (c.put_together-in-Err.ensures ∙ c.take_apart-parts.ensures.parts)) none
 
 pub returns-in-Ok-run_on-clause-soon : goal.returns-in-Ok-run_on-clause-soon
-returns-in-Ok-run_on-clause-soon g c =
-    let p = c.args.pace in
-    let to = c.put_together-in-Ok-run_on.result in
-    let moved = subst (HasMovingRounds p.patience p.turns c.take_apart-parts.result) (sym c.put_together-in-Ok-run_on.ensures) c.in-Ok-run_on.ensures.rounds in
-    c.rounds_that_move_copies_are_few.ensures p.patience p.turns c.args.mesh to c.take_apart-parts.ensures.mesh
-    (subst (λ m. HasMovingRounds p.patience p.turns m to) c.take_apart-parts.ensures.parts moved)
+returns-in-Ok-run_on-clause-soon g c = grind arith

@@ -1,19 +1,14 @@
 use Rattle.std.proofs.Common.{set, Option, Some, refl, sym, ap, ◌∙◌, arith}
 use Rattle.chip_node.specs.declared.ends.End.{End}
-use Rattle.mesh_run.specs.declared.shares.Share.{Share}
-use Rattle.mesh_run.specs.Split.{end_in}
+use Rattle.mesh_run.specs.{declared.shares.Share.Share, Split.end_in}
 use Rattle.mesh_run.proofs.CrossingLaws.{end_inside, end_set, read_end, share_inside}
 use Rattle.mesh_run.proofs.crossing.put_end.Goals as goal
 
 pub index_mut-requires : goal.index_mut-requires
-index_mut-requires c =
-    let within = share_inside c.args.shares.now.items c.args.share c.args.queue c.requires.0 c.requires.1 in
-    omega (arith, within, c.args.shares.now.ok.0)
+index_mut-requires c = grind (arith, share_inside c.args.shares.now.items c.args.share c.args.queue c.requires.0 c.requires.1)
 
 pub index_mut-requires-2 : goal.index_mut-requires-2
-index_mut-requires-2 c =
-    let within = end_inside c.args.shares.now.items c.args.share c.args.queue c.requires.0 c.index_mut.result.now c.requires.1 c.index_mut.ensures.value in
-    omega (arith, within, c.index_mut.result.now.hold.ends.ok.0)
+index_mut-requires-2 c = grind (arith, end_inside c.args.shares.now.items c.args.share c.args.queue c.requires.0 c.index_mut.result.now c.requires.1 c.index_mut.ensures.value)
 
 pub returns-clause-stood : goal.returns-clause-stood
 returns-clause-stood c =

@@ -1,4 +1,5 @@
-use Rattle.std.proofs.{Common.arith, lemmas.Option.slice_get-get_or}
+use Rattle.std.proofs.Common.{arith}
+use Rattle.std.proofs.lemmas.Option.{slice_get-get_or}
 use Rattle.mesh_run.specs.declared.homes.Home.{Home}
 use Rattle.mesh_run.proofs.HomeLaws.{cuts_all, cuts_more, cuts_none}
 use Rattle.mesh_run.proofs.homes.cuts_of.Goals as goal
@@ -13,4 +14,4 @@ loop-place-preserved c =
     c.loop-place.invariant c.in_ok-push_cut.ensures
 
 pub returns : goal.returns
-returns c = cuts_all c.args.homes.now c.loop-place.place c.loop-place.cuts.items (omega arith) c.loop-place.invariant
+returns c = cuts_all c.args.homes.now c.loop-place.place c.loop-place.cuts.items (omega arith) c.requires c.loop-place.invariant

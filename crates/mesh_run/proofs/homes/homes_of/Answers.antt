@@ -9,7 +9,7 @@ loop-index-init c = homes_none c.args.table.now c.new-homes.result.items c.new-h
 
 pub loop-index-preserved : goal.loop-index-preserved
 loop-index-preserved c =
-    let long = c.requires.long in
+    let long = c.requires in
     let chips = c.chips_of-chips.ensures.value in
     let below = c.loop-index-test.true in
     let router : 2 * c.loop-index.index < length c.args.table.now = omega (arith, long, chips, below) in
@@ -19,16 +19,16 @@ loop-index-preserved c =
 
 pub loop-vertex-init : goal.loop-vertex-init
 loop-vertex-init c =
-    let all : c.loop-index.index ≡ grid_size c.args.setup.now = omega (arith, c.chips_of-chips.ensures.value) in
+    let all : c.loop-index.index ≡ grid_size c.args.footing.setup.now = omega (arith, c.chips_of-chips.ensures.value) in
     subst (λ (n : ℕ). AreHomesTo c.args.table.now n 0 c.loop-index.homes.items) all c.loop-index.invariant
 
 pub loop-vertex-preserved : goal.loop-vertex-preserved
 loop-vertex-preserved c =
-    let long = c.requires.long in
+    let long = c.requires in
     let home = c.home_index-index.ensures in
     let sender : 2 * c.home_index-index.result < length c.args.table.now = omega (arith, long, home) in
     let receiver : 2 * c.home_index-index.result + 1 < length c.args.table.now = omega (arith, long, home) in
-    vertex_more c.args.table.now (grid_size c.args.setup.now) c.loop-vertex.vertex _ c.loop-vertex.homes.items c.push.new.self.items c.loop-vertex.invariant
+    vertex_more c.args.table.now (grid_size c.args.footing.setup.now) c.loop-vertex.vertex _ c.loop-vertex.homes.items c.push.new.self.items c.loop-vertex.invariant
     (record {
       sender_at = 2 * c.home_index-index.result;
       sender = slice_get-get_or c.args.table.now (2 * c.home_index-index.result) 0 sender;
@@ -38,4 +38,4 @@ loop-vertex-preserved c =
 
 pub returns : goal.returns
 returns c =
-    homes_all c.args.setup.now c.args.table.now c.loop-at.at c.loop-at.homes.items (omega (arith, c.chips_of-chips.ensures.value)) c.loop-at.invariant
+    homes_all c.args.footing.setup.now c.args.table.now c.loop-at.at c.loop-at.homes.items (omega (arith, c.chips_of-chips.ensures.value)) c.loop-at.invariant

@@ -1,21 +1,24 @@
-use Rattle.std.proofs.Common.{sym, ◌∙◌}
-use Rattle.machine_desc.specs.Live.{chip_of, is_live_chip}
-use Rattle.machine_desc.proofs.Live.{index_of-chip_of}
+use Rattle.std.proofs.Common.{◌≡◌, ℕ, subst, arith}
 use Rattle.spin_base.proofs.Tests.{answers_none}
-use Rattle.mesh_run.proofs.HomeLaws.{senders_dead, senders_live}
+use Rattle.mesh_run.specs.Homes.{HaveSenders}
+use Rattle.mesh_run.proofs.{FloorLaws.live_below, HomeLaws.output_of, HomeLaws.senders_dead, HomeLaws.senders_live, HomeLaws.senders_more}
 use Rattle.mesh_run.proofs.homes.set_senders.Goals as goal
 
-pub set_live_senders-requires-clause-live : goal.set_live_senders-requires-clause-live
-set_live_senders-requires-clause-live c = record {
-  live = sym (c.is_live.ensures c.args.setup.now c.requires.floor) ∙ c.if-is_live.true;
-  is = index_of-chip_of c.args.setup.now.machine c.args.index;
-}
-
-pub returns-then-is_live : goal.returns-then-is_live
-returns-then-is_live c = senders_live c.args.setup.now c.args.table.now c.args.index c.set_live_senders.new.homes.items c.set_live_senders.ensures
+pub loop-number-preserved : goal.loop-number-preserved
+loop-number-preserved c = λ table at before.
+    let u = c.args.footing.setup.now in
+    let live = c.is_live.ensures.0 c.if-not-is_live.false in
+    let o = output_of c.loop-number.number c.loop-number-test.true in
+    senders_more u table c.args.index c.loop-number.number _ _ o.0 c.loop-number.homes.items c.set_sender.new.homes.items (c.loop-number.invariant table at before) live
+    (live_below u c.args.index live) o.1 o.2 (c.place_behind.ensures u o.0 c.args.footing.stands live o.1 o.2) at c.set_sender.ensures
 
 pub returns : goal.returns
-returns c =
-    let u = c.args.setup.now in
-    senders_dead u c.args.table.now c.args.index c.args.homes.now.items c.requires.before
-    (λ on. answers_none (is_live_chip u.machine (chip_of u.machine c.args.index)) on.live (sym (c.is_live.ensures u c.requires.floor) ∙ c.if-is_live.false))
+returns c = λ table at before.
+    let all : c.loop-number.number ≡ 24 = omega arith in
+    senders_live c.args.footing.setup.now table c.args.index c.loop-number.homes.items
+    (subst (λ (n : ℕ). HaveSenders c.args.footing.setup.now table c.args.index n c.loop-number.homes.items) all (c.loop-number.invariant table at before))
+
+pub returns-then-not-is_live : goal.returns-then-not-is_live
+returns-then-not-is_live c = λ table at before.
+    senders_dead c.args.footing.setup.now table c.args.index c.args.homes.now.items before
+    (λ on. answers_none c.is_live.result (c.is_live.ensures.1 on) c.if-not-is_live.true)

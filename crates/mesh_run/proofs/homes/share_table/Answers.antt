@@ -9,11 +9,11 @@ pub loop-number-preserved : goal.loop-number-preserved
 loop-number-preserved c =
     let ends = c.args.ends.now in
     let n = c.loop-number.number in
-    let from = run_from c.args.count ends n c.requires.runs c.loop-number-test.true in
+    let from = run_from c.args.count ends n c.requires c.loop-number-test.true in
     run_all ends n c.loop-place._place c.loop-place.table.items c.loop-place.invariant (omega (arith, from, c.loop-number.invariant.long))
 
 pub loop-place-preserved : goal.loop-place-preserved
 loop-place-preserved c = run_more c.args.ends.now c.loop-number.number c.loop-place._place c.loop-place.table.items c.push.new.self.items c.loop-place.invariant c.in_ok-push.ensures.items
 
 pub returns : goal.returns
-returns c = table_all c.args.count c.args.ends.now c.loop-number.number c.loop-number.table.items c.requires.runs (omega arith) c.loop-number.invariant
+returns c = table_all c.args.count c.args.ends.now c.loop-number.number c.loop-number.table.items c.requires (omega arith) c.loop-number.invariant

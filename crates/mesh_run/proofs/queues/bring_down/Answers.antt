@@ -4,10 +4,7 @@ use Rattle.mesh_run.proofs.Holding.{as_many, only_ends, down_none, stands_next, 
 use Rattle.mesh_run.proofs.queues.bring_down.Goals as goal
 
 pub loop-gone-init : goal.loop-gone-init
-loop-gone-init g c =
-    let r = c.requires.ends in
-    let count : c.len-count.result ≡ length r.0 = omega (arith, as_many r.0 c.args.standing r.1, c.args.standing.links.ok.0, c.len-count.ensures) in
-    (r.0, r.1, r.2, r.3, count, down_none r.0 c.args.standing c.args.queues.now.items r.1)
+loop-gone-init g c = grind (arith, as_many (c.requires.ends).0 c.args.standing (c.requires.ends).1, down_none (c.requires.ends).0 c.args.standing c.args.queues.now.items (c.requires.ends).1)
 
 pub pop-requires : goal.pop-requires
 pop-requires g c =
@@ -24,10 +21,7 @@ down-requires g c =
     next_are_ends h.0 c.loop-gone.gone c.loop-gone.standing c.pop.result n below h.2 (c.pop.ensures _ _ n.stands).0
 
 pub index_mut-requires : goal.index_mut-requires
-index_mut-requires g c =
-    let h = c.loop-gone.invariant in
-    let more : c.loop-gone.gone < c.len-count.result = c.loop-gone-test.true in
-    omega (arith, c.loop-gone.queues.ok.0, h.5.long, h.3, h.4, more)
+index_mut-requires g c = grind arith
 
 pub loop-gone-preserved : goal.loop-gone-preserved
 loop-gone-preserved g c =

@@ -7,27 +7,27 @@ use Rattle.mesh_run.proofs.queues.bring_up.Goals as goal
 pub loop-place-init : goal.loop-place-init
 loop-place-init g c = up_none c.args.places.cap (c.args.places.turns + 1) (length c.args.queues.now) c.args.queues.now c.in_ok-rising.rising refl c.in_ok-rising.ensures
 
-pub raise_link-requires-clause-fits : goal.raise_link-requires-clause-fits
-raise_link-requires-clause-fits g c =
+pub link_for-requires : goal.link_for-requires
+link_for-requires g c =
     let q = c.index-queues-place.result in
     subst (λ (p : List McCopy). length p ≤ c.args.places.cap) (sym (c.as_slice.ensures ∙ c.index-queues-place.is)) (c.requires c.loop-place.place q c.loop-place-test.true)
 
-pub raise_link-requires-clause-room : goal.raise_link-requires-clause-room
-raise_link-requires-clause-room g c =
+pub put-requires : goal.put-requires
+put-requires g c =
     let u = c.loop-place.invariant in
-    let qs = c.args.queues.now in
     let k = c.loop-place.place in
-    (u.ends, length qs - (k + 1), may_rise c.args.places.cap (c.args.places.turns + 1) qs k c.loop-place.rising u c.loop-place-test.true)
+    (u.ends, length c.args.queues.now - (k + 1), may_rise c.args.places.cap (c.args.places.turns + 1) c.args.queues.now k c.loop-place.rising u c.loop-place-test.true)
 
 pub loop-place-preserved : goal.loop-place-preserved
 loop-place-preserved g c =
     let u = c.loop-place.invariant in
     let qs = c.args.queues.now in
     let k = c.loop-place.place in
-    let q = c.index-queues-place.result in
-    let made = c.in_ok-raise_link.ensures u.ends (length qs - (k + 1)) (may_rise c.args.places.cap (c.args.places.turns + 1) qs k c.loop-place.rising u c.loop-place-test.true) in
-    up_more c.args.places.cap (c.args.places.turns + 1) qs k c.loop-place.rising c.raise_link.new.rising q made.0 u c.loop-place-test.true c.index-queues-place.is
-    (subst (λ (p : List McCopy). IsUp c.args.places.cap (c.args.places.turns + 1) p made.0) c.as_slice.ensures made.1) made.2
+    let more = c.args.places.turns + 1 in
+    let e = c.in_ok-ends.ends in
+    up_more c.args.places.cap more qs k c.loop-place.rising c.put.new.self c.index-queues-place.result e u c.loop-place-test.true c.index-queues-place.is
+    (subst (λ (p : List McCopy). IsUp c.args.places.cap more p e) c.as_slice.ensures c.in_ok-ends.ensures)
+    (c.put.ensures u.ends (length qs - (k + 1)) (may_rise c.args.places.cap more qs k c.loop-place.rising u c.loop-place-test.true))
 
 pub returns : goal.returns
 returns g c =

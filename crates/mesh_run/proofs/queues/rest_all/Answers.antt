@@ -1,9 +1,7 @@
 use Rattle.std.proofs.Common.{◌≡◌, ◌&&◌, Bool, nat_eq, min, List, sym, ap, ◌∙◌, subst, arith}
 use Rattle.link_queue.specs.declared.links.LinkEnds.{LinkEnds}
-use Rattle.mesh_run.specs.declared.queues.Rested.{Rested}
-use Rattle.mesh_run.specs.Queues.{RestAll, WasUp, free_places_of}
-use Rattle.mesh_run.proofs.Holding.{only_ends}
-use Rattle.mesh_run.proofs.Resting.{all_rest, links_past, next_at, next_was, none_rest, one_rests, rest_fits, rest_inside, rest_places}
+use Rattle.mesh_run.specs.{declared.queues.Rested.Rested, Queues.RestAll, Queues.WasUp, Queues.free_places_of}
+use Rattle.mesh_run.proofs.{Holding.only_ends, Resting.all_rest, Resting.links_past, Resting.next_at, Resting.next_was, Resting.none_rest, Resting.one_rests, Resting.rest_inside, Resting.rest_places}
 use Rattle.mesh_run.proofs.queues.rest_all.Goals.{then-quiet, else-quiet}
 use Rattle.mesh_run.proofs.queues.rest_all.Goals as goal
 
@@ -22,12 +20,6 @@ index-requires g c =
     let n = next_at h.3.so_far h.1 (c.len-place-end.ensures ∙ c.args.standing.now.links.ok.0) c.loop-place-test.true in
     let inside = rest_inside n.stands (c.rest_at-held.ensures h.3.so_far.now n.old h.3.so_far.holds n.stands) in
     omega (arith, inside, c.rest_at-held.new.standing.links.ok.0)
-
-pub free_places-requires : goal.free_places-requires
-free_places-requires g c =
-    let h = c.loop-place.invariant in
-    let n = next_at h.3.so_far h.1 (c.len-place-end.ensures ∙ c.args.standing.now.links.ok.0) c.loop-place-test.true in
-    rest_fits n.stands (c.rest_at-held.ensures h.3.so_far.now n.old h.3.so_far.holds n.stands) c.index.ensures c.places.ensures
 
 pub loop-place-preserved : goal.loop-place-preserved
 loop-place-preserved g c =

@@ -1,11 +1,24 @@
 use Rattle.std.proofs.Common.{subst}
-use Rattle.link_queue.specs.declared.links.Link.{Link}
-use Rattle.link_queue.specs.Ends.{IsTx, IsRx}
-use Rattle.mesh_run.proofs.Resting.{rests_there}
+use Rattle.link_queue.specs.{declared.links.Link.Link, Ends.IsTx, Ends.IsRx}
+use Rattle.mesh_run.proofs.Resting.{lent_there, rests_there}
+use Rattle.std.proofs.lemmas.Option.{slice_get_within}
 use Rattle.mesh_run.proofs.queues.rest_at.Goals as goal
 
 pub take_ends-tx-requires : goal.take_ends-tx-requires
 take_ends-tx-requires g c = let r = c.requires in (r.0, r.1, r.2, r.3)
+
+pub invariant_of-lent : goal.invariant_of-lent
+invariant_of-lent g c =
+    let r = c.requires in
+    let both =
+    lent_there r.0 c.args.place r.1 c.take_ends-tx.new.self c.index.result.now c.take_ends-tx.result.0 c.take_ends-tx.result.1 r.3 r.4 (c.take_ends-tx.ensures.ends r.0 r.1 r.2 r.3)
+    (c.take_ends-tx.ensures.left r.0 r.2) c.index.ensures in
+    record { sends = both.0; takes = both.1 }
+
+pub put_ends-requires : goal.put_ends-requires
+put_ends-requires g c =
+    let r = c.requires in
+    (r.0, c.take_ends-tx.ensures.left r.0 r.2, slice_get_within r.0 c.args.place r.1 r.3)
 
 pub returns : goal.returns
 returns g c = λ ends old holds at.

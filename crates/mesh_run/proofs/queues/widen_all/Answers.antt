@@ -1,8 +1,8 @@
 use Rattle.std.proofs.Common.{◌+◌, List, ◌∙◌, subst}
 use Rattle.link_queue.specs.declared.links.LinkEnds.{LinkEnds}
 use Rattle.mesh_run.specs.{Queues.StayUp, Standing.HoldsAll}
-use Rattle.mesh_run.proofs.Holding.{only_ends}
-use Rattle.mesh_run.proofs.Resting.{StaysAs, after_refusal, all_stay, links_past, next_at, next_up, none_done, one_done, some_stay}
+use Rattle.mesh_run.proofs.{Holding.only_ends, Resting.StaysAs, Resting.after_refusal, Resting.all_stay, Resting.links_past, Resting.next_at, Resting.next_up, Resting.none_done, Resting.one_done}
+use Rattle.mesh_run.proofs.Resting.{some_stay}
 use Rattle.mesh_run.proofs.queues.widen_all.Goals as goal
 
 pub loop-place-init : goal.loop-place-init

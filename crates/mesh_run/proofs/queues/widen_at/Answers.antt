@@ -1,8 +1,9 @@
-use Rattle.std.proofs.Common.{sym, ap, ◌∙◌, subst, arith}
-use Rattle.link_queue.specs.declared.links.{Link.Link, Rx.Rx, Tx.Tx}
-use Rattle.link_queue.specs.Ends.{IsTx, IsRx, sending}
-use Rattle.mesh_run.proofs.Resting.{held_short, lent_inside, lent_link, put_again, rest_count, rest_fits, rest_inside, rest_places}
-use Rattle.mesh_run.proofs.Resting.{rest_sent, rest_stands, rest_took, rest_wide, rest_within, widened_up}
+use Rattle.std.proofs.Common.{sym, subst, arith}
+use Rattle.link_queue.specs.Ends.{sending}
+use Rattle.std.proofs.Common.{◌∙◌}
+use Rattle.std.proofs.Common.{ap}
+use Rattle.link_queue.specs.{declared.links.Link.Link, declared.links.Rx.Rx, declared.links.Tx.Tx, Ends.IsTx, Ends.IsRx}
+use Rattle.mesh_run.proofs.Resting.{held_short, lent_inside, lent_link, put_again, rest_count, rest_inside, rest_places, rest_sent, rest_stands, rest_took, rest_wide, rest_within, widened_up}
 use Rattle.mesh_run.proofs.queues.widen_at.Goals as goal
 
 pub index-requires : goal.index-requires
@@ -10,9 +11,6 @@ index-requires g c =
     let u = c.requires in
     let inside = rest_inside u.3 (c.rest_at-held.ensures u.0 u.1 u.2 u.3) in
     omega (arith, inside, c.rest_at-held.new.standing.links.ok.0)
-
-pub free_places-requires : goal.free_places-requires
-free_places-requires g c = let u = c.requires in rest_fits u.3 (c.rest_at-held.ensures u.0 u.1 u.2 u.3) c.index.ensures c.places-has.ensures
 
 pub returns-then-places-free_places-clause-wide : goal.returns-then-places-free_places-clause-wide
 returns-then-places-free_places-clause-wide g c = λ ends old holds at up.
@@ -24,9 +22,6 @@ take_ends-tx-requires g c =
     let u = c.requires in
     let r = c.rest_at-held.ensures u.0 u.1 u.2 u.3 in
     (_, r.now, r.holds, rest_stands u.3 r)
-
-pub for_held-wider-requires : goal.for_held-wider-requires
-for_held-wider-requires g c = let u = c.requires in held_short u.3 (c.rest_at-held.ensures u.0 u.1 u.2 u.3) u.4
 
 pub index-requires-2 : goal.index-requires-2
 index-requires-2 g c =
@@ -50,25 +45,13 @@ invariant_of-resting g c =
     }
 
 pub widened-requires : goal.widened-requires
-widened-requires g c =
-    let u = c.requires in
-    let is = c.for_held-wider.ensures in
-    record {
-      some = omega (arith, is, c.args.places.some);
-      fits = omega (arith, held_short u.3 (c.rest_at-held.ensures u.0 u.1 u.2 u.3) u.4, is);
-    }
+widened-requires g c = grind (arith, held_short (c.requires).3 (c.rest_at-held.ensures (c.requires).0 (c.requires).1 (c.requires).2 (c.requires).3) (c.requires).4)
 
 pub set-requires : goal.set-requires
-set-requires g c =
-    let u = c.requires in
-    let r = c.rest_at-held.ensures u.0 u.1 u.2 u.3 in
-    (_, c.take_ends-tx.ensures.left _ r.holds, rest_within u.3 r)
+set-requires g c = grind (arith, rest_within (c.requires).3 (c.rest_at-held.ensures (c.requires).0 (c.requires).1 (c.requires).2 (c.requires).3))
 
 pub put_ends-requires : goal.put_ends-requires
-put_ends-requires g c =
-    let u = c.requires in
-    let r = c.rest_at-held.ensures u.0 u.1 u.2 u.3 in
-    (_, c.take_ends-tx.ensures.left _ r.holds, rest_within u.3 r)
+put_ends-requires g c = grind (arith, rest_within (c.requires).3 (c.rest_at-held.ensures (c.requires).0 (c.requires).1 (c.requires).2 (c.requires).3))
 
 pub returns-in-Ok-clause-wide : goal.returns-in-Ok-clause-wide
 returns-in-Ok-clause-wide g c = λ ends old holds at up.

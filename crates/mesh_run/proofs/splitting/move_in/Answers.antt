@@ -1,17 +1,16 @@
-use Rattle.std.proofs.Common.{◌≡◌, ◌<◌, ◌≤◌, ℕ, length, get_or, sym, ◌∙◌, subst, arith}
+use Rattle.std.proofs.Common.{◌≡◌, ◌<◌, ◌≤◌, ℕ, length, get_or, ◌∙◌, subst, arith}
 use Rattle.std.proofs.lemmas.Option.{slice_get-get_or}
 use Rattle.mesh_core.specs.State.{State}
 use Rattle.mesh_run.specs.declared.homes.Home.{Home}
-use Rattle.mesh_run.proofs.CrossingLaws.{end_still}
-use Rattle.mesh_run.proofs.SplitLaws.{holds_on, holds_self, lanes_more, lanes_none, moved_in, place_there, receiver_there, unsent_wide, vertex_home, vertices_to_more, vertices_to_none}
+use Rattle.mesh_run.proofs.{CrossingLaws.end_still, SplitLaws.holds_on, SplitLaws.holds_self, SplitLaws.lanes_more, SplitLaws.lanes_none, SplitLaws.moved_in, SplitLaws.place_there}
+use Rattle.mesh_run.proofs.SplitLaws.{vertex_home, vertex_there, vertices_to_more, vertices_to_none}
 use Rattle.mesh_run.proofs.splitting.move_in.Goals as goal
 
 pub loop-place-init : goal.loop-place-init
 loop-place-init c = lanes_none c.args.parts.now c.args.homes.now c.args.shares.now.items
 
 pub swap_queue-copies-requires : goal.swap_queue-copies-requires
-swap_queue-copies-requires c =
-    omega (arith, c.requires.4.long, c.loop-place.invariant.same.inputs_long, c.loop-place.invariant.same.cores_long, c.loop-place-test.true)
+swap_queue-copies-requires c = grind arith
 
 pub put_lane-requires : goal.put_lane-requires
 put_lane-requires c =
@@ -38,23 +37,14 @@ loop-cut-init c = holds_self c.loop-vertex.shares.items
 pub loop-cut-preserved : goal.loop-cut-preserved
 loop-cut-preserved c = holds_on c.loop-vertex.shares.items c.loop-cut.shares.items c.poll.new.shares.items c.loop-cut.invariant c.poll.ensures
 
-pub swap_unsent-requires-clause-share : goal.swap_unsent-requires-clause-share
-swap_unsent-requires-clause-share c =
+pub swap_unsent-requires : goal.swap_unsent-requires
+swap_unsent-requires c =
     let m = c.args.parts.now in
     let ports = subst (λ (s : State). c.len-ports.result ≡ length s.inputs) c.parts.view_is (omega (arith, c.len-ports.ensures)) ∙ c.loop-place.invariant.same.inputs_long in
     let here = subst (λ (s : State). c.loop-vertex.vertex < length s.unsent) c.parts.view_is (omega (arith, c.len-vertex-end.ensures, c.loop-vertex-test.true)) in
     let below : c.loop-vertex.vertex < length m.unsent = subst (λ (k : ℕ). c.loop-vertex.vertex < k) c.loop-place.invariant.same.unsent_long here in
-    receiver_there m c.args.homes.now c.args.shares.now.items c.loop-place.shares.items c.loop-vertex.shares.items c.len-ports.result c.loop-vertex.vertex c.requires.4
+    vertex_there m c.args.homes.now c.args.shares.now.items c.loop-place.shares.items c.loop-vertex.shares.items c.len-ports.result c.loop-vertex.vertex c.requires.4
     c.loop-place.invariant.shares_same c.loop-vertex.invariant.shares_same ports below
-
-pub swap_unsent-requires-clause-vertex : goal.swap_unsent-requires-clause-vertex
-swap_unsent-requires-clause-vertex c = λ s at.
-    let m = c.args.parts.now in
-    let here = subst (λ (s : State). c.loop-vertex.vertex < length s.unsent) c.parts.view_is (omega (arith, c.len-vertex-end.ensures, c.loop-vertex-test.true)) in
-    let below : c.loop-vertex.vertex < length m.unsent = subst (λ (k : ℕ). c.loop-vertex.vertex < k) c.loop-place.invariant.same.unsent_long here in
-    subst (λ (k : ℕ). c.loop-vertex.vertex < k)
-    (sym (unsent_wide m c.args.homes.now c.args.shares.now.items c.loop-place.shares.items c.loop-vertex.shares.items _ s c.requires.4 c.loop-place.invariant.shares_same
-    c.loop-vertex.invariant.shares_same at)) below
 
 pub loop-vertex-preserved : goal.loop-vertex-preserved
 loop-vertex-preserved c =

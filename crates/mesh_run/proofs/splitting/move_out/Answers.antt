@@ -2,16 +2,15 @@ use Rattle.std.proofs.Common.{◌≡◌, ◌<◌, ◌≤◌, ℕ, length, get_or
 use Rattle.std.proofs.lemmas.Option.{slice_get-get_or}
 use Rattle.mesh_core.specs.State.{State}
 use Rattle.mesh_run.specs.declared.homes.Home.{Home}
-use Rattle.mesh_run.proofs.CrossingLaws.{end_still}
-use Rattle.mesh_run.proofs.SplitLaws.{moved_out, out_more, out_none, place_there, receiver_there, unsent_out_more, unsent_out_none, unsent_wide, vertex_home}
+use Rattle.mesh_run.proofs.{CrossingLaws.end_still, SplitLaws.moved_out, SplitLaws.out_more, SplitLaws.out_none, SplitLaws.place_there, SplitLaws.unsent_out_more, SplitLaws.unsent_out_none}
+use Rattle.mesh_run.proofs.SplitLaws.{vertex_home, vertex_there}
 use Rattle.mesh_run.proofs.splitting.move_out.Goals as goal
 
 pub loop-place-init : goal.loop-place-init
 loop-place-init c = out_none c.args.parts.now c.args.homes.now c.args.shares.now.items
 
 pub take_lane-requires-clause-queue : goal.take_lane-requires-clause-queue
-take_lane-requires-clause-queue c =
-    omega (arith, c.requires.long, c.loop-place.invariant.same.inputs_long, c.loop-place.invariant.same.cores_long, c.loop-place-test.true)
+take_lane-requires-clause-queue c = grind arith
 
 pub take_lane-requires-clause-end : goal.take_lane-requires-clause-end
 take_lane-requires-clause-end c =
@@ -35,23 +34,14 @@ loop-place-preserved c =
 pub loop-vertex-init : goal.loop-vertex-init
 loop-vertex-init c = unsent_out_none (length c.args.parts.now.inputs) c.loop-place.parts c.args.homes.now c.loop-place.shares.items
 
-pub swap_unsent-copies-requires-clause-share : goal.swap_unsent-copies-requires-clause-share
-swap_unsent-copies-requires-clause-share c =
+pub swap_unsent-copies-requires : goal.swap_unsent-copies-requires
+swap_unsent-copies-requires c =
     let m = c.args.parts.now in
     let ports = subst (λ (s : State). c.len-ports.result ≡ length s.inputs) c.parts.view_is (omega (arith, c.len-ports.ensures)) ∙ c.loop-place.invariant.same.inputs_long in
     let here = subst (λ (s : State). c.loop-vertex.vertex < length s.unsent) c.parts.view_is (omega (arith, c.len-vertex-end.ensures, c.loop-vertex-test.true)) in
     let below : c.loop-vertex.vertex < length m.unsent = subst (λ (k : ℕ). c.loop-vertex.vertex < k) c.loop-place.invariant.same.unsent_long here in
-    receiver_there m c.args.homes.now c.args.shares.now.items c.loop-place.shares.items c.loop-vertex.shares.items c.len-ports.result c.loop-vertex.vertex c.requires
+    vertex_there m c.args.homes.now c.args.shares.now.items c.loop-place.shares.items c.loop-vertex.shares.items c.len-ports.result c.loop-vertex.vertex c.requires
     c.loop-place.invariant.shares_same c.loop-vertex.invariant.shares_same ports below
-
-pub swap_unsent-copies-requires-clause-vertex : goal.swap_unsent-copies-requires-clause-vertex
-swap_unsent-copies-requires-clause-vertex c = λ s at.
-    let m = c.args.parts.now in
-    let here = subst (λ (s : State). c.loop-vertex.vertex < length s.unsent) c.parts.view_is (omega (arith, c.len-vertex-end.ensures, c.loop-vertex-test.true)) in
-    let below : c.loop-vertex.vertex < length m.unsent = subst (λ (k : ℕ). c.loop-vertex.vertex < k) c.loop-place.invariant.same.unsent_long here in
-    subst (λ (k : ℕ). c.loop-vertex.vertex < k)
-    (sym (unsent_wide m c.args.homes.now c.args.shares.now.items c.loop-place.shares.items c.loop-vertex.shares.items _ s c.requires c.loop-place.invariant.shares_same
-    c.loop-vertex.invariant.shares_same at)) below
 
 pub loop-vertex-preserved : goal.loop-vertex-preserved
 loop-vertex-preserved c =

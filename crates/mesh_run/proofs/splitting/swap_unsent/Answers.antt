@@ -1,5 +1,6 @@
-use Rattle.std.proofs.Common.{set, Some, refl, sym, ap, ◌∙◌}
-use Rattle.std.proofs.lemmas.Option.{slice_get-get_or}
+use Rattle.std.proofs.Common.{◌≡◌, ◌<◌, length, set, Some, refl, sym, ap, ◌∙◌, subst}
+use Rattle.std.proofs.lemmas.Option.{get_or_from_slice_get}
+use Rattle.mesh_run.specs.declared.shares.Share.{Share}
 use Rattle.mesh_run.proofs.SplitLaws.{unsent_set}
 use Rattle.mesh_run.proofs.splitting.swap_unsent.Goals as goal
 
@@ -7,6 +8,6 @@ pub returns-clause-put : goal.returns-clause-put
 returns-clause-put c =
     let shares = c.args.shares.now.items in
     let s = c.index_mut.result.now in
-    let stands = slice_get-get_or shares c.args.share s c.requires.share ∙ ap Some (sym c.index_mut.ensures.value) in
-    unsent_set shares _ c.args.share c.args.vertex s _ c.args.copies stands (c.requires.vertex s stands) refl refl refl refl refl refl
-    (ap (λ q. set s.hold.unsent.items c.args.vertex q) c.replace.ensures.after)
+    let is : s ≡ c.requires.0 = c.index_mut.ensures.value ∙ get_or_from_slice_get shares c.args.share c.requires.0 s c.requires.1 in
+    unsent_set shares _ c.args.share c.args.vertex s _ c.args.copies (c.requires.1 ∙ ap Some (sym is)) (subst (λ (x : Share). c.args.vertex < length x.hold.unsent.items) (sym is) c.requires.2)
+    refl refl refl refl refl refl (ap (λ q. set s.hold.unsent.items c.args.vertex q) c.replace.ensures.after)

@@ -1,18 +1,15 @@
-use Rattle.std.proofs.Common.{◌≡◌, ◌*◌, Some, None, length, get_or, sym, subst, ◌∙◌}
+use Rattle.std.proofs.Common.{arith, ◌≡◌, ◌*◌, Some, None, length, get_or, sym, subst, ◌∙◌}
 use Rattle.std.proofs.lemmas.List.{take_all}
 use Rattle.machine_desc.specs.{Description.Description, RoutingTree.end_of}
 use Rattle.machine_desc.proofs.Far.{far_inside}
-use Rattle.ner_trees.proofs.Cutting.{marked_more, marked_past}
+use Rattle.ner_trees.proofs.{Cutting.marked_more, Cutting.marked_past, cuts.mark.Goals.in-Some+in_ok-set, cuts.mark.Goals.in_default}
 use Rattle.ner_trees.proofs.cuts.mark.Goals as goal
-use Rattle.ner_trees.proofs.cuts.mark.Goals.{in-Some+in_ok-set, in_default}
 
 pub far-requires : goal.far-requires
 far-requires c = rw c.machine-machine.ensures (c.requires _ _ c.loop-link-test.true)
 
 pub set-requires : goal.set-requires
-set-requires c =
-    rw c.loop-link.invariant.0
-    (far_inside c.args.on.now.machine.now _ c.in-Some.chip _ (c.requires _ _ c.loop-link-test.true) (rw c.machine-machine.ensures at (sym c.far.ensures ∙ c.in-Some.is)))
+set-requires c = grind (arith, far_inside c.args.on.now.machine.now _ c.in-Some.chip _ (c.requires _ _ c.loop-link-test.true) (rw c.machine-machine.ensures at (sym c.far.ensures ∙ c.in-Some.is)))
 
 pub loop-link-preserved : goal.loop-link-preserved
 loop-link-preserved c =

@@ -1,26 +1,25 @@
 use Rattle.std.proofs.Common.{false, take_all, sym, subst, ◌∙◌}
 use Rattle.ner_trees.specs.Search.{IsCutAt}
-use Rattle.ner_trees.proofs.Cutting.{at_more, cut_again_at, cut_more_at}
+use Rattle.ner_trees.proofs.{Cutting.at_more, Cutting.cut_again_at, Cutting.cut_more_at, cuts.new_branch.Goals.then-at, cuts.new_branch.Goals.else-at}
 use Rattle.ner_trees.proofs.cuts.new_branch.Goals as goal
-use Rattle.ner_trees.proofs.cuts.new_branch.Goals.{then-at, else-at}
 
 pub loop-dir-preserved : goal.loop-dir-preserved
 loop-dir-preserved c = elim c.if-at.branch [
   | then-at w ↦
       rw (w.start-is, w.links-is)
       record {
-        at_end = at_more c.args.on.now.machine.now c.args.near c.args.walk.now c.loop-dir.dir-index _ c.loop-dir.at c.next-at.result c.loop-dir-test.true c.loop-dir.invariant.at_end (rw c.machine-machine.ensures at c.next-at.ensures.value);
+        at_end = at_more c.args.near.on.now.machine.now c.args.near.chip c.args.walk.now c.loop-dir.dir-index _ c.loop-dir.at c.next-at.result c.loop-dir-test.true c.loop-dir.invariant.at_end (rw c.machine-machine.ensures at c.next-at.ensures.value);
         at_inside = (rw c.machine-machine.ensures at c.next-at.ensures.inside);
-        cut = cut_again_at c.args.on.now.machine.now c.args.on.now.items.items c.args.near c.args.walk.now c.loop-dir.dir-index _ c.loop-dir.at c.next-at.result w.clear-then-at.new.self.items
+        cut = cut_again_at c.args.near.on.now.machine.now c.args.near.on.now.items.items c.args.near.chip c.args.walk.now c.loop-dir.dir-index _ c.loop-dir.at c.next-at.result w.clear-then-at.new.self.items
             c.loop-dir-test.true c.loop-dir.invariant.at_end (rw c.machine-machine.ensures at c.next-at.ensures.value) (rw c.machine-machine.ensures at c.next-at.ensures.inside)
             (sym (c.at.ensures false) ∙ w.if-at.true) w.clear-then-at.ensures.items;
       }
   | else-at w ↦
       rw (w.start-is, w.links-is)
       record {
-        at_end = at_more c.args.on.now.machine.now c.args.near c.args.walk.now c.loop-dir.dir-index _ c.loop-dir.at c.next-at.result c.loop-dir-test.true c.loop-dir.invariant.at_end (rw c.machine-machine.ensures at c.next-at.ensures.value);
+        at_end = at_more c.args.near.on.now.machine.now c.args.near.chip c.args.walk.now c.loop-dir.dir-index _ c.loop-dir.at c.next-at.result c.loop-dir-test.true c.loop-dir.invariant.at_end (rw c.machine-machine.ensures at c.next-at.ensures.value);
         at_inside = (rw c.machine-machine.ensures at c.next-at.ensures.inside);
-        cut = cut_more_at c.args.on.now.machine.now c.args.on.now.items.items c.args.near c.args.walk.now c.loop-dir.dir-index _ c.loop-dir.at c.next-at.result c.loop-dir.start
+        cut = cut_more_at c.args.near.on.now.machine.now c.args.near.on.now.items.items c.args.near.chip c.args.walk.now c.loop-dir.dir-index _ c.loop-dir.at c.next-at.result c.loop-dir.start
             c.loop-dir.links.items c.push.new.self.items c.loop-dir-test.true c.loop-dir.invariant.at_end c.loop-dir.invariant.at_inside (rw c.machine-machine.ensures at c.next-at.ensures.value)
             (sym (c.at.ensures false) ∙ w.if-at.false) c.in_ok-push.ensures.items c.loop-dir.invariant.cut;
       }
@@ -34,5 +33,5 @@ at-requires c = rw c.machine-machine.ensures at c.next-at.ensures.inside
 
 pub returns : goal.returns
 returns c =
-    subst (λ ds. IsCutAt c.args.on.now.machine.now c.args.on.now.items.items c.args.near ds c.loop-dir.start c.loop-dir.links.items) (take_all c.loop-dir.dir-index c.args.walk.now c.loop-dir-test.false)
+    subst (λ ds. IsCutAt c.args.near.on.now.machine.now c.args.near.on.now.items.items c.args.near.chip ds c.loop-dir.start c.loop-dir.links.items) (take_all c.loop-dir.dir-index c.args.walk.now c.loop-dir-test.false)
     c.loop-dir.invariant.cut

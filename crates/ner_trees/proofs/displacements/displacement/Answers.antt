@@ -6,13 +6,13 @@ use Rattle.ner_trees.proofs.displacements.displacement.Goals as goal
 
 pub returns-then-wrap-clause-value : goal.returns-then-wrap-clause-value
 returns-then-wrap-clause-value c =
-    displaced_on_torus c.args.machine.now c.args.p c.args.q _ _ _ _ _ (sym c.wrap.ensures ∙ c.if-wrap.true) (c.ahead_by.ensures.places ∙ c.width.ensures.value) (c.ahead_by-then-wrap.ensures.places ∙ c.height.ensures.value)
-    (c.ahead_by.ensures.value ∙ ap (λ k. ahead_by k c.args.p.x c.args.q.x) (sym c.ahead_by.ensures.places))
-    (c.ahead_by-then-wrap.ensures.value ∙ ap (λ k. ahead_by k c.args.p.y c.args.q.y) (sym c.ahead_by-then-wrap.ensures.places))
+    displaced_on_torus c.args.pair.machine.now c.args.pair.from c.args.pair.to _ _ _ _ _ (sym c.wrap.ensures ∙ c.if-wrap.true) (c.ahead_by.ensures.places ∙ c.width.ensures.value) (c.ahead_by-then-wrap.ensures.places ∙ c.height.ensures.value)
+    (c.ahead_by.ensures.value ∙ ap (λ k. ahead_by k c.args.pair.from.x c.args.pair.to.x) (sym c.ahead_by.ensures.places))
+    (c.ahead_by-then-wrap.ensures.value ∙ ap (λ k. ahead_by k c.args.pair.from.y c.args.pair.to.y) (sym c.ahead_by-then-wrap.ensures.places))
     c.on_torus.ensures.value
 
 pub returns-else-wrap-clause-value : goal.returns-else-wrap-clause-value
 returns-else-wrap-clause-value c =
-    let ea : to_z w32 (of_z w32 c.difference.result) ≡ pos c.args.q.x -ℤ pos c.args.p.x = omega (arith, ints, c.difference.ensures) in
-    let eb : to_z w32 (of_z w32 c.difference-else-wrap.result) ≡ pos c.args.q.y -ℤ pos c.args.p.y = omega (arith, ints, c.difference-else-wrap.ensures) in
-    displaced_on_grid c.args.machine.now c.args.p c.args.q _ _ (sym c.wrap.ensures ∙ c.if-wrap.false) ea eb
+    let ea : to_z w32 (of_z w32 c.difference.result) ≡ pos c.args.pair.to.x -ℤ pos c.args.pair.from.x = omega (arith, ints, c.difference.ensures) in
+    let eb : to_z w32 (of_z w32 c.difference-else-wrap.result) ≡ pos c.args.pair.to.y -ℤ pos c.args.pair.from.y = omega (arith, ints, c.difference-else-wrap.ensures) in
+    displaced_on_grid c.args.pair.machine.now c.args.pair.from c.args.pair.to _ _ (sym c.wrap.ensures ∙ c.if-wrap.false) ea eb

@@ -1,33 +1,30 @@
-use Rattle.std.proofs.Common.{◌≡◌, ◌++◌, List, sym, ap, refl, subst, ◌∙◌}
+use Rattle.std.proofs.Common.{◌≡◌, ◌++◌, List, true, sym, ap, refl, subst, ◌∙◌}
 use Rattle.std.specs.{Prelude.is_ok, List.All}
 use Rattle.spin_base.specs.declared.chips.Dir.{Dir}
 use Rattle.machine_desc.specs.{Description.Description, declared.trees.Edge.Edge, Live.IsInside}
-use Rattle.ner_trees.specs.{Geometry.displacement_of, LongestFirst.ldf_of}
-use Rattle.ner_trees.specs.Search.{IsCutAt, IsMarkedBy}
-use Rattle.ner_trees.proofs.Growing.{extended_inside, near_on_table, added_is, tells_more}
+use Rattle.ner_trees.specs.{Geometry.displacement_of, LongestFirst.ldf_of, Search.IsCutAt, Search.IsMarkedBy, Search.is_on}
+use Rattle.ner_trees.proofs.{Growing.extended_inside, Growing.near_on_table, Growing.added_is, Growing.tells_more, growths.add_target.Goals.After-near_chip-near}
 use Rattle.ner_trees.proofs.growths.add_target.Goals as goal
 
 pub near_chip-near-requires : goal.near_chip-near-requires
 near_chip-near-requires c = record { inside = c.requires.target_inside; on_is = c.requires.on_is }
 
-pub displacement-requires-clause-from_inside : goal.displacement-requires-clause-from_inside
-displacement-requires-clause-from_inside c =
+-- the chip that is near is one of the tree
+near : (c : After-near_chip-near) → IsInside c.args.tree.now.on.machine.now c.near_chip-near.result
+    × (is_on c.args.tree.now.on.machine.now c.args.tree.now.on.items.items c.near_chip-near.result ≡ true)
+near c =
     let t = c.args.tree.now in
-    rw c.machine.ensures
-    (near_on_table t.on.machine.now t.root t.on.items.items t.edges.items c.args.target c.near_chip-near.result t.root_inside t.edges_inside c.requires.on_is
-    c.near_chip-near.ensures).0
+    near_on_table t.on.machine.now t.root t.on.items.items t.edges.items c.args.target c.near_chip-near.result t.root_inside t.edges_inside c.requires.on_is
+    c.near_chip-near.ensures
 
-pub new_branch-requires-clause-inside : goal.new_branch-requires-clause-inside
-new_branch-requires-clause-inside c =
-    let t = c.args.tree.now in
-    (near_on_table t.on.machine.now t.root t.on.items.items t.edges.items c.args.target c.near_chip-near.result t.root_inside t.edges_inside c.requires.on_is
-    c.near_chip-near.ensures).0
+pub invariant_of-begin : goal.invariant_of-begin
+invariant_of-begin c = let at = near (goal.at.invariant_of-begin c).After-near_chip-near in record { inside = at.0; marked = at.1 }
 
-pub new_branch-requires-clause-on_tree : goal.new_branch-requires-clause-on_tree
-new_branch-requires-clause-on_tree c =
-    let t = c.args.tree.now in
-    (near_on_table t.on.machine.now t.root t.on.items.items t.edges.items c.args.target c.near_chip-near.result t.root_inside t.edges_inside c.requires.on_is
-    c.near_chip-near.ensures).1
+pub invariant_of-pair : goal.invariant_of-pair
+invariant_of-pair c = record {
+  from_inside = rw c.machine.ensures (near (goal.at.invariant_of-pair c).After-near_chip-near).0;
+  to_inside = rw c.machine.ensures c.requires.target_inside;
+}
 
 pub mark-requires : goal.mark-requires
 mark-requires c =

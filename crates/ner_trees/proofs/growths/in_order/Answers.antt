@@ -1,5 +1,5 @@
 use Rattle.std.proofs.Common.{◌≡◌, ℕ, List, Vec, Global, map, sym, subst, ◌∙◌, ap}
-use Rattle.std.specs.{List.AllPairs, List.Sorted.IsPermutation}
+use Rattle.std.specs.List.{AllPairs, Sorted.IsPermutation}
 use Rattle.std.proofs.lemmas.List.Sorted.{All-permutation, IsNonDecreasingBy-from_sort, IsPermutation-map}
 use Rattle.machine_desc.specs.{EdgeOrder.IsEdgeBefore, declared.trees.Edge.Edge}
 use Rattle.ner_trees.specs.EdgeNumbers.{edge_numbered, IsEdgeNumber}

@@ -1,8 +1,7 @@
 use Rattle.std.proofs.Common.{◌+◌, List, take, refl, sym, ◌∙◌, subst}
 use Rattle.std.specs.List.{All}
 use Rattle.spin_base.specs.declared.chips.Chip.{Chip}
-use Rattle.machine_desc.specs.Description.{Description, HasSize}
-use Rattle.machine_desc.specs.Live.{IsInside}
+use Rattle.machine_desc.specs.{Description.Description, Description.HasSize, Live.IsInside}
 use Rattle.ner_trees.specs.{Growth.IsJoinedBy, Search.TellsTree}
 use Rattle.ner_trees.proofs.Growing.{GrownSoFar, Finished, so_far_start, so_far_more, finished_at}
 use Rattle.ner_trees.proofs.growths.ner.Goals as goal
@@ -12,14 +11,14 @@ loop-target-init c = record {
   machine = c.in_ok-tree.ensures.machine;
   root = c.in_ok-tree.ensures.root;
   grown =
-      so_far_start c.args.machine.now c.args.root c.in_ok-tree.tree.on.items.items c.in_ok-tree.tree.edges.items c.from_vec-joins.result c.in_ok-tree.ensures.on_is
+      so_far_start c.args.ends.machine.now c.args.ends.root c.in_ok-tree.tree.on.items.items c.in_ok-tree.tree.edges.items c.from_vec-joins.result c.in_ok-tree.ensures.on_is
       c.in_ok-tree.ensures.edges (c.from_vec-joins.ensures ∙ c.in_ok-with_capacity.ensures.items);
 }
 
 pub loop-target-preserved : goal.loop-target-preserved
 loop-target-preserved c =
-    let m = c.args.machine.now in
-    let root = c.args.root in
+    let m = c.args.ends.machine.now in
+    let root = c.args.ends.root in
     let old = c.loop-target.tree in
     let new = c.add_target.new.tree in
     let j = c.in_ok-add_target.field-0 in
@@ -42,10 +41,10 @@ loop-target-preserved c =
 
 pub returns : goal.returns
 returns c =
-    let done : Finished c.args.machine.now c.args.root c.args.targets.now c.loop-target.joins c.from_vec.result =
-    finished_at c.args.machine.now c.args.root c.args.targets.now c.as_slice-target-items.result.now c.loop-target.joins c.loop-target.tree.on.items.items
+    let done : Finished c.args.ends.machine.now c.args.ends.root c.args.ends.targets.now c.loop-target.joins c.from_vec.result =
+    finished_at c.args.ends.machine.now c.args.ends.root c.args.ends.targets.now c.as_slice-target-items.result.now c.loop-target.joins c.loop-target.tree.on.items.items
     c.loop-target.tree.edges.items c.in_ok-in_order.field-0.items c.from_vec.result c.loop-target.target-index
-    (subst HasSize c.loop-target.invariant.machine c.loop-target.tree.on.size) c.requires.root_inside c.requires.targets_inside
+    (subst HasSize c.loop-target.invariant.machine c.loop-target.tree.on.size) c.args.ends.root_inside c.args.ends.targets_inside
     c.as_slice-target-items.ensures c.loop-target-test.false c.loop-target.invariant.grown c.in_ok-in_order.ensures.same_edges c.in_ok-in_order.ensures.in_order
     c.from_vec.ensures in
     record {
@@ -62,7 +61,7 @@ returns c =
 pub add_target-requires-clause-target_inside : goal.add_target-requires-clause-target_inside
 add_target-requires-clause-target_inside c =
     rw c.loop-target.invariant.machine
-    (subst (All (IsInside c.args.machine.now)) (sym c.as_slice-target-items.ensures) c.requires.targets_inside c.loop-target.target-index _ c.loop-target-test.true)
+    (subst (All (IsInside c.args.ends.machine.now)) (sym c.as_slice-target-items.ensures) c.args.ends.targets_inside c.loop-target.target-index _ c.loop-target-test.true)
 
 pub add_target-requires-clause-on_is : goal.add_target-requires-clause-on_is
 add_target-requires-clause-on_is c = rw (c.loop-target.invariant.machine, c.loop-target.invariant.root) c.loop-target.invariant.grown.on_is

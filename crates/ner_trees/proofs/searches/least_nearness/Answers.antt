@@ -5,8 +5,8 @@ use Rattle.ner_trees.specs.Search.{AreOn}
 use Rattle.ner_trees.proofs.Nearest.{IsLeastOf, least_start, least_more, least_of_tree}
 use Rattle.ner_trees.proofs.searches.least_nearness.Goals as goal
 
-pub nearness-requires-clause-inside : goal.nearness-requires-clause-inside
-nearness-requires-clause-inside c =
+pub invariant_of-pair-clause-from_inside : goal.invariant_of-pair-clause-from_inside
+invariant_of-pair-clause-from_inside c =
     let on = c.args.tree.now.on in
     let listed : AreOn c.machine-machine.result.now on.items.items c.chips-chips.result.now = rw (c.machine-machine.ensures, c.chips-chips.ensures) on.listed in
     (listed _ _ c.loop-chip-test.true).0

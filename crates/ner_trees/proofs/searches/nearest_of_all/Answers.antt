@@ -1,6 +1,5 @@
 use Rattle.std.proofs.Common.{◌≡◌, ◌%◌, subst}
-use Rattle.machine_desc.specs.Description.{Description}
-use Rattle.machine_desc.specs.Live.{IsInside, index_of}
+use Rattle.machine_desc.specs.{Description.Description, Live.IsInside, Live.index_of}
 use Rattle.ner_trees.proofs.Nearest.{index_owed, near_chip_is, near_root_is}
 use Rattle.ner_trees.proofs.searches.nearest_of_all.Goals as goal
 

@@ -1,29 +1,11 @@
-use Rattle.std.proofs.Common.{sym, ◌∙◌}
+use Rattle.std.proofs.Common.{arith}
 use Rattle.std.proofs.lemmas.Bool.{true≢false}
-use Rattle.ner_trees.specs.Search.{AtStep}
-use Rattle.ner_trees.proofs.Searching.{better_past, steps_more, ring_found, ring_none}
+use Rattle.ner_trees.proofs.{Searching.better_past, Searching.steps_more, Searching.ring_found, Searching.ring_none, searches.nearest_on_ring.Goals.then-is_any_at_step}
+use Rattle.ner_trees.proofs.searches.nearest_on_ring.Goals.{else-is_any_at_step}
 use Rattle.ner_trees.proofs.searches.nearest_on_ring.Goals as goal
-use Rattle.ner_trees.proofs.searches.nearest_on_ring.Goals.{then-is_any_at_step, else-is_any_at_step}
 
 pub loop-step-preserved : goal.loop-step-preserved
-loop-step-preserved c =
-    let s = c.args.ring.search in
-    let m = s.on.now.machine.now in
-    let on = s.on.now.items.items in
-    let r = c.args.ring.radius.chips in
-    let i = c.loop-step.step in
-    let best = c.loop-step.best in
-    elim c.if-is_any_at_step.branch [
-      | then-is_any_at_step w ↦
-          rw w.best-is
-          (w.better_at_step-best.ensures.found, steps_more m on s.target r i best w.better_at_step-best.result c.loop-step.invariant.1 w.better_at_step-best.ensures.better)
-      | else-is_any_at_step w ↦
-          rw w.best-is (
-            c.loop-step.invariant.0,
-            steps_more m on s.target r i best best c.loop-step.invariant.1
-                (better_past m on s.target r (AtStep m s.target r i) best (λ e at is. true≢false (sym (c.is_any_at_step.ensures e at is.on_it) ∙ w.if-is_any_at_step.false))),
-          )
-    ]
+loop-step-preserved c = grind (arith, then-is_any_at_step, steps_more, else-is_any_at_step, better_past, true≢false)
 
 pub returns-clause-found : goal.returns-clause-found
 returns-clause-found c =

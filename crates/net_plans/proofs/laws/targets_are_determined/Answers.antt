@@ -1,5 +1,4 @@
-use Rattle.net_plans.proofs.CutOffLaws.{one_first_target, one_first_net}
-use Rattle.net_plans.proofs.Determined.{one_targets, one_target_chips}
+use Rattle.net_plans.proofs.{CutOffLaws.one_first_target, CutOffLaws.one_first_net, Determined.one_targets, Determined.one_target_chips}
 use Rattle.net_plans.proofs.laws.targets_are_determined.Goals as goal
 
 pub returns : goal.returns

@@ -2,85 +2,85 @@ use Rattle.std.proofs.Common.{◌≢◌, ◌<◌, length, get_or, Some, sym, sub
 use Rattle.std.specs.List.{All}
 use Rattle.spin_base.specs.declared.chips.Chip.{Chip}
 use Rattle.std.proofs.lemmas.Result.{IfErr-weaker}
-use Rattle.machine_desc.specs.Live.{IsInside, IsLiveChip}
-use Rattle.machine_desc.specs.RoutingTree.{end_of, IsTreeTo}
+use Rattle.machine_desc.specs.{Live.IsInside, Live.IsLiveChip, RoutingTree.end_of, RoutingTree.IsTreeTo}
 use Rattle.machine_desc.proofs.EdgePlaces.{before_place}
 use Rattle.link_detours.specs.Cause.{IsRepairCause}
 use Rattle.net_plans.specs.{Cause.IsCauseOne, CutOffTargets.HasNoneCutOff}
-use Rattle.net_plans.proofs.CutOffLaws.{none_cut_off, cause_one, refused_one}
-use Rattle.net_plans.proofs.Planning.{all_inside, source_lives, of_targets, of_chips, routes_targets, some_chip, plan_is}
+use Rattle.net_plans.proofs.{CutOffLaws.none_cut_off, CutOffLaws.cause_one, CutOffLaws.refused_one, Planning.all_inside, Planning.source_lives, Planning.of_targets, Planning.of_chips}
+use Rattle.net_plans.proofs.Planning.{routes_targets, some_chip, plan_is}
 use Rattle.spin_base.proofs.Places.{All-at}
 use Rattle.net_plans.proofs.nets.net_plan.Goals as goal
 
-pub target_chips-requires-clause-root_inside : goal.target_chips-requires-clause-root_inside
-target_chips-requires-clause-root_inside c =
-    All-at (λ s. IsInside c.args.machine.now s.chip) c.args.spots.now c.args.net.now.source c.get-source.result.now (all_inside c.args.machine.now c.args.spots.now c.requires.sites) c.get-source.ensures
+pub invariant_of-ends : goal.invariant_of-ends
+invariant_of-ends c =
+    let m = c.args.placed.ground.machine.now in
+    let inside = all_inside m c.args.placed.spots.now c.args.placed.sites in
+    record {
+      root_inside = All-at (λ s. IsInside m s.chip) c.args.placed.spots.now c.args.placed.net.now.source c.get-source.result.now inside c.get-source.ensures;
+      targets_inside = of_targets (λ s. IsInside m s.chip) c.args.placed.spots.now c.args.placed.net.now.targets c.in_ok-targets.targets c.in_ok-targets.ensures inside;
+    }
 
-pub target_chips-requires-clause-targets_inside : goal.target_chips-requires-clause-targets_inside
-target_chips-requires-clause-targets_inside c =
-    of_targets (λ s. IsInside c.args.machine.now s.chip) c.args.spots.now c.args.net.now.targets c.in_ok-targets.targets c.in_ok-targets.ensures (all_inside c.args.machine.now c.args.spots.now c.requires.sites)
-
-pub ner-requires-clause-root_inside : goal.ner-requires-clause-root_inside
-ner-requires-clause-root_inside c =
-    All-at (λ s. IsInside c.args.machine.now s.chip) c.args.spots.now c.args.net.now.source c.get-source.result.now (all_inside c.args.machine.now c.args.spots.now c.requires.sites) c.get-source.ensures
-
-pub ner-requires-clause-targets_inside : goal.ner-requires-clause-targets_inside
-ner-requires-clause-targets_inside c =
-    of_chips (IsInside c.args.machine.now) c.args.machine.now c.get-source.result.now.chip c.in_ok-targets.targets c.in_ok-chips.chips c.in_ok-chips.ensures
-    (of_targets (λ s. IsInside c.args.machine.now s.chip) c.args.spots.now c.args.net.now.targets c.in_ok-targets.targets c.in_ok-targets.ensures (all_inside c.args.machine.now c.args.spots.now c.requires.sites))
+pub invariant_of-growth : goal.invariant_of-growth
+invariant_of-growth c =
+    let m = c.args.placed.ground.machine.now in
+    let inside = all_inside m c.args.placed.spots.now c.args.placed.sites in
+    record {
+      root_inside = All-at (λ s. IsInside m s.chip) c.args.placed.spots.now c.args.placed.net.now.source c.get-source.result.now inside c.get-source.ensures;
+      targets_inside = of_chips (IsInside m) m c.get-source.result.now.chip c.in_ok-targets.targets c.in_ok-chips.chips c.in_ok-chips.ensures
+          (of_targets (λ s. IsInside m s.chip) c.args.placed.spots.now c.args.placed.net.now.targets c.in_ok-targets.targets c.in_ok-targets.ensures inside);
+    }
 
 pub returns-in_err-tree-clause-cause : goal.returns-in_err-tree-clause-cause
 returns-in_err-tree-clause-cause c =
-    let cause : IfErr c.from_residual-in_err-tree.result (IsRepairCause c.args.machine.now c.in_ok-grown.field-0.tree.root c.in_ok-chips.chips) = search rules in
-    IfErr-weaker c.from_residual-in_err-tree.result (IsRepairCause c.args.machine.now c.in_ok-grown.field-0.tree.root c.in_ok-chips.chips) (IsCauseOne c.args.machine.now c.args.spots.now c.args.net.now)
-    (λ e found. cause_one c.args.machine.now c.args.spots.now c.args.net.now c.get-source.result.now c.in_ok-targets.targets c.in_ok-chips.chips c.get-source.ensures c.in_ok-targets.ensures c.in_ok-chips.ensures e
-    (subst (λ r. IsRepairCause c.args.machine.now r c.in_ok-chips.chips e) c.in_ok-grown.ensures.root found)) cause
+    let cause : IfErr c.from_residual-in_err-tree.result (IsRepairCause c.args.placed.ground.machine.now c.in_ok-grown.field-0.tree.root c.in_ok-chips.chips) = search rules in
+    IfErr-weaker c.from_residual-in_err-tree.result (IsRepairCause c.args.placed.ground.machine.now c.in_ok-grown.field-0.tree.root c.in_ok-chips.chips) (IsCauseOne c.args.placed.ground.machine.now c.args.placed.spots.now c.args.placed.net.now)
+    (λ e found. cause_one c.args.placed.ground.machine.now c.args.placed.spots.now c.args.placed.net.now c.get-source.result.now c.in_ok-targets.targets c.in_ok-chips.chips c.get-source.ensures c.in_ok-targets.ensures c.in_ok-chips.ensures e
+    (subst (λ r. IsRepairCause c.args.placed.ground.machine.now r c.in_ok-chips.chips e) c.in_ok-grown.ensures.root found)) cause
 
 pub returns-in_err-tree-clause-cut_off : goal.returns-in_err-tree-clause-cut_off
 returns-in_err-tree-clause-cut_off c =
-    let none : IfOk c.from_residual-in_err-tree.result (λ _. HasNoneCutOff c.args.machine.now c.args.spots.now c.args.net.now) = search rules in
-    refused_one c.args.machine.now c.args.spots.now c.args.net.now c.from_residual-in_err-tree.result none (returns-in_err-tree-clause-cause c)
+    let none : IfOk c.from_residual-in_err-tree.result (λ _. HasNoneCutOff c.args.placed.ground.machine.now c.args.placed.spots.now c.args.placed.net.now) = search rules in
+    refused_one c.args.placed.ground.machine.now c.args.placed.spots.now c.args.placed.net.now c.from_residual-in_err-tree.result none (returns-in_err-tree-clause-cause c)
 
 pub returns-clause-planned : goal.returns-clause-planned
 returns-clause-planned c =
-    plan_is c.args.machine.now c.args.spots.now c.args.net.now c.args.block c.get-source.result.now c.in_ok-targets.targets c.in_ok-chips.chips c.in_ok-grown.field-0 c.in_ok-tree.tree
+    plan_is c.args.placed.ground.machine.now c.args.placed.spots.now c.args.placed.net.now c.args.placed.block c.get-source.result.now c.in_ok-targets.targets c.in_ok-chips.chips c.in_ok-grown.field-0 c.in_ok-tree.tree
     c.get-source.ensures c.in_ok-targets.ensures c.in_ok-chips.ensures c.in_ok-grown.ensures.root c.in_ok-grown.ensures.grown c.in_ok-grown.ensures.few_edges
     c.in_ok-tree.ensures.root c.in_ok-tree.ensures.repaired
 
 pub returns-clause-routing : goal.returns-clause-routing
 returns-clause-routing c =
-    routes_targets c.args.machine.now c.get-source.result.now.chip c.in_ok-tree.tree.root c.in_ok-tree.tree.edges c.in_ok-targets.targets c.in_ok-chips.chips c.in_ok-chips.ensures
-    (subst (λ root. IsTreeTo c.args.machine.now root c.in_ok-tree.tree.edges c.in_ok-chips.chips) (sym c.in_ok-tree.ensures.root) c.in_ok-tree.ensures.routing)
+    routes_targets c.args.placed.ground.machine.now c.get-source.result.now.chip c.in_ok-tree.tree.root c.in_ok-tree.tree.edges c.in_ok-targets.targets c.in_ok-chips.chips c.in_ok-chips.ensures
+    (subst (λ root. IsTreeTo c.args.placed.ground.machine.now root c.in_ok-tree.tree.edges c.in_ok-chips.chips) (sym c.in_ok-tree.ensures.root) c.in_ok-tree.ensures.routing)
 
 pub returns-clause-reached : goal.returns-clause-reached
 returns-clause-reached c =
-    none_cut_off c.args.machine.now c.args.spots.now c.args.net.now c.get-source.result.now c.in_ok-targets.targets c.in_ok-tree.tree.edges c.get-source.ensures c.in_ok-targets.ensures
-    (routes_targets c.args.machine.now c.get-source.result.now.chip c.get-source.result.now.chip c.in_ok-tree.tree.edges c.in_ok-targets.targets c.in_ok-chips.chips c.in_ok-chips.ensures
-    (subst (λ root. IsTreeTo c.args.machine.now root c.in_ok-tree.tree.edges c.in_ok-chips.chips) c.in_ok-grown.ensures.root c.in_ok-tree.ensures.routing))
+    none_cut_off c.args.placed.ground.machine.now c.args.placed.spots.now c.args.placed.net.now c.get-source.result.now c.in_ok-targets.targets c.in_ok-tree.tree.edges c.get-source.ensures c.in_ok-targets.ensures
+    (routes_targets c.args.placed.ground.machine.now c.get-source.result.now.chip c.get-source.result.now.chip c.in_ok-tree.tree.edges c.in_ok-targets.targets c.in_ok-chips.chips c.in_ok-chips.ensures
+    (subst (λ root. IsTreeTo c.args.placed.ground.machine.now root c.in_ok-tree.tree.edges c.in_ok-chips.chips) c.in_ok-grown.ensures.root c.in_ok-tree.ensures.routing))
 
 pub returns-clause-cut_off : goal.returns-clause-cut_off
 returns-clause-cut_off c = λ target first. absurd (returns-clause-reached c first.source target first.is)
 
 pub with_detours-requires : goal.with_detours-requires
 with_detours-requires c =
-    let m = c.args.machine.now in
+    let m = c.args.placed.ground.machine.now in
     let edges = c.in_ok-grown.field-0.tree.edges in
     let root = c.in_ok-grown.ensures.root in
     let some : 0 < length c.in_ok-chips.chips =
-    some_chip m c.get-source.result.now.chip c.args.spots.now c.args.net.now.targets c.in_ok-targets.targets c.in_ok-chips.chips
-    c.in_ok-targets.ensures c.in_ok-chips.ensures c.requires.valid.some_target c.requires.valid.targets in
+    some_chip m c.get-source.result.now.chip c.args.placed.spots.now c.args.placed.net.now.targets c.in_ok-targets.targets c.in_ok-chips.chips
+    c.in_ok-targets.ensures c.in_ok-chips.ensures c.args.placed.ends.some_target c.args.placed.ends.targets in
     record {
       grown = record {
         has_dead_links = record {
-          root_lives = subst (IsLiveChip m) (sym root) (source_lives m c.args.spots.now c.args.net.now.source c.get-source.result.now c.requires.sites c.get-source.ensures);
+          root_lives = subst (IsLiveChip m) (sym root) (source_lives m c.args.placed.spots.now c.args.placed.net.now.source c.get-source.result.now c.args.placed.sites c.get-source.ensures);
           none_into_root = subst (λ (r : Chip). All (λ e. end_of m e ≢ Some r) edges) (sym root) c.in_ok-grown.ensures.none_into_root;
           one_into_each = c.in_ok-grown.ensures.one_into_each;
         };
         some_target = some;
-        targets_inside =
-            of_chips (IsInside c.args.machine.now) c.args.machine.now c.get-source.result.now.chip c.in_ok-targets.targets c.in_ok-chips.chips c.in_ok-chips.ensures
-            (of_targets (λ s. IsInside c.args.machine.now s.chip) c.args.spots.now c.args.net.now.targets c.in_ok-targets.targets c.in_ok-targets.ensures
-            (all_inside c.args.machine.now c.args.spots.now c.requires.sites));
+        targets_inside = of_chips (IsInside m) m c.get-source.result.now.chip c.in_ok-targets.targets c.in_ok-chips.chips c.in_ok-chips.ensures
+            (of_targets (λ s. IsInside m s.chip) c.args.placed.spots.now c.args.placed.net.now.targets c.in_ok-targets.targets
+            c.in_ok-targets.ensures (all_inside m c.args.placed.spots.now c.args.placed.sites));
         in_order = λ i j d less short.
             before_place m (get_or edges i d) (get_or edges j d) (c.in_ok-grown.ensures.edges_inside i d (omega (arith, less, short)))
             (c.in_ok-grown.ensures.grown.in_order i j d less short);

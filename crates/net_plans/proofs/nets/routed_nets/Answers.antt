@@ -2,15 +2,14 @@ use Rattle.std.proofs.Common.{◌≡◌, ◌-◌, ◌∙◌, List, length, ap, s
 use Rattle.std.specs.List.{range_with_len}
 use Rattle.rayon.specs.Numbers.{nat_range}
 use Rattle.rayon.proofs.{ListFacts.IfOk-then, ToStd.nat_range-All}
-use Rattle.net_plans.specs.declared.nets.RoutedNet.{RoutedNet}
-use Rattle.net_plans.specs.Ways.{AreRoutedNets, CanRouteAt}
+use Rattle.net_plans.specs.{declared.nets.RoutedNet.RoutedNet, Ways.AreRoutedNets, Ways.CanRouteAt}
 use Rattle.net_plans.proofs.Routing.{routed_all}
 use Rattle.net_plans.proofs.nets.routed_nets.Goals as goal
 
 pub collect-requires-clause-ready : goal.collect-requires-clause-ready
 collect-requires-clause-ready g c κs within =
     let ends = c.into_par_iter.ensures in
-    let inside = nat_range-All (CanRouteAt c.args.ground.now.machine.now c.args.ground.now.roads.now c.args.graph.now c.args.spots.now c.args.blocks.now)
+    let inside = nat_range-All (CanRouteAt c.args.ground.now.machine.now c.args.graph.now c.args.spots.now c.args.blocks.now)
     0 (length c.args.graph.now.nets) (λ i low high. record { can = c.requires; is_net = high }) in
     rw (c.map.ensures.base, c.map.ensures.f, ends.0, ends.1, c.len.ensures) (λ k d lt. (inside k d lt, λ y p. tt))
 

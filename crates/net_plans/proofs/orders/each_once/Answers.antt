@@ -1,7 +1,5 @@
 use Rattle.std.proofs.Common.{sym, ◌∙◌}
-use Rattle.std.proofs.lemmas.List.Filters.{dedup_is}
-use Rattle.std.proofs.lemmas.List.Kept.{Any-dedup, Contains-from_dedup, IsStrictlySortedBy-dedup}
-use Rattle.std.proofs.lemmas.List.Sorted.{Contains-permutation, IsPermutation-sym}
+use Rattle.std.proofs.lemmas.List.{Filters.dedup_is, Kept.Any-dedup, Kept.Contains-from_dedup, Kept.IsStrictlySortedBy-dedup, Sorted.Contains-permutation, Sorted.IsPermutation-sym}
 use Rattle.net_plans.proofs.Ordering.{equal_from_is_eq}
 use Rattle.net_plans.proofs.orders.each_once.Goals as goal
 

@@ -3,4 +3,4 @@ use Rattle.net_plans.specs.Keys.{AreChipKeys}
 use Rattle.net_plans.proofs.targets.chip_keys.Given as goal
 
 abbrev pub invariant-loop-i : goal.invariant-loop-i
-invariant-loop-i l = AreChipKeys l.root.machine.now l.root.chip (take l.i l.targets) l.keys.items
+invariant-loop-i l = AreChipKeys l.ends.machine.now l.ends.root (take l.i l.ends.targets.now) l.keys.items

@@ -8,5 +8,5 @@ returns c =
     let once : AreOnce nat_cmp c.in_ok-numbers.numbers.items c.each_once.new.keys.items =
     record { ascending = c.each_once.ensures.ascending; each = c.each_once.ensures.each; only = c.each_once.ensures.only } in
     let here : AreOnce nat_cmp c.in_ok-numbers.numbers.items c.deref.result.now = subst (AreOnce nat_cmp c.in_ok-numbers.numbers.items) (sym c.deref.ensures.value) once in
-    ok_is c.spots_of.result (AreTargets c.args.spots.now c.args.vertices.now) (map spot_numbered c.deref.result.now) c.spots_of.ensures
-    (are_targets c.args.spots.now c.args.vertices.now c.requires c.in_ok-numbers.numbers.items c.in_ok-numbers.ensures c.deref.result.now here)
+    ok_is c.spots_of.result (AreTargets c.args.targets.spots.now c.args.targets.vertices.now) (map spot_numbered c.deref.result.now) c.spots_of.ensures
+    (are_targets c.args.targets.spots.now c.args.targets.vertices.now c.args.targets.known c.in_ok-numbers.numbers.items c.in_ok-numbers.ensures c.deref.result.now here)

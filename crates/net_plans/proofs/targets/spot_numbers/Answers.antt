@@ -2,8 +2,7 @@ use Rattle.std.proofs.Common.{ℕ, ◌<◌, [], ◌∷◌, ◌++◌, length, Lis
 use Rattle.std.specs.List.{slice_index_or}
 use Rattle.std.proofs.lemmas.Option.{get_or_from_slice_get}
 use Rattle.spin_base.specs.declared.chips.Spot.{Spot}
-use Rattle.spin_base.proofs.Equality.{same_chip, same_spot}
-use Rattle.spin_base.proofs.Places.{All-at, map_more_at}
+use Rattle.spin_base.proofs.{Equality.same_chip, Equality.same_spot, Places.All-at, Places.map_more_at}
 use Rattle.net_plans.specs.Keys.{nowhere, spot_numbered, AreNumbersOf}
 use Rattle.net_plans.proofs.TargetLaws.{cores_of, numbers_more, numbers_none}
 use Rattle.net_plans.proofs.targets.spot_numbers.Goals as goal
@@ -15,17 +14,18 @@ pub loop-i-preserved : goal.loop-i-preserved
 loop-i-preserved c =
     let v : ℕ = c.get-vertex.result.now in
     let s : Spot = c.get.result.now in
-    let at = get_or_from_slice_get c.args.spots.now v s nowhere c.get.ensures in
-    let more = map_more_at (λ (w : ℕ). slice_index_or c.args.spots.now w nowhere) c.args.vertices.now c.loop-i.i v c.get-vertex.ensures in
+    let at = get_or_from_slice_get c.args.targets.spots.now v s nowhere c.get.ensures in
+    let more = map_more_at (λ (w : ℕ). slice_index_or c.args.targets.spots.now w nowhere) c.args.targets.vertices.now c.loop-i.i v c.get-vertex.ensures in
     let n = c.spot_number.ensures in
     let back = same_spot (spot_numbered c.spot_number.result) s (same_chip (spot_numbered c.spot_number.result).chip s.chip n.x_back n.y_back) n.core_back in
-    subst (λ (ss : List Spot). AreNumbersOf ss c.push.new.self.items) (ap (λ (x : Spot). cores_of c.args.spots.now (take c.loop-i.i c.args.vertices.now) ++ x ∷ []) (sym at) ∙ sym more)
+    subst (λ (ss : List Spot). AreNumbersOf ss c.push.new.self.items)
+    (ap (λ (x : Spot). cores_of c.args.targets.spots.now (take c.loop-i.i c.args.targets.vertices.now) ++ x ∷ []) (sym at) ∙ sym more)
     (numbers_more _ c.loop-i.numbers.items c.push.new.self.items s _ c.loop-i.invariant c.spot_number.ensures.value back c.in_ok-push.ensures.items)
 
 pub returns : goal.returns
 returns c =
-    subst (λ (vs : List ℕ). AreNumbersOf (cores_of c.args.spots.now vs) c.loop-i.numbers.items)
-    (take_all c.loop-i.i c.args.vertices.now (omega (arith, c.loop-i-test.false, c.len-i-end.ensures))) c.loop-i.invariant
+    subst (λ (vs : List ℕ). AreNumbersOf (cores_of c.args.targets.spots.now vs) c.loop-i.numbers.items)
+    (take_all c.loop-i.i c.args.targets.vertices.now (omega (arith, c.loop-i-test.false, c.len-i-end.ensures))) c.loop-i.invariant
 
 pub get-requires : goal.get-requires
-get-requires c = All-at (λ v. v < length c.args.spots.now) c.args.vertices.now c.loop-i.i c.get-vertex.result.now c.requires c.get-vertex.ensures
+get-requires c = All-at (λ v. v < length c.args.targets.spots.now) c.args.targets.vertices.now c.loop-i.i c.get-vertex.result.now c.args.targets.known c.get-vertex.ensures

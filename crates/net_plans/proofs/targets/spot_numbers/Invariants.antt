@@ -5,4 +5,4 @@ use Rattle.net_plans.proofs.targets.spot_numbers.Given as goal
 
 -- the numbers of the vertices so far
 abbrev pub invariant-loop-i : goal.invariant-loop-i
-invariant-loop-i l = AreNumbersOf (cores_of l.spots (take l.i l.vertices)) l.numbers.items
+invariant-loop-i l = AreNumbersOf (cores_of l.targets.spots.now (take l.i l.targets.vertices.now)) l.numbers.items

@@ -1,3 +1,4 @@
+use Rattle.std.proofs.Common.{arith}
 use Rattle.net_tables.proofs.Whole.{all_few_marks, all_apart}
 use Rattle.net_tables.proofs.gather.original_blocks.Goals as goal
 
@@ -7,8 +8,7 @@ marks_of-requires c =
     (λ k d below. record { tree = c.requires.trees k d below; root = c.requires.roots k d below; cores = c.requires.cores k d below })
 
 pub returns-clause-few : goal.returns-clause-few
-returns-clause-few c =
-    rw c.from_vec.ensures (all_few_marks c.args.machine.now c.args.nets.now c.in_ok-lists.lists.items c.requires (rw c.as_slice.ensures at c.in_ok-lists.ensures))
+returns-clause-few c = grind (arith, all_few_marks c.args.machine.now c.args.nets.now c.in_ok-lists.lists.items c.requires (rw c.as_slice.ensures at c.in_ok-lists.ensures))
 
 pub returns-clause-apart : goal.returns-clause-apart
 returns-clause-apart c =

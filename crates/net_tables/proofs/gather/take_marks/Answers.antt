@@ -1,9 +1,8 @@
 use Rattle.std.proofs.Common.{◌<◌, ◌∙◌, sym, subst}
 use Rattle.machine_desc.proofs.Far.{far_inside}
-use Rattle.net_tables.proofs.Trees.{edge_inside}
-use Rattle.net_tables.proofs.Taking.{taken_first, taken_more, taken_same, taken_all, ports_clear, routes_clear, all_grown}
-use Rattle.net_tables.proofs.gather.take_marks.Goals as goal
+use Rattle.net_tables.proofs.{Trees.edge_inside, Taking.taken_first, Taking.taken_more, Taking.taken_same, Taking.taken_all, Taking.ports_clear, Taking.routes_clear, Taking.all_grown}
 use Rattle.net_tables.proofs.gather.take_marks.Goals.{in-Some+in_ok-take_mark-2, in_default}
+use Rattle.net_tables.proofs.gather.take_marks.Goals as goal
 
 pub index-place-requires : goal.index-place-requires
 index-place-requires c = far_inside c.args.machine.now _ c.in-Some.chip _ (

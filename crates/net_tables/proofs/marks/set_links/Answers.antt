@@ -1,7 +1,6 @@
 use Rattle.std.proofs.Common.{◌<◌, ◌∙◌, sym, subst}
 use Rattle.std.proofs.Math.ListN.{length-set}
-use Rattle.net_tables.proofs.Telling.{links_more, off_kept}
-use Rattle.net_tables.proofs.Trees.{edge_inside, edge_on}
+use Rattle.net_tables.proofs.{Telling.links_more, Telling.off_kept, Trees.edge_inside, Trees.edge_on}
 use Rattle.net_tables.proofs.marks.set_links.Goals as goal
 
 pub index-place-requires : goal.index-place-requires

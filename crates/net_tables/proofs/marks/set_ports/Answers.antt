@@ -1,10 +1,8 @@
 use Rattle.std.proofs.Common.{◌<◌, ◌∙◌, sym, subst}
 use Rattle.std.proofs.Math.ListN.{length-set}
 use Rattle.machine_desc.proofs.Far.{far_inside}
-use Rattle.net_tables.proofs.Telling.{ports_first, ports_more, ports_same, ports_all}
-use Rattle.net_tables.proofs.Trees.{edge_inside}
+use Rattle.net_tables.proofs.{Telling.ports_first, Telling.ports_more, Telling.ports_same, Telling.ports_all, Trees.edge_inside, marks.set_ports.Goals.in-Some, marks.set_ports.Goals.in_default}
 use Rattle.net_tables.proofs.marks.set_ports.Goals as goal
-use Rattle.net_tables.proofs.marks.set_ports.Goals.{in-Some, in_default}
 
 pub loop-edge-init : goal.loop-edge-init
 loop-edge-init c =

@@ -1,7 +1,6 @@
 use Rattle.std.proofs.Common.{◌<◌, ◌∙◌, sym, subst}
 use Rattle.std.proofs.Math.ListN.{length-set}
-use Rattle.net_tables.proofs.Telling.{ends_more, off_kept}
-use Rattle.net_tables.proofs.Trees.{target_inside, target_on}
+use Rattle.net_tables.proofs.{Telling.ends_more, Telling.off_kept, Trees.target_inside, Trees.target_on}
 use Rattle.net_tables.proofs.marks.set_targets.Goals as goal
 
 pub index-place-requires : goal.index-place-requires

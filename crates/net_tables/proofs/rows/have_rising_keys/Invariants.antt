@@ -1,7 +1,6 @@
 use Rattle.std.proofs.Common.{take}
 use Rattle.std.specs.List.{All, AllPairs}
-use Rattle.net_tables.specs.Marks.{row_of_mark}
-use Rattle.net_tables.specs.PlainTable.{IsRowNotAfter}
+use Rattle.net_tables.specs.{Marks.row_of_mark, PlainTable.IsRowNotAfter}
 use Rattle.net_tables.proofs.Rising.{IsBelow}
 use Rattle.net_tables.proofs.rows.have_rising_keys.Given as goal
 

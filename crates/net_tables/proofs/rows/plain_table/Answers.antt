@@ -1,7 +1,6 @@
 use Rattle.std.proofs.Common.{◌∙◌, ap, map}
 use Rattle.net_tables.specs.Marks.{row_of_mark}
-use Rattle.net_tables.proofs.Ordering.{table_sorted}
-use Rattle.net_tables.proofs.Whole.{as_many_rows, sound_table}
+use Rattle.net_tables.proofs.{Ordering.table_sorted, Whole.as_many_rows, Whole.sound_table}
 use Rattle.net_tables.proofs.rows.plain_table.Goals as goal
 
 pub returns-clause-table : goal.returns-clause-table

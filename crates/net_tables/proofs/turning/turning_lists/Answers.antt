@@ -1,6 +1,5 @@
 use Rattle.std.proofs.Common.{◌-◌, ◌≤◌, ◌++◌, [], ap, drop, length, refl, take, ◌∙◌, arith}
-use Rattle.std.proofs.lemmas.List.{length-replicate}
-use Rattle.std.proofs.lemmas.List.Elements.{All-drop, All-take}
+use Rattle.std.proofs.lemmas.List.{length-replicate, Elements.All-drop, Elements.All-take}
 use Rattle.net_tables.specs.Marks.{IsRouted}
 use Rattle.net_tables.proofs.Parting.{front_more, turning_more, turning_none}
 use Rattle.net_tables.proofs.turning.turning_lists.Goals as goal

@@ -1,9 +1,22 @@
 use Rattle.std.proofs.Common.{◌≡◌, ◌∙◌, length, ap, sym, subst, Some, arith, rules}
-use Rattle.std.specs.List.{position, slice_get}
+use Rattle.std.specs.List.{All, position, slice_get}
+use Rattle.std.proofs.lemmas.List.Elements.{All-weaker}
+use Rattle.app_graph.specs.ValidGraph.{IsValidNet}
+use Rattle.net_plans.specs.Ways.{HasEndsAmong}
 use Rattle.par_compile.specs.{Compiled.HasLongTable, Finals.is_long}
-use Rattle.par_compile.proofs.{Refusing.refused_where, Standing.routing_is}
-use Rattle.par_compile.proofs.Unique.{long_has_many, long_has_no_pair, none_long, one_plan, routed_of}
+use Rattle.par_compile.proofs.{Refusing.refused_where, Standing.routing_is, Unique.long_has_many, Unique.long_has_no_pair, Unique.none_long, Unique.one_plan, Unique.routed_of}
 use Rattle.par_compile.proofs.compiling.compile.Goals as goal
+
+pub invariant_of-placed : goal.invariant_of-placed
+invariant_of-placed g c =
+    let graph = c.args.request.now.graph.now in
+    record {
+      few = c.requires.few_nets;
+      ends = subst (λ n. All (HasEndsAmong n) graph.nets) (sym c.in-Ok.ensures.placed.all) (All-weaker (IsValidNet (length graph.vertices)) (HasEndsAmong (length graph.vertices))
+          (λ net v. record { source = v.source; some_target = v.some_target; targets = v.targets }) graph.nets c.requires.nets);
+      sites = c.in-Ok.ensures.sites;
+      a_block_each = c.in-Ok-keys.ensures.blocks.all;
+    }
 
 pub final_tables-requires-after_bounds : goal.final_tables-requires-after_bounds
 final_tables-requires-after_bounds g c κs within = record {

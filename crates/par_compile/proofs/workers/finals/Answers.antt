@@ -2,8 +2,7 @@ use Rattle.std.proofs.Common.{◌∙◌, List, length, take, ap, arith}
 use Rattle.std.proofs.lemmas.{List.length-map, Result.IfOk-weaker}
 use Rattle.std.specs.List.{AllZip}
 use Rattle.default_routes.specs.declared.stripping.Final.{Final}
-use Rattle.par_compile.specs.declared.workers.Work.TheVariants.{Plain}
-use Rattle.par_compile.specs.Finals.{AreAllUnlessLong, GivesFinal, IsFinalFor}
+use Rattle.par_compile.specs.{declared.workers.Work.TheVariants.Plain, Finals.AreAllUnlessLong, Finals.GivesFinal, Finals.IsFinalFor}
 use Rattle.par_compile.proofs.Working.{all_beside, all_left, all_ready}
 use Rattle.par_compile.proofs.workers.finals.Goals as goal
 

@@ -2,8 +2,7 @@ use Rattle.std.proofs.Common.{◌≡◌, ◌∙◌, List, None, arith, subst, sy
 use Rattle.std.proofs.lemmas.Grind.{common_steps}
 use Rattle.std.specs.{List.position, Vec.Iter.into_iter_items}
 use Rattle.default_routes.specs.declared.stripping.Final.{Final}
-use Rattle.par_compile.specs.declared.workers.Work.{Work}
-use Rattle.par_compile.specs.Finals.{is_long}
+use Rattle.par_compile.specs.{declared.workers.Work.Work, Finals.is_long}
 use Rattle.par_compile.proofs.Working.{AreGiven, all_given, given_at_end, given_more, last_is_long, next_left}
 use Rattle.par_compile.proofs.workers.finals_of.Goals as goal
 

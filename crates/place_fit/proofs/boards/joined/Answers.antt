@@ -1,7 +1,6 @@
 use Rattle.std.proofs.Common.{◌*◌, ◌%◌, ◌^◌, ◌<◌, arith}
 use Rattle.std.specs.Int.{w32}
-use Rattle.std.proofs.lemmas.Nat.{one_shl, or_lt, pow_below}
-use Rattle.std.proofs.lemmas.Nat.Bits.{bit_at_set_same, bit_at_set_other}
+use Rattle.std.proofs.lemmas.Nat.{one_shl, or_lt, pow_below, Bits.bit_at_set_same, Bits.bit_at_set_other}
 use Rattle.place_fit.proofs.boards.joined.Goals as goal
 
 pub returns : goal.returns

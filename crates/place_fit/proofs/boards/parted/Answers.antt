@@ -1,7 +1,6 @@
 use Rattle.std.proofs.Common.{◌*◌, ◌%◌, ◌^◌, arith, inl, inr}
 use Rattle.std.specs.Int.{bit_not, trailing_zeros, w32}
-use Rattle.std.proofs.lemmas.{Bool.cases_lt, Nat.and_le_l}
-use Rattle.std.proofs.lemmas.Nat.Bits.{bit_at-trailing_zeros, bit_at_above, bit_at_clear_same, bit_at_clear_other}
+use Rattle.std.proofs.lemmas.{Bool.cases_lt, Nat.and_le_l, Nat.Bits.bit_at-trailing_zeros, Nat.Bits.bit_at_above, Nat.Bits.bit_at_clear_same, Nat.Bits.bit_at_clear_other}
 use Rattle.place_fit.proofs.boards.parted.Goals as goal
 
 pub returns : goal.returns

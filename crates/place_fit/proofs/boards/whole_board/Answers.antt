@@ -1,8 +1,6 @@
 use Rattle.std.proofs.Common.{◌≡◌, ◌+◌, ◌*◌, ◌^◌, ◌<◌, ℕ, List, ◌++◌, ◌∷◌, [], set, get_or, length, Some, slice_get, inl, inr, sym, ap, ◌∙◌, subst, arith}
-use Rattle.std.proofs.lemmas.Bool.{cases_lt}
-use Rattle.std.proofs.lemmas.List.{length-replicate, length_push, length-set, get_or_append_left, get_or_push, get_or-set_same, get_or-set_other}
-use Rattle.std.proofs.lemmas.Nat.{pow-add}
-use Rattle.std.proofs.lemmas.Option.{slice_get_within, get_or_from_slice_get}
+use Rattle.std.proofs.lemmas.{Bool.cases_lt, List.length-replicate, List.length_push, List.length-set, List.get_or_append_left, List.get_or_push, List.get_or-set_same, List.get_or-set_other}
+use Rattle.std.proofs.lemmas.{Nat.pow-add, Option.slice_get_within, Option.get_or_from_slice_get}
 use Rattle.machine_desc.specs.{Description.Description, Live.is_usable}
 use Rattle.spin_base.specs.declared.chips.Chip.{Chip}
 use Rattle.place_fit.specs.Boards.{AreCores, room_left}
@@ -11,8 +9,7 @@ use Rattle.place_fit.proofs.boards.whole_board.Goals as goal
 
 cores_there : (m : Description) (chips : List Chip) (q i : ℕ) (d e : Chip) (free : ℕ) → q ≡ i → slice_get chips q ≡ Some d
     → AreCores (is_usable m) (get_or chips i e) free → AreCores (is_usable m) d free
-cores_there m chips q i d e free one at cores =
-    subst (λ (z : Chip). AreCores (is_usable m) z free) (ap (λ n. get_or chips n e) (sym one) ∙ get_or_from_slice_get chips q d e at) cores
+cores_there m chips q i d e free one at cores = grind (arith, get_or_from_slice_get chips q d e at, get_or)
 
 pub loop-place-init : goal.loop-place-init
 loop-place-init c =

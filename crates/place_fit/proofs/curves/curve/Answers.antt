@@ -1,14 +1,10 @@
-use Rattle.std.proofs.Common.{◌^◌, ◌≤◌, ◌++◌, ◌∷◌, [], List, All, refl, sym, ap, ◌∙◌, subst, arith}
-use Rattle.std.proofs.Math.Pow.{pow_mono}
-use Rattle.std.proofs.lemmas.Grind.{pow_more}
-use Rattle.spin_base.specs.declared.chips.Chip.{Chip}
-use Rattle.place_fit.specs.Curve.{four_quarters}
+use Rattle.std.proofs.Common.{◌^◌, ◌≤◌, All, sym, ◌∙◌, subst, arith}
+use Rattle.std.proofs.{Math.Pow.pow_mono, lemmas.Grind.pow_more}
 use Rattle.place_fit.proofs.CurveLaws.{IsIn, hilbert-zero, hilbert-next, hilbert_inside}
 use Rattle.place_fit.proofs.curves.curve.Goals as goal
 
 pub loop-level-init : goal.loop-level-init
-loop-level-init c =
-    (c.in_ok-push.ensures.items ∙ ap (λ (l : List Chip). l ++ record { x = 0; y = 0 } ∷ []) c.new-chips.ensures.items ∙ sym hilbert-zero, refl)
+loop-level-init c = grind (arith, hilbert-zero)
 
 pub invariant_of-square : goal.invariant_of-square
 invariant_of-square c =
@@ -24,10 +20,4 @@ overflow_mul-side c =
     let up : 2 ^ c.loop-level.level ≤ 2 ^ 5 = pow_mono {j = 5} (omega arith) in record { fits = omega (arith, up, c.loop-level.invariant.1) }
 
 pub loop-level-preserved : goal.loop-level-preserved
-loop-level-preserved c = (
-  c.in_ok-chips.ensures
-      ∙ (ap (λ s. four_quarters s c.deref.result.now) c.loop-level.invariant.1
-      ∙ (ap (four_quarters (2 ^ c.loop-level.level)) (c.deref.ensures.value ∙ c.loop-level.invariant.0)
-      ∙ sym (hilbert-next c.loop-level.level))),
-  omega (arith, c.loop-level.invariant.1, pow_more 2 c.loop-level.level),
-)
+loop-level-preserved c = grind (arith, hilbert-next c.loop-level.level, pow_more 2 c.loop-level.level)

@@ -1,10 +1,17 @@
-use Rattle.std.proofs.Common.{◌≡◌, ◌*◌, ◌-◌, ◌%◌, ◌^◌, ◌≤◌, arith}
-use Rattle.std.proofs.Math.Pow.{pow_mono}
-use Rattle.std.proofs.lemmas.Nat.{one_shl}
+use Rattle.std.proofs.Common.{◌≡◌, ◌+◌, ◌*◌, ◌-◌, ◌%◌, ◌^◌, ◌≤◌, ℕ, ap, ◌∙◌, arith}
+use Rattle.std.proofs.{Math.Pow.pow_mono, lemmas.Grind.pow_more, lemmas.Nat.one_shl}
 use Rattle.place_fit.proofs.curves.half_side.Goals as goal
 
-pub returns-clause-small : goal.returns-clause-small
-returns-clause-small c =
-    let is : 1 * 2 ^ (c.args.level - 1) % 256 ≡ 2 ^ (c.args.level - 1) = one_shl (c.args.level - 1) 8 (omega arith) in
-    let up : 2 ^ (c.args.level - 1) ≤ 2 ^ 5 = pow_mono {j = 5} (omega arith) in
-    omega (arith, is, up)
+twice : (n : ℕ) → 1 ≤ n → 2 ^ n ≡ 2 ^ (n - 1) * 2
+twice n some = let up : n ≡ n - 1 + 1 = omega (arith, some) in ap (λ (k : ℕ). 2 ^ k) up ∙ pow_more 2 (n - 1)
+
+pub returns : goal.returns
+returns c =
+    let n = c.args.at.level in
+    let is : 1 * 2 ^ n % 256 ≡ 2 ^ n = one_shl n 8 (omega (arith, c.args.at.small)) in
+    let most : 2 ^ n ≤ 2 ^ 6 = pow_mono {j = 6} c.args.at.small in
+    record {
+      half = λ some. omega (arith, is, twice n some);
+      whole = λ some. omega (arith, is, twice n some);
+      small = omega (arith, is, most);
+    }

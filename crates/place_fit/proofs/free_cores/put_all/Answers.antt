@@ -3,8 +3,7 @@ use Rattle.std.proofs.lemmas.{List.length_push, Option.slice_get_read}
 use Rattle.spin_base.proofs.Places.{All-at}
 use Rattle.app_graph.specs.declared.graphs.Vertex.{Vertex}
 use Rattle.place_fit.specs.Boards.{AreOthersKept}
-use Rattle.place_fit.proofs.Giving.{kept_more, kept_same}
-use Rattle.place_fit.proofs.SpotLaws.{none_for_core, placed_more, placed_none, has_no_room, stands_here, stood_on_core}
+use Rattle.place_fit.proofs.{Giving.kept_more, Giving.kept_same, SpotLaws.none_for_core, SpotLaws.placed_more, SpotLaws.placed_none, SpotLaws.has_no_room, SpotLaws.stands_here, SpotLaws.stood_on_core}
 use Rattle.place_fit.proofs.Standing.{whole_fair}
 use Rattle.place_fit.proofs.free_cores.put_all.Goals as goal
 

@@ -1,7 +1,6 @@
 use Rattle.std.proofs.Common.{◌≡◌, length}
 use Rattle.machine_desc.specs.Description.{Description}
-use Rattle.place_fit.specs.Boards.{AreFreeOn, AreOthersKept, IsFairBoard}
-use Rattle.place_fit.specs.Standing.{ArePlaced}
+use Rattle.place_fit.specs.{Boards.AreFreeOn, Boards.AreOthersKept, Boards.IsFairBoard, Standing.ArePlaced}
 use Rattle.place_fit.proofs.free_cores.put_all.Given as goal
 
 -- the vertices so far stand on the board

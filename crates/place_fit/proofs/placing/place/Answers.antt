@@ -15,16 +15,7 @@ loop-i-init c =
     }
 
 pub returns-in_default-clause-no_room : goal.returns-in_default-clause-no_room
-returns-in_default-clause-no_room c =
-    let m = c.args.machine.now in
-    let inv = c.loop-i.invariant in
-    let vertices = c.args.graph.now.vertices in
-    let i = c.loop-i.i in
-    let v = c.vertex-item.result in
-    let is : slice_get vertices i ≡ Some v = sym (ap (λ l. slice_get l i) c.as_slice-vertex-items.ensures)
-    ∙ slice_get_read c.as_slice-vertex-items.result.now _ i v refl c.loop-i-test.true c.vertex-item.is in
-    has_no_room m vertices i v is c.loop-i.spots inv.each_one c.loop-i.memory c.loop-i.board inv.placed
-    (finds_none m _ c.loop-i.spots c.loop-i.board (stands_here m vertices i v is c.loop-i.spots inv.each_one c.loop-i.memory c.loop-i.board inv.placed) v c.in_default.ensures.none)
+returns-in_default-clause-no_room c = grind (arith, slice_get, slice_get_read, has_no_room, finds_none, stands_here)
 
 pub loop-i-preserved : goal.loop-i-preserved
 loop-i-preserved c =

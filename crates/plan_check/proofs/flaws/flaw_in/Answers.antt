@@ -18,7 +18,8 @@ returns-else-not-lies_inside c =
     amiss_by_row c.args.block c.args.rows.entries.now c.args.port c.args.wanted c.in-Some.place c.in-Some.ensures.0 c.index-entries-place.result c.lies_inside.result
     c.flaw_by-in-Some.result c.in-Some.ensures.1 c.index-entries-place.is c.lies_inside.ensures c.if-not-lies_inside.false c.flaw_by-in-Some.ensures
 
-pub lies_inside-requires : goal.lies_inside-requires
-lies_inside-requires c =
-    subst IsRow (sym c.index-entries-place.is)
-    (c.args.rows.valid c.in-Some.place c.index-entries-place.result (slice_get_within c.args.rows.entries.now c.in-Some.place c.in-Some.ensures.0 c.in-Some.ensures.1.there))
+pub invariant_of-valid : goal.invariant_of-valid
+invariant_of-valid c = record {
+  valid = subst IsRow (sym c.index-entries-place.is)
+      (c.args.rows.valid c.in-Some.place c.index-entries-place.result (slice_get_within c.args.rows.entries.now c.in-Some.place c.in-Some.ensures.0 c.in-Some.ensures.1.there));
+}

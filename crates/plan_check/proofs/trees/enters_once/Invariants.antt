@@ -4,4 +4,4 @@ use Rattle.plan_check.proofs.Marking.{EnteredSoFar}
 use Rattle.plan_check.proofs.trees.enters_once.Given as goal
 
 abbrev pub invariant-loop-edge : goal.invariant-loop-edge
-invariant-loop-edge l = (l.entered.machine.now ≡ l.machine) × EnteredSoFar l.machine l.fn.root l.edges l.edge-index l.entered.items.items
+invariant-loop-edge l = (l.entered.machine.now ≡ l.rooted.machine.now) × EnteredSoFar l.rooted.machine.now l.rooted.root l.edges l.edge-index l.entered.items.items

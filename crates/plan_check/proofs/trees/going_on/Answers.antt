@@ -1,8 +1,7 @@
 use Rattle.std.proofs.Common.{◌*◌, [], refl, subst, ◌∙◌}
 use Rattle.std.proofs.lemmas.List.{take_all}
 use Rattle.plan_check.specs.Marks.{AreMarks, HasEdgeOrTarget}
-use Rattle.plan_check.proofs.Marking.{no_marks}
-use Rattle.plan_check.proofs.TreeLaws.{none_goes, edge_goes, target_goes}
+use Rattle.plan_check.proofs.{Marking.no_marks, TreeLaws.none_goes, TreeLaws.edge_goes, TreeLaws.target_goes}
 use Rattle.plan_check.proofs.trees.going_on.Goals as goal
 
 pub loop-edge-init : goal.loop-edge-init

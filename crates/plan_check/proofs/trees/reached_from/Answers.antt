@@ -3,8 +3,8 @@ use Rattle.spin_base.specs.declared.chips.Chip.{Chip}
 use Rattle.machine_desc.specs.{Description.Description, Live.index_of}
 use Rattle.plan_check.specs.Marks.{mark_at}
 use Rattle.plan_check.proofs.Searching.{search_first, search_past, search_push, search_ended, from_inside, to_inside, flagged_goes, flagged_nowhere}
-use Rattle.plan_check.proofs.trees.reached_from.Goals as goal
 use Rattle.plan_check.proofs.trees.reached_from.Goals.{in-Some+then-not-at+in_ok-push-2, in-Some+else-not-at, in_default}
+use Rattle.plan_check.proofs.trees.reached_from.Goals as goal
 
 pub set-requires : goal.set-requires
 set-requires c = rw (c.in_ok-marks.ensures.machine, c.machine.ensures) c.requires

@@ -1,14 +1,13 @@
 use Rattle.std.proofs.Common.{ltb, ltb-true, ltb-false, arith, rules}
-use Rattle.std.proofs.lemmas.List.Sorted.{IsPartitionPoint-from_clause, IsPartitionedBy-ltb}
-use Rattle.std.proofs.lemmas.Option.{get_or_from_slice_get, slice_get_within}
+use Rattle.std.proofs.lemmas.{List.Sorted.IsPartitionPoint-from_clause, List.Sorted.IsPartitionedBy-ltb, Option.get_or_from_slice_get, Option.slice_get_within}
 use Rattle.range_store.specs.declared.holes.Hole.{Hole}
 use Rattle.range_store.proofs.Beginnings.{in_order}
 use Rattle.range_store.proofs.begins.begin_before.Goals as goal
 
 pub returns : goal.returns
 returns c =
-    let hs = c.args.holes.now in
-    let parted = IsPartitionedBy-ltb (λ (h : Hole). h.place) hs c.args.place (in_order 0 4294967296 hs c.requires.runs) in
+    let hs = c.args.holes.list.now in
+    let parted = IsPartitionedBy-ltb (λ (h : Hole). h.place) hs c.args.place (in_order 0 4294967296 hs c.args.holes.runs) in
     let point = IsPartitionPoint-from_clause (λ (h : Hole). ltb h.place c.args.place) _ _ c.partition_point.ensures.partitioned parted (λ a r q k. search rules) in
     record {
       within = c.partition_point.ensures.bound;

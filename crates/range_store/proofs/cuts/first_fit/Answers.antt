@@ -1,15 +1,12 @@
-use Rattle.std.proofs.lemmas.Option.{slice_get-get_or}
+use Rattle.std.proofs.lemmas.{Option.slice_get-get_or, Bool.cases_eq}
 use Rattle.std.proofs.Common.{◌≡◌, ◌<◌, ◌-◌, take, length, get_or, ap, ◌∙◌, inl, inr, arith}
-use Rattle.std.proofs.lemmas.Bool.{cases_eq}
-use Rattle.range_store.specs.declared.holes.Hole.{Hole}
-use Rattle.range_store.specs.Regions.{is_hole_range}
-use Rattle.range_store.proofs.Beginnings.{none_before}
-use Rattle.range_store.proofs.RunLemmas.{end_below, first_is_least}
+use Rattle.range_store.specs.{declared.holes.Hole.Hole, Regions.is_hole_range}
+use Rattle.range_store.proofs.{Beginnings.none_before, RunLemmas.end_below, RunLemmas.first_is_least}
 use Rattle.range_store.proofs.cuts.first_fit.Goals as goal
 
 pub loop-at-init : goal.loop-at-init
 loop-at-init c q behind even =
-    let hs = c.args.holes.now in
+    let hs = c.args.holes.list.now in
     let count = c.begin_before.result in
     let first : c.saturating_sub-first.result ≡ count - 1 = c.saturating_sub-first.ensures in
     elim (cases_eq count 0) [
@@ -18,22 +15,23 @@ loop-at-init c q behind even =
           let inside : count - 1 < length hs = omega (arith, c.begin_before.ensures.within, some) in
           let d : Hole = record { place = 0; len = 0 } in
           let begins = c.begin_before.ensures.before (count - 1) (get_or hs (count - 1) d) (omega (arith, some)) (slice_get-get_or hs (count - 1) d inside) in
-          ap (λ n. is_hole_range (take n hs) q c.args.claim.size) first ∙ none_before 0 4294967296 hs (count - 1) c.args.claim.from q c.args.claim.size d c.requires.runs inside begins behind
+          ap (λ n. is_hole_range (take n hs) q c.args.claim.size) first ∙ none_before 0 4294967296 hs (count - 1) c.args.claim.from q c.args.claim.size d c.args.holes.runs inside begins behind
           )
     ]
 
 pub fit_in-requires : goal.fit_in-requires
-fit_in-requires c = record { below = end_below 0 4294967296 c.args.holes.now c.loop-at.at _ c.requires.runs c.loop-at-test.true }
+fit_in-requires c = end_below 0 4294967296 c.args.holes.list.now c.loop-at.at _ c.args.holes.runs c.loop-at-test.true
 
 pub returns-in-Some-clause-first : goal.returns-in-Some-clause-first
 returns-in-Some-clause-first c =
-    first_is_least 0 4294967296 c.args.holes.now c.loop-at.at _ c.args.claim.from c.args.claim.size c.args.claim.align c.in-Some.place c.requires.runs
-    (slice_get-get_or c.args.holes.now c.loop-at.at _ c.loop-at-test.true) c.in-Some.ensures.least c.loop-at.invariant c.args.claim.some
+    first_is_least 0 4294967296 c.args.holes.list.now c.loop-at.at _ c.args.claim.from c.args.claim.size c.args.claim.align c.in-Some.place c.args.holes.runs
+    (slice_get-get_or c.args.holes.list.now c.loop-at.at _ c.loop-at-test.true) c.in-Some.ensures.least c.loop-at.invariant c.args.claim.some
 
 pub returns-in-Some-clause-at : goal.returns-in-Some-clause-at
 returns-in-Some-clause-at c = record {
   hole = _;
-  is = slice_get-get_or c.args.holes.now c.loop-at.at (record { place = 0; len = 0 }) c.loop-at-test.true;
+  is = slice_get-get_or c.args.holes.list.now c.loop-at.at (record { place = 0; len = 0 }) c.loop-at-test.true;
   inside = c.loop-at-test.true;
   fits = c.in-Some.ensures.least.fits;
+  below = end_below 0 4294967296 c.args.holes.list.now c.loop-at.at _ c.args.holes.runs c.loop-at-test.true;
 }

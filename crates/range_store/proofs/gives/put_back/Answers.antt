@@ -1,59 +1,41 @@
-use Rattle.std.proofs.Common.{arith, ℕ, subst, ap, sym, ◌+◌, ◌-◌, ◌≡◌, set, ◌||◌}
-use Rattle.range_store.specs.Regions.{AreRuns, is_free, in_range}
+use Rattle.std.proofs.Common.{arith, subst, sym}
+use Rattle.range_store.specs.Regions.{AreRuns}
 use Rattle.range_store.proofs.GiveLemmas.{arm_none, arm_right, arm_left, arm_both, right_end, left_end, inserted}
 use Rattle.range_store.proofs.gives.put_back.Goals as goal
 
-pub returns-in-None-None-clause-free : goal.returns-in-None-None-clause-free
-returns-in-None-None-clause-free c =
-    subst (λ ys. (k : ℕ) → is_free ys k ≡ (is_free c.args.holes.now.items k || in_range c.args.span.place c.args.span.size k))
-    (sym (inserted _ _ _ (c.insert.ensures.succeeds c.requires.room) c.insert.ensures.items))
-    (arm_none c.args.span.some c.args.span.within c.requires.runs c.requires.taken c.as_slice.ensures.value c.neighbours-at.ensures c.in-None-None.is-0 c.in-None-None.is-1).0
+pub invariant_of-list : goal.invariant_of-list
+invariant_of-list c = record { runs = subst (AreRuns 0 4294967296) (sym c.as_slice.ensures.value) c.requires }
 
-pub returns-in-None-None-clause-runs : goal.returns-in-None-None-clause-runs
-returns-in-None-None-clause-runs c n runs within =
-    subst (AreRuns 0 n) (sym (inserted _ _ _ (c.insert.ensures.succeeds c.requires.room) c.insert.ensures.items))
-    (arm_none c.args.span.some within runs c.requires.taken c.as_slice.ensures.value c.neighbours-at.ensures c.in-None-None.is-0 c.in-None-None.is-1).1
+pub returns-in-None-None-clause-put : goal.returns-in-None-None-clause-put
+returns-in-None-None-clause-put c room taken n runs within =
+    rw (inserted _ _ _ (c.insert.ensures.succeeds room) c.insert.ensures.items)
+    (arm_none c.args.span.some within runs c.as_slice.ensures.value c.neighbours-at.ensures taken c.in-None-None.is-0 c.in-None-None.is-1)
 
-pub returns-in-None-Some-clause-free : goal.returns-in-None-Some-clause-free
-returns-in-None-Some-clause-free c =
-    (arm_right c.args.span.some c.args.span.within c.requires.runs c.requires.taken c.as_slice.ensures.value c.neighbours-at.ensures c.in-None-Some.is-0 c.in-None-Some.is-1).0
+pub returns-in-None-Some-clause-put : goal.returns-in-None-Some-clause-put
+returns-in-None-Some-clause-put c room taken n runs within =
+    arm_right c.args.span.some within runs c.as_slice.ensures.value c.neighbours-at.ensures taken c.in-None-Some.is-0 c.in-None-Some.is-1
 
-pub returns-in-None-Some-clause-runs : goal.returns-in-None-Some-clause-runs
-returns-in-None-Some-clause-runs c n runs within = (arm_right c.args.span.some within runs c.requires.taken c.as_slice.ensures.value c.neighbours-at.ensures c.in-None-Some.is-0 c.in-None-Some.is-1).1
+pub returns-in-Some-None-clause-put : goal.returns-in-Some-None-clause-put
+returns-in-Some-None-clause-put c room taken n runs within =
+    arm_left c.args.span.some within runs c.as_slice.ensures.value c.neighbours-at.ensures taken c.in-Some-None.is-0 c.in-Some-None.is-1
 
-pub returns-in-Some-None-clause-free : goal.returns-in-Some-None-clause-free
-returns-in-Some-None-clause-free c =
-    (arm_left c.args.span.some c.args.span.within c.requires.runs c.requires.taken c.as_slice.ensures.value c.neighbours-at.ensures c.in-Some-None.is-0 c.in-Some-None.is-1).0
-
-pub returns-in-Some-None-clause-runs : goal.returns-in-Some-None-clause-runs
-returns-in-Some-None-clause-runs c n runs within = (arm_left c.args.span.some within runs c.requires.taken c.as_slice.ensures.value c.neighbours-at.ensures c.in-Some-None.is-0 c.in-Some-None.is-1).1
-
-pub returns-in-Some-Some-clause-free : goal.returns-in-Some-Some-clause-free
-returns-in-Some-Some-clause-free c =
-    subst (λ ys. (k : ℕ) → is_free ys k ≡ (is_free c.args.holes.now.items k || in_range c.args.span.place c.args.span.size k))
-    (ap (λ ys. set ys (c.neighbours-at.result.0 - 1) (record { place = c.in-Some-Some.left.place; len = c.in-Some-Some.left.len + c.args.span.size + c.in-Some-Some.right.len }))
-    (sym c.remove.ensures.items))
-    (arm_both c.args.span.some c.args.span.within c.requires.runs c.requires.taken c.as_slice.ensures.value c.neighbours-at.ensures c.in-Some-Some.is-0 c.in-Some-Some.is-1).0
-
-pub returns-in-Some-Some-clause-runs : goal.returns-in-Some-Some-clause-runs
-returns-in-Some-Some-clause-runs c n runs within =
-    subst (AreRuns 0 n)
-    (ap (λ ys. set ys (c.neighbours-at.result.0 - 1) (record { place = c.in-Some-Some.left.place; len = c.in-Some-Some.left.len + c.args.span.size + c.in-Some-Some.right.len }))
-    (sym c.remove.ensures.items))
-    (arm_both c.args.span.some within runs c.requires.taken c.as_slice.ensures.value c.neighbours-at.ensures c.in-Some-Some.is-0 c.in-Some-Some.is-1).1
+pub returns-in-Some-Some-clause-put : goal.returns-in-Some-Some-clause-put
+returns-in-Some-Some-clause-put c room taken n runs within =
+    rw c.remove.ensures.items
+    (arm_both c.args.span.some within runs c.as_slice.ensures.value c.neighbours-at.ensures taken c.in-Some-Some.is-0 c.in-Some-Some.is-1)
 
 pub overflow_add-left-in-Some-Some : goal.overflow_add-left-in-Some-Some
 overflow_add-left-in-Some-Some c =
-    let l = left_end c.args.span.some c.args.span.within c.requires.runs c.requires.taken c.as_slice.ensures.value c.neighbours-at.ensures c.in-Some-Some.is-0 in
-    let r = right_end c.args.span.some c.args.span.within c.requires.runs c.requires.taken c.as_slice.ensures.value c.neighbours-at.ensures c.in-Some-Some.is-1 in
+    let l = left_end c.args.span.some c.args.span.within c.requires c.as_slice.ensures.value c.neighbours-at.ensures c.in-Some-Some.is-0 in
+    let r = right_end c.args.span.some c.args.span.within c.requires c.as_slice.ensures.value c.neighbours-at.ensures c.in-Some-Some.is-1 in
     record { fits = omega (arith, l.1, r.1, r.2) }
 
 pub overflow_add-size : goal.overflow_add-size
 overflow_add-size c =
-    let r = right_end c.args.span.some c.args.span.within c.requires.runs c.requires.taken c.as_slice.ensures.value c.neighbours-at.ensures c.in-None-Some.is-1 in
+    let r = right_end c.args.span.some c.args.span.within c.requires c.as_slice.ensures.value c.neighbours-at.ensures c.in-None-Some.is-1 in
     record { fits = omega (arith, r.1, r.2) }
 
 pub index_mut-requires-in-None-Some : goal.index_mut-requires-in-None-Some
 index_mut-requires-in-None-Some c =
-    let r = right_end c.args.span.some c.args.span.within c.requires.runs c.requires.taken c.as_slice.ensures.value c.neighbours-at.ensures c.in-None-Some.is-1 in
+    let r = right_end c.args.span.some c.args.span.within c.requires c.as_slice.ensures.value c.neighbours-at.ensures c.in-None-Some.is-1 in
     omega (arith, r.0)

@@ -1,6 +1,5 @@
 use Rattle.std.proofs.Common.{ℕ, List, [], ◌∷◌, ◌++◌, map, take, sym, ap, ◌∙◌}
-use Rattle.std.specs.List.{zip}
-use Rattle.std.specs.Option.{option_map}
+use Rattle.std.specs.{List.zip, Option.option_map}
 use Rattle.std.proofs.lemmas.Option.{slice_get-map}
 use Rattle.spin_base.specs.declared.chips.Spot.{Spot}
 use Rattle.app_graph.specs.declared.graphs.Vertex.{Vertex}

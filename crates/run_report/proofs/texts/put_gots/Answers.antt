@@ -1,15 +1,22 @@
-use Rattle.std.proofs.Common.{◌++◌, ◌∙◌, ap, ap₂, map, sym}
+use Rattle.std.proofs.Common.{◌++◌, ◌∙◌, ap, ap₂, map, sym, arith}
 use Rattle.std.specs.List.{flat_map}
 use Rattle.std.proofs.lemmas.List.Folds.{flat_map-map}
 use Rattle.run_report.specs.Named.{named_delivery}
 use Rattle.run_report.specs.ReportText.{got_line}
+use Rattle.run_report.proofs.Gathering.{put_at, put_all}
 use Rattle.run_report.proofs.texts.put_gots.Goals as goal
+
+pub loop-delivery-preserved : goal.loop-delivery-preserved
+loop-delivery-preserved c =
+    put_at (λ d. got_line (named_delivery c.as_slice-placed.result.now d)) c.as_slice-deliveries.result.now c.args.text.now.items c.loop-delivery.text.items
+    c.loop-delivery.delivery-index c.loop-delivery.invariant _ c.put_got.new.text.items (omega arith) c.in_ok-put_got.ensures
 
 pub returns : goal.returns
 returns c =
-    let placed = c.as_slice.result.now in
-    let deliveries = c.as_slice-2.result.now in
-    c.in_ok-put_all_gots.ensures
+    let placed = c.as_slice-placed.result.now in
+    let deliveries = c.as_slice-deliveries.result.now in
+    put_all (λ d. got_line (named_delivery placed d)) deliveries c.args.text.now.items c.loop-delivery.text.items
+    c.loop-delivery.delivery-index c.loop-delivery.invariant (omega arith)
     ∙ ap (λ lines. c.args.text.now.items ++ lines)
     (sym (flat_map-map got_line (named_delivery placed) deliveries)
-    ∙ ap (flat_map got_line) (ap₂ (λ ps ds. map (named_delivery ps) ds) c.as_slice.ensures c.as_slice-2.ensures.value ∙ c.delivered.view_is))
+    ∙ ap (flat_map got_line) (ap₂ (λ ps ds. map (named_delivery ps) ds) c.as_slice-placed.ensures c.as_slice-deliveries.ensures.value ∙ c.delivered.view_is))

@@ -1,9 +1,7 @@
 use Rattle.std.proofs.Common.{◌++◌, ◌∙◌, sym, ap, ap₂, arith, map}
 use Rattle.std.specs.List.{flat_map, range_with_len}
-use Rattle.std.proofs.lemmas.List.{flat_map_more}
-use Rattle.std.proofs.lemmas.List.FromFn.{map-range_with_len_more}
-use Rattle.machine_desc.specs.Description.{Description}
-use Rattle.machine_desc.specs.Live.{chip_of}
+use Rattle.std.proofs.lemmas.List.{flat_map_more, FromFn.map-range_with_len_more}
+use Rattle.machine_desc.specs.{Description.Description, Live.chip_of}
 use Rattle.run_report.specs.RunReport.{chip_waits}
 use Rattle.run_report.proofs.waits.put_chips.Goals as goal
 

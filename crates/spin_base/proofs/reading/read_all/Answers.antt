@@ -1,51 +1,30 @@
-use Rattle.std.proofs.Common.{◌≡◌, ◌≤◌, ◌∙◌, length, take, arith, inr, length-take-le}
+use Rattle.std.proofs.Common.{arith, inr, length-take-le}
 use Rattle.spin_base.proofs.Bytes.{gives_nothing, gives_then, gives_end, gives_too_many, loses_too_many, loses_few, rose_since}
 use Rattle.spin_base.proofs.reading.read_all.Goals as goal
 
 pub loop-count-init : goal.loop-count-init
-loop-count-init g c = record {
-  gives = rw c.new-bytes.ensures.items (gives_nothing _);
-  within = omega arith;
-  room = omega arith;
-  counted = omega arith;
-}
+loop-count-init g c = grind (arith, gives_nothing)
 
 pub returns-in-Err-clause-fault : goal.returns-in-Err-clause-fault
 returns-in-Err-clause-fault g c = λ _. rose_since _ _ _ (omega (arith, c.loop-count.invariant.counted)) c.in-Err.ensures.failed
 
 pub returns-then-count-eq0-clause-all : goal.returns-then-count-eq0-clause-all
-returns-then-count-eq0-clause-all g c =
-    rw c.from_vec.ensures (gives_end _ _ _ _ _ _ c.loop-count.invariant.gives c.in-Ok.ensures.reads c.if-count-eq0.true)
+returns-then-count-eq0-clause-all g c = grind (arith, gives_end _ _ _ _ _ _ c.loop-count.invariant.gives c.in-Ok.ensures.reads c.if-count-eq0.true)
 
 pub returns-then-count-eq0-clause-lost : goal.returns-then-count-eq0-clause-lost
 returns-then-count-eq0-clause-lost g c = (_, gives_then _ _ _ _ _ c.loop-count.invariant.gives c.in-Ok.ensures.reads.gives)
 
 pub returns-then-count-limit-clause-too_long : goal.returns-then-count-limit-clause-too_long
-returns-then-count-limit-clause-too_long g c = λ _.
-    gives_too_many _ _ _ _ c.read.new.buffer c.in-Ok.count c.args.limit c.loop-count.invariant.gives c.in-Ok.ensures.reads.gives
-    (omega (arith, c.in-Ok.ensures.count)) (omega arith)
+returns-then-count-limit-clause-too_long g c = grind (arith, gives_too_many)
 
 pub returns-then-count-limit-clause-past_limit : goal.returns-then-count-limit-clause-past_limit
-returns-then-count-limit-clause-past_limit g c = λ _.
-    loses_too_many _ _ _ _ c.read.new.buffer c.in-Ok.count c.args.limit c.loop-count.invariant.gives c.in-Ok.ensures.reads.gives
-    (omega (arith, c.in-Ok.ensures.count)) (omega arith)
+returns-then-count-limit-clause-past_limit g c = grind (arith, loses_too_many)
 
 pub returns-then-count-limit-clause-lost : goal.returns-then-count-limit-clause-lost
 returns-then-count-limit-clause-lost g c = (_, gives_then _ _ _ _ _ c.loop-count.invariant.gives c.in-Ok.ensures.reads.gives)
 
 pub loop-count-preserved : goal.loop-count-preserved
-loop-count-preserved g c =
-    let whole : c.in-Ok.count ≤ length c.read.new.buffer = omega (arith, c.in-Ok.ensures.count) in
-    let taken : length (take c.in-Ok.count c.read.new.buffer) ≡ c.in-Ok.count =
-    length-take-le c.in-Ok.count c.read.new.buffer whole
-    in record {
-      gives =
-          rw c.in_ok-extend_from_slice.ensures.items
-          (gives_then _ _ _ _ _ c.loop-count.invariant.gives c.in-Ok.ensures.reads.gives);
-      within = omega (arith, c.in_ok-extend_from_slice.ensures.len, taken);
-      room = omega arith;
-      counted = c.in-Ok.ensures.no_fault ∙ c.loop-count.invariant.counted;
-    }
+loop-count-preserved g c = grind (arith, gives_then _ _ _ _ _ c.loop-count.invariant.gives c.in-Ok.ensures.reads.gives, length-take-le)
 
 pub returns-in_err-extend_from_slice-clause-lost :
     goal.returns-in_err-extend_from_slice-clause-lost

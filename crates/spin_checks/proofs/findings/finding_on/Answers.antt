@@ -1,8 +1,6 @@
 use Rattle.std.proofs.Common.{◌≡◌, subst, sym}
-use Rattle.table_load.specs.Memories.{IsLoaded}
-use Rattle.table_load.specs.declared.tables.Image.{Image}
-use Rattle.plan_check.specs.Verdicts.{IsMisrouted}
-use Rattle.plan_check.specs.declared.verdicts.Verdict.{Verdict}
+use Rattle.table_load.specs.{Memories.IsLoaded, declared.tables.Image.Image}
+use Rattle.plan_check.specs.{Verdicts.IsMisrouted, declared.verdicts.Verdict.Verdict}
 use Rattle.spin_checks.specs.declared.findings.Finding.TheVariants.{Judged}
 use Rattle.spin_checks.proofs.OneVerdict.{wrong_named}
 use Rattle.spin_checks.proofs.findings.finding_on.Goals as goal

@@ -1,6 +1,5 @@
 use Rattle.std.proofs.Common.{◌≡◌, ◌-◌, ◌^◌, ◌++◌, ◌∙◌, [], false, subst, ap, string_bytes}
-use Rattle.std.specs.Fmt.{digits, padded_integral, format_spec, styled_digits_output, AppendsText}
-use Rattle.std.specs.Option.{option_map}
+use Rattle.std.specs.{Fmt.digits, Fmt.padded_integral, Fmt.format_spec, Fmt.styled_digits_output, Fmt.AppendsText, Option.option_map}
 use Rattle.run_report.proofs.HexDigits.{word_text}
 use Rattle.spin_checks.proofs.lines.put_word.Goals as goal
 

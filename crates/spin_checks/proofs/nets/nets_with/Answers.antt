@@ -1,7 +1,6 @@
 use Rattle.std.proofs.Common.{rules}
 use Rattle.key_alloc.specs.KeyBlocks.{AreRightBlocks}
-use Rattle.spin_checks.proofs.Refusing.{key_due, place_due, refused_nets}
-use Rattle.spin_checks.proofs.Sites.{all_on_sites}
+use Rattle.spin_checks.proofs.{Refusing.key_due, Refusing.place_due, Refusing.refused_nets, Sites.all_on_sites}
 use Rattle.spin_checks.proofs.nets.nets_with.Goals as goal
 
 pub returns-in-Err-clause-none : goal.returns-in-Err-clause-none

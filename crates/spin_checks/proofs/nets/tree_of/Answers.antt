@@ -3,7 +3,7 @@ use Rattle.std.proofs.lemmas.List.Sorted.{answers_always}
 use Rattle.std.specs.List.{AllPairs}
 use Rattle.machine_desc.specs.declared.trees.Edge.{Edge}
 use Rattle.machine_desc.specs.EdgeOrder.{IsEdgeBefore, edge_key}
-use Rattle.ner_trees.proofs.Sorting.{never_falls}
+use Rattle.spin_checks.proofs.Sorting.{never_falls}
 use Rattle.spin_checks.proofs.nets.tree_of.Goals as goal
 
 pub returns : goal.returns

@@ -1,10 +1,8 @@
 use Rattle.std.proofs.Common.{List, [], refl, ap, subst, ◌∙◌}
 use Rattle.mesh_core.specs.declared.places.Did.{Did}
 use Rattle.run_report.specs.ReportText.{summary_text}
-use Rattle.spin_jobs.specs.Planned.{JobWithPlan}
-use Rattle.spin_jobs.specs.Words.{IsReported}
-use Rattle.spin_jobs.proofs.AtRest.{is_kept, ran_out, told_count, told_none}
-use Rattle.spin_jobs.proofs.Generating.{generated_roomy}
+use Rattle.spin_jobs.specs.{Planned.JobWithPlan, Words.IsReported}
+use Rattle.spin_jobs.proofs.{AtRest.is_kept, AtRest.ran_out, AtRest.told_count, AtRest.told_none, Generating.generated_roomy}
 use Rattle.spin_jobs.proofs.makes.generated.Goals as goal
 
 pub returns : goal.returns

@@ -1,6 +1,5 @@
 use Rattle.std.proofs.Common.{◌<◌, ◌^◌, sym, subst}
-use Rattle.run_report.specs.declared.reports.Report.{Report}
-use Rattle.run_report.specs.ReportText.{row_total}
+use Rattle.run_report.specs.{declared.reports.Report.Report, ReportText.row_total}
 use Rattle.run_report.proofs.Listing.{few_rows}
 use Rattle.spin_jobs.proofs.WordLaws.{ok_weaker}
 use Rattle.spin_jobs.proofs.makes.report.Goals as goal

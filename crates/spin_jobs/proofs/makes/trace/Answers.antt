@@ -1,15 +1,8 @@
 use Rattle.std.proofs.Common.{List, take, sym, ap, subst, ◌∙◌}
 use Rattle.spin_base.specs.declared.copies.Event.{Event}
-use Rattle.mesh_core.specs.State.{State, IsMesh}
-use Rattle.mesh_core.specs.Step.{after_events, answers_of}
-use Rattle.mesh_core.specs.Opened.{MeetsJobLedger}
-use Rattle.spin_jobs.specs.declared.outcomes.WordOutput.{WordOutput}
-use Rattle.spin_jobs.specs.Parts.{parts_with}
-use Rattle.spin_jobs.specs.Planned.{opened_of, IsValidWithPlan, JobWithPlan}
-use Rattle.spin_jobs.specs.Words.{IsTraced, Reports, TellsRun}
-use Rattle.spin_jobs.proofs.AtRest.{reports}
-use Rattle.spin_jobs.proofs.Tracing.{traced_ledger}
-use Rattle.spin_jobs.proofs.WordLaws.{ok_weaker}
+use Rattle.mesh_core.specs.{State.State, State.IsMesh, Step.after_events, Step.answers_of, Opened.MeetsJobLedger}
+use Rattle.spin_jobs.specs.{declared.outcomes.WordOutput.WordOutput, Parts.parts_with, Planned.opened_of, Planned.IsValidWithPlan, Planned.JobWithPlan, Words.IsTraced, Words.Reports, Words.TellsRun}
+use Rattle.spin_jobs.proofs.{AtRest.reports, Tracing.traced_ledger, WordLaws.ok_weaker}
 use Rattle.spin_jobs.proofs.makes.trace.Goals as goal
 
 pub reported-requires : goal.reported-requires

@@ -1,8 +1,6 @@
-use Rattle.spin_jobs.specs.Reinjecting.{HasReinjected}
-use Rattle.spin_jobs.specs.Runs.{HasRunOut}
-use Rattle.spin_jobs.specs.Words.{Images, IsTraced, Lists, Reports, Summarises, generated, imaged, listed, ran, reinjected, traced}
-use Rattle.spin_jobs.proofs.AtRest.{ran_out, reinjected_as, reports_at_rest}
-use Rattle.spin_jobs.proofs.WordLaws.{made_by}
+use Rattle.spin_jobs.specs.{Reinjecting.HasReinjected, Runs.HasRunOut, Words.Images, Words.IsTraced, Words.Lists, Words.Reports, Words.Summarises, Words.generated, Words.imaged, Words.listed}
+use Rattle.spin_jobs.specs.Words.{ran, reinjected, traced}
+use Rattle.spin_jobs.proofs.{AtRest.ran_out, AtRest.reinjected_as, AtRest.reports_at_rest, WordLaws.made_by}
 use Rattle.spin_jobs.proofs.words.make.Goals as goal
 
 pub returns-in_ok-mesh-in-Run : goal.returns-in_ok-mesh-in-Run

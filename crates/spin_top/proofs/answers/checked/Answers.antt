@@ -1,11 +1,8 @@
 use Rattle.std.proofs.Common.{refl}
 use Rattle.spin_input.specs.Inputs.{Reading}
 use Rattle.spin_input.proofs.JobBytes.{err_carried}
-use Rattle.spin_top.specs.Causes.{HasCause, of_request}
-use Rattle.spin_top.specs.Inputs.{no_value}
-use Rattle.spin_top.specs.Made.{checked}
-use Rattle.spin_top.proofs.CheckLaws.{checked_of}
-use Rattle.spin_top.proofs.EndLaws.{cause_with_request}
+use Rattle.spin_top.specs.{Causes.HasCause, Causes.of_request, Inputs.no_value, Made.checked}
+use Rattle.spin_top.proofs.{CheckLaws.checked_of, EndLaws.cause_with_request}
 use Rattle.spin_top.proofs.answers.checked.Goals as goal
 
 pub returns-clause-made : goal.returns-clause-made

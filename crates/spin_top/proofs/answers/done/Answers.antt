@@ -2,11 +2,8 @@ use Rattle.std.proofs.Common.{refl}
 use Rattle.run_report.specs.declared.causes.Refusal.TheVariants as refusals
 use Rattle.spin_input.specs.Inputs.{Reading}
 use Rattle.spin_input.proofs.JobBytes.{err_carried}
-use Rattle.spin_top.specs.Causes.{HasCause, of_steps}
-use Rattle.spin_top.specs.Inputs.{no_value}
-use Rattle.spin_top.specs.Made.{done}
-use Rattle.spin_top.proofs.AppLaws.{done_of}
-use Rattle.spin_top.proofs.EndLaws.{cause_with_steps}
+use Rattle.spin_top.specs.{Causes.HasCause, Causes.of_steps, Inputs.no_value, Made.done}
+use Rattle.spin_top.proofs.{AppLaws.done_of, EndLaws.cause_with_steps}
 use Rattle.spin_top.proofs.answers.done.Goals as goal
 
 pub returns-in-Ok-clause-made : goal.returns-in-Ok-clause-made

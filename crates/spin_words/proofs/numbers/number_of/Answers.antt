@@ -1,6 +1,5 @@
 use Rattle.std.proofs.Common.{◌<◌, arith, length, get_or, ap, sym, ◌∙◌}
-use Rattle.std.specs.List.{list_all}
-use Rattle.std.specs.Char.{is_ascii_digit}
+use Rattle.std.specs.{List.list_all, Char.is_ascii_digit}
 use Rattle.spin_words.proofs.NumberWords.{number-empty, number-other, number-zero, number-parsed, number-unparsed}
 use Rattle.spin_words.proofs.numbers.number_of.Goals as goal
 

@@ -1,6 +1,5 @@
 use Rattle.std.proofs.Common.{◌≡◌, ◌++◌, ◌∷◌, [], length, take}
-use Rattle.std.specs.Int.{w16, to_le_bytes}
-use Rattle.std.specs.List.{flat_map}
+use Rattle.std.specs.{Int.w16, Int.to_le_bytes, List.flat_map}
 use Rattle.table_load.specs.Images.{row_bytes}
 use Rattle.table_load.proofs.writes.put_table.Given as goal
 

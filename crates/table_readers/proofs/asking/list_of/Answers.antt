@@ -1,7 +1,6 @@
 -- A list that is none, one of too many items, and one of few.
 use Rattle.std.proofs.Common.{refl, ◌∙◌}
-use Rattle.std.proofs.lemmas.List.{length-map}
-use Rattle.std.proofs.lemmas.Result.{err_from_is_err_and}
+use Rattle.std.proofs.lemmas.{List.length-map, Result.err_from_is_err_and}
 use Rattle.job_readers.specs.Members.{list_member_faults, list_member}
 use Rattle.job_readers.proofs.Firsts.{fails_before, fails_later}
 use Rattle.table_readers.proofs.asking.list_of.Goals as goal

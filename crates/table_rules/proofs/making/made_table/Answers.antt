@@ -2,7 +2,7 @@
 use Rattle.std.proofs.Common.{◌≡◌, ◌-◌, ◌+◌, ◌≤◌, Some, length, take, drop, sym, ap, ◌∙◌, subst, arith}
 use Rattle.std.specs.Prelude.{IfSome}
 use Rattle.block_cuts.specs.Cuts.{cut}
-use Rattle.table_rules.specs.Made.{HasTooManyPieces, IsTableFrom, IsTableMadeOf, IsRowAdded}
+use Rattle.table_rules.specs.Made.{HasTooManyPieces, IsTableFrom, IsRowAdded}
 use Rattle.table_rules.proofs.Turns.{blocks_more, more_rows, no_room, rows_all, too_many_later}
 use Rattle.table_rules.proofs.making.made_table.Goals as goal
 
@@ -32,6 +32,4 @@ loop-row-preserved c =
     }
 
 pub returns-clause-made : goal.returns-clause-made
-returns-clause-made c =
-    subst (IsTableMadeOf c.args.room c.args.given.now) (sym c.from_vec.ensures)
-    (c.loop-row.invariant.goes_on c.loop-row.rows.items (rows_all c.loop-row.left c.args.given.now c.loop-row.row-index c.loop-row.rows.items c.loop-row-test.false))
+returns-clause-made c = grind (arith, rows_all c.loop-row.left c.args.given.now c.loop-row.row-index c.loop-row.rows.items c.loop-row-test.false)

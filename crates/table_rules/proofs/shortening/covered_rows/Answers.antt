@@ -1,12 +1,8 @@
 -- The rows that are left of the covered table, and its joined pieces, say what the rows say.
 use Rattle.std.proofs.Common.{◌≡◌, sym, ap, ◌∙◌, subst, arith}
 use Rattle.std.proofs.lemmas.Result.{IfOk-weaker}
-use Rattle.table_rules.specs.Pairs.{pieces_of}
-use Rattle.table_rules.specs.Rows.{KeepsRoutes}
-use Rattle.table_rules.specs.Shortened.{IsShortenedTo, no_shorter, shorter}
-use Rattle.table_rules.proofs.Faithful.{keeps_itself, made_is_sound}
-use Rattle.table_rules.proofs.Keeping.{short_keeps}
-use Rattle.table_rules.proofs.Turns.{is_short_from}
+use Rattle.table_rules.specs.{Pairs.pieces_of, Shortened.IsShortenedTo, Shortened.no_shorter, Shortened.shorter}
+use Rattle.table_rules.proofs.{Faithful.keeps_itself, Faithful.made_is_sound, Keeping.short_keeps, Turns.is_short_from}
 use Rattle.table_rules.proofs.shortening.covered_rows.Goals as goal
 
 pub cover-requires-clause-sound : goal.cover-requires-clause-sound
@@ -38,7 +34,4 @@ returns-clause-rows c =
     c.copy.ensures
 
 pub returns-clause-routes : goal.returns-clause-routes
-returns-clause-routes c =
-    IfOk-weaker c.copy.result (λ new. new ≡ c.args.given.now) (KeepsRoutes c.args.given.now)
-    (λ new is. subst (KeepsRoutes c.args.given.now) (sym is) (keeps_itself c.args.given.now))
-    c.copy.ensures
+returns-clause-routes c = grind (arith, keeps_itself c.args.given.now, IfOk-weaker)

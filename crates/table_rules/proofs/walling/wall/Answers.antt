@@ -1,7 +1,6 @@
 -- The block of all keys.
 use Rattle.std.proofs.Common.{ap, refl}
-use Rattle.spin_base.specs.declared.blocks.Block.{Block}
-use Rattle.spin_base.specs.declared.chips.Port.TheVariants.{Local}
+use Rattle.spin_base.specs.declared.{blocks.Block.Block, chips.Port.TheVariants.Local}
 use Rattle.table_rules.specs.declared.rows.RoutedBlock.{RoutedBlock}
 use Rattle.tern_word.proofs.BlockLaws.{same_block}
 use Rattle.table_rules.proofs.walling.wall.Goals as goal

@@ -9,8 +9,7 @@ pub returns-then-more-mask-clause-of_one : goal.returns-then-more-mask-clause-of
 returns-then-more-mask-clause-of_one c key = apart_from_others key c.args.common c.args.value c.args.mask _
 
 pub returns-then-more-mask-clause-of_other : goal.returns-then-more-mask-clause-of_other
-returns-then-more-mask-clause-of_other c key =
-    apart_from_entry key c.args.common c.args.value c.args.mask c.args.more (omega arith) (omega arith)
+returns-then-more-mask-clause-of_other c key = grind (arith, apart_from_entry key c.args.common c.args.value c.args.mask c.args.more (omega arith) (omega arith))
 
 pub returns-else-more-mask-clause-of_other : goal.returns-else-more-mask-clause-of_other
 returns-else-more-mask-clause-of_other c key differ = apart_from_none key c.args.mask c.args.more c.if-more-mask.false

@@ -1,7 +1,6 @@
 use Rattle.std.proofs.Common.{sym, subst}
 use Rattle.std.specs.Prelude.{IfSome}
-use Rattle.tcam_find.specs.declared.known.Known.{Known}
-use Rattle.tcam_find.specs.Memory.{HaveInCommon}
+use Rattle.tcam_find.specs.{declared.known.Known.Known, Memory.HaveInCommon}
 use Rattle.tcam_find.proofs.MemoryLemmas.{common_after}
 use Rattle.tcam_find.proofs.known.put_known.Goals as goal
 

@@ -1,6 +1,5 @@
 -- The code's mask and key are the definition's, and so are their two facts.
-use Rattle.tern_word.specs.MergeFits.{merge_mask, merge_key, merge_within, merge_small}
-use Rattle.tern_word.specs.Ternary.{merge_two}
+use Rattle.tern_word.specs.{MergeFits.merge_mask, MergeFits.merge_key, MergeFits.merge_within, MergeFits.merge_small, Ternary.merge_two}
 use Rattle.tern_word.proofs.BlockLaws.{one_block}
 use Rattle.tern_word.proofs.blocks.merge_two.Goals as goal
 

@@ -2,8 +2,7 @@
 use Rattle.std.proofs.Common.{refl, arith}
 use borrow.Author.Count.{below_more}
 use Rattle.spin_base.proofs.Tests.{answers_no, fails}
-use Rattle.tern_word.specs.SoundTable.{IsSound}
-use Rattle.tern_word.specs.Placed.{IsWellPlaced}
+use Rattle.tern_word.specs.{SoundTable.IsSound, Placed.IsWellPlaced}
 use Rattle.tern_word.proofs.Placing.{placed_from_sound, sound_from_placed}
 use Rattle.tern_word.proofs.soundness.all_well_placed.Goals as goal
 

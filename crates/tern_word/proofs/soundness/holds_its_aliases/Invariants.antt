@@ -1,7 +1,6 @@
 -- The aliases passed lie inside the block.
 use Rattle.std.proofs.Common.{ℕ, ◌<◌, get_or}
-use Rattle.tern_word.specs.declared.tables.Alias.{Alias}
-use Rattle.tern_word.specs.Ternary.{LiesIn}
+use Rattle.tern_word.specs.{declared.tables.Alias.Alias, Ternary.LiesIn}
 use Rattle.tern_word.proofs.soundness.holds_its_aliases.Given as goal
 
 abbrev pub invariant-loop-alias : goal.invariant-loop-alias

@@ -1,7 +1,6 @@
 -- The block meets no alias that was passed.
 use Rattle.std.proofs.Common.{ℕ, ◌<◌, get_or}
-use Rattle.tern_word.specs.declared.tables.Alias.{Alias}
-use Rattle.tern_word.specs.Ternary.{Intersects}
+use Rattle.tern_word.specs.{declared.tables.Alias.Alias, Ternary.Intersects}
 use Rattle.tern_word.proofs.soundness.misses.Given as goal
 
 abbrev pub invariant-loop-alias : goal.invariant-loop-alias

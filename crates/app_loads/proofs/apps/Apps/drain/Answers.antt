@@ -1,4 +1,4 @@
-use Rattle.std.proofs.Common.{subst, sym}
+use Rattle.std.proofs.Common.{arith, subst, sym}
 use Rattle.app_loads.specs.Running.{AreAlikeInBlocks}
 use Rattle.app_loads.proofs.Hosts.{alike_in, apps_after_in, host_after, host_kept, host_moved, known_in}
 use Rattle.mesh_drain.proofs.Moving.{after_moved}
@@ -17,8 +17,7 @@ invariant_of-self-2 c =
     (after_moved c.in-Some.mesh c.drain_known.new.mesh c.drain_known.ensures.moved) c.drain_known.ensures.known
 
 pub returns-clause-moved : goal.returns-clause-moved
-returns-clause-moved c =
-    host_moved c.self.inside c.in-Some.mesh c.drain_known.new.mesh c.args.self.now c.self.view_is c.in-Some.is c.drain_known.ensures.moved
+returns-clause-moved c = grind (arith, host_moved c.self.inside c.in-Some.mesh c.drain_known.new.mesh c.args.self.now c.self.view_is c.in-Some.is c.drain_known.ensures.moved)
 
 pub returns-clause-apps : goal.returns-clause-apps
 returns-clause-apps c =

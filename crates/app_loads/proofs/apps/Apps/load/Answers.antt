@@ -1,13 +1,11 @@
-use Rattle.std.proofs.Common.{◌≡◌, ◌∙◌, ◌+◌, ◌<◌, ◌≤◌, ◌++◌, ◌∷◌, [], refl, sym, ap, subst, arith, length, List, Option, Some, ℕ}
+use Rattle.std.proofs.Common.{◌≡◌, ◌∙◌, ◌+◌, ◌<◌, ◌≤◌, ◌++◌, ◌∷◌, [], refl, sym, ap, subst, arith, List, Option, Some, ℕ}
 use Rattle.std.proofs.lemmas.{List.with_items_is, Result.IfOk-at_ok, Result.IfErr-at_err}
-use Rattle.std.specs.Prelude.{IfSome, vec_capacity, vec_len}
-use Rattle.std.specs.Vec.{with_items}
-use Rattle.app_loads.specs.declared.{loaded.LoadedApp.LoadedApp, plans.AppNet.AppNet, plans.AppPlan.AppPlan}
-use Rattle.app_loads.specs.{Applications.AreApps, Claims.claims_of, Joining.IsServedApp, Joining.IsSettled, Sending.AreWithSources}
+use Rattle.std.specs.{Prelude.IfSome, Prelude.vec_capacity, Prelude.vec_len, Vec.with_items}
+use Rattle.app_loads.specs.{declared.loaded.LoadedApp.LoadedApp, declared.plans.AppNet.AppNet, Applications.AreApps, Claims.claims_of, Joining.IsServedApp, Joining.IsSettled, Sending.AreWithSources}
 use Rattle.app_loads.specs.Taking.{AreFreeAgain, IsDueAlways, frees}
 use Rattle.app_loads.proofs.LoadedParts.{IsOut, Joins, Stands, can_join, err_why, free_again, never_none, on_err, on_ok, ok_host, ok_loaded, packets_fit, still}
-use Rattle.app_loads.proofs.apps.Apps.load.Goals as goal
 use Rattle.app_loads.proofs.apps.Apps.load.Goals.{After-add, After-deref_mut, After-len, After-put-in-Err, After-reserve_one}
+use Rattle.app_loads.proofs.apps.Apps.load.Goals as goal
 
 -- room was made, or not
 reserved : (c : After-reserve_one) → Stands (record c.self.inside { apps = c.reserve_one.new.apps; numbers = c.reserve_one.new.numbers }) c.args.self.now
@@ -18,10 +16,7 @@ out c = record { stands = record { host = c.self.invariant; view = c.self.view_i
 
 -- as many packets more can be numbered
 numbered : (c : After-len) → IsOut c.self.inside c.args.self.now c.in-Some.mesh c.deref_mut.result.now → c.self.inside.packets + c.len.result < 4294967296
-numbered c taken =
-    let served = IfOk-at_ok (λ (a : LoadedApp). IsServedApp c.in-Some.mesh.setup.machine c.deref_mut.result.now c.args.number c.self.inside.packets c.args.plan.now a c.join-mesh.new.regions)
-    c.in-Ok.is c.join-mesh.ensures.served in
-    omega (arith, packets_fit taken c.args.plan.now c.requires, c.len.ensures ∙ ap (λ (p : AppPlan). length p.packets) served.plan_is)
+numbered c taken = grind (arith, packets_fit taken c.args.plan.now c.requires, IfOk-at_ok)
 
 -- the application joined
 joined : (c : After-add) → Joins c.self.inside (record {

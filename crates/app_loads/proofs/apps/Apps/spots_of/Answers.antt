@@ -1,9 +1,8 @@
 use Rattle.std.proofs.Common.{◌≡◌, ◌==◌, ◌∙◌, get_or, sym, ap, subst, Some}
 use Rattle.std.specs.Prelude.{position}
 use Rattle.app_loads.specs.{declared.loaded.LoadedApp.LoadedApp, Applications.AreApps, Host.Host}
-use Rattle.app_loads.proofs.SpotsOf.{found_loaded, no_app, same_as_found}
+use Rattle.app_loads.proofs.{SpotsOf.found_loaded, SpotsOf.no_app, SpotsOf.same_as_found, apps.Apps.spots_of.Goals.After-index-app}
 use Rattle.app_loads.proofs.apps.Apps.spots_of.Goals as goal
-use Rattle.app_loads.proofs.apps.Apps.spots_of.Goals.{After-index-app}
 
 pub returns-in_default-clause-spots : goal.returns-in_default-clause-spots
 returns-in_default-clause-spots c app has its = absurd (no_app c.args.self.now.apps c.args.number (sym c.place_of.ensures ∙ c.in_default.is) app has its)

@@ -1,12 +1,11 @@
 use Rattle.std.proofs.Common.{◌≡◌, ◌∙◌, refl, sym, ap, Some}
 use Rattle.std.proofs.lemmas.{List.with_items_is, Result.IfOk-at_ok, Result.IfErr-at_err}
 use Rattle.std.specs.Vec.{with_items}
-use Rattle.app_loads.specs.declared.answers.Ended.{Ended}
-use Rattle.app_loads.specs.{Leaving.NoneUnderWay, Removing.HasLeft, Removing.IsWhyHere, Taking.AreGivenBack, Taking.frees}
+use Rattle.app_loads.specs.{declared.answers.Ended.Ended, Leaving.NoneUnderWay, Removing.HasLeft, Removing.IsWhyHere, Taking.AreGivenBack, Taking.frees}
 use Rattle.app_loads.proofs.LeftParts.{HasGone, Leaves, can_leave, not_loaded, ok_host, ok_none, ok_unloaded, on_ok_is, senders_known, why_stays}
-use Rattle.app_loads.proofs.LoadedParts.{Stands, never_none, on_err, still}
+use Rattle.app_loads.proofs.{LoadedParts.Stands, LoadedParts.never_none, LoadedParts.on_err, LoadedParts.still, apps.Apps.unload.Goals.After-index, apps.Apps.unload.Goals.After-put}
+use Rattle.app_loads.proofs.apps.Apps.unload.Goals.{After-put-in-Err}
 use Rattle.app_loads.proofs.apps.Apps.unload.Goals as goal
-use Rattle.app_loads.proofs.apps.Apps.unload.Goals.{After-index, After-put, After-put-in-Err}
 
 leaves : (c : After-index) → Leaves c.self.inside c.args.self.now c.args.number c.in-Some.at c.index.result.now c.in-Some-take.mesh c.deref_mut.result.now
 leaves c = record {

@@ -1,6 +1,5 @@
 use Rattle.std.proofs.Common.{◌≡◌, ◌-◌, arith, drop, length, refl, subst, List}
-use Rattle.app_loads.specs.Grouping.{Grouped, all_grouped}
-use Rattle.app_loads.specs.Groups.{deliveries_at, last_arrivals, sent_of}
+use Rattle.app_loads.specs.{Grouping.Grouped, Grouping.all_grouped, Groups.deliveries_at, Groups.last_arrivals, Groups.sent_of}
 use Rattle.app_loads.proofs.GroupLaws.{behind_others}
 use Rattle.app_loads.proofs.groups.Groups.ends_with.Goals as goal
 

@@ -1,11 +1,8 @@
-use Rattle.std.proofs.Common.{◌≡◌, ◌∙◌, List, [], ap, arith, length, not, sym}
-use Rattle.std.proofs.lemmas.Bool.{or_parts}
-use Rattle.std.specs.List.{list_any}
-use Rattle.std.proofs.lemmas.Grind.{common_steps}
+use Rattle.std.proofs.Common.{◌≡◌, ◌∙◌, List, [], ap, arith, length, not}
+use Rattle.std.proofs.lemmas.{Bool.or_parts, Grind.common_steps}
 use Rattle.std.specs.{Prelude.vec_capacity, Prelude.vec_len, Vec.Iter.into_iter_items}
 use Rattle.spin_base.proofs.Places.{none_within}
-use Rattle.app_loads.specs.Grouping.{Grouped, all_grouped, is_mixed_group}
-use Rattle.app_loads.specs.Leaving.{is_delivery_of}
+use Rattle.app_loads.specs.{Grouping.Grouped, Grouping.all_grouped, Grouping.is_mixed_group, Leaving.is_delivery_of}
 use Rattle.app_loads.proofs.GroupLaws.{few_more, left_others, none_of_rest, put_group, rest_is, room_still, still_counted}
 use Rattle.app_loads.proofs.groups.Groups.part.Goals as goal
 
@@ -17,14 +14,7 @@ overflow_sub-others_count c =
     (rest_is (is_delivery_of c.args.app.now) (all_grouped c.loop-group.own.items) (all_grouped c.args.self) c.in-Some.ensures.steps.0 c.loop-group.invariant.2) c.put_by-others_count.ensures.count
 
 pub put_by-others_count-requires : goal.put_by-others_count-requires
-put_by-others_count-requires c =
-    let is = c.in-Some.ensures.steps.0 in
-    let long = ap length is in
-    record {
-      unmixed = (or_parts (is_mixed_group c.args.app.now c.in-Some.group) _ (sym (ap (list_any (is_mixed_group c.args.app.now)) is) ∙ c.loop-group.invariant.7)).0;
-      own_holds = omega (arith, long, c.loop-group.invariant.5);
-      others_hold = omega (arith, long, c.loop-group.invariant.6);
-    }
+put_by-others_count-requires c = grind (arith, or_parts)
 
 pub invariant_of-result-2 : goal.invariant_of-result-2
 invariant_of-result-2 c =

@@ -1,6 +1,5 @@
-use Rattle.std.proofs.Common.{◌≡◌, ◌+◌, ◌++◌, ◌∙◌, ap, arith, rules, List}
-use Rattle.app_loads.specs.Grouping.{Grouped, all_grouped}
-use Rattle.app_loads.specs.Groups.{deliveries_at, sent_of}
+use Rattle.std.proofs.Common.{◌≡◌, ◌+◌, arith, rules}
+use Rattle.app_loads.specs.Groups.{sent_of}
 use Rattle.app_loads.proofs.GroupLaws.{put_back, put_counted, put_last_arrivals}
 use Rattle.app_loads.proofs.groups.Groups.put.Goals as goal
 
@@ -12,8 +11,7 @@ invariant_of-self-2 c =
 
 pub returns-clause-put : goal.returns-clause-put
 returns-clause-put c =
-    put_back c.self.inside.groups.items c.push.new.self.items c.in_ok-at.field-0 (sent_of c.args.copy) c.args.arrivals.now c.in_ok-push.ensures.items c.in_ok-at.ensures.all
-    ∙ ap (λ (l : List Grouped). all_grouped l ++ deliveries_at c.args.arrivals.now (sent_of c.args.copy)) c.self.view_is
+    grind (arith, put_back c.self.inside.groups.items c.push.new.self.items c.in_ok-at.field-0 (sent_of c.args.copy) c.args.arrivals.now c.in_ok-push.ensures.items c.in_ok-at.ensures.all)
 
 pub returns-clause-arrivals : goal.returns-clause-arrivals
 returns-clause-arrivals c =

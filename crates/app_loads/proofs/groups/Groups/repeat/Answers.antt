@@ -1,10 +1,9 @@
 use Rattle.std.proofs.Common.{◌≡◌, ◌+◌, ◌-◌, ◌++◌, ◌∙◌, ap, arith, length, rules, sym, List}
 use Rattle.std.specs.List.{slice_set}
-use Rattle.app_loads.specs.Grouping.{Grouped, all_grouped}
-use Rattle.app_loads.specs.Groups.{deliveries_at, last_arrivals, sent_of}
+use Rattle.app_loads.specs.{Grouping.Grouped, Grouping.all_grouped, Groups.deliveries_at, Groups.last_arrivals, Groups.sent_of}
 use Rattle.app_loads.proofs.GroupLaws.{counted_again, last_arrivals_stay, last_same, on_err, repeated, same_item}
-use Rattle.app_loads.proofs.groups.Groups.repeat.Goals as goal
 use Rattle.app_loads.proofs.groups.Groups.repeat.Goals.{After-repeat}
+use Rattle.app_loads.proofs.groups.Groups.repeat.Goals as goal
 
 long : (c : After-repeat) → c.len-count.result ≡ length c.self.inside.groups.items
 long c = let a = c.len-count.ensures in let b = c.self.inside.groups.ok in omega (arith, a, b)

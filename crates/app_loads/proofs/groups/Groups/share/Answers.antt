@@ -1,9 +1,8 @@
 use Rattle.std.proofs.Common.{◌≡◌, ◌-◌, ◌∙◌, ap, arith, length, sym, List}
 use Rattle.std.specs.List.{slice_set}
 use Rattle.app_loads.specs.Grouping.{Grouped, all_grouped}
-use Rattle.app_loads.proofs.GroupLaws.{same_groups}
+use Rattle.app_loads.proofs.{GroupLaws.same_groups, groups.Groups.share.Goals.After-share}
 use Rattle.app_loads.proofs.groups.Groups.share.Goals as goal
-use Rattle.app_loads.proofs.groups.Groups.share.Goals.{After-share}
 
 same : (c : After-share) → slice_set c.self.inside.groups.items (c.len-count.result - 1) c.share.new.self ≡ c.self.inside.groups.items
 same c =

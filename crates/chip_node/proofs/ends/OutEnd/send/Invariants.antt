@@ -1,7 +1,6 @@
 use Rattle.std.proofs.Common.{◌≡◌}
 use Rattle.link_queue.specs.Ends.{sending}
-use Rattle.chip_node.specs.Ends.{IsOutEndOf}
-use Rattle.chip_node.specs.Offers.{RefusesOffers}
+use Rattle.chip_node.specs.{Ends.IsOutEndOf, Offers.RefusesOffers}
 use Rattle.chip_node.proofs.ends.OutEnd.send.Given as goal
 
 -- all offers so far were refused

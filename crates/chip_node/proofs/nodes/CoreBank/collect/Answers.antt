@@ -1,12 +1,8 @@
 use Rattle.std.proofs.Common.{ℕ, ◌+◌, ◌<◌, length, get_or, refl, sym, arith}
 use Rattle.std.proofs.lemmas.List.Elements.{All-set}
 use Rattle.chip_node.specs.Going.{IsEndOf, IsIdleAt}
-use Rattle.chip_node.proofs.Banking.{vertex_idle, vertex_there}
-use Rattle.chip_node.proofs.Flows.{goes_none, ready_bank_on, stays_goes}
-use Rattle.chip_node.proofs.GoingRound.{gone_more}
-use Rattle.chip_node.proofs.Looking.{end_written, lacks_at}
-use Rattle.chip_node.proofs.Placing.{got_goes}
-use Rattle.chip_node.proofs.Stays.{stays_on}
+use Rattle.chip_node.proofs.{Banking.vertex_idle, Banking.vertex_there, Flows.goes_none, Flows.ready_bank_on, Flows.stays_goes, GoingRound.gone_more, Looking.end_written, Looking.lacks_at}
+use Rattle.chip_node.proofs.{Placing.got_goes, Stays.stays_on}
 use Rattle.chip_node.proofs.nodes.CoreBank.collect.Goals as goal
 
 pub returns-in-Some-clause-acts : goal.returns-in-Some-clause-acts
@@ -15,7 +11,7 @@ returns-in-Some-clause-acts g c =
     let m = c.loop-step.hold in
     let v = c.index-vertex.result.now in
     let at = c.place_after.result in
-    let inside = c.place_after.ensures.inside in
+    let inside = c.place_after.ensures.inside (omega arith) in
     let below : at < length b.vertices.items = omega (arith, b.vertices.ok.0) in
     let there = vertex_there c.args.around.links.now b m at v c.loop-step.invariant.ready below c.index-vertex.ensures in
     let old = c.index_mut.result.now in
@@ -36,7 +32,7 @@ loop-step-preserved g c =
     let ring = c.of_turn-ring.result in
     let v = c.index-vertex.result.now in
     let at = c.place_after.result in
-    let inside = c.place_after.ensures.inside in
+    let inside = c.place_after.ensures.inside (omega arith) in
     let below : at < length b.vertices.items = omega (arith, b.vertices.ok.0) in
     let there = vertex_there c.args.around.links.now b m at v before.ready below c.index-vertex.ensures in
     let old = c.index_mut.result.now in
@@ -47,6 +43,6 @@ loop-step-preserved g c =
       stays = stays_on a m _ before.stays none.0;
       ready = ready_bank_on c.args.around.capacity c.args.around.patience c.args.around.links.now b m _ _ (goes_none c.args.around.capacity c.args.around.patience m _ none.0)
           (All-set (IsEndOf c.args.around.links.now) m.ends.items (b.cores + v) new c.in_default.ensures.end before.ready.ends) before.ready;
-      idle = gone_more (λ (j : ℕ). (d : ℕ) → IsIdleAt a.ends.items (b.cores + get_or b.vertices.items j d)) ring.start ring.count c.loop-step.step at (omega arith) inside c.place_after.ensures.place
-          (vertex_idle b a m at v before.stays below c.index-vertex.ensures none.1) before.idle;
+      idle = gone_more (λ (j : ℕ). (d : ℕ) → IsIdleAt a.ends.items (b.cores + get_or b.vertices.items j d)) ring.start ring.count c.loop-step.step at (omega arith) inside
+          (c.place_after.ensures.place (omega arith)) (vertex_idle b a m at v before.stays below c.index-vertex.ensures none.1) before.idle;
     }

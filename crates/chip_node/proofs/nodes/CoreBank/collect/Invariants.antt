@@ -1,6 +1,5 @@
 use Rattle.std.proofs.Common.{◌+◌, ℕ, get_or}
-use Rattle.chip_node.specs.Acting.{IsReadyBank}
-use Rattle.chip_node.specs.Going.{IsIdleAt, Stays}
+use Rattle.chip_node.specs.{Acting.IsReadyBank, Going.IsIdleAt, Going.Stays}
 use Rattle.chip_node.proofs.GoingRound.{GoneBy}
 use Rattle.chip_node.proofs.nodes.CoreBank.collect.Given as goal
 

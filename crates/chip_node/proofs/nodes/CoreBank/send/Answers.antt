@@ -1,12 +1,7 @@
 use Rattle.std.proofs.Common.{ℕ, ◌+◌, ◌*◌, ◌<◌, [], length, set, inr, refl, ap, ◌∙◌, arith}
-use Rattle.std.proofs.lemmas.List.{get_or_default}
-use Rattle.std.proofs.lemmas.List.Elements.{All-contains, All-set}
-use Rattle.chip_node.specs.Going.{IsEndOf}
-use Rattle.chip_node.specs.Items.{injection_place}
-use Rattle.chip_node.proofs.Banking.{popped_rest}
-use Rattle.chip_node.proofs.EndSteps.{end_refuses_full, end_stays_refuses}
-use Rattle.chip_node.proofs.Flows.{goes_none, ready_bank_on}
-use Rattle.chip_node.proofs.Placing.{sent_goes, stays_at, Writes}
+use Rattle.std.proofs.lemmas.List.{get_or_default, Elements.All-contains, Elements.All-set}
+use Rattle.chip_node.specs.{Going.IsEndOf, Items.injection_place}
+use Rattle.chip_node.proofs.{Banking.popped_rest, EndSteps.end_refuses_full, EndSteps.end_stays_refuses, Flows.goes_none, Flows.ready_bank_on, Placing.sent_goes, Placing.stays_at, Placing.Writes}
 use Rattle.chip_node.proofs.Sending.{sender_stands}
 use Rattle.chip_node.proofs.nodes.CoreBank.send.Goals as goal
 
@@ -46,7 +41,7 @@ returns-in-Dumped-clause-acts g c =
     stays_at a _ (injection_place b.index) old new w (end_stays_refuses c.args.around.capacity 1 old new c.in-Dumped.ensures.served) refl refl refl
 
 pub returns-in-Dumped-clause-idle : goal.returns-in-Dumped-clause-idle
-returns-in-Dumped-clause-idle g c = λ moved roomy.
+returns-in-Dumped-clause-idle g c = λ is moved roomy.
     inr (
       c.index_mut.result.now,
       sender_stands c.requires.sender c.index_mut.result.now c.index_mut.ensures.value,

@@ -1,26 +1,23 @@
 use Rattle.std.proofs.Common.{◌≢◌, sym, subst}
-use Rattle.chip_node.specs.declared.holdings.Turn.{Turn}
-use Rattle.chip_node.specs.declared.holdings.Turn.TheVariants.{Moved}
-use Rattle.chip_node.specs.Acting.{BankActs, SendsOne}
-use Rattle.chip_node.proofs.Banking.{cannot_get_before, first_none, half_stays, halves_act, second_none}
-use Rattle.chip_node.proofs.Stays.{roomy_on}
+use Rattle.chip_node.specs.{declared.holdings.Turn.Turn, declared.holdings.Turn.TheVariants.Moved, Acting.BankActs, Acting.SendsOne}
+use Rattle.chip_node.proofs.{Banking.cannot_get_before, Banking.first_none, Banking.half_stays, Banking.halves_act, Banking.second_none, Stays.roomy_on}
 use Rattle.chip_node.proofs.nodes.CoreBank.turn.Goals as goal
 
 pub returns-clause-acts : goal.returns-clause-acts
 returns-clause-acts g c =
     subst (λ (t : Turn). BankActs c.args.around.capacity c.args.around.patience c.args.self.now c.args.hold.now t c.collect-got.new.hold) (sym c.both.ensures)
-    (halves_act c.args.around.capacity c.args.around.patience c.args.self.now c.args.hold.now c.send_marked-sent.new.hold c.collect-got.new.hold c.send_marked-sent.result
-    c.collect-got.result c.send_marked-sent.ensures.acts c.collect-got.ensures.acts)
+    (halves_act c.args.around.capacity c.args.around.patience c.args.self.now c.args.hold.now c.send-sent.new.hold c.collect-got.new.hold c.send-sent.result
+    c.collect-got.result c.send-sent.ensures.acts c.collect-got.ensures.acts)
 
 pub returns-clause-idle : goal.returns-clause-idle
 returns-clause-idle g c = λ is none roomy.
     (let both = subst (λ (t : Turn). t ≢ Moved) c.both.ensures none in
-    let sent = first_none c.send_marked-sent.result c.collect-got.result both in
-    let got = second_none c.send_marked-sent.result c.collect-got.result both in
-    let stays = half_stays c.args.around.capacity c.args.around.patience (SendsOne c.args.self.now) c.args.hold.now c.send_marked-sent.new.hold c.send_marked-sent.result sent
-    c.send_marked-sent.ensures.acts in
-    let found = c.collect-got.ensures.idle got (roomy_on c.args.around.capacity c.args.hold.now c.send_marked-sent.new.hold stays roomy) in
+    let sent = first_none c.send-sent.result c.collect-got.result both in
+    let got = second_none c.send-sent.result c.collect-got.result both in
+    let stays = half_stays c.args.around.capacity c.args.around.patience (SendsOne c.args.self.now) c.args.hold.now c.send-sent.new.hold c.send-sent.result sent
+    c.send-sent.ensures.acts in
+    let found = c.collect-got.ensures.idle got (roomy_on c.args.around.capacity c.args.hold.now c.send-sent.new.hold stays roomy) in
     record {
-      sends = c.send_marked-sent.ensures.idle is sent roomy;
-      gets = cannot_get_before c.args.self.now c.args.hold.now c.send_marked-sent.new.hold stays found;
+      sends = c.send-sent.ensures.idle is sent roomy;
+      gets = cannot_get_before c.args.self.now c.args.hold.now c.send-sent.new.hold stays found;
     })

@@ -1,20 +1,19 @@
-use Rattle.std.proofs.Common.{◌≡◌, ◌+◌, ◌*◌, List, length, refl, ap, subst, ◌∙◌, arith}
-use Rattle.std.proofs.lemmas.Bool.{false≢true}
-use Rattle.std.proofs.lemmas.List.Elements.{All-set}
+use Rattle.std.proofs.Common.{◌≡◌, ℕ, ◌+◌, ◌*◌, ◌<◌, ◌≤◌, List, length, get_or, set, refl, sym, ap, subst, ◌∙◌, arith}
+use Rattle.std.proofs.lemmas.{Bool.false≢true, List.Elements.All-set}
 use Rattle.spin_base.proofs.Places.{one_item_at}
-use Rattle.spin_base.specs.declared.routes.Out.{Out}
-use Rattle.chip_node.specs.declared.ends.Seen.TheVariants.{Front}
-use Rattle.chip_node.specs.Going.{IsEndOf}
-use Rattle.chip_node.specs.Items.{port_place}
-use Rattle.chip_node.specs.Passing.{IsSeen}
-use Rattle.chip_node.specs.Routing.{outputs_at}
-use Rattle.chip_node.specs.Taking.{HasRoomForOuts}
-use Rattle.chip_node.proofs.EndSteps.{end_lacks_idle}
-use Rattle.chip_node.proofs.Flows.{goes_none, ready_router_on}
-use Rattle.chip_node.proofs.Looking.{end_written, idle_at, idle_past, lacks_at, read_stands, room_kept, seen_first}
-use Rattle.chip_node.proofs.Placing.{took_goes}
-use Rattle.chip_node.proofs.Stays.{stays_same}
+use Rattle.spin_base.specs.{declared.chips.Port.Port, declared.routes.Out.Out, Links.port_number}
+use Rattle.chip_node.specs.{declared.ends.End.End, declared.ends.Seen.TheVariants.Front, Going.IsEndOf, Items.port_place, Passing.IsSeen, Routing.outputs_at, Taking.HasRoomForOuts}
+use Rattle.chip_node.proofs.{EndSteps.end_lacks_idle, Flows.goes_none, Flows.ready_router_on, Looking.end_written, Looking.idle_at, Looking.idle_past, Looking.lacks_at, Looking.read_stands}
+use Rattle.chip_node.proofs.{Looking.room_kept, Looking.seen_first, Placing.stays_at, Placing.took_goes, Placing.Writes, Stays.stays_same, Turning.looks_on}
 use Rattle.chip_node.proofs.nodes.RouterNode.look.Goals as goal
+
+-- the end at a port's place is written
+written : (ends xs : List End) (i n : ℕ) (port : Port) (old new : End) → xs ≡ ends → n ≡ port_number port → 7 * i + n < length xs
+    → old ≡ get_or ends (7 * i + n) old → Writes ends (set ends (7 * i + n) new) (port_place i port) old new
+written ends xs i n port old new same number below read =
+    let at : 7 * i + n ≡ port_place i port = ap (λ k. 7 * i + k) number in
+    let long = ap length same in
+    end_written ends _ (port_place i port) old new at (omega arith) read
 
 pub returns-in_default-clause-looks : goal.returns-in_default-clause-looks
 returns-in_default-clause-looks g c =
@@ -29,7 +28,10 @@ returns-in-Nothing-clause-looks g c =
     (stays_same c.args.hold.now, idle_at c.args.hold.now.ends.items _ x stands (end_lacks_idle x x c.in-Nothing.ensures))
 
 pub returns-then-not-has_room-clause-looks : goal.returns-then-not-has_room-clause-looks
-returns-then-not-has_room-clause-looks g c = (stays_same c.args.hold.now, λ roomy. false≢true (c.if-not-has_room.ensures.no roomy))
+returns-then-not-has_room-clause-looks g c = (
+  stays_same c.args.hold.now,
+  λ roomy. false≢true (c.if-not-has_room.ensures.no (subst (λ (l : List Out). length l ≤ 24) (sym c.as_slice.ensures.value) c.outputs_of-outs.ensures.few) roomy),
+)
 
 pub returns-in-Some-take-clause-looks : goal.returns-in-Some-take-clause-looks
 returns-in-Some-take-clause-looks g c =
@@ -38,9 +40,9 @@ returns-in-Some-take-clause-looks g c =
     let at : 7 * r.index + c.from.result ≡ port_place r.index c.args.port = ap (λ n. 7 * r.index + n) (c.from.ensures ∙ c.number-number.ensures.number) in
     let old = c.index_mut.result.now in
     let new = c.take.new.self in
-    let long = ap length c.deref.ensures.value in
     let inside = c.in-Some.ensures.lookup.3.0 in
-    let w = end_written a.ends.items _ (port_place r.index c.args.port) old new at (omega arith) c.index_mut.ensures.value in
+    let w = written a.ends.items c.deref.result.now r.index c.from.result c.args.port old new c.deref.ensures.value (c.from.ensures ∙ c.number-number.ensures.number) inside
+    c.index_mut.ensures.value in
     let x = c.in-Some.end.now in
     let stands = read_stands a.ends.items c.deref.result.now _ _ x c.deref.ensures.value at inside c.in-Some.ensures.lookup.1 in
     let f = c.in-Front.copy in
@@ -49,8 +51,7 @@ returns-in-Some-take-clause-looks g c =
     record {
       goes = took_goes c.args.around.capacity c.args.around.patience r.index c.args.port c.in-Some-take.copy a _ old new w c.in-Some-take.ensures.some refl refl refl;
       given = given;
-      numbered = c.outputs_of-outs.ensures.numbered;
-      differ = c.outputs_of-outs.ensures.differ;
+      outs = c.outputs_of-outs.ensures.outs;
       room = room_kept c.args.around.capacity c.args.around.links.now r c.args.port _ a _ old new c.requires w refl
           (subst (λ (l : List Out). HasRoomForOuts c.args.around.capacity r l a) c.as_slice.ensures.value (c.if-not-has_room.ensures.yes refl));
     }
@@ -64,12 +65,11 @@ pub returns-in-None-clause-looks : goal.returns-in-None-clause-looks
 returns-in-None-clause-looks g c =
     let r = c.args.self in
     let a = c.args.hold.now in
-    let at : 7 * r.index + c.from.result ≡ port_place r.index c.args.port = ap (λ n. 7 * r.index + n) (c.from.ensures ∙ c.number-number.ensures.number) in
     let old = c.index_mut.result.now in
     let new = c.take.new.self in
-    let long = ap length c.deref.ensures.value in
     let inside = c.in-Some.ensures.lookup.3.0 in
-    let w = end_written a.ends.items _ (port_place r.index c.args.port) old new at (omega arith) c.index_mut.ensures.value in
+    let w = written a.ends.items c.deref.result.now r.index c.from.result c.args.port old new c.deref.ensures.value (c.from.ensures ∙ c.number-number.ensures.number) inside
+    c.index_mut.ensures.value in
     lacks_at a _ (port_place r.index c.args.port) old new w c.in-None.ensures.none refl refl refl
 
 pub returns-in-None-clause-ready : goal.returns-in-None-clause-ready
@@ -77,3 +77,36 @@ returns-in-None-clause-ready g c =
     ready_router_on c.args.around.capacity c.args.around.patience c.args.around.links.now c.args.self c.args.hold.now _ _
     (goes_none c.args.around.capacity c.args.around.patience c.args.hold.now _ (returns-in-None-clause-looks g c).0)
     (All-set (IsEndOf c.args.around.links.now) c.args.hold.now.ends.items _ c.take.new.self c.in-None.ensures.end c.requires.ends) c.requires
+
+pub returns-then-finds_nothing-clause-looks : goal.returns-then-finds_nothing-clause-looks
+returns-then-finds_nothing-clause-looks g c =
+    let r = c.args.self in
+    let a = c.args.hold.now in
+    let w = written a.ends.items c.deref.result.now r.index c.from.result c.args.port c.index_mut-in-Unknown.result.now c.finds_nothing.new.self c.deref.ensures.value
+    (c.from.ensures ∙ c.number-number.ensures.number) c.in-Some.ensures.lookup.3.0 c.index_mut-in-Unknown.ensures.value in
+    lacks_at a _ (port_place r.index c.args.port) _ _ w (c.if-finds_nothing.ensures.yes refl) refl refl refl
+
+pub returns-then-finds_nothing-clause-ready : goal.returns-then-finds_nothing-clause-ready
+returns-then-finds_nothing-clause-ready g c =
+    ready_router_on c.args.around.capacity c.args.around.patience c.args.around.links.now c.args.self c.args.hold.now _ _
+    (goes_none c.args.around.capacity c.args.around.patience c.args.hold.now _ (returns-then-finds_nothing-clause-looks g c).0)
+    (All-set (IsEndOf c.args.around.links.now) c.args.hold.now.ends.items _ c.finds_nothing.new.self c.finds_nothing.ensures.end c.requires.ends) c.requires
+
+pub take_over-requires-clause-ready : goal.take_over-requires-clause-ready
+take_over-requires-clause-ready g c =
+    let r = c.args.self in
+    let a = c.args.hold.now in
+    let w = written a.ends.items c.deref.result.now r.index c.from.result c.args.port c.index_mut-in-Unknown.result.now c.finds_nothing.new.self c.deref.ensures.value
+    (c.from.ensures ∙ c.number-number.ensures.number) c.in-Some.ensures.lookup.3.0 c.index_mut-in-Unknown.ensures.value in
+    ready_router_on c.args.around.capacity c.args.around.patience c.args.around.links.now r a _ _
+    (goes_none c.args.around.capacity c.args.around.patience a _ (stays_at a _ (port_place r.index c.args.port) _ _ w (c.if-finds_nothing.ensures.no refl) refl refl refl))
+    (All-set (IsEndOf c.args.around.links.now) a.ends.items _ c.finds_nothing.new.self c.finds_nothing.ensures.end c.requires.ends) c.requires
+
+pub returns-else-finds_nothing-clause-looks : goal.returns-else-finds_nothing-clause-looks
+returns-else-finds_nothing-clause-looks g c =
+    let r = c.args.self in
+    let a = c.args.hold.now in
+    let w = written a.ends.items c.deref.result.now r.index c.from.result c.args.port c.index_mut-in-Unknown.result.now c.finds_nothing.new.self c.deref.ensures.value
+    (c.from.ensures ∙ c.number-number.ensures.number) c.in-Some.ensures.lookup.3.0 c.index_mut-in-Unknown.ensures.value in
+    looks_on c.args.around.capacity c.args.around.patience r.table.now r c.args.port a _ c.take_over.result c.take_over.new.hold
+    (stays_at a _ (port_place r.index c.args.port) _ _ w (c.if-finds_nothing.ensures.no refl) refl refl refl) c.take_over.ensures.looks

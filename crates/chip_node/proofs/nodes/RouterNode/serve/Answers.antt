@@ -1,13 +1,8 @@
-use Rattle.std.proofs.Common.{List, [], ◌∷◌, ◌++◌, ap, subst, ◌∙◌}
-use Rattle.spin_base.specs.declared.copies.DumpRec.{DumpRec}
-use Rattle.spin_base.specs.WithRoom.{WithRoom}
-use Rattle.chip_node.specs.declared.holdings.Holdings.{Holdings}
-use Rattle.spin_base.specs.declared.copies.McCopy.{McCopy}
-use Rattle.chip_node.specs.Acting.{place_at_router}
-use Rattle.chip_node.specs.Passing.{SendsBehind}
-use Rattle.chip_node.proofs.Sending.{dumped_recorded, dumped_room, sent_nowhere, sent_recorded, sent_room}
-use Rattle.chip_node.proofs.Flows.{ready_router_on}
-use Rattle.chip_node.proofs.Placing.{served_elsewhere, served_goes, unsent_items}
+use Rattle.std.proofs.Common.{arith, List, [], ◌∷◌, ◌++◌, ap, subst, ◌∙◌}
+use Rattle.spin_base.specs.{declared.copies.DumpRec.DumpRec, WithRoom.WithRoom, declared.copies.McCopy.McCopy}
+use Rattle.chip_node.specs.{declared.holdings.Holdings.Holdings, Acting.place_at_router, Passing.SendsBehind}
+use Rattle.chip_node.proofs.{Sending.dumped_recorded, Sending.dumped_room, Sending.sent_nowhere, Sending.sent_recorded, Sending.sent_room, Flows.ready_router_on, Placing.served_elsewhere}
+use Rattle.chip_node.proofs.Placing.{served_goes, unsent_items}
 use Rattle.chip_node.proofs.nodes.RouterNode.serve.Goals as goal
 
 pub returns-in-Sent-clause-goes : goal.returns-in-Sent-clause-goes
@@ -24,9 +19,7 @@ returns-in-Sent-clause-goes g c =
     (sent_room s.chip c.args.out c.args.copy fate a.dumps b.dumps c.in-Sent.is c.send-served.ensures.dumps)
 
 pub returns-in-Sent-clause-elsewhere : goal.returns-in-Sent-clause-elsewhere
-returns-in-Sent-clause-elsewhere g c = λ q other.
-    served_elsewhere c.args.around.capacity c.args.around.patience (place_at_router c.args.self.behind.now c.args.out) c.onward.result c.send-served.result c.args.hold.now.ends.items
-    c.send-served.new.hold.ends.items q c.send-served.ensures.sends other
+returns-in-Sent-clause-elsewhere g c = grind (arith, served_elsewhere)
 
 pub returns-in-Sent-clause-ready : goal.returns-in-Sent-clause-ready
 returns-in-Sent-clause-ready g c =
@@ -49,9 +42,7 @@ returns-in-Dumped-clause-goes g c =
     (dumped_room s.chip c.args.out c.args.copy fate a.dumps.spare b.dumps.spare c.in-Dumped.is (c.put.ensures.spare ∙ ap (λ (l : WithRoom DumpRec). l.spare) c.send-served.ensures.dumps))
 
 pub returns-in-Dumped-clause-elsewhere : goal.returns-in-Dumped-clause-elsewhere
-returns-in-Dumped-clause-elsewhere g c = λ q other.
-    served_elsewhere c.args.around.capacity c.args.around.patience (place_at_router c.args.self.behind.now c.args.out) c.onward.result c.send-served.result c.args.hold.now.ends.items
-    c.send-served.new.hold.ends.items q c.send-served.ensures.sends other
+returns-in-Dumped-clause-elsewhere g c = grind (arith, served_elsewhere)
 
 pub returns-in-Dumped-clause-ready : goal.returns-in-Dumped-clause-ready
 returns-in-Dumped-clause-ready g c =
@@ -59,11 +50,7 @@ returns-in-Dumped-clause-ready g c =
     c.requires.ready
 
 pub returns-in-Sent-clause-nowhere : goal.returns-in-Sent-clause-nowhere
-returns-in-Sent-clause-nowhere g c = λ none.
-    sent_nowhere c.args.around.capacity c.args.around.patience (place_at_router c.args.self.behind.now c.args.out) c.onward.result c.send-served.result c.args.hold.now.ends.items
-    c.send-served.new.hold.ends.items c.send-served.ensures.sends none
+returns-in-Sent-clause-nowhere g c = grind (arith, sent_nowhere)
 
 pub returns-in-Dumped-clause-nowhere : goal.returns-in-Dumped-clause-nowhere
-returns-in-Dumped-clause-nowhere g c = λ none.
-    sent_nowhere c.args.around.capacity c.args.around.patience (place_at_router c.args.self.behind.now c.args.out) c.onward.result c.send-served.result c.args.hold.now.ends.items
-    c.send-served.new.hold.ends.items c.send-served.ensures.sends none
+returns-in-Dumped-clause-nowhere g c = grind (arith, sent_nowhere)

@@ -1,19 +1,12 @@
 use Rattle.std.proofs.Common.{◌≡◌, ◌<◌, length, get_or, refl, arith}
 use Rattle.std.proofs.lemmas.List.{get_or_default}
-use Rattle.spin_base.specs.declared.chips.Dir.TheVariants.{East}
-use Rattle.spin_base.specs.declared.routes.Out.{Out}
-use Rattle.spin_base.specs.declared.routes.Out.TheVariants.{Link}
+use Rattle.spin_base.specs.declared.{chips.Dir.TheVariants.East, routes.Out.Out, routes.Out.TheVariants.Link}
 use Rattle.chip_node.specs.Items.{Service}
 use Rattle.chip_node.proofs.Serving.{room_left, serves_more, serves_none}
 use Rattle.chip_node.proofs.nodes.RouterNode.serve_all.Goals as goal
 
 pub loop-out-init : goal.loop-out-init
-loop-out-init g c = record {
-  serves = serves_none c.args.around.capacity c.args.around.patience c.args.self c.args.copy c.args.hold.now;
-  ready = c.requires.ready;
-  behind = λ k d from inside. c.requires.room.behind k d inside;
-  records = (let records = c.requires.room.records in omega arith);
-}
+loop-out-init g c = grind (arith, serves_none c.args.around.capacity c.args.around.patience c.args.self c.args.copy c.args.hold.now)
 
 pub loop-out-preserved : goal.loop-out-preserved
 loop-out-preserved g c =
@@ -29,7 +22,7 @@ loop-out-preserved g c =
       serves = serves_more c.args.around.capacity c.args.around.patience r c.args.copy c.args.hold.now c.loop-out.hold c.serve.new.hold outs i s below read refl c.serve.ensures.nowhere
           before.serves c.serve.ensures.goes;
       ready = c.serve.ensures.ready;
-      behind = room_left c.args.around.capacity c.args.around.links.now r c.loop-out.hold c.serve.new.hold outs i o before.ready c.requires.numbered c.requires.differ below read
+      behind = room_left c.args.around.capacity c.args.around.links.now r c.loop-out.hold c.serve.new.hold outs i o before.ready c.requires.outs below read
           before.behind c.serve.ensures.elsewhere;
       records = (let records = before.records in let spare = c.serve.ensures.spare in omega arith);
     }

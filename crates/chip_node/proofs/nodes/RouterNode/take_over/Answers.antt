@@ -1,14 +1,8 @@
 use Rattle.std.proofs.Common.{◌+◌, ◌*◌, List, refl, sym, ap, subst, ◌∙◌}
-use Rattle.std.proofs.lemmas.Bool.{false≢true}
-use Rattle.std.proofs.lemmas.List.Elements.{All-set}
+use Rattle.std.proofs.lemmas.{Bool.false≢true, List.Elements.All-set}
 use Rattle.spin_base.specs.declared.routes.Out.{Out}
-use Rattle.chip_node.specs.Going.{IsEndOf}
-use Rattle.chip_node.specs.Items.{port_place}
-use Rattle.chip_node.specs.Taking.{HasRoomForOuts}
-use Rattle.chip_node.proofs.Flows.{goes_none, ready_router_on}
-use Rattle.chip_node.proofs.Looking.{end_written, lacks_at, room_for_all, room_kept}
-use Rattle.chip_node.proofs.Placing.{took_goes}
-use Rattle.chip_node.proofs.Stays.{stays_same}
+use Rattle.chip_node.specs.{Going.IsEndOf, Items.port_place, Taking.HasRoomForOuts}
+use Rattle.chip_node.proofs.{Flows.goes_none, Flows.ready_router_on, Looking.end_written, Looking.lacks_at, Looking.room_for_all, Looking.room_kept, Placing.took_goes, Stays.stays_same}
 use Rattle.chip_node.proofs.nodes.RouterNode.take_over.Goals as goal
 
 pub returns-then-not-has_room_everywhere-clause-looks : goal.returns-then-not-has_room_everywhere-clause-looks
@@ -25,8 +19,7 @@ returns-in-Some-clause-looks g c =
     record {
       goes = took_goes c.args.around.capacity c.args.around.patience r.index c.args.port c.in-Some.copy a _ old new w c.in-Some.ensures.some refl refl refl;
       given = given;
-      numbered = c.outputs_of-outs.ensures.numbered;
-      differ = c.outputs_of-outs.ensures.differ;
+      outs = c.outputs_of-outs.ensures.outs;
       room = room_kept c.args.around.capacity c.args.around.links.now r c.args.port _ a _ old new c.requires.ready w refl
           (subst (λ (l : List Out). HasRoomForOuts c.args.around.capacity r l a) (sym given)
           (room_for_all c.args.around.capacity r.table.now r c.args.port c.in-Some.copy a (c.if-not-has_room_everywhere.ensures.yes refl)));

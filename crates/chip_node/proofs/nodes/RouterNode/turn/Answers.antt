@@ -1,15 +1,9 @@
 use Rattle.std.proofs.Common.{◌≡◌, ℕ, ◌+◌, ◌%◌, ◌<◌, get_or, refl, sym, ◌∙◌, arith}
-use Rattle.spin_base.specs.declared.chips.Dir.TheVariants.{East}
-use Rattle.spin_base.specs.declared.chips.Port.{Port}
-use Rattle.spin_base.specs.declared.chips.Port.TheVariants.{Link}
-use Rattle.spin_base.specs.Links.{port_number}
-use Rattle.chip_node.specs.Going.{IsIdleAt}
-use Rattle.chip_node.specs.Items.{port_place}
-use Rattle.chip_node.proofs.GoingRound.{gone_more}
-use Rattle.chip_node.proofs.Stays.{roomy_on, stays_on}
-use Rattle.chip_node.proofs.Turning.{next_idle, port_at, port_step, ports_gone, routes_one, seven_ports}
-use Rattle.chip_node.proofs.nodes.RouterNode.turn.Goals as goal
+use Rattle.spin_base.specs.{declared.chips.Dir.TheVariants.East, declared.chips.Port.Port, declared.chips.Port.TheVariants.Link, Links.port_number}
+use Rattle.chip_node.specs.{Going.IsIdleAt, Items.port_place}
+use Rattle.chip_node.proofs.{GoingRound.gone_more, Stays.roomy_on, Stays.stays_on, Turning.next_idle, Turning.port_at, Turning.port_step, Turning.ports_gone, Turning.routes_one, Turning.seven_ports}
 use Rattle.chip_node.proofs.nodes.RouterNode.turn.Goals.{in-Empty, in-NoRoom}
+use Rattle.chip_node.proofs.nodes.RouterNode.turn.Goals as goal
 
 pub returns-in-Took-clause-acts : goal.returns-in-Took-clause-acts
 returns-in-Took-clause-acts g c =
@@ -52,14 +46,7 @@ ports-preserved g c =
     ]
 
 pub ports-preserved-then-marks-at-eq0 : goal.ports-preserved-then-marks-at-eq0
-ports-preserved-then-marks-at-eq0 g c =
-    let before = c.ports.invariant in
-    record {
-      stays = before.stays;
-      ready = before.ready;
-      none = before.none;
-      idle = λ is roomy. (let not = c.if-not-all.true in cc);
-    }
+ports-preserved-then-marks-at-eq0 g c = grind arith
 
 pub returns-clause-idle : goal.returns-clause-idle
 returns-clause-idle g c = λ is none roomy port.

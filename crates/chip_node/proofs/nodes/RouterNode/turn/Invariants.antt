@@ -1,11 +1,7 @@
 use Rattle.std.proofs.Common.{◌≡◌, ◌≢◌}
 use Rattle.std.specs.Prelude.{IsTrue}
-use Rattle.spin_base.specs.declared.chips.Port.{Port}
-use Rattle.spin_base.specs.Links.{port_number}
-use Rattle.chip_node.specs.declared.holdings.Turn.TheVariants.{Moved}
-use Rattle.chip_node.specs.Acting.{IsReadyRouter}
-use Rattle.chip_node.specs.Going.{IsIdleAt, HasAmpleRoom, Stays}
-use Rattle.chip_node.specs.Items.{port_place}
+use Rattle.spin_base.specs.{declared.chips.Port.Port, Links.port_number}
+use Rattle.chip_node.specs.{declared.holdings.Turn.TheVariants.Moved, Acting.IsReadyRouter, Going.IsIdleAt, Going.HasAmpleRoom, Going.Stays, Items.port_place}
 use Rattle.chip_node.proofs.GoingRound.{GoneBy}
 use Rattle.chip_node.proofs.nodes.RouterNode.turn.Given as goal
 

@@ -1,10 +1,5 @@
 use Rattle.std.proofs.Common.{refl, ap, sym, subst, ◌∙◌}
-use Rattle.std.specs.Prelude.{nat_le}
-use Rattle.std.specs.List.{list_any}
-use Rattle.std.specs.Option.{IsSome}
-use Rattle.std.specs.Ordering.{nat_cmp}
-use Rattle.std.specs.declared.ops.Bound.TheVariants.{Included, Unbounded}
-use Rattle.std.specs.BTreeMap.{get}
+use Rattle.std.specs.{Prelude.nat_le, List.list_any, Option.IsSome, Ordering.nat_cmp, declared.ops.Bound.TheVariants.Included, declared.ops.Bound.TheVariants.Unbounded, BTreeMap.get}
 use Rattle.std.specs.BTreeMap.Range.{IsRangeOf}
 use Rattle.std.proofs.lemmas.Map.Keys.{le_from_not_gt}
 use Rattle.job_readers.specs.Blocks.{shares_key}

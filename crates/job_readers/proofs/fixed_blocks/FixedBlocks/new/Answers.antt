@@ -1,12 +1,6 @@
-use Rattle.std.proofs.Common.{ap, sym, subst}
-use Rattle.std.specs.Ordering.{nat_cmp}
-use Rattle.std.specs.Map.{lookup}
-use Rattle.std.specs.BTreeMap.{is_at, get}
-use Rattle.job_readers.specs.FixedRanges.{AreRanges}
+use Rattle.std.proofs.Common.{arith}
 use Rattle.job_readers.proofs.RangeSteps.{no_ranges}
 use Rattle.job_readers.proofs.fixed_blocks.FixedBlocks.new.Goals as goal
 
 pub invariant_of-result : goal.invariant_of-result
-invariant_of-result c =
-    let first_at = get nat_cmp c.new-2.result in
-    subst (λ l. AreRanges l first_at) (sym c.new.ensures.items) (no_ranges first_at (λ q. ap (lookup (is_at (nat_cmp q))) c.new-2.ensures.empty))
+invariant_of-result c = grind (arith, no_ranges)

@@ -1,4 +1,4 @@
-use Rattle.std.proofs.Common.{◌≡◌, ◌+◌, ◌*◌, map, ap, sym, subst, ◌∙◌, arith, rules, replicate}
+use Rattle.std.proofs.Common.{◌≡◌, map, ap, sym, subst, ◌∙◌, arith, rules, replicate}
 use Rattle.std.specs.Ordering.{nat_cmp}
 use Rattle.std.specs.Cmp.Lexicographic.{slice_cmp}
 use Rattle.std.specs.Map.{lookup}
@@ -9,11 +9,11 @@ use Rattle.job_readers.proofs.names.Names.new.Goals as goal
 
 pub invariant_of-result : goal.invariant_of-result
 invariant_of-result c =
-    let made : c.in_ok-vec.field-0.items ≡ replicate (16 * c.args.count + 1) 4294967295 = c.in_ok-vec.ensures.items_if_clones_equal (λ y h. search rules) in
+    let made : c.in_ok-vec.field-0.items ≡ replicate c.saturating_add-slots.result 4294967295 = c.in_ok-vec.ensures.items_if_clones_equal (λ y h. search rules) in
     record {
       slots = subst
           (λ l. AreSlots (map (λ n. n.now) l) c.in_ok-vec.field-0.items (told_later (record { said = c.new.result; words = c.new-2.result; slots = c.in_ok-vec.field-0; crowded = c.new-3.result }))) (sym c.new.ensures.items)
-          (none_in c.in_ok-vec.field-0.items (16 * c.args.count + 1) _ made (omega arith)
+          (none_in c.in_ok-vec.field-0.items c.saturating_add-slots.result _ made (omega (arith, c.saturating_add-slots.ensures))
           (λ q. ap (lookup (is_at (λ k. slice_cmp nat_cmp q k.now))) c.new-3.ensures.empty));
       words = c.new-2.ensures.items ∙ sym (ap (λ l. map word_for (map (λ n. n.now) l)) c.new.ensures.items);
     }

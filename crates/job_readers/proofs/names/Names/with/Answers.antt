@@ -1,10 +1,7 @@
 use Rattle.std.proofs.Common.{◌≡◌, [], ◌∷◌, ◌++◌, map, sym, subst, ◌∙◌}
 use Rattle.std.proofs.lemmas.List.{map_push}
-use Rattle.job_readers.specs.Places.{name_place_in}
-use Rattle.job_readers.specs.Indexed.{AreSlots, said_of, told_later}
-use Rattle.job_readers.proofs.PlaceSteps.{known_stays, none_is}
-use Rattle.job_readers.proofs.NameWords.{words_more}
-use Rattle.job_readers.proofs.SlotSteps.{known_in}
+use Rattle.job_readers.specs.{Places.name_place_in, Indexed.AreSlots, Indexed.said_of, Indexed.told_later}
+use Rattle.job_readers.proofs.{PlaceSteps.known_stays, PlaceSteps.none_is, NameWords.words_more, SlotSteps.known_in}
 use Rattle.job_readers.proofs.names.Names.with.Goals as goal
 
 pub invariant_of-result : goal.invariant_of-result

@@ -1,10 +1,7 @@
 use Rattle.std.proofs.Common.{◌≡◌, ◌≢◌, [], ◌∷◌, ◌++◌, None, length, map, get_or, sym, ap, ◌∙◌, arith}
-use Rattle.std.proofs.lemmas.List.{map_push, length-map, get_or_read}
-use Rattle.std.proofs.lemmas.Map.Text.{btree_map_updates_str}
-use Rattle.job_readers.specs.Places.{name_place_in}
-use Rattle.job_readers.specs.Indexed.{in_slot, slot_for, said_of, told_later}
-use Rattle.job_readers.proofs.NameWords.{words_more}
-use Rattle.job_readers.proofs.SlotSteps.{first_in, later_in}
+use Rattle.std.proofs.lemmas.{List.map_push, List.length-map, List.get_or_read, Map.Text.btree_map_updates_str}
+use Rattle.job_readers.specs.{Places.name_place_in, Indexed.in_slot, Indexed.slot_for, Indexed.said_of, Indexed.told_later}
+use Rattle.job_readers.proofs.{NameWords.words_more, SlotSteps.first_in, SlotSteps.later_in}
 use Rattle.job_readers.proofs.names.Names.with_new.Goals as goal
 
 pub invariant_of-result : goal.invariant_of-result

@@ -1,8 +1,6 @@
 use Rattle.std.proofs.Common.{refl, ap, ◌∙◌, ◌≡◌, ℕ, ◌≤◌, true, false, not, ◌&&◌, subst, arith}
-use Rattle.std.proofs.lemmas.Bool.Decides.{nat_tests}
-use Rattle.std.proofs.lemmas.List.Elements.{All-replicate}
-use Rattle.key_alloc.specs.declared.free.Start.{Start}
-use Rattle.key_alloc.specs.KeyBlocks.{IsOpenPlace}
+use Rattle.std.proofs.lemmas.{Bool.Decides.nat_tests, List.Elements.All-replicate}
+use Rattle.key_alloc.specs.{declared.free.Start.Start, KeyBlocks.IsOpenPlace}
 use Rattle.range_store.specs.Regions.{AreRuns, is_free, is_hole_range, in_range, hole_of}
 use Rattle.key_alloc.proofs.Frontier.{at_start}
 use Rattle.key_alloc.proofs.free.FreeKeys.beside.Goals as goal
@@ -16,7 +14,7 @@ returns c =
     let size = c.in_ok-take_at.ensures.size ∙ all.0 in
     let whole : c.in_ok-take_at.field-0 ≡ true = c.in_ok-take_at.ensures.found ∙ ap (λ holes. is_hole_range holes 0 4294967296) all.1 in
     record {
-      free = λ taken moved. at_start taken c.args.fixed.items _ moved c.requires.downwards c.requires.ranges refl refl size
+      free = λ taken moved. at_start taken c.args.fixed.blocks.items _ moved c.args.fixed.downwards c.args.fixed.ranges refl refl size
           (subst (λ n. AreRuns 0 n c.take_at.new.self.holes) size c.in_ok-take_at.ensures.runs)
           (λ k. c.in_ok-take_at.ensures.free whole k ∙ ap (λ holes. is_free holes k && not (in_range 0 4294967296 k)) all.1 ∙ nothing_left k)
           (All-replicate (λ (s : Start). (p : ℕ) → IsOpenPlace taken s.keys p → s.place ≤ p) 33 (record { keys = 0; place = 0 }) (λ p o. omega arith));

@@ -1,16 +1,14 @@
 use Rattle.std.proofs.Common.{◌≡◌, ◌≢◌, ◌<◌, ◌++◌, ◌∷◌, [], ℕ, refl, sym, ◌∙◌, subst, true, not, ◌&&◌, List, arith}
 use Rattle.spin_base.specs.declared.blocks.Block.{Block}
 use Rattle.range_store.specs.Regions.{AreRuns, is_hole_range, is_free, in_range}
-use Rattle.key_alloc.specs.KeyBlocks.{size_of}
-use Rattle.key_alloc.specs.FreeKeys.{AreKeysFreeBeside}
-use Rattle.key_alloc.specs.declared.free.FreeKeys.{FreeKeys}
+use Rattle.key_alloc.specs.{KeyBlocks.size_of, FreeKeys.AreKeysFreeBeside, declared.free.FreeKeys.FreeKeys}
 use Rattle.key_alloc.proofs.Taking.{below_frontier, least_from_fit, beyond_from_fit, none_from_fit, open_before, taken_more}
 use Rattle.key_alloc.proofs.free.FreeKeys.take.Goals as goal
 
 pub returns-in-Some-clause-small : goal.returns-in-Some-clause-small
 returns-in-Some-clause-small c =
-    let taken = c.requires.state.0 in
-    let state = c.loop-place.invariant taken c.requires.state.1 in
+    let taken = c.requires.0 in
+    let state = c.loop-place.invariant taken c.requires.1 in
     let fit = rw c.in-Some.is at c.in_ok-place.ensures.found in
     omega (arith, below_frontier taken c.loop-place.self state c.args.size.keys c.args.size.some c.in-Some.place fit.fits, state.limit, c.args.size.some)
 
@@ -48,28 +46,23 @@ same_below : (taken : List Block) (free after : FreeKeys) → after.below ≡ fr
     → AreKeysFreeBeside taken free → AreKeysFreeBeside taken after
 same_below taken free after below frontier ahead starts state = rw (below, frontier, ahead, starts) state
 
-pub go_on-requires-clause-state : goal.go_on-requires-clause-state
-go_on-requires-clause-state c =
-    let taken = c.requires.state.0 in
-    let state = c.loop-place.invariant taken c.requires.state.1 in
+pub go_on-requires : goal.go_on-requires
+go_on-requires c =
+    let taken = c.requires.0 in
+    let state = c.loop-place.invariant taken c.requires.1 in
     let none = rw c.in_default.is at c.in_ok-place.ensures.none in (
       taken,
       c.start_at-in-loop-place.ensures.free taken (same_below taken c.loop-place.self _ none.1 refl refl refl state)
           (beyond_from_fit taken c.loop-place.self state c.args.size.keys c.args.size.some c.start_of-start.result (c.start_of-start.ensures.before taken state) none.0),
     )
 
-pub go_on-requires-clause-more : goal.go_on-requires-clause-more
-go_on-requires-clause-more c =
-    let state = c.loop-place.invariant c.requires.state.0 c.requires.state.1 in
-    let less : c.loop-place.self.frontier ≢ 4294967296 = c.if-self-eq-ALL_KEYS.false in
-    omega (arith, state.limit, less, c.start_at-in-loop-place.ensures.frontier)
-
 pub loop-place-smaller : goal.loop-place-smaller
 loop-place-smaller c =
-    let state = c.loop-place.invariant c.requires.state.0 c.requires.state.1 in
+    let state = c.loop-place.invariant c.requires.0 c.requires.1 in
     let less : c.loop-place.self.frontier ≢ 4294967296 = c.if-self-eq-ALL_KEYS.false in
-    let further : c.start_at-in-loop-place.new.self.frontier < c.go_on.new.self.frontier = c.in_ok-go_on.ensures.further in
-    omega (arith, state.limit, less, further, c.start_at-in-loop-place.ensures.frontier)
+    let same = c.start_at-in-loop-place.ensures.frontier in
+    let further : c.start_at-in-loop-place.new.self.frontier < c.go_on.new.self.frontier = c.in_ok-go_on.ensures.further (omega (arith, state.limit, less, same)) in
+    omega (arith, state.limit, less, further, same)
 
 pub loop-place-preserved : goal.loop-place-preserved
 loop-place-preserved c taken before =

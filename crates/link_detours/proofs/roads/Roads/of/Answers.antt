@@ -1,10 +1,8 @@
 use Rattle.std.proofs.Common.{◌+◌, ◌*◌, ◌/◌, ◌%◌, ◌<◌, ap, ◌∙◌, lit<, arith}
 use Rattle.std.proofs.lemmas.Nat.{mod_below, div-add-mod'}
 use Rattle.spin_base.specs.Links.{dir_number}
-use Rattle.machine_desc.proofs.Far.{inside_parts}
-use Rattle.machine_desc.proofs.Same.{below_six}
-use Rattle.link_detours.proofs.RoadBits.{RoadsTo-more}
-use Rattle.link_detours.proofs.Searching.{dir_number_at}
+use Rattle.machine_desc.proofs.{Far.inside_parts, Same.below_six}
+use Rattle.link_detours.proofs.{RoadBits.RoadsTo-more, Searching.dir_number_at}
 use Rattle.link_detours.proofs.roads.Roads.of.Goals as goal
 
 pub loop-place-preserved : goal.loop-place-preserved

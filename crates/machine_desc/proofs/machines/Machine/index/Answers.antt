@@ -1,8 +1,7 @@
+use Rattle.std.proofs.Common.{arith}
 use Rattle.machine_desc.specs.Described.{described}
 use Rattle.machine_desc.proofs.Far.{index_below}
 use Rattle.machine_desc.proofs.machines.Machine.index.Goals as goal
 
 pub returns-clause-below : goal.returns-clause-below
-returns-clause-below c =
-    rw (c.from.ensures, c.from-2.ensures, c.from-3.ensures, ← c.self.view_is)
-    (index_below (described c.self.inside) c.args.c (rw (← c.self.view_is) at c.requires))
+returns-clause-below c = grind (arith, index_below (described c.self.inside) c.args.c (rw (← c.self.view_is) at c.requires))

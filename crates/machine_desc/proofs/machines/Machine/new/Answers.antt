@@ -1,6 +1,5 @@
-use Rattle.std.proofs.Common.{◌∙◌, ap, count_by, not}
-use Rattle.machine_desc.specs.Description.{Description}
-use Rattle.machine_desc.specs.Tables.{TellsChips}
+use Rattle.std.proofs.Common.{arith, count_by}
+use Rattle.machine_desc.specs.{Description.Description, Tables.TellsChips}
 use Rattle.machine_desc.proofs.Live.{live_counted}
 use Rattle.machine_desc.proofs.machines.Machine.new.Goals as goal
 
@@ -22,18 +21,12 @@ invariant_of-result c =
     }) c.in_ok-chip_listed.chip_listed.items c.args.parts.dead_chips =
     rw (← c.as_slice.ensures) c.in_ok-chip_listed.ensures.told in
     record {
-      size = record {
-        width_from_one = c.args.parts.width_fits.0;
-        width_to_64 = c.args.parts.width_fits.1;
-        height_from_one = c.args.parts.height_fits.0;
-        height_to_64 = c.args.parts.height_fits.1;
-      };
+      size = grind arith;
       chips_long = c.in_ok-chip_listed.ensures.long;
       chips_told = told;
       cores_long = c.in_ok-core_listed.ensures.long;
       cores_told = rw (← c.as_slice-2.ensures) c.in_ok-core_listed.ensures.told;
       links_long = c.in_ok-link_listed.ensures.long;
       links_told = rw (← c.as_slice-3.ensures) c.in_ok-link_listed.ensures.told;
-      live_counted = c.clear_count-live_count.ensures ∙ (ap (λ t. count_by not t) c.deref.ensures.value
-          ∙ live_counted m c.in_ok-chip_listed.chip_listed.items c.in_ok-chip_listed.ensures.long told);
+      live_counted = grind (arith, live_counted m c.in_ok-chip_listed.chip_listed.items c.in_ok-chip_listed.ensures.long told, count_by);
     }

@@ -1,4 +1,4 @@
-use Rattle.std.proofs.Common.{◌-◌, sym, ◌∙◌, Some, None, arith}
+use Rattle.std.proofs.Common.{◌-◌, sym, Some, None, arith}
 use Rattle.std.proofs.lemmas.Bool.{cond-true}
 use Rattle.machine_desc.proofs.Axis.{stepped_ahead_inside, stepped_back_first}
 use Rattle.machine_desc.proofs.steps.Step.from.Goals as goal
@@ -7,6 +7,4 @@ pub returns-in-Ahead : goal.returns-in-Ahead
 returns-in-Ahead c = rw c.in-Ahead.is (sym (stepped_ahead_inside c.args.wrap c.args.n c.args.places c.if-n-places.true))
 
 pub returns-then-wrap-2 : goal.returns-then-wrap-2
-returns-then-wrap-2 c =
-    rw c.in-Back-2.is (sym (stepped_back_first c.args.wrap c.args.n c.args.places c.requires.inside (omega arith)
-    ∙ cond-true c.args.wrap (Some (c.args.places - 1)) None c.if-wrap-2.true))
+returns-then-wrap-2 c = grind (arith, stepped_back_first c.args.wrap c.args.n c.args.places c.requires.inside (omega arith), cond-true c.args.wrap (Some (c.args.places - 1)) None c.if-wrap-2.true)

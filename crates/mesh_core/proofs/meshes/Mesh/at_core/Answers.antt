@@ -2,10 +2,9 @@
 use Rattle.std.proofs.Common.{◌≡◌, sym, ap, ◌∙◌, subst, Some, List}
 use Rattle.std.specs.List.{slice_index_or}
 use Rattle.spin_base.specs.declared.copies.McCopy.{McCopy}
-use Rattle.machine_desc.specs.{Live.IsInside, NetsOn.vertex_at}
+use Rattle.machine_desc.specs.NetsOn.{vertex_at}
 use Rattle.mesh_core.specs.State.{State, IsMesh}
 use Rattle.mesh_core.proofs.Searching.{delivery_has, core_has, core_lacks, none_from, core_queue_there}
-use Rattle.mesh_core.proofs.VertexTableLaws.{site_inside}
 use Rattle.mesh_core.proofs.meshes.Mesh.at_core.Goals as goal
 
 pub returns-in-Some : goal.returns-in-Some
@@ -37,11 +36,3 @@ returns c =
     (sym c.delivery_to.ensures ∙ none_from c.delivery_to.result c.in_default.not-Some)
     (core_queue_there s mesh c.args.spot v is_vertex c.as_slice.result.now q there c.as_slice.ensures)
     (sym c.has_packet.ensures ∙ c.if-has_packet.false)
-
-pub vertex_at-requires : goal.vertex_at-requires
-vertex_at-requires c =
-    let parts = site_inside c.args.self.now.setup.machine c.args.spot c.requires.site in
-    record {
-      inside = subst (λ (s : State). IsInside s.setup.machine c.args.spot.chip) (sym c.self.view_is) parts.0;
-      numbered = parts.1;
-    }

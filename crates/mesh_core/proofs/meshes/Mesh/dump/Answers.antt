@@ -4,8 +4,7 @@ use Rattle.std.proofs.lemmas.List.{with_items_is}
 use Rattle.std.specs.{List.slice_get, Vec.with_items}
 use Rattle.spin_base.specs.declared.copies.{Event.TheVariants.Dump, McCopy.McCopy}
 use Rattle.machine_desc.specs.Live.{index_of}
-use Rattle.mesh_core.specs.Serving.{queue_named, copy_served, hands_after}
-use Rattle.mesh_core.specs.{State.State, State.Queue, State.behind, Step.has_room_behind, Step.step_of, Whole.state_of}
+use Rattle.mesh_core.specs.{Serving.queue_named, Serving.copy_served, Serving.hands_after, State.State, State.Queue, State.behind, Step.has_room_behind, Step.step_of, Whole.state_of}
 use Rattle.mesh_core.proofs.{Keeping.IsMesh-step_of, StepParts.step_of-dump}
 use Rattle.mesh_core.proofs.meshes.Mesh.dump.Goals as goal
 

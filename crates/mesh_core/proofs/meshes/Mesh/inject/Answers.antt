@@ -1,11 +1,10 @@
 -- The mesh after the copy was sent is the one that the step gives.
-use Rattle.std.proofs.Common.{◌≡◌, ◌∙◌, ◌<◌, ap, sym, subst, arith, true, Some, ℕ, List, length, get_or}
-use Rattle.std.proofs.lemmas.{List.with_items_is, Option.slice_get-get_or}
+use Rattle.std.proofs.Common.{◌≡◌, ◌∙◌, ap, sym, subst, arith, true, Some, ℕ, List}
+use Rattle.std.proofs.lemmas.{List.with_items_is, Option.slice_get-get_or, Bool.ltb-true}
 use Rattle.std.specs.{List.slice_get, Vec.with_items}
 use Rattle.spin_base.specs.declared.{chips.Spot.Spot, chips.Port.TheVariants.Local, copies.Event.TheVariants.Inject, copies.McCopy.McCopy}
 use Rattle.machine_desc.specs.Description.{Description}
-use Rattle.mesh_core.specs.Queues.{front_of, drop_front}
-use Rattle.mesh_core.specs.{State.State, State.queue_at, Step.has_room, Step.push_at, Step.step_of, Step.after_event, Whole.state_of}
+use Rattle.mesh_core.specs.{Queues.front_of, Queues.drop_front, State.State, State.queue_at, Step.has_room, Step.push_at, Step.step_of, Step.after_event, Whole.state_of}
 use Rattle.mesh_core.proofs.{Keeping.IsMesh-step_of, StepParts.step_of-inject, StepParts.after_event-moved}
 use Rattle.mesh_core.proofs.meshes.Mesh.inject.Goals as goal
 
@@ -21,16 +20,15 @@ unfolding after
 moves c =
     let s : State = state_of c.self.inside in
     let v : ℕ = c.args.v in
-    let none : Spot = record { chip = record { x = 0; y = 0 }; core = 0 } in
-    let spot : Spot = get_or c.spots-spots.result.now v none in
-    let below : v < length c.spots-spots.result.now = omega (arith, c.if-vertex-spots.false) in
+    let spot : Spot = c.in-Some.spot.now in
+    let at = c.in-Some.ensures.lookup in
     let at_spot : slice_get s.setup.spots v ≡ Some spot =
-    ap (λ (l : List Spot). slice_get l v) (sym c.spots-spots.ensures) ∙ slice_get-get_or c.spots-spots.result.now v none below in
+    ap (λ (l : List Spot). slice_get l v) (sym c.spots.ensures) ∙ (slice_get-get_or c.spots.result.now v spot (ltb-true _ _ (sym at.0)) ∙ ap Some (sym at.1)) in
     let from : ℕ = queue_at s.setup.machine spot.chip Local in
     let place : c.queue_place-queue.result ≡ from =
     c.queue_place-queue.ensures.place ∙ ap (λ (m : Description). queue_at m spot.chip Local) c.machine.ensures in
-    let front : Some c.in-Some.copy ≡ front_of (slice_get s.unsent v) =
-    sym c.in-Some.is ∙ (c.front.ensures ∙ ap (λ (l : List (List McCopy)). front_of (slice_get l v)) c.deref.ensures.value) in
+    let front : Some c.in-Some-front.copy ≡ front_of (slice_get s.unsent v) =
+    sym c.in-Some-front.is ∙ (c.front.ensures ∙ ap (λ (l : List (List McCopy)). front_of (slice_get l v)) c.deref.ensures.value) in
     let room : has_room s.setup.capacity (slice_get s.inputs from) ≡ true =
     ap (λ (n : ℕ). has_room s.setup.capacity (slice_get s.inputs n)) (sym place)
     ∙ (ap (λ (l : List (List McCopy)). has_room s.setup.capacity (slice_get l c.queue_place-queue.result)) (sym c.deref-2.ensures.value)
@@ -39,12 +37,12 @@ moves c =
     let is_unsent : (after c).unsent ≡ drop_front s.unsent v (slice_get s.unsent v) =
     with_items_is c.self.inside.unsent c.drop_front.new.queues (omega arith)
     ∙ (c.drop_front.ensures ∙ ap (λ (l : List (List McCopy)). drop_front l v (slice_get l v)) c.deref_mut-2.ensures.value) in
-    let is_inputs : (after c).inputs ≡ push_at s.inputs from c.in-Some.copy (slice_get s.inputs from) =
+    let is_inputs : (after c).inputs ≡ push_at s.inputs from c.in-Some-front.copy (slice_get s.inputs from) =
     with_items_is c.self.inside.inputs c.push_at.new.queues (omega arith)
     ∙ (c.in_ok-push_at.ensures.ok
-    ∙ (ap (λ (l : List (List McCopy)). push_at l c.queue_place-queue.result c.in-Some.copy (slice_get l c.queue_place-queue.result)) c.deref_mut.ensures.value
-    ∙ ap (λ (n : ℕ). push_at s.inputs n c.in-Some.copy (slice_get s.inputs n)) place)) in
-    step_of-inject s v spot c.in-Some.copy (after c).unsent (after c).inputs at_spot front room is_unsent is_inputs
+    ∙ (ap (λ (l : List (List McCopy)). push_at l c.queue_place-queue.result c.in-Some-front.copy (slice_get l c.queue_place-queue.result)) c.deref_mut.ensures.value
+    ∙ ap (λ (n : ℕ). push_at s.inputs n c.in-Some-front.copy (slice_get s.inputs n)) place)) in
+    step_of-inject s v spot c.in-Some-front.copy (after c).unsent (after c).inputs at_spot front room is_unsent is_inputs
 
 pub invariant_of-self-2 : goal.invariant_of-self-2
 unfolding after

@@ -2,11 +2,10 @@
 use Rattle.std.proofs.Common.{◌≡◌, ◌∙◌, ap, sym, subst, arith, true, Some, ℕ}
 use Rattle.std.proofs.lemmas.List.{with_items_is}
 use Rattle.std.specs.{List.slice_get, Vec.with_items}
-use Rattle.spin_base.specs.declared.copies.{Event.TheVariants.Send, McCopy.McCopy}
-use Rattle.spin_base.specs.Hops.{onward}
+use Rattle.spin_base.specs.{declared.copies.Event.TheVariants.Send, declared.copies.McCopy.McCopy, Hops.onward}
 use Rattle.machine_desc.specs.Live.{index_of}
-use Rattle.mesh_core.specs.Serving.{queue_named, copy_served, inputs_after, cores_after, hands_after}
-use Rattle.mesh_core.specs.{State.State, State.Queue, State.behind, Step.has_room_behind, Step.step_of, Step.after_event, Whole.state_of}
+use Rattle.mesh_core.specs.{Serving.queue_named, Serving.copy_served, Serving.inputs_after, Serving.cores_after, Serving.hands_after, State.State, State.Queue, State.behind, Step.has_room_behind}
+use Rattle.mesh_core.specs.{Step.step_of, Step.after_event, Whole.state_of}
 use Rattle.mesh_core.proofs.{Keeping.IsMesh-step_of, StepParts.step_of-send, StepParts.after_event-moved}
 use Rattle.mesh_core.proofs.meshes.Mesh.send.Goals as goal
 

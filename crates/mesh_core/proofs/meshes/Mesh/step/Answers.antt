@@ -2,8 +2,7 @@
 use Rattle.std.proofs.Common.{subst}
 use Rattle.spin_base.specs.declared.copies.Event.TheVariants.{Inject, Take, Send, Dump, Collect}
 use Rattle.mesh_core.specs.State.{IsMesh}
-use Rattle.mesh_core.proofs.StepLedger.{ledger-after_event, ledger-after_result}
-use Rattle.mesh_core.proofs.NoDump.{idle_result, idle_answer}
+use Rattle.mesh_core.proofs.{StepLedger.ledger-after_event, StepLedger.ledger-after_result, NoDump.idle_result, NoDump.idle_answer}
 use Rattle.mesh_core.proofs.meshes.Mesh.step.Goals as goal
 
 pub returns-in-Inject-clause-ledger : goal.returns-in-Inject-clause-ledger

@@ -4,13 +4,9 @@ use Rattle.std.proofs.lemmas.List.{with_items_is}
 use Rattle.std.specs.{List.slice_get, Vec.with_items, Vec.with_item}
 use Rattle.spin_base.specs.declared.copies.{Event.TheVariants.Take, McCopy.McCopy}
 use Rattle.machine_desc.specs.{Description.Description, Live.index_of, Live.is_live_chip}
-use Rattle.mesh_core.specs.declared.places.Did.TheVariants.{Moved}
-use Rattle.mesh_core.specs.{Queues.front_of, Queues.drop_front, State.State, State.queue_at}
-use Rattle.mesh_core.specs.Step.{in_hand, outputs, step_of, answer, after_event}
-use Rattle.mesh_core.specs.Whole.{state_of}
-use Rattle.mesh_core.proofs.Keeping.{IsMesh-step_of}
-use Rattle.mesh_core.proofs.StepParts.{step_of-take, answer-moved, after_event-moved}
-use Rattle.mesh_core.proofs.ServingLaws.{outputs_at, no_hand}
+use Rattle.mesh_core.specs.{declared.places.Did.TheVariants.Moved, Queues.front_of, Queues.drop_front, State.State, State.queue_at, Step.in_hand, Step.outputs, Step.step_of, Step.answer}
+use Rattle.mesh_core.specs.{Step.after_event, Whole.state_of}
+use Rattle.mesh_core.proofs.{Keeping.IsMesh-step_of, StepParts.step_of-take, StepParts.answer-moved, StepParts.after_event-moved, ServingLaws.outputs_at, ServingLaws.no_hand}
 use Rattle.mesh_core.proofs.meshes.Mesh.take.Goals as goal
 
 -- the lists after the event

@@ -1,20 +1,12 @@
 -- Each search on the way finds the target's copy or shows where it is not, and the walk goes on.
-use Rattle.std.proofs.Common.{◌≡◌, ℕ, ◌*◌, ◌≤◌, ap, sym, ◌∙◌, subst, Some, None, List}
-use Rattle.std.specs.List.{All}
+use Rattle.std.proofs.Common.{arith, ◌≡◌, ℕ, ◌*◌, ◌≤◌, ap, sym, ◌∙◌, subst, Some, None, List}
 use Rattle.spin_base.specs.declared.{chips.Port.Port, routes.Out.Out}
-use Rattle.machine_desc.specs.declared.trees.Edge.{Edge}
-use Rattle.machine_desc.specs.{Description.Description, Live.IsInside}
+use Rattle.machine_desc.specs.{declared.trees.Edge.Edge, Description.Description}
 use Rattle.machine_desc.proofs.Sites.{site_parts}
-use Rattle.mesh_core.specs.State.{State, IsMesh}
-use Rattle.mesh_core.specs.Searches.{IsFound, IsOfPort, IsEdgeInto, port_behind}
+use Rattle.mesh_core.specs.{State.State, State.IsMesh, Searches.IsFound, Searches.IsOfPort, Searches.IsEdgeInto, Searches.port_behind}
 use Rattle.mesh_core.proofs.WalkingUp.{Walked, target_is_site, found_at_core, found_at_output, found_at_port, walk_begins, walk_inside, walk_short, walk_goes_on, walk_ends}
 use Rattle.mesh_core.proofs.Searching.{edges_inside}
 use Rattle.mesh_core.proofs.meshes.Mesh.where_is.Goals as goal
-
-pub at_core-requires-clause-site : goal.at_core-requires-clause-site
-at_core-requires-clause-site c =
-    target_is_site c.args.self.now c.args.net.now c.args.packet c.requires.tracked c.args.target c.requires.is_target
-    (subst IsMesh c.self.view_is c.self.invariant)
 
 pub out_of-out-requires : goal.out_of-out-requires
 out_of-out-requires c =
@@ -31,8 +23,8 @@ loop-init c =
     subst (λ (o : Out). Walked c.args.self.now c.args.net.now c.args.packet c.args.target 0 c.args.target.chip o) (sym c.out_of-out.ensures)
     (walk_begins c.args.self.now c.args.net.now c.args.packet c.requires.tracked c.args.target c.requires.is_target c.in_default.ensures)
 
-pub at_output-requires-clause-inside : goal.at_output-requires-clause-inside
-at_output-requires-clause-inside c =
+pub at_output-requires : goal.at_output-requires
+at_output-requires c =
     walk_inside c.args.self.now c.args.net.now c.args.packet c.requires.tracked c.args.target c.requires.is_target
     (subst IsMesh c.self.view_is c.self.invariant) c.loop.counter c.loop.chip c.loop.out c.loop.invariant
 
@@ -42,11 +34,9 @@ returns-in-Some-at_output c =
     c.loop.counter c.loop.chip c.loop.out c.loop.invariant c.in-Some-at_output.found c.in-Some-at_output.ensures
 
 pub at_port-requires : goal.at_port-requires
-at_port-requires c = record {
-  inside =
-      walk_inside c.args.self.now c.args.net.now c.args.packet c.requires.tracked c.args.target c.requires.is_target
-      (subst IsMesh c.self.view_is c.self.invariant) c.loop.counter c.loop.chip c.loop.out c.loop.invariant;
-}
+at_port-requires c =
+    walk_inside c.args.self.now c.args.net.now c.args.packet c.requires.tracked c.args.target c.requires.is_target
+    (subst IsMesh c.self.view_is c.self.invariant) c.loop.counter c.loop.chip c.loop.out c.loop.invariant
 
 pub returns-in-Some-at_port : goal.returns-in-Some-at_port
 returns-in-Some-at_port c =
@@ -89,9 +79,4 @@ unreachable-requires c =
     (subst IsMesh c.self.view_is c.self.invariant) c.loop.counter c.loop.chip c.loop.out c.loop.invariant many
 
 pub edge_into-before-requires : goal.edge_into-before-requires
-edge_into-before-requires c =
-    let s : State = c.args.self.now in
-    let machine : c.machine-machine.result.now ≡ s.setup.machine = c.machine-machine.ensures ∙ ap (λ (t : State). t.setup.machine) c.self.view_is in
-    subst (λ (m : Description). All (λ e. IsInside m e.chip) c.as_slice.result.now) (sym machine)
-    (subst (λ (edges : List Edge). All (λ e. IsInside s.setup.machine e.chip) edges) (sym c.as_slice.ensures)
-    (edges_inside s c.args.net.now c.args.packet c.requires.tracked))
+edge_into-before-requires c = grind (arith, edges_inside (c.args.self.now) c.args.net.now c.args.packet c.requires.tracked)

@@ -1,10 +1,8 @@
--- A core leads to the vertex on it, if there is one, and an output of a chip that isn't live leads nowhere.
-use Rattle.std.proofs.Common.{◌≡◌, false, sym, ap, ◌∙◌, subst}
-use Rattle.std.specs.List.{All}
+-- A core leads to the vertex on it, if there is one.
+use Rattle.std.proofs.Common.{sym, ap, ◌∙◌}
 use Rattle.spin_base.specs.declared.chips.Spot.{Spot}
-use Rattle.machine_desc.specs.Live.{is_live_chip, IsSite}
 use Rattle.mesh_core.specs.State.{Setup, core_queue_of, behind}
-use Rattle.mesh_core.proofs.{ServingLaws.vertex_behind-core, ServingLaws.vertex_behind-beyond, Ways.dead_behind}
+use Rattle.mesh_core.proofs.ServingLaws.{vertex_behind-core, vertex_behind-beyond}
 use Rattle.mesh_core.proofs.setups.MeshSetup.behind.Goals as goal
 
 pub returns-then-core-lt-CORES-clause-queue : goal.returns-then-core-lt-CORES-clause-queue
@@ -20,11 +18,3 @@ returns-else-core-lt-CORES-clause-queue c =
     let u : Setup = c.args.self.now in
     sym (ap (behind u c.args.c) c.in-Core.is
     ∙ ap core_queue_of (vertex_behind-beyond u.spots c.args.c c.in-Core.core c.if-core-lt-CORES.false))
-
-pub returns-then-not-live-clause-queue : goal.returns-then-not-live-clause-queue
-returns-then-not-live-clause-queue c =
-    let u : Setup = c.args.self.now in
-    let dead : is_live_chip u.machine c.args.c ≡ false =
-    subst (λ (t : Setup). is_live_chip t.machine c.args.c ≡ false) c.self.view_is (sym c.live.ensures ∙ c.if-not-live.true) in
-    let sites : All (IsSite u.machine) u.spots = subst (λ (t : Setup). All (IsSite t.machine) t.spots) c.self.view_is c.self.invariant.sites in
-    dead_behind u sites c.args.c c.args.out dead

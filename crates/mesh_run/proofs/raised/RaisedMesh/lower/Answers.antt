@@ -1,15 +1,12 @@
 use Rattle.std.proofs.Common.{◌<◌, ◌≤◌, List, [], ◌++◌, length, refl, sym, ap, ◌∙◌, subst, arith}
 use Rattle.std.proofs.lemmas.List.{get_or_default}
 use Rattle.mesh_core.specs.State.{State}
-use Rattle.mesh_run.specs.declared.homes.Home.{Home}
-use Rattle.mesh_run.specs.{Split.cut_queues, Splitting.FitHomes, Splitting.MovesOut}
+use Rattle.mesh_run.specs.{declared.homes.Home.Home, Split.cut_queues, Splitting.MovesOut}
 use Rattle.mesh_run.proofs.Lowering.{all_are_ends, cut_at, cut_inside, cuts_more, cuts_none, fits_raised, lowered, no_more_links}
 use Rattle.mesh_run.proofs.raised.RaisedMesh.lower.Goals as goal
 
 pub move_out-requires : goal.move_out-requires
-move_out-requires g c =
-    let r = c.requires in
-    subst (λ (homes : List Home). FitHomes c.args.self.parts homes c.args.self.shares.items) (sym c.deref.ensures.value) (fits_raised r.0 0 c.args.self r.1 r.2)
+move_out-requires g c = grind (arith, fits_raised (c.requires).0 0 c.args.self (c.requires).1 (c.requires).2)
 
 pub bring_down-requires : goal.bring_down-requires
 bring_down-requires g c =
@@ -44,7 +41,7 @@ loop-number-preserved g c =
     let here : n < length left = subst (λ k. n < k) (sym long) below in
     let read = c.replace-copies.ensures.value ∙ (c.index_mut.ensures.value ∙ get_or_default left n _ [] here) in
     cuts_more c.move_out.new.parts cuts c.bring_down.new.queues.items n c.loop-number.parts c.swap_queue.new.parts left _ c.index.result.now c.replace-copies.result c.replace-copies.new.dest
-    r.2.shared.apart c.loop-number.invariant at inside read c.swap_queue.ensures.stands refl
+    r.2.laid.cuts.apart c.loop-number.invariant at inside read c.swap_queue.ensures.stands refl
 
 pub returns : goal.returns
 returns g c = λ m mesh raised.

@@ -1,18 +1,19 @@
-use Rattle.std.proofs.Common.{◌≡◌, ◌+◌, ◌≤◌, List, refl, ap, subst, arith}
-use Rattle.std.proofs.lemmas.Result.{on_ok_weaker}
-use Rattle.mesh_core.specs.State.{IsMesh, Setup, State}
+use Rattle.std.proofs.Common.{arith}
+use Rattle.mesh_run.specs.Raised.{IsRaisedFrom}
+use Rattle.mesh_run.specs.Gathering.{HasRoomForLogs}
 use Rattle.mesh_run.specs.declared.shares.Share.{Share}
-use Rattle.mesh_run.specs.{Gathering.HasRoomForLogs, Raised.IsRaisedFrom}
-use Rattle.mesh_run.proofs.Raising.{copies_self, known_up, with_links}
-use Rattle.mesh_run.proofs.Resting.{after_refusal}
+use Rattle.mesh_core.specs.State.{State}
+use Rattle.mesh_core.specs.State.{IsMesh}
+use Rattle.std.proofs.Common.{subst}
+use Rattle.std.proofs.Common.{refl}
+use Rattle.std.proofs.Common.{List}
+use Rattle.std.proofs.Common.{◌+◌}
+use Rattle.std.proofs.lemmas.Result.{on_ok_weaker}
+use Rattle.mesh_run.proofs.{Raising.copies_self, Raising.known_up, Raising.with_links, Resting.after_refusal}
 use Rattle.mesh_run.proofs.raised.RaisedMesh.make_room.Goals as goal
 
 pub places_of-places-requires : goal.places_of-places-requires
-places_of-places-requires g c =
-    let r = c.requires in
-    let room : 1 ≤ r.0.setup.capacity = r.1.room in
-    let same : c.args.self.now.parts.setup.capacity ≡ r.0.setup.capacity = ap (λ (u : Setup). u.capacity) r.2.setup in
-    omega (arith, room, same)
+places_of-places-requires g c = grind arith
 
 pub widen_all-requires : goal.widen_all-requires
 widen_all-requires g c = let r = c.requires in (r.2.ends, r.2.holds, known_up r.0 c.args.self.now c.places_of-places.result.cap r.2 c.places_of-places.ensures.cap)

@@ -1,17 +1,13 @@
-use Rattle.std.proofs.Common.{ℕ, ◌+◌, ◌<◌, List, ◌++◌, length, sym, ap, ◌∙◌, subst}
+use Rattle.std.proofs.Common.{ℕ, ◌+◌, List, ◌++◌, length, sym, ap, ◌∙◌, subst}
 use Rattle.std.proofs.lemmas.List.{with_items_is}
 use Rattle.std.specs.{List.All, List.flat_map, Vec.with_items}
 use Rattle.link_queue.specs.declared.links.{Link.Link, LinkEnds.LinkEnds}
 use Rattle.mesh_core.specs.State.{IsMesh, State}
-use Rattle.mesh_run.specs.declared.{homes.Cut.Cut, raised.RaisedMesh.RaisedMesh, shares.Share.Share}
-use Rattle.mesh_run.specs.Crossing.{AreCuts, AreLaid, Deals, HoldsNoEnds}
-use Rattle.mesh_run.specs.Gathering.{AreEmptied, FitsLogs, IsAnyMoved}
-use Rattle.mesh_run.specs.{Queues.RestAll, Queues.WasUp, Raised.IsRoomyFrom, Raised.PlaysTo, Shares.IsShareOf, Standing.HoldsAll}
-use Rattle.mesh_run.proofs.AfterDeal.{cuts_apart, few_links}
-use Rattle.mesh_run.proofs.RoundSteps.{IsCollected, IsDealt, IsTurned, PlayAndStay, can_rest, cuts_laid, is_collected, is_dealt}
-use Rattle.mesh_run.proofs.RoundSteps.{is_turned, no_ends, room_for_logs, round_plays, shares_of_mesh, still_cuts}
-use Rattle.mesh_run.proofs.raised.RaisedMesh.play_roomy.Given.{Over}
-use Rattle.mesh_run.proofs.raised.RaisedMesh.play_roomy.Goals.{After-collect, After-deal, After-play_all}
+use Rattle.mesh_run.specs.{declared.homes.Cut.Cut, declared.raised.RaisedMesh.RaisedMesh, declared.shares.Share.Share, Crossing.AreCuts, Crossing.AreLaid, Crossing.Deals, Crossing.HoldsNoEnds}
+use Rattle.mesh_run.specs.{Gathering.AreEmptied, Gathering.FitsLogs, Gathering.IsAnyMoved, Queues.RestAll, Queues.WasUp, Raised.IsRoomyFrom, Raised.PlaysTo, Shares.IsShareOf, Standing.HoldsAll}
+use Rattle.mesh_run.proofs.{AfterDeal.cuts_apart, RoundSteps.IsCollected, RoundSteps.IsDealt, RoundSteps.IsTurned, RoundSteps.PlayAndStay, RoundSteps.can_rest, RoundSteps.cuts_laid}
+use Rattle.mesh_run.proofs.RoundSteps.{is_collected, is_dealt, is_turned, no_ends, room_for_logs, round_plays, shares_of_mesh, still_cuts}
+use Rattle.mesh_run.proofs.raised.RaisedMesh.play_roomy.{Given.Over, Goals.After-collect, Goals.After-deal, Goals.After-play_all}
 use Rattle.mesh_run.proofs.raised.RaisedMesh.play_roomy.Goals as goal
 
 pub deal-requires-clause-cuts : goal.deal-requires-clause-cuts
@@ -20,12 +16,6 @@ deal-requires-clause-cuts g c =
     subst (λ (x : RaisedMesh). AreCuts c.deref.result.now x.shares.items) (sym c.self.view_is)
     (subst (λ (l : List Cut). AreCuts l c.args.self.now.shares.items) (sym (c.deref.ensures.value ∙ ap (λ (x : RaisedMesh). x.layout.now.cuts.items) c.self.view_is))
     (cuts_apart q.0 q.1 (c.args.self.now.pace.turns + 1) c.args.self.now q.2.raised))
-
-pub deal-requires-clause-few : goal.deal-requires-clause-few
-deal-requires-clause-few g c =
-    let q = c.requires in
-    subst (λ (l : List Cut). length l < 4294967296) (sym (c.deref.ensures.value ∙ ap (λ (x : RaisedMesh). x.layout.now.cuts.items) c.self.view_is))
-    (few_links q.0 q.1 (c.args.self.now.pace.turns + 1) c.args.self.now q.2.raised)
 
 -- what was dealt to the shares
 dealt : (g : Over) (c : After-deal g) (m : State) → IsMesh m → IsRoomyFrom m (c.args.self.now.pace.turns + 1) c.args.self.now →
@@ -50,12 +40,12 @@ collected : (g : Over) (c : After-collect g) (m : State) → IsTurned m c.args.s
     IsCollected m c.args.self.now c.deal.new.standing c.deal.new.shares.items c.play_all.new.shares.items c.collect.new.standing c.collect.new.shares.items
 collected g c m before = is_collected before (c.deref-3.ensures.value ∙ ap (λ (x : RaisedMesh). x.layout.now.cuts.items) c.self.view_is) c.collect.ensures
 
-pub play_all-requires-clause-shares : goal.play_all-requires-clause-shares
-play_all-requires-clause-shares g c κs within =
+pub play_all-requires-after_bounds : goal.play_all-requires-after_bounds
+play_all-requires-after_bounds g c κs within =
     let q = c.requires in
     subst (λ (x : RaisedMesh). All (IsShareOf x.parts.setup c.deref-2.result.now) c.deal.new.shares.items) (sym c.self.view_is)
     (subst (λ (l : List Link). All (IsShareOf c.args.self.now.parts.setup l) c.deal.new.shares.items) (sym c.deref-2.ensures.value)
-    (shares_of_mesh (dealt g (goal.at.play_all-requires-clause-shares g c).After-deal q.0 q.1 q.2)))
+    (shares_of_mesh (dealt g (goal.at.play_all-requires-after_bounds g c).After-deal q.0 q.1 q.2)))
 
 pub collect-requires-clause-cuts : goal.collect-requires-clause-cuts
 collect-requires-clause-cuts g c =

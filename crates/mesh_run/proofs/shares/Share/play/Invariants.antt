@@ -1,8 +1,7 @@
-use Rattle.mesh_run.specs.{Floors.IsFloorOf, Shares.IsShareOf, Shares.PlaysRound}
+use Rattle.mesh_run.specs.Shares.{IsShareOf, PlaysRound}
 use Rattle.mesh_run.proofs.shares.Share.play.Given as goal
 
 -- so many turns were played
 abbrev pub invariant-loop-step : goal.invariant-loop-step
 invariant-loop-step g l =
-    IsFloorOf l.ground.setup.now l.ground.floor.now × IsShareOf l.ground.setup.now l.ground.around.links.now l.self
-    × PlaysRound l.ground.setup.now l.ground.around.patience l.step l.fn.self l.self
+    IsShareOf l.ground.footing.setup.now l.ground.around.links.now l.self × PlaysRound l.ground.footing.setup.now l.ground.around.patience l.step l.fn.self l.self

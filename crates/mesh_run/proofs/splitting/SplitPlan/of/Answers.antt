@@ -1,6 +1,5 @@
-use Rattle.std.proofs.Common.{◌≡◌, ◌+◌, ◌≤◌, ◌++◌, ℕ, List, length, sym, ap, ◌∙◌, subst, arith}
+use Rattle.std.proofs.Common.{◌≡◌, ◌+◌, ◌++◌, ℕ, List, length, sym, ap, ◌∙◌, subst, arith}
 use Rattle.std.proofs.lemmas.List.{length-map}
-use Rattle.std.specs.List.{All}
 use Rattle.spin_base.specs.declared.copies.McCopy.{McCopy}
 use Rattle.mesh_core.specs.State.{State}
 use Rattle.mesh_run.specs.{Queues.AreUp, Split.cut_queues, Splitting.AreInside, Splitting.HoldNothing}
@@ -17,13 +16,7 @@ crossing_of-requires g c =
     (cuts_inside l.homes.items l.cuts.items (length m.inputs + length m.cores) is.cuts (omega (arith, is.homes.long, inputs, c.requires.mesh.core_lists)))
 
 pub bring_up-requires : goal.bring_up-requires
-bring_up-requires g c =
-    let m = c.args.parts.now in
-    let cuts = c.args.layout.now.cuts.items in
-    let cap = subst (λ (s : State). c.capacity.result ≡ s.setup.capacity) c.parts.view_is c.capacity.ensures in
-    let queues = c.deref-2.ensures.value ∙ (c.in_ok-crossing.ensures ∙ ap (cut_queues (m.inputs ++ m.cores)) c.deref.ensures.value) in
-    subst (λ (n : ℕ). All (λ (q : List McCopy). length q ≤ n) c.deref-2.result.now) (sym cap)
-    (subst (All (λ (q : List McCopy). length q ≤ m.setup.capacity)) (sym queues) (cuts_fit m cuts c.requires.mesh))
+bring_up-requires g c = grind (arith, cuts_fit (c.args.parts.now) (c.args.layout.now.cuts.items) c.requires.mesh)
 
 pub returns : goal.returns
 returns g c =
@@ -43,7 +36,7 @@ returns g c =
     let queues = c.deref-2.ensures.value ∙ (c.in_ok-crossing.ensures ∙ ap (cut_queues (m.inputs ++ m.cores)) c.deref.ensures.value) in
     let up = c.in_ok-standing.ensures in
     record {
-      shared = plan_shared m.setup runs laid.table homes l.cuts.items (length m.unsent) shares laid.runs laid.numbers laid.homes laid.cuts nothing c.requires.mesh.unsent_lists;
+      shared = plan_shared m.setup runs (length homes) (length m.unsent) shares nothing laid.homes.long c.requires.mesh.unsent_lists;
       nothing = nothing;
       ends = up.0;
       holds = up.1;

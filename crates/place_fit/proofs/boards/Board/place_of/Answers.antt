@@ -1,8 +1,8 @@
-use Rattle.std.proofs.Common.{◌≡◌, ◌*◌, ◌%◌, ◌^◌, ◌≤◌, ℕ, slice_get, sym, ap, ap₂, ◌∙◌, arith}
+use Rattle.std.proofs.Common.{◌≡◌, ◌*◌, ◌%◌, ◌^◌, ◌≤◌, ℕ, slice_get, ap₂, ◌∙◌, arith}
 use Rattle.std.proofs.lemmas.{Nat.one_shl, Option.slice_get_within}
-use Rattle.place_fit.proofs.CurveLaws.{at_place, inside_at}
+use Rattle.place_fit.proofs.{CurveLaws.at_place, CurveLaws.inside_at, boards.Board.place_of.Goals.else-chip-side-via-then-chip-side+else-chip-side-2}
+use Rattle.place_fit.proofs.boards.Board.place_of.Goals.{else-chip-side-via-else-chip-side}
 use Rattle.place_fit.proofs.boards.Board.place_of.Goals as goal
-use Rattle.place_fit.proofs.boards.Board.place_of.Goals.{else-chip-side-via-then-chip-side+else-chip-side-2, else-chip-side-via-else-chip-side}
 
 side : (k : ℕ) → k ≤ 6 → 1 * 2 ^ k % 256 ≡ 2 ^ k
 side k small = one_shl k 8 (omega (arith, small))
@@ -19,10 +19,4 @@ returns-then-chip-side-2-clause-within c = slice_get_within c.args.self.now.chip
 
 pub returns-else-chip-side-clause-none : goal.returns-else-chip-side-clause-none
 returns-else-chip-side-clause-none c q at =
-    let b = c.args.self.now in
-    let is = side b.level c.requires.small in
-    let inside = inside_at b.level q c.args.chip (ap (λ l. slice_get l q) (sym c.requires.chips) ∙ at) in
-    elim c.else-chip-side.branch [
-      | else-chip-side-via-then-chip-side+else-chip-side-2 w ↦ omega (arith, inside.1, w.if-chip-side-2.false, is)
-      | else-chip-side-via-else-chip-side w ↦ omega (arith, inside.0, w.if-chip-side.false, is)
-    ]
+    grind (arith, side (c.args.self.now).level c.requires.small, inside_at, slice_get, else-chip-side-via-then-chip-side+else-chip-side-2, else-chip-side-via-else-chip-side)

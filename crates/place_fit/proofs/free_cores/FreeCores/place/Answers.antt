@@ -2,8 +2,7 @@ use Rattle.std.proofs.Common.{◌≡◌, ◌≢◌, List, All, AllPairs, None, s
 use Rattle.spin_base.specs.declared.chips.Spot.{Spot}
 use Rattle.app_graph.specs.{declared.graphs.Vertex.Vertex, ValidGraph.HaveDifferentDevices}
 use Rattle.place_fit.specs.Boards.{AreFreeOn, AreGiven, AreSettled, IsWithout}
-use Rattle.place_fit.proofs.Giving.{whole_again}
-use Rattle.place_fit.proofs.SpotLaws.{all_differ, free_back, free_without}
+use Rattle.place_fit.proofs.{Giving.whole_again, SpotLaws.all_differ, SpotLaws.free_back, SpotLaws.free_without}
 use Rattle.place_fit.proofs.free_cores.FreeCores.place.Goals as goal
 
 pub invariant_of-self : goal.invariant_of-self

@@ -1,9 +1,8 @@
 use Rattle.std.proofs.Common.{◌≡◌, ◌+◌, ◌*◌, ◌^◌, ◌<◌, ◌≤◌, All, get_or, subst, ap, ◌∙◌, arith}
-use Rattle.std.proofs.Math.Pow.{pow_mono}
-use Rattle.std.proofs.lemmas.{Nat.pow_pos, Grind.pow_more, List.get_or_default}
-use Rattle.place_fit.proofs.RoomLaws.{IsFound, none_above, found_left, found_right}
+use Rattle.std.proofs.{Math.Pow.pow_mono, lemmas.Nat.pow_pos, lemmas.Grind.pow_more, lemmas.List.get_or_default}
+use Rattle.place_fit.proofs.{RoomLaws.IsFound, RoomLaws.none_above, RoomLaws.found_left, RoomLaws.found_right, rooms.Rooms.first_above.Goals.then-index-need-2}
+use Rattle.place_fit.proofs.rooms.Rooms.first_above.Goals.{else-index-need-2}
 use Rattle.place_fit.proofs.rooms.Rooms.first_above.Goals as goal
-use Rattle.place_fit.proofs.rooms.Rooms.first_above.Goals.{then-index-need-2, else-index-need-2}
 
 pub returns-then-index-need-clause-none : goal.returns-then-index-need-clause-none
 returns-then-index-need-clause-none c =

@@ -1,27 +1,22 @@
-use Rattle.std.proofs.Common.{subst, ap, sym, ◌∙◌, ◌&&◌, not}
-use Rattle.range_store.specs.Regions.{AreRuns, holes_without, is_free, in_range}
+use Rattle.std.proofs.Common.{arith, subst, sym}
+use Rattle.range_store.specs.Regions.{AreRuns}
 use Rattle.range_store.proofs.RunLemmas.{widen, cut_is}
 use Rattle.range_store.proofs.ranges.Ranges.take_from.Goals as goal
 
-pub first_fit-requires : goal.first_fit-requires
-first_fit-requires c =
-    record { runs = subst (AreRuns 0 4294967296) (sym c.as_slice.ensures.value) (widen 0 c.self.inside.size 4294967296 c.self.inside.holes.items c.self.invariant.1 c.self.invariant.0) }
-
-pub cut_out-requires-clause-runs : goal.cut_out-requires-clause-runs
-cut_out-requires-clause-runs c = widen 0 c.self.inside.size 4294967296 c.self.inside.holes.items c.self.invariant.1 c.self.invariant.0
+pub invariant_of-holes : goal.invariant_of-holes
+invariant_of-holes c = record {
+  runs = subst (AreRuns 0 4294967296) (sym c.as_slice.ensures.value)
+      (widen 0 c.self.inside.size 4294967296 c.self.inside.holes.items c.self.invariant.1 c.self.invariant.0);
+}
 
 pub invariant_of-self-2 : goal.invariant_of-self-2
 invariant_of-self-2 c = (c.self.invariant.0, (cut_is c.self.invariant.1 c.requires.some c.as_slice.ensures.value c.in-Some.ensures.at c.in_ok-cut_out.ensures.ok).runs)
 
 pub returns-clause-taken : goal.returns-clause-taken
-returns-clause-taken c =
-    (cut_is c.self.invariant.1 c.requires.some c.as_slice.ensures.value c.in-Some.ensures.at c.in_ok-cut_out.ensures.ok).rest
-    ∙ ap (λ v. holes_without c.in-Some.place c.args.size v.holes) c.self.view_is
+returns-clause-taken c = grind (arith, cut_is c.self.invariant.1 c.requires.some c.as_slice.ensures.value c.in-Some.ensures.at c.in_ok-cut_out.ensures.ok)
 
 pub returns-clause-free : goal.returns-clause-free
-returns-clause-free c =
-    λ k. (cut_is c.self.invariant.1 c.requires.some c.as_slice.ensures.value c.in-Some.ensures.at c.in_ok-cut_out.ensures.ok).free k
-    ∙ ap (λ v. is_free v.holes k && not (in_range c.in-Some.place c.args.size k)) c.self.view_is
+returns-clause-free c = grind (arith, cut_is c.self.invariant.1 c.requires.some c.as_slice.ensures.value c.in-Some.ensures.at c.in_ok-cut_out.ensures.ok)
 
 pub returns-clause-runs : goal.returns-clause-runs
 returns-clause-runs c = (cut_is c.self.invariant.1 c.requires.some c.as_slice.ensures.value c.in-Some.ensures.at c.in_ok-cut_out.ensures.ok).runs

@@ -1,9 +1,8 @@
 use Rattle.std.proofs.Common.{◌≡◌, ◌∙◌, false, IfOk, sym, subst}
 use Rattle.app_loads.specs.Host.{Host, is_loaded}
 use Rattle.spin_apps.specs.{Answers.IsLoadAnswer, Hosting.HasNumbersFor, Making.HasFreeCores}
-use Rattle.spin_apps.proofs.Planning.{may_load, taken_answers}
+use Rattle.spin_apps.proofs.{Planning.may_load, Planning.taken_answers, hosts.Hosted.load.Goals.After-plan_of}
 use Rattle.spin_apps.proofs.hosts.Hosted.load.Goals as goal
-use Rattle.spin_apps.proofs.hosts.Hosted.load.Goals.{After-plan_of}
 
 on : (c : After-plan_of) → HasFreeCores c.self.inside.apps c.self.inside.machine c.self.inside.free
 on c = record { machine = c.self.invariant.machine; free = c.self.invariant.free }

@@ -1,17 +1,14 @@
 use Rattle.std.proofs.Common.{◌++◌, ap, arith}
 use Rattle.spin_base.specs.Outputs.{all_outs}
-use Rattle.spin_base.proofs.Once.{outs_once}
-use Rattle.spin_base.proofs.Outputs.{all_found, less_fits, less_is_less, lowest_below, one_more, outs_in, room_left}
+use Rattle.spin_base.proofs.{Once.outs_once, Outputs.all_found, Outputs.less_fits, Outputs.less_is_less, Outputs.lowest_below, Outputs.one_more, Outputs.outs_in, Outputs.room_left}
 use Rattle.spin_base.proofs.routes.Route.outs.Goals as goal
 
 pub of_bit-requires : goal.of_bit-requires
 of_bit-requires c = lowest_below c.loop-left.left c.loop-left.invariant.fits c.loop-left-test.true
 
 pub push-requires : goal.push-requires
-push-requires c = (
-  omega arith,
-  room_left c.loop-left.left c.loop-left.invariant.fits c.loop-left-test.true c.args.self c.loop-left.outs.items c.loop-left.invariant.found c.of_bit.result c.of_bit.ensures.number,
-)
+push-requires c =
+    grind (arith, room_left c.loop-left.left c.loop-left.invariant.fits c.loop-left-test.true c.args.self c.loop-left.outs.items c.loop-left.invariant.found c.of_bit.result c.of_bit.ensures.number)
 
 pub loop-left-smaller : goal.loop-left-smaller
 loop-left-smaller c = less_is_less c.loop-left.left c.loop-left.invariant.fits c.loop-left-test.true

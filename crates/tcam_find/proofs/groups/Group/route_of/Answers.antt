@@ -14,9 +14,4 @@ returns-then-lane-lt-LANES c =
     subst (λ n. eqb (bit_and c.args.key (get_or now.masks n 0)) (get_or now.keys n 0) ≡ true) at (c.first_match-lane.ensures.found c.if-lane-lt-LANES.true))
 
 pub returns-else-lane-lt-LANES : goal.returns-else-lane-lt-LANES
-returns-else-lane-lt-LANES c =
-    let now = c.args.self.now in
-    route_missed now.keys now.masks now.routes c.args.key
-    (λ k inside. let at : 0 + k ≡ k = omega arith in
-    subst (λ n. eqb (bit_and c.args.key (get_or now.masks n 0)) (get_or now.keys n 0) ≡ false) at
-    (c.first_match-lane.ensures.before k (omega (arith, inside, now.eight, c.if-lane-lt-LANES.false))))
+returns-else-lane-lt-LANES c = grind (arith, route_missed, bit_and, get_or)

@@ -7,5 +7,5 @@ returns-clause-others c i behind before =
     let old = c.args.self.now in
     blocks_passed old.common old.values old.block_common old.block_values c.args.from c.min-block.result c.args.key
     (omega (arith, c.min-block.ensures)) old.blocks
-    (λ b low high. c.next_place-ahead.ensures.others b low (omega (arith, high, c.min-block.ensures)))
+    (λ b low high. c.block_from.ensures b low (omega (arith, high, c.min-block.ensures)))
     i behind (omega (arith, behind, before, c.max.ensures))

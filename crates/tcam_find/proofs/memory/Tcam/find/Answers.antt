@@ -2,8 +2,7 @@ use Rattle.std.proofs.Common.{◌-◌, ◌*◌, ◌∙◌, arith, ap, sym, lengt
 use Rattle.std.proofs.lemmas.Option.{get_or_from_slice_get}
 use Rattle.spin_base.proofs.Places.{slice_get_there}
 use Rattle.spin_base.specs.Lookup.{lookup}
-use Rattle.tcam_find.specs.Lanes.{first_route}
-use Rattle.tcam_find.specs.Memory.{entries_in, unused}
+use Rattle.tcam_find.specs.{Lanes.first_route, Memory.entries_in, Memory.unused}
 use Rattle.tcam_find.proofs.MemoryLemmas.{lookup_found, lookup_none, none_routed, passed_all, passed_over}
 use Rattle.tcam_find.proofs.memory.Tcam.find.Goals as goal
 
@@ -18,14 +17,7 @@ returns-in-Some c =
     ∙ ap (λ es. lookup es c.args.key c.args.port) c.self.view_is
 
 pub loop-group-preserved : goal.loop-group-preserved
-loop-group-preserved c =
-    let groups = c.self.inside.held.groups.items in
-    let group = c.loop-group.group in
-    passed_over groups group c.next_group-group.result c.args.key c.loop-group.invariant
-    (λ x got. none_routed (entries_in x) c.args.key
-    (sym c.in-None.is ∙ c.route_of.ensures
-    ∙ ap (λ it. first_route (entries_in it) c.args.key) (c.index.ensures ∙ get_or_from_slice_get groups group x c.index.result.now got)))
-    (c.next_group-group.ensures.others groups c.self.inside.held.knows)
+loop-group-preserved c = grind (arith, passed_over, none_routed, get_or_from_slice_get)
 
 pub returns : goal.returns
 returns c =

@@ -1,6 +1,5 @@
 use Rattle.std.proofs.Common.{◌≡◌, ℕ, ◌-◌, ◌<◌, Some, length, slice_get}
-use Rattle.tcam_find.specs.declared.groups.Group.{Group}
-use Rattle.tcam_find.specs.Memory.{NoneMatches, entries_in}
+use Rattle.tcam_find.specs.{declared.groups.Group.Group, Memory.NoneMatches, Memory.entries_in}
 use Rattle.tcam_find.proofs.memory.Tcam.find.Given as goal
 
 -- no entry of the groups before matches

@@ -1,7 +1,0 @@
-use Rattle.std.proofs.Common.{All, take}
-use Rattle.machine_desc.specs.Live.{IsLiveLink}
-use Rattle.link_detours.proofs.roads.Roads.carry.Given as goal
-
--- the edges that were looked at are live links
-abbrev pub invariant-loop-edge : goal.invariant-loop-edge
-invariant-loop-edge l = All (λ e. IsLiveLink l.machine e.chip e.dir) (take l.edge-index l.edges)

@@ -1,0 +1,10 @@
+use Rattle.std.proofs.Common.{◌≡◌, ◌++◌, take}
+use Rattle.std.specs.List.{flat_map}
+use Rattle.run_report.specs.Named.{named_delivery}
+use Rattle.run_report.specs.ReportText.{got_line}
+use Rattle.run_report.proofs.texts.put_gots.Given as goal
+
+-- the lines so far are written
+abbrev pub invariant-loop-delivery : goal.invariant-loop-delivery
+invariant-loop-delivery l =
+    l.text.items ≡ l.fn.text.items ++ flat_map (λ d. got_line (named_delivery l.placed d)) (take l.delivery-index l.deliveries)

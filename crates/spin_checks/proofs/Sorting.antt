@@ -1,0 +1,47 @@
+-- A sort of edges by their numbers puts them in their order.
+use Rattle.std.proofs.Common.{◌≡◌, ℕ, ◌<◌, List, true, refl, sym, ◌∙◌, arith, inl, inr, Less, Equal, Greater, Ordering, nat_cmp, is_lt}
+use Rattle.std.specs.{Ordering.ordering_then, Ordering.MatchOrdering, Cmp.IsTotalOrder, List.AllPairs, List.Sorted.IsSortedByKey}
+use Rattle.std.proofs.lemmas.{Bool.true≢false, Cmp.ranked, Cmp.nat_cmp_total, Cmp.on_total, Cmp.then_total, List.Sorted.ranks_by, List.Sorted.sorted_far}
+use Rattle.spin_base.specs.Links.{dir_number}
+use Rattle.machine_desc.specs.{declared.trees.Edge.Edge, EdgeOrder.IsEdgeBefore, EdgeOrder.edge_key}
+
+-- how the code compares two triples
+abbrev compared : ℕ × ℕ × ℕ → ℕ × ℕ × ℕ → Ordering
+compared a b = ordering_then (ordering_then (nat_cmp a.0 b.0) (nat_cmp a.1 b.1)) (nat_cmp a.2 b.2)
+
+compared_total : IsTotalOrder compared
+compared_total =
+    let first : (ℕ × ℕ × ℕ) → ℕ = λ a. a.0 in
+    let second : (ℕ × ℕ × ℕ) → ℕ = λ a. a.1 in
+    let third : (ℕ × ℕ × ℕ) → ℕ = λ a. a.2 in
+    then_total (then_total (on_total first nat_cmp_total) (on_total second nat_cmp_total)) (on_total third nat_cmp_total)
+
+-- an edge that comes before another is compared as less
+less_before : (e f : Edge) → IsEdgeBefore e f → is_lt (compared (edge_key e) (edge_key f)) ≡ true
+less_before e f before =
+    by (nat_cmp e.chip.x f.chip.x) (nat_cmp e.chip.y f.chip.y) (nat_cmp (dir_number e.dir) (dir_number f.dir)) (ranked e.chip.x f.chip.x _ refl) (ranked e.chip.y f.chip.y _ refl)
+    (ranked (dir_number e.dir) (dir_number f.dir) _ refl) before
+  where
+    by : (p q r : Ordering) → MatchOrdering p (e.chip.x < f.chip.x) (e.chip.x ≡ f.chip.x) (f.chip.x < e.chip.x) →
+        MatchOrdering q (e.chip.y < f.chip.y) (e.chip.y ≡ f.chip.y) (f.chip.y < e.chip.y) →
+        MatchOrdering r (dir_number e.dir < dir_number f.dir) (dir_number e.dir ≡ dir_number f.dir) (dir_number f.dir < dir_number e.dir) → IsEdgeBefore e f →
+        is_lt (ordering_then (ordering_then p q) r) ≡ true
+    by Less q r x y z before = refl
+    by Equal Less r x y z before = refl
+    by Equal Equal Less x y z before = refl
+    by Equal Equal Equal x y z (inl a) = absurd (omega (arith, x, a))
+    by Equal Equal Equal x y z (inr (s, inl a)) = absurd (omega (arith, y, a))
+    by Equal Equal Equal x y z (inr (s, inr (t, a))) = absurd (omega (arith, z, a))
+    by Equal Equal Greater x y z (inl a) = absurd (omega (arith, x, a))
+    by Equal Equal Greater x y z (inr (s, inl a)) = absurd (omega (arith, y, a))
+    by Equal Equal Greater x y z (inr (s, inr (t, a))) = absurd (omega (arith, z, a))
+    by Equal Greater r x y z (inl a) = absurd (omega (arith, x, a))
+    by Equal Greater r x y z (inr (s, inl a)) = absurd (omega (arith, y, a))
+    by Equal Greater r x y z (inr (s, inr (t, a))) = absurd (omega (arith, y, t))
+    by Greater q r x y z (inl a) = absurd (omega (arith, x, a))
+    by Greater q r x y z (inr (s, a)) = absurd (omega (arith, x, s))
+
+pub never_falls : (edges : List Edge) → IsSortedByKey edge_key compared edges → AllPairs (λ e f. IsEdgeBefore f e → ⊥) edges
+never_falls edges sorted i j d less short before =
+    let never = sorted_far (λ (e f : Edge). is_lt (compared (edge_key e) (edge_key f))) (ranks_by compared_total edge_key) edges sorted i j d (omega arith) short in
+    true≢false (sym (less_before _ _ before) ∙ never)
