@@ -4,17 +4,21 @@
     tools/shorter_proofs.py bodies CRATE       from the top of the repository, with the libraries below the crate built
     tools/shorter_proofs.py blocks CRATE       (tools/take_libraries.py)
     tools/shorter_proofs.py imports CRATE..    needs no prover
+    tools/shorter_proofs.py common CRATE..     neither do these
+    tools/shorter_proofs.py unused CRATE..
 
-`bodies` looks at each body of two lines and more. Beside its lemma it writes a second one of the same statement, whose body is `grind`
-with the lemmas that the first one cites: with their arguments where these are known at the head of the body, by their bare names
-elsewhere. One `rt check` of the crate tries all of them, since one that fails keeps no other from being checked. Each that is not refused
-takes the place of the first body, and the second lemma goes. Then the crate is checked again, and bodies that are refused come back: those
+`bodies` looks at each body of two lines and more. Beside its lemma it writes others of the same statement, whose body is `grind`
+with the lemmas that the first one cites: one with their arguments where these are known at the head of the body, and one with their bare
+names. One `rt check` of the crate tries all of them, since one that fails keeps no other from being checked. One that is not refused
+takes the place of the first body, and the others go. Then the crate is checked again, and bodies that are refused come back: those
 of lemmas that no check came to, and of values on which a type rests. `blocks` does the same for the parts of a body that stays: a case, a
 field, a `let`. `imports` drops the names that a file of proofs does not use, adds those of the tactics, and writes those of one
-folder on one line.
+folder on one line. `common` lets each file take what it names outside of its crate's proofs from one module, proofs/Common.antt.
+`unused` drops the lemmas that nothing needs.
 
 No verdict rests on it: `rt ci` proves what it leaves.
 """
+import functools
 import glob
 import os
 import re
@@ -22,6 +26,7 @@ import subprocess
 import sys
 
 WIDTH = 200
+KIT = "/opt/rattle/rlibs"
 WORD = re.compile(r"[^\s(){}\[\],;]+")
 # What begins and ends a word in a proof.
 BEFORE, BEHIND = r"(?<![^\s(\[{,;!])", r"(?=[\s)\]},;.]|$)"
@@ -50,8 +55,10 @@ def indent(line):
     return len(line) - len(line.lstrip())
 
 
-def lemmas_in(lines):
-    """Each lemma of a file: its name, the lines of its statement, of what it unfolds, and of each of its equations, and its end."""
+def lemmas_in(lines, with_locals=False):
+    """Each lemma of a file: its name, the lines of its statement, of what it unfolds, and of each of its equations, and its end. Those
+    with lemmas below `where` are left out, unless they are asked for.
+    """
     found, at = [], 0
     while at < len(lines):
         head = re.match(r"^( *)(?:pub )?([^\s(){}:,.;=]+) : ", lines[at])
@@ -75,7 +82,8 @@ def lemmas_in(lines):
             # What stands below `where` is checked with the lemma, and not by itself.
             while end < len(lines) and not (lines[end].strip() and indent(lines[end]) <= depth):
                 end += 1
-        elif equations:
+            equations = equations if with_locals else []
+        if equations:
             found.append((head[2], stated, unfolds, equations, end))
         at = max(end, at + 1)
     return found
@@ -85,13 +93,10 @@ def cited_names(lines):
     """The names of lemmas that a file imports."""
     found = set()
     for line in lines:
-        names = re.match(r"use (\S+?)\.\{(.*)\}\s*$", line)
-        for name in names[2].split(", ") if names else []:
-            whole = f"{names[1]}.{name.strip()}"
-            last = whole.rpartition(".")[2]
-            is_common = whole.startswith("Rattle.std.proofs.Common.")
-            if is_common and re.match(r"^[a-z_]+([-_][a-z_-]+)+$", last) or ".proofs" in whole and not is_common:
-                found.add(last)
+        for whole in map(passed_on, items_of(line)):
+            name, is_common = exported(whole), whole.startswith("Rattle.std.proofs.Common.")
+            if is_common and re.match(r"^[a-z_]+([-_][a-z_-]+)+$", name) or ".proofs" in whole and not is_common:
+                found.add(name)
     return found
 
 
@@ -185,6 +190,12 @@ def facts_of(body, lemmas, own):
     return f"grind (arith, {', '.join(facts)})" if facts else "grind arith"
 
 
+def names_of(body, lemmas, own):
+    """The same with the bare names of the lemmas: for what is too long with their arguments, or needs others."""
+    names = dict.fromkeys(it for it in WORD.findall(re.sub(r"--.*", "", body)) if it in lemmas and it != own)
+    return f"grind (arith, {', '.join(names)})" if names else "grind arith"
+
+
 def laid_out(head, text, depth, room):
     """The head and the text on one line, or on two where that is too long; nothing where they need as much room as there was."""
     one, two = [f"{head} {text}"], [head, " " * (depth + 4) + text]
@@ -199,9 +210,10 @@ def bodies(lines, lemma, lemmas):
         head = re.match(rf"^( *{re.escape(name)}(?: .*?)? =)( .*)?$", lines[begin])
         if end - begin > 1 and head:
             body = "\n".join([head[2] or "", *lines[begin + 1 : end]])
-            new = laid_out(head[1], facts_of(body, lemmas, name), indent(lines[begin]), end - begin)
-            if new:
-                yield begin, end, new
+            for text in {make(body, lemmas, name): None for make in (facts_of, names_of)}:
+                new = laid_out(head[1], text, indent(lines[begin]), end - begin)
+                if new:
+                    yield begin, end, new
 
 
 def blocks(lines, lemma, lemmas):
@@ -222,10 +234,10 @@ def blocks(lines, lemma, lemmas):
             if end - begin < 2 or not head or is_let and tail != " in" and lines[end : end + 1] != [" " * depth + "in"]:
                 continue
             body = "\n".join([lines[begin][head.end() :], *lines[begin + 1 : end]])
-            text = facts_of(body.removesuffix(tail), lemmas, name) + tail
-            new = laid_out(head[0], text, depth, end - begin)
-            if new:
-                yield begin, end, new
+            for text in {make(body.removesuffix(tail), lemmas, name): None for make in (facts_of, names_of)}:
+                new = laid_out(head[0], text + tail, depth, end - begin)
+                if new:
+                    yield begin, end, new
 
 
 def planted(file, parts, count):
@@ -332,8 +344,8 @@ def one_line(items):
 
 
 def folder_of(item):
-    parts = item.split(".")[:-1]
-    return "Rattle.std.proofs.Common" if item.startswith("Rattle.std.proofs.Common.") else ".".join(parts[:3])
+    common = re.match(r"(Rattle\.\w+\.proofs\.Common)\.", item)
+    return common[1] if common else ".".join(item.split(".")[:-1][:3])
 
 
 def imported(lines, body):
@@ -380,13 +392,169 @@ def tidy_imports(crate):
     return 0
 
 
+def exported(item):
+    """The name by which a file knows what it imports."""
+    return item.partition(" as ")[2] or item.rpartition(".")[2]
+
+
+def items_of(line):
+    """What a line of imports names, each with its path; none where the line hands a module over as it is."""
+    names = re.match(r"(?:pub )?use (\S+?)\.\{(.*)\}\s*$", line)
+    return [f"{names[1]}.{it.strip()}" for it in names[2].split(", ")] if names else []
+
+
+def rows_of(items, pub=""):
+    """Lines of imports, those of one folder together, each as short as may be."""
+    found, folders = [], {}
+    for item in items:
+        folders.setdefault(folder_of(item.partition(" as ")[0]), []).append(item)
+    for group in folders.values():
+        row = []
+        for item in sorted(group):
+            if row and len(pub) + len(one_line([*row, item])) > WIDTH:
+                found.append(pub + one_line(row))
+                row = []
+            row.append(item)
+        found.append(pub + one_line(row))
+    return found
+
+
+@functools.lru_cache(None)
+def names_passed_on(file):
+    """What a module of common names passes on: the path of each, by the name."""
+    return {exported(it): it for line in read(file) for it in items_of(line)} if os.path.isfile(file) else {}
+
+
+def passed_on(item):
+    """The path that an import has where a crate's module of common names takes it from."""
+    crate = re.match(r"Rattle\.(\w+)\.proofs\.Common\.", item)
+    return names_passed_on(f"crates/{crate[1]}/proofs/Common.antt").get(exported(item), item) if crate else item
+
+
+@functools.lru_cache(None)
+def module(path):
+    """The lines of a module of the kit or of this repository, and the module that it is where another hands it over."""
+    _, crate, kind, *parts = path.split(".") if path.startswith("Rattle.") else [None] * 3
+    for top in (f"crates/{crate}", f"{KIT}/{crate}.rlib/lang/antt"):
+        if os.path.isfile(f"{top}/{kind}/{'/'.join(parts)}.antt"):
+            return path, read(f"{top}/{kind}/{'/'.join(parts)}.antt")
+    for root in (f"crates/{crate}/{kind}/Lib.antt", f"{KIT}/{crate}.rlib/lang/antt/{kind}.antt"):
+        for line in read(root) if os.path.isfile(root) and parts else []:
+            if line.startswith("pub use ") and line.rpartition(".")[2] == parts[0]:
+                return module(".".join([line[8:].strip(), *parts[1:]]))
+    return path, []
+
+
+@functools.lru_cache(None)
+def origin(item):
+    """Where that stands which an import names, through the modules that pass it on."""
+    path, _, name = item.partition(" as ")[0].rpartition(".")
+    path, lines = module(path)
+    for line in lines:
+        if line.startswith("pub use "):
+            for it in items_of(line):
+                if exported(it) == name and it != item:
+                    return origin(it)
+    return f"{path}.{name}"
+
+
+def common_names(crate):
+    """Lets each file of proofs take what it names outside of its crate's proofs from one module, proofs/Common.antt."""
+    common, own = f"crates/{crate}/proofs/Common.antt", f"Rattle.{crate}.proofs."
+    root = f"crates/{crate}/proofs/Lib.antt"
+    count = len(read(common)) if os.path.isfile(common) else 0
+    files, users = {}, {}
+    for file in files_of(crate):
+        lines = read(file)
+        places = [k for k, it in enumerate(lines) if re.match(r"(pub )?use ", it)]
+        if file == common or not places or places != list(range(places[0], places[-1] + 1)):
+            continue
+        # (what a file unfolds has to come from where it stands)
+        unfolded = {it for line in lines if line.lstrip().startswith("unfolding ") for it in line.split()[1:]}
+        outside, rest = [], []
+        for line in lines[places[0] : places[-1] + 1]:
+            items = list(map(passed_on, items_of(line)))
+            if line.startswith("pub ") or not items or items[0].startswith(own):
+                rest.append(line)
+            else:
+                outside += [it for it in items if exported(it) not in unfolded]
+                rest += rows_of([it for it in items if exported(it) in unfolded])
+        files[file] = lines, places, outside, rest
+        for item in outside:
+            users.setdefault(exported(item), {}).setdefault(origin(item), []).append(item)
+    chosen = {name: max(found, key=lambda it, found=found: (len(found[it]), it)) for name, found in users.items()}
+    spelled = {name: max(set(users[name][it]), key=users[name][it].count) for name, it in chosen.items()}
+    for file, (lines, places, outside, rest) in files.items():
+        names = sorted({f"{own}Common.{exported(it)}" for it in outside if chosen[exported(it)] == origin(it)})
+        others = [it for it in outside if chosen[exported(it)] != origin(it)]
+        new = rows_of(names) + rows_of(others) + rest
+        count += len(places) - len(new)
+        write(file, lines[: places[0]] + new + lines[places[-1] + 1 :])
+    said = ["-- The names that the proofs of this crate cite from outside of them, passed on from one place. Declares nothing."]
+    said += rows_of(sorted(spelled.values()), "pub ")
+    write(common, [*said, ""])
+    if "mod Common" not in read(root):
+        write(root, ["mod Common", *read(root)])
+        count -= 1
+    print(f"{crate}: {count - len(said) - 1} lines of imports fewer")
+    return 0
+
+
+def words_of(lines):
+    """The names in a text, those of fields apart, too."""
+    words = {it for line in lines for it in WORD.findall(re.sub(r"--.*", "", line))}
+    return words | {part for it in words for part in it.split(".")}
+
+
+def drop_unused(*crates):
+    """Drops the lemmas that neither an answer, a definition or the code needs nor a promise names, through other lemmas or not."""
+    cites, places, needed, files = {}, {}, set(), {}
+    for file in sorted(glob.glob("crates/*/proofs/**/*.antt", recursive=True)):
+        files[file] = lines = read(file)
+        inside = set()
+        for name, stated, _, _, end in lemmas_in(lines, with_locals=True):
+            text = lines[stated[0] : end]
+            if not any("goal." in it for it in text[:1]):
+                cites.setdefault(name, set()).update(words_of(text) - {name})
+                places.setdefault(name, []).append((file, stated[0], end))
+                inside.update(range(stated[0], end))
+        needed |= words_of(it for k, it in enumerate(lines) if k not in inside and not re.match(r"(pub )?use ", it))
+    for file in glob.glob("crates/*/src/**/*.rt", recursive=True):
+        needed |= set(re.findall(r"proofs::\w+::([\w-]+)", "\n".join(read(file))))
+    for file in glob.glob("crates/*/specs/**/*.antt", recursive=True):
+        needed |= words_of(it for it in read(file) if ".proofs." in it)
+    needed |= set(re.findall(r"[\w-]+", "\n".join(read("docs/promises.md"))))
+    reached, left = set(), [it for it in cites if it in needed]
+    while left:
+        name = left.pop()
+        if name not in reached:
+            reached.add(name)
+            left += [it for it in cites[name] if it in cites]
+    count = 0
+    for name in sorted(set(cites) - reached, key=lambda it: places[it], reverse=True):
+        for file, begin, end in reversed(places[name]):
+            if file.split("/")[1] in crates:
+                lines = files[file]
+                while lines[begin - 1].lstrip().startswith("-- ") and not lines[begin - 1].lstrip().startswith("-- --"):
+                    begin -= 1
+                end += lines[end : end + 1] == [""] and (begin == 0 or lines[begin - 1] == "")
+                count += end - begin
+                print(f"{file}: {name}")
+                lines[begin:end] = []
+                write(file, lines)
+    print(f"{count} lines fewer")
+    return 0
+
+
 def main(what, *crates):
     os.chdir(os.path.dirname(os.path.dirname(os.path.realpath(__file__))))
-    work = {"bodies": lambda it: shorten(it, bodies), "blocks": lambda it: shorten(it, blocks), "imports": tidy_imports}[what]
+    if what == "unused":
+        return drop_unused(*crates)
+    work = {"bodies": lambda it: shorten(it, bodies), "blocks": lambda it: shorten(it, blocks), "imports": tidy_imports, "common": common_names}[what]
     return max(map(work, crates))
 
 
 if __name__ == "__main__":
-    if len(sys.argv) < 3 or sys.argv[1] not in ("bodies", "blocks", "imports"):
+    if len(sys.argv) < 3 or sys.argv[1] not in ("bodies", "blocks", "imports", "common", "unused"):
         sys.exit(__doc__)
     sys.exit(main(*sys.argv[1:]))
