@@ -196,11 +196,70 @@ def names_of(body, lemmas, own):
     return f"grind (arith, {', '.join(names)})" if names else "grind arith"
 
 
+FACTS = re.compile(r"\.(ensures|requires|invariant|true|false|is|was|auto|branch)(\.|$)|\.x-is$|^type_inv")
+
+
+def spared(text, lemmas, facts):
+    """A lemma's call without the arguments that antt finds: names of values, and what is made of them."""
+    head = WORD.match(text)
+    if not head or head[0] not in lemmas:
+        return text
+    parts, at = [head[0]], head.end()
+    while at < len(text):
+        if text[at] == " ":
+            at += 1
+            continue
+        end = end_of_part(text, at)
+        if end is None or WORD.match(text, at) and WORD.match(text, at)[0] in STOPS:
+            return text
+        part, at = text[at:end], end
+        inner = part[1:-1] if part[0] == "(" and part[-1] == ")" else None
+        words = {it for it in WORD.findall(part) if it not in STOPS}
+        if inner and WORD.match(inner) and WORD.match(inner)[0] in lemmas:
+            part = f"({spared(inner, lemmas, facts)})"
+        elif part[0] not in "{[" and not words & lemmas and "λ" not in part and all(is_value(it, facts) for it in words):
+            part = "_"
+        parts.append(part)
+    return " ".join(parts)
+
+
+def is_value(word, facts):
+    return word.split(".")[0] not in facts and not (word.startswith("c.") and FACTS.search(word))
+
+
+def values_in(text):
+    """The names of values in binders: their types name no value, and no relation."""
+    found = set()
+    for names, kind in re.findall(r"[({]((?:[^\s(){}:]+ )+): ((?:[^(){}]|\([^()]*\))*)[)}]", text):
+        if not re.search(r"[≡≢<≤×⊎→]|(?<![\w.])[a-z]", kind):
+            found |= set(names.split())
+    return found
+
+
+def spared_of(body, lemmas, own, facts):
+    """A body that calls a lemma, without the arguments that antt finds; nothing where it finds none."""
+    flat = re.sub(r"\s+", " ", re.sub(r"--.*", "", body)).strip()
+    text = spared(flat, lemmas | {own}, facts)
+    return text if text != flat else None
+
+
 def laid_out(head, text, depth, room):
     """The head and the text on one line, or on two where that is too long; nothing where they need as much room as there was."""
     one, two = [f"{head} {text}"], [head, " " * (depth + 4) + text]
     lines = one if len(one[0]) <= WIDTH else two
     return lines if max(map(len, lines)) <= WIDTH and len(lines) < room else None
+
+
+def shorter_texts(body, lemmas, lines, lemma):
+    """What may stand in place of a body or of a part of one."""
+    name, stated, _, equations, _ = lemma
+    said = [it for k, it in enumerate(lines) if stated[0] <= k < stated[1] or it.lstrip().startswith("module ")]
+    bound = {it for begin, _ in equations for it in re.findall(r"[^\s(){}:,∷]+", lines[begin].partition(" =")[0])} | bound_in(body)
+    bound |= {it for names in re.findall(r"[({]((?:[^\s(){}:]+ )+):", " ".join(said)) for it in names.split()}
+    facts = bound - values_in(" ".join(said)) - {"c"}
+    found = [facts_of(body, lemmas, name), names_of(body, lemmas, name), spared_of(body, lemmas, name, facts)]
+    made = os.environ.get("MAKERS", "012")
+    return dict.fromkeys(it for k, it in enumerate(found) if str(k) in made and it)
 
 
 def bodies(lines, lemma, lemmas):
@@ -210,7 +269,7 @@ def bodies(lines, lemma, lemmas):
         head = re.match(rf"^( *{re.escape(name)}(?: .*?)? =)( .*)?$", lines[begin])
         if end - begin > 1 and head:
             body = "\n".join([head[2] or "", *lines[begin + 1 : end]])
-            for text in {make(body, lemmas, name): None for make in (facts_of, names_of)}:
+            for text in shorter_texts(body, lemmas, lines, lemma):
                 new = laid_out(head[1], text, indent(lines[begin]), end - begin)
                 if new:
                     yield begin, end, new
@@ -234,7 +293,7 @@ def blocks(lines, lemma, lemmas):
             if end - begin < 2 or not head or is_let and tail != " in" and lines[end : end + 1] != [" " * depth + "in"]:
                 continue
             body = "\n".join([lines[begin][head.end() :], *lines[begin + 1 : end]])
-            for text in {make(body.removesuffix(tail), lemmas, name): None for make in (facts_of, names_of)}:
+            for text in shorter_texts(body.removesuffix(tail), lemmas, lines, lemma):
                 new = laid_out(head[0], text + tail, depth, end - begin)
                 if new:
                     yield begin, end, new
