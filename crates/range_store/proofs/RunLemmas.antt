@@ -61,8 +61,7 @@ without_at from n p s (x ∷ xs) h post runs low high =
     rw (leaves_before p s x runs.1 (omega (arith, far.1.0))) (ap (λ r. x ∷ r) (without_at (hole_end x + 1) n p s xs h post runs.3 low high))
 
 hole_runs : (from to n : ℕ) (post : List Hole) → from ≤ to → to ≤ n → AreRuns (to + 1) n post → AreRuns from n (hole_of from to ++ post)
-hole_runs from to n post ord le runs =
-    grind (arith, cases_lt from to, earlier (to + 1) (from + (to - from) + 1) n post runs (omega arith), earlier (to + 1) from n post runs (omega arith), hole_some, hole_none)
+hole_runs from to n post ord le runs = grind (arith, cases_lt, earlier, hole_some, hole_none)
 
 pub rest_runs : (from n p s : ℕ) (h : Hole) (post : List Hole) → AreRuns from n (h ∷ post) → 0 < s → h.place ≤ p → p + s ≤ hole_end h → AreRuns from n (rest_of p s h ++ post)
 rest_runs from n p s h post runs some low high = grind (arith, append_assoc (hole_of h.place p) (hole_of (p + s) (hole_end h)) post, hole_runs (p + s) (hole_end h) n post high runs.2 runs.3, earlier)
@@ -82,9 +81,7 @@ least_multiple x y q m some even near from aligned = grind (arith, cases_lt q m,
 
 pub runs_without : (from n p s : ℕ) (pre : List Hole) (h : Hole) (post : List Hole) → AreRuns from n (pre ++ h ∷ post) → 0 < s → h.place ≤ p → p + s ≤ hole_end h
     → AreRuns from n (pre ++ (rest_of p s h ++ post))
-runs_without from n p s pre h post runs some low high =
-    let parts = runs_split from n pre (h ∷ post) runs in
-    runs_join from n pre (rest_of p s h ++ post) parts.0 (rest_runs (next from pre) n p s h post parts.1 some low high)
+runs_without from n p s pre h post runs some low high = grind (arith, runs_split, runs_join, rest_runs)
 
 multiple : (x y : ℕ) → 0 < y → ((x + (y - x % y) % y) % y ≡ 0) × (x + (y - x % y) % y < x + y)
 multiple x y some =
@@ -166,18 +163,11 @@ module _ (xs : List Hole) (i p s : ℕ) (h : Hole) (inside : i < length xs) (low
 -- the element that was read is the hole in which the range fits
 pub read_hole : (xs : List Hole) (i p s : ℕ) (r : Hole) → FitsAt xs i p s → r ≡ get_or xs i r
     → (r.place ≤ p) × (p + s ≤ hole_end r) × (hole_end r ≤ 4294967296) × ((h : Hole) → slice_get xs i ≡ Some h → r ≡ h)
-read_hole xs i p s r f is =
-    let same : (h : Hole) → slice_get xs i ≡ Some h → r ≡ h = λ h e. is ∙ (got xs i h r e).0 in
-    let facts = has_facts p s f.hole f.fits in
-    subst (λ (z : Hole). (z.place ≤ p) × (p + s ≤ hole_end z) × (hole_end z ≤ 4294967296) × ((h : Hole) → slice_get xs i ≡ Some h → z ≡ h))
-    (sym (same f.hole f.is))
-    (facts.0, facts.1, f.below, λ h e. sym (same f.hole f.is) ∙ same h e)
+read_hole xs i p s r f is = grind (arith, slice_get, got, has_facts)
 
 pub fits_any : (xs : List Hole) (i : ℕ) (h : Hole) (size place : ℕ) → slice_get xs i ≡ Some h → has_range place size h ≡ true → is_hole_range xs place size ≡ true
 fits_any [] i h size place is fits = cc
-fits_any (x ∷ xs) zero h size place is fits =
-    let e : x ≡ h = cc in
-    let t : has_range place size x ≡ true = ap (has_range place size) e ∙ fits in rw t refl
+fits_any (x ∷ xs) zero h size place is fits = grind arith
 fits_any (x ∷ xs) (suc i) h size place is fits = let rest = fits_any xs i h size place is fits in or_right (has_range place size x) _ rest
 
 -- a range in one of these holes begins no earlier than they do
@@ -210,10 +200,7 @@ free_hole : (a b k : ℕ) → is_free (hole_of a b) k ≡ (leb a k && ltb k b)
 free_hole a b k = grind (arith, cases_lt a b, nat_tests, hole_some, hole_none)
 
 free_rest : (p s : ℕ) (h : Hole) (k : ℕ) → is_free (rest_of p s h) k ≡ (has_range k 1 h && not (in_range p s k))
-free_rest p s h k =
-    list_any-append (has_range k 1) (hole_of h.place (min (hole_end h) p)) (hole_of (max h.place (p + s)) (hole_end h))
-    ∙ ap₂ (λ a b. a || b) (free_hole h.place (min (hole_end h) p) k) (free_hole (max h.place (p + s)) (hole_end h) k)
-    ∙ grind (arith, nat_tests)
+free_rest p s h k = grind (arith, list_any-append, free_hole, nat_tests)
 
 spread : (a b n : Bool) → ((a && n) || (b && n)) ≡ ((a || b) && n)
 spread true b true = refl

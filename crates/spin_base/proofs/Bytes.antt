@@ -57,8 +57,7 @@ pub loses_too_many : (a b c : Option (List ℕ)) (g buffer : List ℕ) (n limit 
 loses_too_many a b c g buffer n limit first second within past = grind (arith, length-append g (take n buffer), length-take-le n buffer within, gives_then a b c g (take n buffer) first second)
 
 pub gives_too_many : (a b c : Option (List ℕ)) (g buffer : List ℕ) (n limit : ℕ) → GivesFirst a g b → GivesFirst b (take n buffer) c → n ≤ length buffer → limit - length g < n → HasMoreThan limit a
-gives_too_many a b c g buffer n limit first second within past =
-    let lost = loses_too_many a b c g buffer n limit first second within past in gives_more a c lost.0 limit lost.1 lost.2
+gives_too_many a b c g buffer n limit first second within past = grind (arith, loses_too_many, gives_more)
 
 -- one read that stays within the limit
 pub loses_few : (a b c : Option (List ℕ)) (g buffer : List ℕ) (n limit : ℕ) → GivesFirst a g b → GivesFirst b (take n buffer) c → n ≤ length buffer → length g + n ≤ limit → LosesAtMost limit a c

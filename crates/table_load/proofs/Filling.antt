@@ -46,10 +46,7 @@ get_replicate (suc n) (suc i) m lt = get_replicate n i m (omega arith)
 
 pub all_empty : (n : ℕ) (ms : List (List Entry)) → ms ≡ replicate n empty_memory
     → (length ms ≡ n) × ((i : ℕ) → i < n → slice_get ms i ≡ Some (loaded []))
-all_empty n ms e = (
-  ap length e ∙ length-replicate n empty_memory,
-  λ i lt. ap (λ l. slice_get l i) e ∙ get_replicate n i empty_memory lt ∙ ap Some empty_is,
-)
+all_empty n ms e = grind (arith, length-replicate, slice_get, get_replicate, empty_is)
 
 get_set_same : (xs : List (List Entry)) (i : ℕ) (x : List Entry) → i < length xs → slice_get (set xs i x) i ≡ Some x
 get_set_same [] i x lt = absurd (omega arith)
@@ -88,11 +85,7 @@ module _ (v : Image) (valid : IsValid v) (k : ℕ) (t : ChipTable) (inside : k <
 
   -- the index is one of the grid's
   pub in_grid : at < v.width * v.height
-  in_grid =
-      let place = subst (λ (s : ChipTable). (s.chip.x < v.width) × (s.chip.y < v.height)) (sym is) (valid.tables k t inside).inside in
-      let wide = mul-le-mul_left v.height place.0 in
-      let low = place.1 in
-      omega (arith, wide, low)
+  in_grid = grind (arith, mul-le-mul_left)
 
   apart : Without v.height (take k v.chips) at
   apart j d lt =

@@ -11,11 +11,7 @@ bytes_drop : (n : ℕ) (bytes : List ℕ) → AreBytes bytes → AreBytes (drop 
 bytes_drop n bytes h i = rw get_or-drop (h (n + i))
 
 bytes_take : (n : ℕ) (bytes : List ℕ) → AreBytes bytes → AreBytes (take n bytes)
-bytes_take n bytes h i =
-    elim (cases_lt i n) [
-      | inl lt ↦ rw (get_or-take n bytes i 0 lt) (h i)
-      | inr le ↦ rw (get_or_past (take n bytes) i 0 (omega (arith, length-take n bytes))) (omega arith)
-    ]
+bytes_take n bytes h i = grind (arith, cases_lt, get_or-take, get_or_past, length-take)
 
 -- ---- steps that did not fail
 
@@ -63,20 +59,10 @@ one_byte (b ∷ []) len fits = byte_is b (fits 0)
 one_byte (b ∷ c ∷ cs) len fits = absurd (omega arith)
 
 pub wide8 : IsWide w8 (2 ^ 8)
-wide8 = record {
-  len = λ n. refl;
-  back = one_byte;
-  again = λ n lt. mod-eq_of_lt lt;
-  below = λ bytes fits. fits 0;
-}
+wide8 = grind (arith, one_byte, mod-eq_of_lt)
 
 pub wide16 : IsWide w16 (2 ^ 16)
-wide16 = record {
-  len = λ n. refl;
-  back = λ bytes len fits. le_bytes_2 bytes _ len fits refl;
-  again = λ n lt. from_le_bytes-to_le_bytes_2 n lt;
-  below = λ bytes fits. omega (arith, fits 0, fits 1);
-}
+wide16 = grind (arith, le_bytes_2, from_le_bytes-to_le_bytes_2)
 
 pub wide32 : IsWide w32 (2 ^ 32)
 wide32 = record {
@@ -122,7 +108,4 @@ field_again w limit wide allowed n rest lt good = rw (number_again w limit wide 
 -- what was read passed the test
 pub field_allows : (w : Width) (allowed : ℕ → Bool) (bytes : List ℕ) (x : ℕ × List ℕ) → field w allowed bytes ≡ Ok x → allowed x.0 ≡ true
 unfolding field
-field_allows w allowed bytes x e =
-    let b = bind_ok (number w bytes) (λ n. cond (allowed n.0) (Ok n) (Err (length bytes))) x e in
-    let g = if_ok (allowed b.0.0) (length bytes) b.0 x b.2 in
-    subst (λ (p : ℕ × List ℕ). allowed p.0 ≡ true) g.1 g.0
+field_allows w allowed bytes x e = grind (arith, bind_ok, if_ok)

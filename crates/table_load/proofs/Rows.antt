@@ -94,8 +94,7 @@ row_again e rest row =
 
 pub rows_take : (n : ℕ) (bytes : List ℕ) (x : List Entry × List ℕ) → AreBytes bytes → read_rows n bytes ≡ Ok x → Takes bytes (flat_map row_bytes x.0) x.1 × (length x.0 ≡ n) × AllByRecursion IsRow x.0
 unfolding read_rows
-rows_take zero bytes x fits e =
-    subst (λ (y : List Entry × List ℕ). Takes bytes (flat_map row_bytes y.0) y.1 × (length y.0 ≡ 0) × AllByRecursion IsRow y.0) (ok_is ([], bytes) x e) (record { parts = refl; rest_fits = fits }, refl, tt)
+rows_take zero bytes x fits e = grind (arith, Takes, ok_is)
 rows_take (suc n) bytes x fits e =
     let a = bind_ok (read_row bytes) (λ first. read_rows n first.1 >>= λ others. Ok (first.0 ∷ others.0, others.1)) x e in
     let b = bind_ok (read_rows n a.0.1) (λ others. Ok (a.0.0 ∷ others.0, others.1)) x a.2 in
@@ -141,7 +140,4 @@ ends (stops.Left n) front count i bytes total lt h so_far =
 
 pub is_done : (front : List Entry) (count i : ℕ) (bytes : List ℕ) (total : Result (List Entry × List ℕ) ℕ) → count ≤ i → with_front front (read_rows (count - i) bytes) ≡ total → total ≡ Ok (front, bytes)
 unfolding read_rows
-is_done front count i bytes total le so_far =
-    let k : count - i ≡ 0 = omega arith in
-    let one : with_front front (read_rows (count - i) bytes) ≡ Ok (front, bytes) = rw k (ap (λ (es : List Entry). Ok (es, bytes)) (append-nil front)) in
-    sym so_far ∙ one
+is_done front count i bytes total le so_far = grind (arith, append-nil)

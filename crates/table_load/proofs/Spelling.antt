@@ -1,12 +1,9 @@
 -- One item more is spelled.
+use Rattle.std.proofs.Common.{arith}
 use Rattle.std.proofs.Common.{◌≡◌, ℕ, List, [], ◌∷◌, ◌++◌, append_assoc, ap, sym, ◌∙◌}
 use Rattle.std.specs.List.{flat_map}
 use Rattle.std.proofs.lemmas.List.{flat_map_more}
 
 pub spelled_more : {X : Type 0} (f : X → List ℕ) (old pre : List ℕ) (xs ys : List X) (x : X) (bytes new : List ℕ)
     → bytes ≡ old ++ (pre ++ flat_map f xs) → new ≡ bytes ++ f x → ys ≡ xs ++ x ∷ [] → new ≡ old ++ (pre ++ flat_map f ys)
-spelled_more f old pre xs ys x bytes new before step more =
-    step
-    ∙ ap (λ b. b ++ f x) before
-    ∙ append_assoc old (pre ++ flat_map f xs) (f x)
-    ∙ ap (λ b. old ++ b) (flat_map_more f pre xs x ∙ ap (λ l. pre ++ flat_map f l) (sym more))
+spelled_more f old pre xs ys x bytes new before step more = grind (arith, append_assoc, flat_map_more)

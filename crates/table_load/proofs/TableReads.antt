@@ -14,11 +14,7 @@ use Rattle.table_load.proofs.Rows.{between_is, between_from, rows_take, rows_aga
 -- ---- the order of chips
 
 after_is : (b c : Chip) → comes_after (Some b) c ≡ true → IsChipBefore b c
-after_is b c e =
-    elim (or_cases (ltb b.x c.x) (eqb b.x c.x && ltb b.y c.y) e) [
-      | inl less ↦ inl (ltb-true _ _ less)
-      | inr same ↦ let p = and_parts (eqb b.x c.x) (ltb b.y c.y) same in inr (eqb-true _ _ p.0, ltb-true _ _ p.1)
-    ]
+after_is b c e = grind (arith, or_cases, ltb-true, and_parts, eqb-true)
 
 after_from : (b c : Chip) → IsChipBefore b c → comes_after (Some b) c ≡ true
 after_from b c (inl less) = or_left (ltb b.x c.x) (eqb b.x c.x && ltb b.y c.y) (lt-ltb _ _ less)
@@ -157,8 +153,7 @@ AreTablesRead w h n before bytes x =
 
 pub tables_take : (w h n : ℕ) (before : Option Chip) (bytes : List ℕ) (x : List ChipTable × List ℕ) → AreBytes bytes → read_tables w h n before bytes ≡ Ok x → AreTablesRead w h n before bytes x
 unfolding read_tables
-tables_take w h zero before bytes x fits e =
-    subst (AreTablesRead w h 0 before bytes) (ok_is ([], bytes) x e) (record { parts = refl; rest_fits = fits }, refl, tt, tt)
+tables_take w h zero before bytes x fits e = grind (arith, ok_is)
 tables_take w h (suc n) before bytes x fits e =
     let a = bind_ok (read_table w h before bytes) (λ first. read_tables w h n (Some first.0.chip) first.1 >>= λ others. Ok (first.0 ∷ others.0, others.1)) x e in
     let b = bind_ok (read_tables w h n (Some a.0.0.chip) a.0.1) (λ others. Ok (a.0.0 ∷ others.0, others.1)) x a.2 in
@@ -203,10 +198,7 @@ module _ (w h : ℕ) (front : List ChipTable) (count i : ℕ) (before : Option C
 
   left : (n : ℕ) → i < count → read_table w h before bytes ≡ Err n → total ≡ Err n
   unfolding read_tables
-  left n lt read =
-      let k : count - i ≡ suc (count - (i + 1)) = omega arith in
-      let one : with_front front (read_tables w h (count - i) before bytes) ≡ Err n = rw (k, read) refl in
-      sym so_far ∙ one
+  left n lt read = grind arith
 
   pub ends : (s : Stop) → i < count → StopsAt s (read_table w h before bytes) → StopsAt s total
   ends stops.Memory lt read = tt
@@ -214,7 +206,4 @@ module _ (w h : ℕ) (front : List ChipTable) (count i : ℕ) (before : Option C
 
   pub is_done : count ≤ i → total ≡ Ok (front, bytes)
   unfolding read_tables
-  is_done le =
-      let k : count - i ≡ 0 = omega arith in
-      let one : with_front front (read_tables w h (count - i) before bytes) ≡ Ok (front, bytes) = rw k (ap (λ (ts : List ChipTable). Ok (ts, bytes)) (append-nil front)) in
-      sym so_far ∙ one
+  is_done le = grind (arith, append-nil)

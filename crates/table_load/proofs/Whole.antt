@@ -70,10 +70,7 @@ abbrev three : ℕ → ℕ → ℕ → List ℕ
 three w h wrap = 0x53 ∷ 0x50 ∷ 0x4e ∷ 0x54 ∷ 1 ∷ w ∷ h ∷ wrap ∷ []
 
 head_is : (w h wrap : ℕ) → w < 256 → h < 256 → wrap < 256 → head letters 1 w h wrap ≡ plain_head w h wrap
-head_is w h wrap p q r =
-    ap (λ (x : ℕ). three x (h % 256) (wrap % 256)) (mod-eq_of_lt p)
-    ∙ ap (λ (x : ℕ). three w x (wrap % 256)) (mod-eq_of_lt q)
-    ∙ ap (λ (x : ℕ). three w h x) (mod-eq_of_lt r)
+head_is w h wrap p q r = grind (arith, mod-eq_of_lt)
 
 head_of : (l version w h wrap : ℕ) → l ≡ letters → version ≡ 1 → w < 256 → h < 256 → wrap < 256 → head l version w h wrap ≡ plain_head w h wrap
 head_of l version w h wrap e f p q r = ap (λ (x : ℕ). head x version w h wrap) e ∙ ap (λ (x : ℕ). head letters x w h wrap) f ∙ head_is w h wrap p q r

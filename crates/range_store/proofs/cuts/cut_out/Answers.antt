@@ -4,9 +4,7 @@ use Rattle.range_store.proofs.RunLemmas.{read_hole, cut_none, cut_left, cut_righ
 use Rattle.range_store.proofs.cuts.cut_out.Goals as goal
 
 pub overflow_add-after : goal.overflow_add-after
-overflow_add-after c =
-    let h = read_hole _ c.args.at c.args.place c.args.size c.index-hole.result.now c.requires c.index-hole.ensures in
-    record { fits = omega (arith, h.1, h.2) }
+overflow_add-after c = grind (arith, read_hole)
 
 pub overflow_sub-left : goal.overflow_sub-left
 overflow_sub-left c =

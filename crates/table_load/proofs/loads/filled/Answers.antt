@@ -3,10 +3,7 @@ use Rattle.table_load.proofs.Filling.{rows_more, rows_loaded}
 use Rattle.table_load.proofs.loads.filled.Goals as goal
 
 pub loop-at-init : goal.loop-at-init
-loop-at-init c = record {
-  entries = c.new-roomy.ensures.entries ∙ c.empty.ensures.all_unused;
-  room = c.new-roomy.ensures.room ∙ c.in_ok-room.ensures;
-}
+loop-at-init c = grind arith
 
 pub set-requires : goal.set-requires
 set-requires c = omega (arith, c.loop-at-test.true, c.loop-at.invariant.room)
@@ -18,6 +15,4 @@ loop-at-preserved c = record {
 }
 
 pub returns : goal.returns
-returns c =
-    c.into_memory.ensures
-    ∙ rows_loaded c.args.rows.now _ c.loop-at.at (omega (arith, c.loop-at-test.false, c.loop-at.auto.at-end)) c.loop-at.invariant.entries
+returns c = grind (arith, rows_loaded)

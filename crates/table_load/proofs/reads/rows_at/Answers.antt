@@ -1,12 +1,11 @@
+use Rattle.std.proofs.Common.{arith}
 use Rattle.std.proofs.lemmas.Result.{err_from_is_err_and}
 use Rattle.table_load.specs.Reading.{read_rows}
 use Rattle.table_load.proofs.Rows.{goes_on, ends, is_done}
 use Rattle.table_load.proofs.reads.rows_at.Goals as goal
 
 pub returns-in_err-row : goal.returns-in_err-row
-returns-in_err-row c =
-    let p = err_from_is_err_and c.from_residual-in_err-row.result c.from_residual-in_err-row.ensures.1 in
-    rw (p.1, p.2) (ends c.in_err-row.field-0.0 c.loop.rows.items c.args.count c.loop.counter c.loop.rest.now (read_rows c.args.count c.args.bytes.now) c.loop-test.true c.in_err-row.ensures c.loop.invariant)
+returns-in_err-row c = grind (arith, err_from_is_err_and, ends)
 
 pub loop-preserved : goal.loop-preserved
 loop-preserved c =

@@ -1,3 +1,4 @@
+use Rattle.std.proofs.Common.{arith}
 use Rattle.std.proofs.Common.{None}
 use Rattle.std.proofs.lemmas.Result.{err_from_is_err_and}
 use Rattle.table_load.specs.Reading.{read_tables}
@@ -5,10 +6,7 @@ use Rattle.table_load.proofs.TableReads.{goes_on, ends, is_done}
 use Rattle.table_load.proofs.reads.tables_at.Goals as goal
 
 pub returns-in_err-table : goal.returns-in_err-table
-returns-in_err-table c =
-    let p = err_from_is_err_and c.from_residual-in_err-table.result c.from_residual-in_err-table.ensures.1 in
-    rw (p.1, p.2) (ends c.args.width c.args.height c.loop.tables.items c.args.count c.loop.counter c.loop.before c.loop.rest.now (read_tables c.args.width c.args.height c.args.count None c.args.bytes.now)
-    c.loop.invariant c.in_err-table.field-0.0 c.loop-test.true c.in_err-table.ensures)
+returns-in_err-table c = grind (arith, err_from_is_err_and, ends)
 
 pub loop-preserved : goal.loop-preserved
 loop-preserved c =

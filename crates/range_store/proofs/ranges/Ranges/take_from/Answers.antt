@@ -4,10 +4,7 @@ use Rattle.range_store.proofs.RunLemmas.{widen, cut_is}
 use Rattle.range_store.proofs.ranges.Ranges.take_from.Goals as goal
 
 pub invariant_of-holes : goal.invariant_of-holes
-invariant_of-holes c = record {
-  runs = subst (AreRuns 0 4294967296) (sym c.as_slice.ensures.value)
-      (widen 0 c.self.inside.size 4294967296 c.self.inside.holes.items c.self.invariant.1 c.self.invariant.0);
-}
+invariant_of-holes c = grind (arith, widen)
 
 pub invariant_of-self-2 : goal.invariant_of-self-2
 invariant_of-self-2 c = (c.self.invariant.0, (cut_is c.self.invariant.1 c.requires.some c.as_slice.ensures.value c.in-Some.ensures.at c.in_ok-cut_out.ensures.ok).runs)

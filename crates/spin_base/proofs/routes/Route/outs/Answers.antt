@@ -14,12 +14,7 @@ pub loop-left-smaller : goal.loop-left-smaller
 loop-left-smaller c = less_is_less c.loop-left.left c.loop-left.invariant.fits c.loop-left-test.true
 
 pub loop-left-preserved : goal.loop-left-preserved
-loop-left-preserved c = record {
-  found =
-      rw c.push.ensures.items
-      (one_more c.loop-left.left c.loop-left.invariant.fits c.loop-left-test.true c.args.self c.loop-left.outs.items c.loop-left.invariant.found c.of_bit.result c.of_bit.ensures.number);
-  fits = less_fits c.loop-left.left c.loop-left.invariant.fits c.loop-left-test.true;
-}
+loop-left-preserved c = grind (arith, one_more, less_fits)
 
 pub loop-left-init : goal.loop-left-init
 loop-left-init c = record { found = ap (λ l. l ++ outs_in c.args.self.bits all_outs) c.new-outs.ensures; fits = c.args.self.within }
