@@ -51,19 +51,6 @@ module _ (m : Description) (root : Chip) (edges : List Edge) (targets : List Chi
   pub edge_lives : (e : Edge) → Contains edges e → (c : Chip) × (end_of m e ≡ Some c) × IsLiveChip m e.chip × IsLiveChip m c
   edge_lives e has = live_ends m e.chip e.dir (All-contains (λ (f : Edge). IsLiveLink m f.chip f.dir) edges e tree.edges_live has)
 
-  -- each chip of the tree but the root is live, and where there are edges the root is, too
-  pub chip_lives : IsLiveChip m root → (c : Chip) → IsTreeChip m root edges c → IsLiveChip m c
-  chip_lives root_lives c on = elim (tree_cases m root edges c on) [
-    | inl at ↦ subst (λ (x : Chip). IsLiveChip m x) (sym at) root_lives
-    | inr into ↦
-        let ends = edge_lives into.0 into.1 in
-        let is : ends.0 ≡ c = same_some (sym ends.1 ∙ into.2) in
-        subst (λ (x : Chip). IsLiveChip m x) is ends.3
-  ]
-    where
-      same_some : {a b : Chip} → Some a ≡ Some b → a ≡ b
-      same_some e = cc
-
   pub root_lives_with_edge : (e : Edge) → Contains edges e → IsLiveChip m root
   root_lives_with_edge e has =
       let path = tree.reached e.chip (All-contains (λ (f : Edge). IsTreeChip m root edges f.chip) edges e tree.edges_begin has) in

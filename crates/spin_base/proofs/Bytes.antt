@@ -24,11 +24,6 @@ gives_more (Some x) (Some y) g limit gives more = omega (arith, ap length gives,
 gives_more (Some x) None g limit gives more = absurd gives
 gives_more None b g limit gives more = tt
 
--- before the first write nothing was taken
-pub takes_nothing : (a : Option (List ℕ)) → Takes a [] a
-takes_nothing (Some bytes) = sym (append-nil bytes)
-takes_nothing None = tt
-
 -- what two writes take is taken in order
 pub takes_then : (a b c : Option (List ℕ)) (g h : List ℕ) → Takes a g b → Takes b h c → Takes a (g ++ h) c
 takes_then (Some x) (Some y) (Some z) g h first second = second ∙ ap (λ v. v ++ h) first ∙ append_assoc x g h

@@ -142,14 +142,6 @@ zip-first_at (x ∷ xs) [] i p e = cc
 zip-first_at {X} {Y} (x ∷ xs) (y ∷ ys) zero p e = let same : (x, y) ≡ p = cc in ap {B = Option X} (λ (q : X × Y). Some q.0) same
 zip-first_at (x ∷ xs) (y ∷ ys) (suc i) p e = zip-first_at xs ys i p e
 
--- an item of the first list is the first of a pair, where the second list is as long
-pub zip-at_first : {X Y : Type 0} (xs : List X) (ys : List Y) (i : ℕ) (x : X) → length ys ≡ length xs → slice_get xs i ≡ Some x →
-    (y : Y) × (slice_get (zip xs ys) i ≡ Some (x, y))
-zip-at_first [] ys i x long at = cc
-zip-at_first (z ∷ xs) [] i x long at = absurd (omega (arith, long))
-zip-at_first {X} {Y} (z ∷ xs) (y ∷ ys) zero x long at = let same : z ≡ x = cc in (y, ap {B = Option (X × Y)} (λ w. Some (w, y)) same)
-zip-at_first (z ∷ xs) (y ∷ ys) (suc i) x long at = zip-at_first xs ys i x (omega (arith, long)) at
-
 -- ---- items with their numbers
 
 pub enumerate_more : {X : Type 0} (n : ℕ) (xs : List X) (i j : ℕ) (x : X) → slice_get xs i ≡ Some x → n + i ≡ j →

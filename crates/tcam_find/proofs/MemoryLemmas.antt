@@ -197,10 +197,6 @@ unfolding empty_memory
 empty_is [] is = refl
 empty_is (g ∷ gs) is = cc
 
--- nothing need be in common where no group is behind the first
-pub common_few : (gs : List Group) (common values : List ℕ) → length gs ≤ 1 → HaveInCommon gs common values
-common_few gs common values few i key x behind got miss = absurd (omega (arith, few, behind, slice_get_within gs i x got))
-
 -- an entry behind the groups
 pub get_behind_groups : (gs : List Group) (k : ℕ) → length gs ≤ k / 8 → k < 1024 → slice_get (entries_held gs) k ≡ Some unused
 get_behind_groups gs k behind below =
