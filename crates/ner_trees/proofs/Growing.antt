@@ -107,24 +107,7 @@ module _ (m : Description) (on : List Bool) (chips : List Chip) (d : Chip) (d_in
 -- the table that has the root alone
 pub root_tells : (m : Description) (root : Chip) (on : List Bool) (i : ℕ) → IsInside m root → on ≡ replicate (m.width * m.height) false → i ≡ index_of m root →
     TellsTree m root (set on i true) []
-root_tells m root on i root_in is at = λ c c_in. elim (cases_eq (index_of m c) i) [
-  | inl same ↦
-      let one : c ≡ root = same_index m c root c_in root_in (same ∙ at) in
-      let long : length on ≡ m.width * m.height = ap length is ∙ length-replicate (m.width * m.height) false in
-      let below : i < length on = (let b : index_of m root < m.width * m.height = index_below m root root_in in omega arith) in
-      (λ _. inl one, λ _. ap (λ k. get_or (set on i true) k false) same ∙ get_or-set_same on i true false below)
-  | inr other ↦ (
-    λ has.
-        let below : index_of m c < m.width * m.height = index_below m c c_in in
-        let none : is_on m (set on i true) c ≡ false =
-        get_or-set_other on i (index_of m c) true false other ∙ (ap (λ l. get_or l (index_of m c) false) is ∙ get_or-replicate (m.width * m.height) (index_of m c) false false below) in
-        absurd (true≢false (sym has ∙ none)),
-    λ there. elim (tree_cases m root [] c there) [
-      | inl one ↦ absurd (other (ap (index_of m) one ∙ sym at))
-      | inr into ↦ absurd (let none : into.1.0 < 0 = into.1.1 in omega arith)
-    ],
-  )
-]
+root_tells m root on i root_in is at = grind (arith, cases_eq, same_index, length-replicate, index_below, get_or, get_or-set_same, get_or-set_other, get_or-replicate, true≢false, tree_cases)
 
 -- edges to which others may have been added begin inside where both do
 pub extended_inside : (m : Description) (b : Bool) (old links new : List Edge) → new ≡ (if b then old ++ links else old) →

@@ -46,18 +46,7 @@ z_of d = neg_ℤ (median d.a d.b (pos 0))
 pub ldf_weighs : (w : Dir → ℕ) (d : Disp) → sum_by w (ldf_of d) ≡
     (forth (x_of d) * w East + back (x_of d) * w West) + ((forth (y_of d) * w North + back (y_of d) * w South) + (forth (z_of d) * w SouthWest + back (z_of d) * w NorthEast))
 unfolding ldf_of
-ldf_weighs w d =
-    let x : Run = link_run_of East (x_of d) in
-    let y : Run = link_run_of North (y_of d) in
-    let z : Run = link_run_of SouthWest (z_of d) in
-    let first : sum_by w (flat_map run_links (longest_first (x ∷ y ∷ z ∷ []))) ≡ sum_by w (flat_map run_links (x ∷ y ∷ z ∷ [])) = sum-longest_first w (x ∷ y ∷ z ∷ []) in
-    let one : sum_by w (flat_map run_links (x ∷ y ∷ z ∷ [])) ≡ sum_by w (run_links x) + sum_by w (flat_map run_links (y ∷ z ∷ [])) = sum_by-append w (run_links x) (flat_map run_links (y ∷ z ∷ [])) in
-    let two : sum_by w (flat_map run_links (y ∷ z ∷ [])) ≡ sum_by w (run_links y) + sum_by w (flat_map run_links (z ∷ [])) = sum_by-append w (run_links y) (flat_map run_links (z ∷ [])) in
-    let three : sum_by w (flat_map run_links (z ∷ [])) ≡ sum_by w (run_links z) + sum_by w [] = sum_by-append w (run_links z) [] in
-    let at_x : sum_by w (run_links x) ≡ forth (x_of d) * w East + back (x_of d) * w West = run_weighs w East (x_of d) in
-    let at_y : sum_by w (run_links y) ≡ forth (y_of d) * w North + back (y_of d) * w South = run_weighs w North (y_of d) in
-    let at_z : sum_by w (run_links z) ≡ forth (z_of d) * w SouthWest + back (z_of d) * w NorthEast = run_weighs w SouthWest (z_of d) in
-    omega arith
+ldf_weighs w d = grind (arith, sum-longest_first, sum_by-append, run_weighs)
 
 -- what is above and below 0 of a difference
 less_parts : (z : ℤ) (m n : ℕ) → z ≡ pos m -ℤ pos n → (forth z ≡ m - n) × (back z ≡ n - m)

@@ -23,14 +23,7 @@ third_digit x y d n is x_few y_few d_few = omega (arith, is, x_few, y_few, d_few
 
 -- an edge has its number alone
 pub edge_back : (e : Edge) (n : ℕ) → e.chip.x < 256 → e.chip.y < 256 → n ≡ edge_number e → edge_numbered n ≡ e
-edge_back e n x_few y_few is =
-    let d_few : dir_number e.dir < 6 = below_six e.dir in
-    let few : dir_number e.dir < 256 = omega (arith, d_few) in
-    let x : n / 65536 % 256 ≡ e.chip.x = third_digit e.chip.x e.chip.y (dir_number e.dir) n is x_few y_few few in
-    let y : n / 256 % 256 ≡ e.chip.y = second_digit e.chip.x e.chip.y (dir_number e.dir) n is y_few few in
-    let high : n ≡ (e.chip.x * 256 + e.chip.y) * 256 + dir_number e.dir = omega (arith, is) in
-    let d : dir_at (n % 256) ≡ e.dir = ap dir_at (low_digit _ (dir_number e.dir) n high few) ∙ dir_at-dir_number e.dir in
-    λ i. record { chip = record { x = x i; y = y i }; dir = d i }
+edge_back e n x_few y_few is = grind (arith, below_six, third_digit, second_digit, low_digit, dir_at-dir_number)
 
 -- of an edge that comes before another the number is less
 number_rises : (e f : Edge) → e.chip.y < 256 → IsEdgeBefore e f → edge_number e < edge_number f

@@ -48,8 +48,7 @@ torus_steps w h a b za zb zx zy r s t ea eb ex ey er es et = rw (et, es, er, ea,
 pub displaced_on_torus : (m : Description) (p q : Chip) (w h x y : ℕ) (r : Disp) → m.wrap ≡ true → w ≡ m.width → h ≡ m.height → x ≡ ahead_by w p.x q.x →
     y ≡ ahead_by h p.y q.y → r ≡ on_torus w h x y → r ≡ displacement_of m p q
 unfolding displacement_of
-displaced_on_torus m p q w h x y r wraps ew eh ex ey er =
-    grind (arith, cond-true m.wrap (on_torus m.width m.height (ahead_by m.width p.x q.x) (ahead_by m.height p.y q.y)) (disp (pos q.x -ℤ pos p.x) (pos q.y -ℤ pos p.y)) wraps)
+displaced_on_torus m p q w h x y r wraps ew eh ex ey er = grind (arith, cond-true)
 
 pub distant_on_torus : (m : Description) (p q : Chip) (w h x y r : ℕ) → m.wrap ≡ true → w ≡ m.width → h ≡ m.height → x ≡ ahead_by w p.x q.x →
     y ≡ ahead_by h p.y q.y → r ≡ length_of (on_torus w h x y) → r ≡ distance_of m p q
@@ -58,9 +57,7 @@ distant_on_torus m p q w h x y r wraps ew eh ex ey er = grind (arith, displaced_
 pub displaced_on_grid : (m : Description) (p q : Chip) (a b : ℤ) → m.wrap ≡ false → a ≡ pos q.x -ℤ pos p.x → b ≡ pos q.y -ℤ pos p.y →
     disp a b ≡ displacement_of m p q
 unfolding displacement_of
-displaced_on_grid m p q a b opens ea eb =
-    ap (λ k. disp k b) ea ∙ (ap (λ k. disp (pos q.x -ℤ pos p.x) k) eb
-    ∙ sym (cond-false m.wrap (on_torus m.width m.height (ahead_by m.width p.x q.x) (ahead_by m.height p.y q.y)) (disp (pos q.x -ℤ pos p.x) (pos q.y -ℤ pos p.y)) opens))
+displaced_on_grid m p q a b opens ea eb = grind (arith, cond-false)
 
 -- the runs of a displacement, from what is above and below 0
 pub runs_steps : (d : Disp) (a b : ℤ) (x y z : Run) (east west north south north_east south_west : ℕ) → a ≡ d.a → b ≡ d.b →

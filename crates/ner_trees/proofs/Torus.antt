@@ -22,32 +22,10 @@ heavier : (l k a b c d : ℕ) → a ≤ 64 → b ≤ 64 → c ≤ 64 → d ≤ 6
 heavier l k a b c d pa pb pc pd before = omega arith
 
 before_true : (d e : Disp) → IsSmall d → IsSmall e → is_before d e ≡ true → weight d ≤ weight e
-before_true d e sd se is =
-    heavier (length_of d) (length_of e) (unsigned_abs d.a) (unsigned_abs d.b) (unsigned_abs e.a) (unsigned_abs e.b) sd.0 sd.1 se.0 se.1
-    (elim (differs_true (length_of d) (length_of e) _ is) [
-      | inl less ↦ inl less
-      | inr same ↦ elim (differs_true (unsigned_abs d.a) (unsigned_abs e.a) _ same.1) [
-        | inl less ↦ inr (same.0, inl less)
-        | inr again ↦ elim (differs_true (unsigned_abs d.b) (unsigned_abs e.b) _ again.1) [
-          | inl less ↦ inr (same.0, inr (again.0, inl less))
-          | inr third ↦ inr (same.0, inr (again.0, inr third.0))
-        ]
-      ]
-    ])
+before_true d e sd se is = grind (arith, heavier, differs_true)
 
 before_false : (d e : Disp) → IsSmall d → IsSmall e → is_before d e ≡ false → weight e ≤ weight d
-before_false d e sd se is =
-    heavier (length_of e) (length_of d) (unsigned_abs e.a) (unsigned_abs e.b) (unsigned_abs d.a) (unsigned_abs d.b) se.0 se.1 sd.0 sd.1
-    (elim (differs_false (length_of d) (length_of e) _ is) [
-      | inl less ↦ inl less
-      | inr same ↦ elim (differs_false (unsigned_abs d.a) (unsigned_abs e.a) _ same.1) [
-        | inl less ↦ inr (sym same.0, inl less)
-        | inr again ↦ elim (differs_false (unsigned_abs d.b) (unsigned_abs e.b) _ again.1) [
-          | inl less ↦ inr (sym same.0, inr (sym again.0, inl less))
-          | inr third ↦ inr (sym same.0, inr (sym again.0, inr (sym third.0)))
-        ]
-      ]
-    ])
+before_false d e sd se is = grind (arith, heavier, differs_false)
 
 -- the first of two is one of them, and neither is lighter
 pub record Least (d e r : Disp) : Type 0 where

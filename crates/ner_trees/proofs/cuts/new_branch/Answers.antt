@@ -1,3 +1,4 @@
+use Rattle.std.proofs.Common.{arith}
 use Rattle.std.proofs.Common.{false, take_all, sym, subst, ◌∙◌}
 use Rattle.ner_trees.specs.Search.{IsCutAt}
 use Rattle.ner_trees.proofs.{Cutting.at_more, Cutting.cut_again_at, Cutting.cut_more_at, cuts.new_branch.Goals.then-at, cuts.new_branch.Goals.else-at}
@@ -32,6 +33,4 @@ pub at-requires : goal.at-requires
 at-requires c = rw c.machine-machine.ensures at c.next-at.ensures.inside
 
 pub returns : goal.returns
-returns c =
-    subst (λ ds. IsCutAt c.args.near.on.now.machine.now c.args.near.on.now.items.items c.args.near.chip ds c.loop-dir.start c.loop-dir.links.items) (take_all c.loop-dir.dir-index c.args.walk.now c.loop-dir-test.false)
-    c.loop-dir.invariant.cut
+returns c = grind (arith, take_all)

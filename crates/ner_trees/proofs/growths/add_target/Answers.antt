@@ -1,3 +1,4 @@
+use Rattle.std.proofs.Common.{arith}
 use Rattle.std.proofs.Common.{◌≡◌, ◌++◌, List, true, sym, ap, refl, subst, ◌∙◌}
 use Rattle.std.specs.{Prelude.is_ok, List.All}
 use Rattle.spin_base.specs.declared.chips.Dir.{Dir}
@@ -21,33 +22,16 @@ pub invariant_of-begin : goal.invariant_of-begin
 invariant_of-begin c = let at = near (goal.at.invariant_of-begin c).After-near_chip-near in record { inside = at.0; marked = at.1 }
 
 pub invariant_of-pair : goal.invariant_of-pair
-invariant_of-pair c = record {
-  from_inside = rw c.machine.ensures (near (goal.at.invariant_of-pair c).After-near_chip-near).0;
-  to_inside = rw c.machine.ensures c.requires.target_inside;
-}
+invariant_of-pair c = grind (arith, near)
 
 pub mark-requires : goal.mark-requires
-mark-requires c =
-    subst (λ (es : List Edge). All (λ e. IsInside c.args.tree.now.on.machine.now e.chip) es) (sym c.deref-2.ensures.value) c.in_ok-start.ensures.added_inside
+mark-requires c = grind arith
 
 pub invariant_of-tree : goal.invariant_of-tree
-invariant_of-tree c =
-    let t = c.args.tree.now in
-    record { root_inside = rw c.mark.ensures.machine t.root_inside; edges_inside = rw c.mark.ensures.machine t.edges_inside }
+invariant_of-tree c = grind arith
 
 pub invariant_of-tree-2 : goal.invariant_of-tree-2
-invariant_of-tree-2 c =
-    let t = c.args.tree.now in
-    let m = t.on.machine.now in
-    let those : All (λ e. IsInside m e.chip) c.deref-3.result.now =
-    subst (λ (es : List Edge). All (λ e. IsInside m e.chip) es) (sym c.deref-3.ensures.value) c.in_ok-start.ensures.added_inside in
-    record {
-      root_inside = rw c.mark.ensures.machine t.root_inside;
-      edges_inside =
-          rw c.mark.ensures.machine
-          (extended_inside m (is_ok c.extend_from_slice.result) t.edges.items c.deref-3.result.now c.extend_from_slice.new.self.items c.extend_from_slice.ensures.items
-          t.edges_inside those);
-    }
+invariant_of-tree-2 c = grind (arith, extended_inside)
 
 pub returns : goal.returns
 returns c =

@@ -1,3 +1,4 @@
+use Rattle.std.proofs.Common.{arith}
 use Rattle.std.proofs.Common.{◌+◌, List, take, refl, sym, ◌∙◌, subst}
 use Rattle.std.specs.List.{All}
 use Rattle.spin_base.specs.declared.chips.Chip.{Chip}
@@ -7,13 +8,7 @@ use Rattle.ner_trees.proofs.Growing.{GrownSoFar, Finished, so_far_start, so_far_
 use Rattle.ner_trees.proofs.growths.ner.Goals as goal
 
 pub loop-target-init : goal.loop-target-init
-loop-target-init c = record {
-  machine = c.in_ok-tree.ensures.machine;
-  root = c.in_ok-tree.ensures.root;
-  grown =
-      so_far_start c.args.ends.machine.now c.args.ends.root c.in_ok-tree.tree.on.items.items c.in_ok-tree.tree.edges.items c.from_vec-joins.result c.in_ok-tree.ensures.on_is
-      c.in_ok-tree.ensures.edges (c.from_vec-joins.ensures ∙ c.in_ok-with_capacity.ensures.items);
-}
+loop-target-init c = grind (arith, so_far_start)
 
 pub loop-target-preserved : goal.loop-target-preserved
 loop-target-preserved c =
@@ -59,9 +54,7 @@ returns c =
     }
 
 pub add_target-requires-clause-target_inside : goal.add_target-requires-clause-target_inside
-add_target-requires-clause-target_inside c =
-    rw c.loop-target.invariant.machine
-    (subst (All (IsInside c.args.ends.machine.now)) (sym c.as_slice-target-items.ensures) c.args.ends.targets_inside c.loop-target.target-index _ c.loop-target-test.true)
+add_target-requires-clause-target_inside c = grind arith
 
 pub add_target-requires-clause-on_is : goal.add_target-requires-clause-on_is
 add_target-requires-clause-on_is c = rw (c.loop-target.invariant.machine, c.loop-target.invariant.root) c.loop-target.invariant.grown.on_is

@@ -1,3 +1,4 @@
+use Rattle.std.proofs.Common.{arith}
 use Rattle.std.proofs.Common.{◌∷◌, List, ap, min, subst, take_all, ◌∙◌}
 use Rattle.spin_base.specs.declared.chips.Chip.{Chip}
 use Rattle.machine_desc.specs.Description.{Description}
@@ -6,18 +7,13 @@ use Rattle.ner_trees.proofs.Nearest.{IsLeastOf, least_start, least_more, least_o
 use Rattle.ner_trees.proofs.searches.least_nearness.Goals as goal
 
 pub invariant_of-pair-clause-from_inside : goal.invariant_of-pair-clause-from_inside
-invariant_of-pair-clause-from_inside c =
-    let on = c.args.tree.now.on in
-    let listed : AreOn c.machine-machine.result.now on.items.items c.chips-chips.result.now = rw (c.machine-machine.ensures, c.chips-chips.ensures) on.listed in
-    (listed _ _ c.loop-chip-test.true).0
+invariant_of-pair-clause-from_inside c = grind arith
 
 pub loop-chip-init : goal.loop-chip-init
 loop-chip-init c = least_start c.machine-machine.result.now c.args.tree.now.root c.args.target c.nearness-least.result c.nearness-least.ensures
 
 pub loop-chip-preserved : goal.loop-chip-preserved
-loop-chip-preserved c =
-    least_more c.machine-machine.result.now c.args.tree.now.root c.args.target c.chips-chips.result.now c.loop-chip.chip-index _ c.loop-chip.least _
-    c.loop-chip-test.true c.loop-chip.invariant (c.min-least.ensures ∙ ap (λ n. min c.loop-chip.least n) c.nearness.ensures)
+loop-chip-preserved c = grind (arith, least_more)
 
 pub returns : goal.returns
 returns c =
