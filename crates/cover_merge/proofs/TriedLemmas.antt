@@ -220,16 +220,13 @@ newer_kept now bits rows gs new newer s g old inside is_old is mark each k d e f
         by_case (inr apart) = ap (λ (x : Times). x.changed) (get_or-set_other gs s b g e apart)
 
 -- a row is no legal pair with one that did not change since it was tried
-pub skipped_none : (rows : List Row) (gs : List Times) (i k x t : ℕ) → length gs ≡ length rows → AreTried rows gs → i ≤ k → ((d : Row) → k < length rows → (get_or rows k d).route.bits ≡ (get_or rows i d).route.bits) → ((e : Times) → (get_or gs i e).tried ≡ t) → IsNextSince rows gs k t x
+pub skipped_none : (rows : List Row) (gs : List Times) (i k x : ℕ) (was : Times) → length gs ≡ length rows → AreTried rows gs → i ≤ k → ((d : Row) → k < length rows → (get_or rows k d).route.bits ≡ (get_or rows i d).route.bits) → IsNextSince rows gs k (get_or gs i was).tried x
     → (b : ℕ) → k < b → b < x → IsLegalPair rows i b → ⊥
-skipped_none rows gs i k x t same tried le route is_t next b from to pair =
-    tried i b z (omega (arith, le, from)) (omega (arith, same, within)) (omega (arith, next.between b d z from to within bits, is_t z)) pair
+skipped_none rows gs i k x was same tried le route next b from to pair =
+    tried i b was (omega (arith, le, from)) (omega (arith, same, within)) (next.between b d was from to within bits) pair
   where
     d : Row
     d = merge_rows []
-
-    z : Times
-    z = record { tried = 0; changed = 0 }
 
     within : b < length rows
     within = pair.set.set.in_range 1 0 (omega arith)
