@@ -1,10 +1,10 @@
 -- Places taken out one after another, the greatest first.
 use Rattle.std.proofs.Common.{◌≡◌, ◌≢◌, ℕ, zero, suc, ◌+◌, ◌<◌, ◌≤◌, ◌⊎◌, ◌==◌, ◌||◌, IsTrue, Bool, true, false, cond, List, [], ◌∷◌, ◌++◌, length, get_or, take, inl, inr, refl, sym, ap, ◌∙◌, subst}
 use Rattle.std.proofs.Common.{length-append, length-take, set, drop, ◌-◌, ◌↔◌, append_assoc, add-one, length-drop, get_or-take, arith, take-append-drop}
-use Rattle.std.specs.{Prelude.All, Prelude.AllPairs, Prelude.filter, Prelude.map, Prelude.not, Prelude.remove, List.copy_within}
+use Rattle.std.specs.Prelude.{All, AllPairs, filter, map, not, remove}
 use mathlib.Core.Bool.{true≢false}
-use Rattle.std.proofs.lemmas.{Bool.cases_lt, Bool.eq-eqb, Bool.Decides.eqb_tells, List.get_or_append_left, List.get_or_default, List.get_or_push, List.take_all, List.take_more, List.take-set-le, List.drop-set}
-use Rattle.std.proofs.lemmas.List.{get_or-append_right, Edits.get_or-remove_above, Edits.remove-append_left, Edits.take-paste, Elements.All-append, Elements.All-filter, Elements.All-head, Elements.All-map}
+use Rattle.std.proofs.lemmas.{Bool.cases_lt, Bool.eq-eqb, Bool.Decides.eqb_tells, List.get_or_append_left, List.get_or_default, List.get_or_push, List.take_more, List.take-set-le, List.drop-set}
+use Rattle.std.proofs.lemmas.List.{get_or-append_right, Edits.get_or-remove_above, Edits.remove-append_left, Elements.All-append, Elements.All-filter, Elements.All-head, Elements.All-map}
 use Rattle.std.proofs.lemmas.{List.Elements.All-tail, List.Elements.All-take, Option.slice_get-get_or}
 use Rattle.spin_base.specs.declared.blocks.Block.{Block}
 use Rattle.tern_word.specs.{declared.tables.Row.Row, Ternary.Wants, Ternary.generality, Ternary.merge_two, SoundTable.IsOrdered}
@@ -47,14 +47,6 @@ behind_within n front back k in_range within =
 pub merges_more : (rows : List Row) (set : List ℕ) (done : List Block) (k : ℕ) (n : Block) → length done ≡ k → ((j : ℕ) (d : Block) → j < length done → get_or done j d ≡ merged_block rows (take (j + 1) set)) → n ≡ merged_block rows (take (k + 1) set)
     → (j : ℕ) (d : Block) → j < length (done ++ n ∷ []) → get_or (done ++ n ∷ []) j d ≡ merged_block rows (take (j + 1) set)
 merges_more rows set done k n many each now j d inside = grind (arith, length-append done (n ∷ []), cases_lt j (length done), get_or_append_left, get_or_push)
-
--- those from one place up to another go, by one copy
-pub taken_out : (from to len : ℕ) (old moved new : List ℕ) → from ≤ to → to ≤ length old → len ≡ length old → moved ≡ copy_within old to len from → new ≡ take (from + (len - to)) moved → new ≡ take from old ++ drop to old
-taken_out from to len old moved new order inside many copied cut =
-    cut
-    ∙ ap (take (from + (len - to))) copied
-    ∙ take-paste old from (drop to old) (len - to) (omega (arith, order, inside)) (omega (arith, many, length-drop to old))
-    ∙ ap (λ l. take from old ++ l) (take_all (len - to) (drop to old) (omega (arith, many, length-drop to old)))
 
 -- ---- a place taken out
 

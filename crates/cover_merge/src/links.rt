@@ -1,5 +1,5 @@
 // The rows of one route, one after another.
-ghost use Rattle.std.specs.Prelude.{◌≡◌, ◌<◌, ◌^◌, ℕ, suc, List, IfOk, OnOk, length};
+ghost use Rattle.std.specs.Prelude.{◌≡◌, ◌<◌, ◌≤◌, ◌^◌, ℕ, suc, List, IfOk, OnOk, length};
 ghost use Rattle.cover_merge.specs.Merge.{after};
 ghost use Rattle.cover_merge.specs.Links.{place_of_route, AreRoutes, IsRouteAdded, IsEachOnce, AreNexts, AreNumbers, AreLinks};
 ghost use Rattle.cover_merge.specs.Tried.{AreChangesFrom};
@@ -73,7 +73,8 @@ pub(crate) fn numbers_of(alloc: Global, rows: &[Row], routes: &[u32]) -> Result<
 
 // The place of the route of these bits among the routes, and their number where it is not there.
 fn number_of(routes: &[u32], bits: u32) -> usize
-    ensures { result ≡ place_of_route routes.now bits }
+    ensures value { result ≡ place_of_route routes.now bits }
+    ensures bound { result ≤ length routes.now }
 {
     for k in 0..routes.len() {
         if routes[k] == bits {

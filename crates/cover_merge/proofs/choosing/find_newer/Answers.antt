@@ -1,7 +1,7 @@
 -- One row more has its next in the list.
-use Rattle.std.proofs.Common.{◌≡◌, ◌-◌, ◌<◌, ◌∙◌, ℕ, suc, ap, refl, sym, set, subst, length, get_or, arith}
-use Rattle.std.proofs.lemmas.List.{get_or_default, length-set}
-use Rattle.cover_merge.specs.{Links.IsFirstOfRoute, Tried.AreNewerOf, Tried.AreChangesFrom, declared.times.Times.Times}
+use Rattle.std.proofs.Common.{◌≡◌, ◌-◌, ◌<◌, ◌∙◌, ℕ, suc, refl, sym, set, subst, length, get_or, arith}
+use Rattle.std.proofs.lemmas.List.{length-set}
+use Rattle.cover_merge.specs.{Links.IsFirstOfRoute, Tried.AreNewerOf, Tried.AreChangesFrom}
 use Rattle.cover_merge.proofs.{ChooseLemmas.ArePlaces, ChooseLemmas.places_gathered, TriedLemmas.AreNewerAt, TriedLemmas.newer_all, TriedLemmas.newer_behind, TriedLemmas.newer_more}
 use Rattle.cover_merge.proofs.{TriedLemmas.newer_others, choosing.find_newer.Goals.After-as_slice-places}
 use Rattle.cover_merge.proofs.choosing.find_newer.Goals as goal
@@ -53,14 +53,12 @@ loop-k-preserved c =
     let n = c.loop-k.k - 1 in
     let k = get_or list n 0 in
     let v = c.changed_after-next.result in
-    let was : Times = record { tried = 0; changed = 0 } in
     let inside : n < length list = omega (arith, old.within, c.loop-k-test.true) in
     let step : c.loop-k.k ≡ suc n = omega (arith, c.loop-k-test.true) in
     let done : AreNewerAt (suc n) list rows times newer = subst (λ i. AreNewerAt i list rows times newer) step old.done in record {
       within = omega (arith, old.within);
       all = length-set newer k v ∙ old.all;
-      done = newer_more first.0 rows list (places first.0 first.1) times newer (set newer k v) n k v (get_or times k was).changed old.all inside refl
-          (λ e. ap (λ (x : Times). x.changed) (get_or_default times k e was (omega (arith, (places first.0 first.1).inside n inside, c.requires.one_each.0)))) c.changed_after-next.ensures refl done;
+      done = newer_more first.0 rows list (places first.0 first.1) times newer (set newer k v) n k v _ old.all c.requires.one_each.0 inside refl c.changed_after-next.ensures refl done;
       others = λ bits j d is other. newer_others bits rows newer (set newer k v) k v (λ e. (places bits is).route n e inside) refl j d other ∙ old.others bits j d is other;
     }
 

@@ -1,9 +1,9 @@
 -- Each place taken out is a step, and those behind it still pass the up-check.
-use Rattle.std.proofs.Common.{◌≡◌, ◌<◌, ◌≤◌, ◌+◌, ◌-◌, ◌++◌, ◌↔◌, ℕ, List, IsTrue, true, take, drop, ap, sym, subst, refl, ◌∙◌, length, length-set, length-take, get_or, set, arith}
+use Rattle.std.proofs.Common.{◌≡◌, ◌<◌, ◌≤◌, ◌+◌, ◌-◌, ◌++◌, ◌↔◌, ℕ, List, IsTrue, true, take, drop, ap, sym, subst, refl, ◌∙◌, length, length-drop, length-set, length-take, get_or, set, arith}
 use Rattle.std.specs.Prelude.{All}
-use Rattle.std.proofs.lemmas.List.{take_all, take-append-drop, take_rest, take-set-le}
+use Rattle.std.proofs.lemmas.List.{take_all, take-append-drop, take_rest, take-set-le, Edits.take-paste}
 use Rattle.cover_merge.proofs.{Lists.All-right, KeptLemmasSteps.leads_on, KeptLemmasSteps.sift_leads, RefineLemmas.last_more, RefineLemmas.none_fails, SiftLemmas.all_pass, SiftLemmas.alike_behind}
-use Rattle.cover_merge.proofs.SiftLemmas.{begins_less, begins_twice, kept_now, last_within, left_many, out_count, out_in_range, out_last, out_now, sift_behind, sift_one, taken_out, up_of}
+use Rattle.cover_merge.proofs.SiftLemmas.{begins_less, begins_twice, kept_now, last_within, left_many, out_count, out_in_range, out_last, out_now, sift_behind, sift_one, up_of}
 use Rattle.cover_merge.proofs.refining.sift.Goals.{After-truncate, then-loop-i-test+else-i-len-ge2, else-loop-i-test}
 use Rattle.tern_word.specs.Ternary.{generality}
 use Rattle.cover_merge.specs.{Merge.IsOneRoute, Merge.PassesUp, Merge.PassesUpCheck, Merge.has_row, Merge.merged_block, Merge.place_for, Kept.LeadsWithin, Refinement.AreMerges}
@@ -152,17 +152,17 @@ loop-i-preserved c =
 -- the places that are left
 left_now : (c : After-truncate) → c.truncate.new.self.items ≡ take c.loop-i.i c.loop-i.set.items ++ drop c.loop-i.kept c.loop-i.set.items
 left_now c =
-    taken_out c.loop-i.i c.loop-i.kept c.len-len.result c.loop-i.set.items c.copy_within.new.self.items c.truncate.new.self.items c.loop-i.invariant.gap c.loop-i.invariant.within
-    (c.len-len.ensures ∙ c.loop-i.set.ok.0) c.copy_within.ensures.items c.truncate.ensures.items
+    let xs = c.loop-i.set.items in
+    let old = c.loop-i.invariant in
+    let many = c.len-len.ensures ∙ c.loop-i.set.ok.0 in
+    let rest = length-drop c.loop-i.kept xs in
+    c.truncate.ensures.items
+    ∙ ap (take (c.loop-i.i + (c.len-len.result - c.loop-i.kept))) c.copy_within.ensures.items
+    ∙ take-paste xs c.loop-i.i (drop c.loop-i.kept xs) (c.len-len.result - c.loop-i.kept) (omega (arith, old.gap, old.within)) (omega (arith, many, rest))
+    ∙ ap (λ l. take c.loop-i.i xs ++ l) (take_all (c.len-len.result - c.loop-i.kept) (drop c.loop-i.kept xs) (omega (arith, many, rest)))
 
 pub returns-then-len-lt2-clause-sifted : goal.returns-then-len-lt2-clause-sifted
-returns-then-len-lt2-clause-sifted c =
-    let is = left_now (goal.at.returns-then-len-lt2-clause-sifted c).After-truncate in
-    let old = c.loop-i.invariant in record {
-      one_route = subst (IsOneRoute c.args.table.rows.now) (sym is) old.set;
-      steps = λ outer low. subst (LeadsWithin c.args.table.rows.now outer low c.args.set.now.items) (sym is) (old.leads outer low);
-      found_is = omega (arith, c.len-2.ensures, c.if-len-lt2.true);
-    }
+returns-then-len-lt2-clause-sifted c = grind (arith, left_now (goal.at.returns-then-len-lt2-clause-sifted c).After-truncate)
 
 pub returns-clause-sifted : goal.returns-clause-sifted
 returns-clause-sifted c =
