@@ -10,21 +10,15 @@ use Rattle.cover_merge.specs.Merge.{has_row, IsClearOf, insert_place, PassesUp, 
 use Rattle.cover_merge.proofs.Positions.{has-at, has-place}
 pub use Rattle.spin_base.proofs.Tests.{fails, answers_none, answers_no}
 
-module _ (rows : List Row) (places : List ℕ) (list : List Row) (same : list ≡ rows) (p : ℕ) (place : p ≡ insert_place rows places) where
-  -- what a place's check says, of the table's rows and the insertion place
-  at_table : (s : ℕ) → PassesUp list places s p → PassesUp rows places s (insert_place rows places)
-  at_table s h = subst (λ n. PassesUp rows places s n) place (subst (λ l. PassesUp l places s p) same h)
-
-  from_table : (s : ℕ) → PassesUp rows places s (insert_place rows places) → PassesUp list places s p
-  from_table s h = subst (λ n. PassesUp list places s n) (sym place) (subst (λ l. PassesUp l places s (insert_place rows places)) (sym same) h)
-
-  pub up_fails : (i : ℕ) (b : Bool) → i < length places → (IsTrue b) ↔ (PassesUp list places (get_or places i 0) p) → b ≡ false → (IsTrue false) ↔ (PassesUpCheck rows places)
+module _ (rows : List Row) (places : List ℕ) (p : ℕ) (place : p ≡ insert_place rows places) where
+  pub up_fails : (i : ℕ) (b : Bool) → i < length places → (IsTrue b) ↔ (PassesUp rows places (get_or places i 0) p) → b ≡ false → (IsTrue false) ↔ (PassesUpCheck rows places)
   up_fails i b within tells came =
-      answers_no (PassesUpCheck rows places) (λ up. fails (PassesUp list places (get_or places i 0) p) b tells came (from_table (get_or places i 0) (up (get_or places i 0) (has-at places i within))))
+      answers_no (PassesUpCheck rows places) (λ up.
+      fails (PassesUp rows places (get_or places i 0) p) b tells came (subst (PassesUp rows places (get_or places i 0)) (sym place) (up (get_or places i 0) (has-at places i within))))
 
-  pub up_more : (i : ℕ) (b : Bool) → ((k : ℕ) → k < i → PassesUp rows places (get_or places k 0) (insert_place rows places)) → (IsTrue b) ↔ (PassesUp list places (get_or places i 0) p) → b ≡ true
+  pub up_more : (i : ℕ) (b : Bool) → ((k : ℕ) → k < i → PassesUp rows places (get_or places k 0) (insert_place rows places)) → (IsTrue b) ↔ (PassesUp rows places (get_or places i 0) p) → b ≡ true
       → (k : ℕ) → k < i + 1 → PassesUp rows places (get_or places k 0) (insert_place rows places)
-  up_more i b before tells came = below_more (λ k. PassesUp rows places (get_or places k 0) (insert_place rows places)) i before (at_table (get_or places i 0) (tells.0 came))
+  up_more i b before tells came = below_more (λ k. PassesUp rows places (get_or places k 0) (insert_place rows places)) i before (subst (PassesUp rows places (get_or places i 0)) place (tells.0 came))
 
 pub up_all : (rows : List Row) (places : List ℕ) (i : ℕ) → length places ≤ i → ((k : ℕ) → k < i → PassesUp rows places (get_or places k 0) (insert_place rows places)) → PassesUpCheck rows places
 up_all rows places i all before s found =
@@ -34,12 +28,13 @@ up_all rows places i all before s found =
 -- ---- one row against another
 
 module _ (rows : List Row) (places : List ℕ) (s r : ℕ) (first later : Row) (in_s : s < length rows) (in_r : r < length rows) (is_first : first ≡ get_or rows s first) (is_later : later ≡ get_or rows r later) where
-  pub clear_from : Misses later.block first → IsClearOf rows places s r
-  clear_from missed d outside = pair_read rows (λ (x y : Row). Misses x.block y) r s later first in_r in_s is_later is_first missed d
+  pub clear_from : (has_row places r ≡ false → Misses later.block first) → IsClearOf rows places s r
+  clear_from told d outside = pair_read rows (λ (x y : Row). Misses x.block y) r s later first in_r in_s is_later is_first (told outside) d
 
   pub missed_from : IsClearOf rows places s r → has_row places r ≡ false → Misses later.block first
   missed_from clear outside = grind (arith, get_or_default rows r first later in_r, get_or rows s first)
 
-  pub answer_of : (found missed : Bool) → found ≡ has_row places r → (IsTrue missed) ↔ (Misses later.block first) → missed ≡ false → (IsTrue found) ↔ (IsClearOf rows places s r)
-  answer_of true missed is tells came = (λ t d outside. absurd (true≢false (is ∙ outside)), λ clear. refl)
-  answer_of false missed is tells came = (λ t. absurd (false≢true t), λ clear. absurd (fails (Misses later.block first) missed tells came (missed_from clear (sym is))))
+-- a row that does not miss is clear where it is of the set
+pub answer_of : (M : Type 0) (found missed has : Bool) → found ≡ has → (IsTrue missed) ↔ M → missed ≡ false → (IsTrue found) ↔ (has ≡ false → M)
+answer_of M true missed has is tells came = (λ t outside. absurd (true≢false (is ∙ outside)), λ clear. refl)
+answer_of M false missed has is tells came = (λ t. absurd (false≢true t), λ clear. absurd (fails M missed tells came (clear (sym is))))

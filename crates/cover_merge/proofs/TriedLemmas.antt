@@ -157,9 +157,9 @@ module _ (bits : ℕ) (rows : List Row) (places : List ℕ) (are : ArePlaces bit
       later m at (inr (inr behind)) = behind
 
   -- one place more with the next that changed later
-  pub newer_more : (now new : List ℕ) (n k v h : ℕ) → length now ≡ length rows → n < length places → get_or places n 0 ≡ k → ((e : Times) → (get_or gs k e).changed ≡ h) → IsNextSince rows gs k (suc h) v → new ≡ set now k v
+  pub newer_more : (now new : List ℕ) (n k v : ℕ) (was : Times) → length now ≡ length rows → length gs ≡ length rows → n < length places → get_or places n 0 ≡ k → IsNextSince rows gs k (suc (get_or gs k was).changed) v → new ≡ set now k v
       → AreNewerAt (suc n) places rows gs now → AreNewerAt n places rows gs new
-  newer_more now new n k v h all inside is is_h next is_new done m e from within =
+  newer_more now new n k v was all many inside is next is_new done m e from within =
       subst (λ l. IsNextSince rows gs (get_or places m 0) (suc (get_or gs (get_or places m 0) e).changed) (get_or l (get_or places m 0) 0)) (sym is_new) (by_case (cases_order m n))
     where
       j : ℕ
@@ -172,7 +172,7 @@ module _ (bits : ℕ) (rows : List Row) (places : List ℕ) (are : ArePlaces bit
       by_case (inl here) =
           let at : j ≡ k = ap (λ i. get_or places i 0) here ∙ is in
           subst (IsNextSince rows gs j (suc (get_or gs j e).changed)) (sym (get_or-set_at now k j v 0 at low))
-          (subst (λ i. IsNextSince rows gs i (suc (get_or gs i e).changed) v) (sym at) (subst (λ t. IsNextSince rows gs k (suc t) v) (sym (is_h e)) next))
+          (subst (λ i. IsNextSince rows gs i (suc (get_or gs i e).changed) v) (sym at) (subst (λ t. IsNextSince rows gs k (suc t) v) (sym (ap (λ (x : Times). x.changed) (get_or_default gs k e was (omega (arith, many, is, are.inside n inside))))) next))
       by_case (inr (inl before)) = absurd (omega (arith, before, from))
       by_case (inr (inr behind)) =
           subst (IsNextSince rows gs j (suc (get_or gs j e).changed)) (sym (get_or-set_other now k j v 0 (λ at. omega (arith, at, is, are.ascend n m behind within))))
@@ -220,16 +220,13 @@ newer_kept now bits rows gs new newer s g old inside is_old is mark each k d e f
         by_case (inr apart) = ap (λ (x : Times). x.changed) (get_or-set_other gs s b g e apart)
 
 -- a row is no legal pair with one that did not change since it was tried
-pub skipped_none : (rows : List Row) (gs : List Times) (i k x t : ℕ) → length gs ≡ length rows → AreTried rows gs → i ≤ k → ((d : Row) → k < length rows → (get_or rows k d).route.bits ≡ (get_or rows i d).route.bits) → ((e : Times) → (get_or gs i e).tried ≡ t) → IsNextSince rows gs k t x
+pub skipped_none : (rows : List Row) (gs : List Times) (i k x : ℕ) (was : Times) → length gs ≡ length rows → AreTried rows gs → i ≤ k → ((d : Row) → k < length rows → (get_or rows k d).route.bits ≡ (get_or rows i d).route.bits) → IsNextSince rows gs k (get_or gs i was).tried x
     → (b : ℕ) → k < b → b < x → IsLegalPair rows i b → ⊥
-skipped_none rows gs i k x t same tried le route is_t next b from to pair =
-    tried i b z (omega (arith, le, from)) (omega (arith, same, within)) (omega (arith, next.between b d z from to within bits, is_t z)) pair
+skipped_none rows gs i k x was same tried le route next b from to pair =
+    tried i b was (omega (arith, le, from)) (omega (arith, same, within)) (next.between b d was from to within bits) pair
   where
     d : Row
     d = merge_rows []
-
-    z : Times
-    z = record { tried = 0; changed = 0 }
 
     within : b < length rows
     within = pair.set.set.in_range 1 0 (omega arith)

@@ -1,10 +1,12 @@
 // The table after a merge.
-ghost use Rattle.std.specs.Prelude.{◌≡◌, ◌<◌, ◌≤◌, ◌++◌, ◌∷◌, [], All, IfOk, OnOk, OnErr, length, slice_index, insert, not, take, drop, ◌-◌};
+ghost use Rattle.std.specs.Prelude.{◌≡◌, ◌≤◌, ◌++◌, ◌∷◌, [], IfOk, OnOk, OnErr, length, slice_index, insert, not, take, drop, ◌-◌};
 ghost use Rattle.tern_word.specs.SoundTable.{IsOrdered};
 ghost use Rattle.cover_merge.specs.Merge.{IsMergeSet, after, has_row, kept, merged_row, picked, rows_at, aliases_at};
 
 use crate::gaps::Gaps;
 use crate::merged_block;
+use crate::places::RowPlaces;
+use crate::rivaled::OrderedRows;
 use crate::rivals::place_in;
 use spin_base::{Memory, Seq};
 use std::alloc::Global;
@@ -20,8 +22,15 @@ pub fn apply(alloc: Global, table: &mut Table, places: &Seq<u32>) -> Result<(), 
     ensures err { OnErr result (table.new.rows ≡ table.old.rows) }
 {
     let members = places.as_slice();
-    let merged = merged_row(alloc, table.rows.as_slice(), members)?;
-    let place = place_in(table.rows.as_slice(), generality(merged.block));
+    let set = RowPlaces {
+        rows: table.rows.as_slice(),
+        places: members,
+    };
+    let merged = merged_row(alloc, set)?;
+    let ordered = OrderedRows {
+        rows: table.rows.as_slice(),
+    };
+    let place = place_in(ordered, generality(merged.block));
     let mut rows = mem::replace(&mut table.rows, Seq::new(alloc)).into_vec();
     let gaps = Gaps {
         places: members,
@@ -33,24 +42,25 @@ pub fn apply(alloc: Global, table: &mut Table, places: &Seq<u32>) -> Result<(), 
 }
 
 // The merge of the rows at the places.
-fn merged_row(alloc: Global, rows: &[Row], places: &[u32]) -> Result<Row, Memory>
-    requires in_range { All (λ s. s < length rows.now) places.now }
-    requires some { 0 < length places.now }
-    ensures { IfOk result (λ row. row ≡ merged_row rows.now places.now) }
+fn merged_row(alloc: Global, set: RowPlaces) -> Result<Row, Memory>
+    ensures { IfOk result (λ row. row ≡ merged_row set.entry.rows.now set.entry.places.now) }
 {
-    let aliases = all_aliases(alloc, rows, places)?;
+    let rows = set.rows;
+    let places = set.places;
+    let aliases = all_aliases(alloc, set)?;
     Ok(Row {
-        block: merged_block(rows, places),
+        block: merged_block(set),
         route: rows[places[0] as usize].route,
         aliases,
     })
 }
 
 // The aliases of the rows at the places, in the order of the places.
-fn all_aliases(alloc: Global, rows: &[Row], places: &[u32]) -> Result<Seq<Alias>, Memory>
-    requires { All (λ s. s < length rows.now) places.now }
-    ensures { IfOk result (λ aliases. aliases ≡ aliases_at rows.now places.now) }
+fn all_aliases(alloc: Global, set: RowPlaces) -> Result<Seq<Alias>, Memory>
+    ensures { IfOk result (λ aliases. aliases ≡ aliases_at set.entry.rows.now set.entry.places.now) }
 {
+    let rows = set.rows;
+    let places = set.places;
     let mut aliases = Vec::new(alloc);
     for s in places {
         aliases.extend_from_slice(rows[*s as usize].aliases.as_slice())?;
@@ -111,8 +121,8 @@ pub(crate) fn replace_all<T: Copy>(items: &mut Vec<T>, gaps: Gaps, item: T)
 
 // The place of this number, or that behind all.
 fn next_place(gaps: Gaps, i: usize) -> usize
-    requires { i ≤ length gaps.places.now }
-    ensures { result ≡ slice_index (gaps.entry.places.now ++ gaps.entry.place ∷ []) i }
+    ensures { i ≤ length gaps.entry.places.now
+        → result ≡ slice_index (gaps.entry.places.now ++ gaps.entry.place ∷ []) i }
 {
     if i < gaps.places.len() {
         gaps.places[i] as usize

@@ -2,7 +2,7 @@
 ghost use Rattle.std.specs.Prelude.{◌≡◌, ◌<◌, ◌≤◌, [], ℕ, List, AllPairs, IfOk, OnOk, MatchBool, ⊤, length, slice_index, slice_index_or};
 ghost use Rattle.tern_word.specs.declared.tables.Row.{Row as ARow};
 ghost use Rattle.tern_word.specs.Ternary.{generality};
-ghost use Rattle.cover_merge.specs.Merge.{IsMergeSet, after, merged_block};
+ghost use Rattle.cover_merge.specs.Merge.{after, merged_block};
 ghost use Rattle.cover_merge.specs.Known.{AreStillKept, HasSameRoutes, IsKnownAt, MissesAllOf};
 ghost use Rattle.cover_merge.specs.Links.{place_of_route};
 ghost use Rattle.cover_merge.specs.Rivals.{AreMet, AreRivalsAfter, CanMerge, HasLists, IsPutIn, IsRivaled, rivals_left};
@@ -12,9 +12,11 @@ use crate::applying::{apply, replace_all};
 use crate::gaps::Gaps;
 use crate::knowing::Known;
 use crate::merged_block;
-use crate::merging::LegalMerge;
+use crate::merging::{LegalMerge, RowBefore};
+use crate::places::RowPlaces;
+use crate::rivaled::{HoldingRow, NumberedRow, OrderedRows};
 use crate::rivals::{Rival, Rivals, is_at_one, is_missed, place_in, rivals_behind};
-use crate::spans::push_spans;
+use crate::spans::spans_of;
 use crate::times::{Times, changed};
 use spin_base::{Memory, Seq};
 use std::alloc::Global;
@@ -28,7 +30,7 @@ pub(crate) fn met_places(alloc: Global, merge: LegalMerge) -> Result<Vec<u32>, M
     let rows = merge.rows;
     let mut met = Vec::new(alloc);
     for s in 0..merge.gaps.place {
-        if !is_missed(merge.block, &rows[s]) {
+        if !is_missed(merge.block, HoldingRow { row: &rows[s] }) {
             met.push(s as u32)?;
         }
     }
@@ -68,40 +70,44 @@ pub(crate) fn touch(merge: LegalMerge, known: &mut Known, met: &[u32], now: usiz
     let own = known.numbers[places[0] as usize];
     known.latest[own as usize] = now;
     for k in 0..met.len() {
-        touch_at(merge, known, now, met[k] as usize);
+        let row = RowBefore {
+            merge,
+            s: met[k] as usize,
+        };
+        touch_at(row, known, now);
     }
 }
 
-// The same of row `s`, an alias of which the merge meets: it changed now where it loses a row behind it.
-fn touch_at(merge: LegalMerge, known: &mut Known, now: usize, s: usize)
-    requires known { IsKnownAt now merge.rows.now known.old }
-    requires inside { s < length merge.rows.now }
-    ensures known { IsKnownAt now merge.entry.rows.now known.new }
-    ensures touched { IsTouchedAt merge.entry.gaps.places.now now merge.entry.rows.now s known.old.times.items known.new.times.items }
+// The same of a row, an alias of which the merge meets: it changed now where it loses a row behind it.
+fn touch_at(row: RowBefore, known: &mut Known, now: usize)
+    requires { IsKnownAt now row.merge.rows.now known.old }
+    ensures known { IsKnownAt now row.entry.merge.rows.now known.new }
+    ensures touched { IsTouchedAt row.entry.merge.gaps.places.now now row.entry.merge.rows.now row.entry.s
+        known.old.times.items known.new.times.items }
     ensures times { (c : ℕ) → slice_index known.old.latest.items c ≡ now
         → slice_index known.new.latest.items c ≡ now }
     ensures rivals { known.new.rivals ≡ known.old.rivals }
     ensures same { HasSameRoutes known.old known.new }
-    ensures left { AreStillKept (λ c it. c ≡ slice_index known.old.numbers.items s
+    ensures left { AreStillKept (λ c it. c ≡ slice_index known.old.numbers.items row.entry.s
         → ⊥) known.old.kept.items known.new.kept.items }
 {
+    let s = row.s;
     let number = known.numbers[s] as usize;
     known.kept[number] = None;
-    if !loses(merge, &known.rivals, s) {
+    if !loses(row, &known.rivals) {
         return;
     }
     known.latest[number] = now;
     known.times[s] = changed(now);
 }
 
-// Whether a row that is merged is a rival of row `s`.
-fn loses(merge: LegalMerge, rivals: &Rivals, s: usize) -> bool
-    requires rivaled { IsRivaled merge.rows.now rivals.now }
-    requires row { s < length merge.rows.now }
-    ensures { MatchBool result ⊤ (LosesNone merge.entry.rows.now merge.entry.gaps.places.now s) }
+// Whether a row that is merged is a rival of the row.
+fn loses(row: RowBefore, rivals: &Rivals) -> bool
+    requires { IsRivaled row.merge.rows.now rivals.now }
+    ensures { MatchBool result ⊤ (LosesNone row.entry.merge.rows.now row.entry.merge.gaps.places.now row.entry.s) }
 {
-    let places = merge.gaps.places;
-    let serial = rivals.serials[s];
+    let places = row.merge.gaps.places;
+    let serial = rivals.serials[row.s];
     let list = rivals.of[serial].as_slice();
     for k in 0..list.len() {
         if is_at_one(&rivals.serials, places, list[k].serial) {
@@ -125,9 +131,16 @@ pub(crate) fn merge_rows(
     ensures rivaled { OnOk result (IsRivaled table.new.rows rivals.new) }
 {
     let members = places.as_slice();
-    let merged = merged_rival(table.rows.as_slice(), rivals, members);
+    let set = RowPlaces {
+        rows: table.rows.as_slice(),
+        places: members,
+    };
+    let merged = merged_rival(rivals, set);
     renew_all(alloc, table.rows.as_slice(), rivals, members, met, merged)?;
-    let place = place_in(table.rows.as_slice(), merged.general);
+    let ordered = OrderedRows {
+        rows: table.rows.as_slice(),
+    };
+    let place = place_in(ordered, merged.general);
     apply(alloc, table, places)?;
     let gaps = Gaps {
         places: members,
@@ -135,23 +148,31 @@ pub(crate) fn merge_rows(
     };
     replace_all(&mut rivals.serials, gaps, merged.serial);
     let at = place - members.len();
-    let list = rivals_behind(alloc, table.rows.as_slice(), &rivals.serials, at)?;
+    let rows = table.rows.as_slice();
+    let row = NumberedRow {
+        rows,
+        serials: &rivals.serials,
+        s: at,
+    };
+    let list = rivals_behind(alloc, row)?;
     rivals.of.push(list)?;
-    push_spans(alloc, table.rows.as_slice(), &mut rivals.spans, at)?;
+    let spans = spans_of(alloc, rows[at].aliases.as_slice())?;
+    rivals.spans.push(spans)?;
     Ok(())
 }
 
 // The merge of the rows at the places, as a rival. Its number is a new one.
-fn merged_rival(rows: &[Row], rivals: &Rivals, places: &[u32]) -> Rival
-    requires set { IsMergeSet rows.now places.now }
+fn merged_rival(rivals: &Rivals, set: RowPlaces) -> Rival
     ensures serial { result.serial ≡ length rivals.now.of.items }
-    ensures general { result.general ≡ generality (merged_block rows.now places.now) }
+    ensures general { result.general ≡ generality (merged_block set.entry.rows.now set.entry.places.now) }
     ensures bits { (d : ARow) → result.bits
-        ≡ (slice_index_or rows.now (slice_index places.now 0) d).route.bits }
+        ≡ (slice_index_or set.entry.rows.now (slice_index set.entry.places.now 0) d).route.bits }
 {
+    let rows = set.rows;
+    let places = set.places;
     Rival {
         serial: rivals.of.len(),
-        general: generality(merged_block(rows, places)),
+        general: generality(merged_block(set)),
         bits: rows[places[0] as usize].route.bits,
     }
 }
@@ -165,8 +186,7 @@ fn renew_all(
     met: &[u32],
     merged: Rival,
 ) -> Result<(), Memory>
-    requires can { CanMerge rows.now rivals.old places.now met.now }
-    requires merged { (merged.serial ≡ length rivals.old.of.items) × (merged.general ≡ generality (merged_block rows.now places.now)) }
+    requires { CanMerge rows.now rivals.old places.now met.now }
     ensures serials { OnOk result (rivals.new.serials.items ≡ rivals.old.serials.items) }
     ensures one_each { OnOk result (length rivals.new.of.items ≡ length rivals.old.of.items) }
     ensures spans { OnOk result (rivals.new.spans.items ≡ rivals.old.spans.items) }

@@ -1,8 +1,7 @@
 // Which rows are merged next.
 ghost use Rattle.std.specs.Prelude.{◌≡◌, ◌<◌, ℕ, suc, [], ◌∷◌, IfOk, OnOk, IsTrue, MatchBool, MatchOption, None, Some, ⊤, ◌⊎◌, length, slice_index, slice_index_or};
-ghost use Rattle.cover_merge.specs.Tried.{AreNewerOf, AreChangesFrom, AreTried, IsNextSince};
+ghost use Rattle.cover_merge.specs.Tried.{AreNewerOf, AreTried, IsNextSince};
 ghost use Rattle.cover_merge.specs.declared.keeping.Kept.{Kept as AKept};
-ghost use Rattle.cover_merge.specs.declared.times.Times.{Times as ATimes};
 ghost use Rattle.tern_word.specs.declared.tables.Row.{Row as ARow};
 ghost use Rattle.cover_merge.specs.Links.{AreLinks, IsFirstOfRoute};
 ghost use Rattle.cover_merge.specs.Kept.{RefinesWithin};
@@ -11,10 +10,10 @@ ghost use Rattle.cover_merge.specs.Covering.{places_of, IsFirstPartner, IsLarges
 
 use crate::keeping::{Kept, most_of};
 use crate::knowing::Known;
-use crate::links::{LinkedRows, Links, links_of};
+use crate::links::{ChangesBehind, LinkedRows, Links, links_of};
 use crate::meeting::{LastMet, none_met};
 use crate::refining::{Refined, refine_within};
-use crate::rivaled::RivaledRows;
+use crate::rivaled::{RivaledRows, RowPair};
 use crate::rivals::is_legal_pair;
 use crate::times::{Times, marked};
 use spin_base::{Memory, Seq};
@@ -92,11 +91,11 @@ fn renew_fresh(fresh: &mut Fresh, c: usize, set: Seq<u32>)
 }
 
 // The set to which the rows of the route of this number are refined, and what is kept of it.
-fn refined_of(
+fn refined_of<'x>(
     alloc: Global,
-    rows: &[Row],
-    known: &Known,
-    links: &Links,
+    rows: &'x [Row],
+    known: &'x Known,
+    links: &'x Links,
     c: usize,
 ) -> Result<Refined, Memory>
     requires linked { IsLinked rows.now known.now links.now }
@@ -105,12 +104,12 @@ fn refined_of(
         (places_of (slice_index known.now.routes.items c) 0 rows.now) r.set) }
     ensures size { IfOk result (λ r. length r.set ≡ r.kept.size) }
 {
-    let linked = LinkedRows { rows, links };
-    let places = places_from(alloc, linked, links.heads[c])?;
     let table = RivaledRows {
         rows,
         rivals: &known.rivals,
     };
+    let linked = LinkedRows { table, links };
+    let places = places_from(alloc, linked, links.heads[c])?;
     refine_within(alloc, table, places)
 }
 
@@ -139,10 +138,10 @@ fn largest(
 
 // The places of all rows of a route whose first is that at the place.
 fn places_from(alloc: Global, linked: LinkedRows, first: u32) -> Result<Seq<u32>, Memory>
-    ensures { IfOk result (λ places. (bits : ℕ) → IsFirstOfRoute linked.entry.rows.now bits first
-        → places ≡ places_of bits 0 linked.entry.rows.now) }
+    ensures { IfOk result (λ places. (bits : ℕ) → IsFirstOfRoute linked.entry.table.rows.now bits first
+        → places ≡ places_of bits 0 linked.entry.table.rows.now) }
 {
-    let rows = linked.rows;
+    let rows = linked.table.rows;
     let links = linked.links;
     let mut places = Vec::new(alloc);
     let mut place = first as usize;
@@ -162,11 +161,11 @@ struct Changes {
 
 // The first legal pair. A row that is no legal pair with a later one is marked, and is not tried again until a row of its
 // route changes: till then it is settled.
-fn first_pair(
+fn first_pair<'x>(
     alloc: Global,
-    rows: &[Row],
+    rows: &'x [Row],
     known: &mut Known,
-    links: &Links,
+    links: &'x Links,
     now: usize,
 ) -> Result<Option<Seq<u32>>, Memory>
     requires known { IsKnownAt now rows.now known.old }
@@ -191,14 +190,14 @@ fn first_pair(
             rows,
             rivals: &known.rivals,
         };
-        if let Some(j) = partner(
-            table,
-            &known.times,
-            links,
-            &changes.newer,
-            i as u32,
-            &mut last,
-        ) {
+        let linked = LinkedRows { table, links };
+        let behind = ChangesBehind {
+            linked,
+            times: &known.times,
+            newer: &changes.newer,
+            k: i as u32,
+        };
+        if let Some(j) = partner(behind, &mut last) {
             return Ok(Some(two_places(alloc, i as u32, j)?));
         }
         known.times[i] = marked(known.times[i], now);
@@ -207,11 +206,11 @@ fn first_pair(
 }
 
 // Makes the changes of the route of row `i` ready, where they are not yet.
-fn make_ready(
+fn make_ready<'x>(
     alloc: Global,
-    rows: &[Row],
-    known: &Known,
-    links: &Links,
+    rows: &'x [Row],
+    known: &'x Known,
+    links: &'x Links,
     changes: &mut Changes,
     i: usize,
 ) -> Result<(), Memory>
@@ -223,7 +222,11 @@ fn make_ready(
 {
     let c = known.numbers[i] as usize;
     if !changes.ready[c] {
-        let linked = LinkedRows { rows, links };
+        let table = RivaledRows {
+            rows,
+            rivals: &known.rivals,
+        };
+        let linked = LinkedRows { table, links };
         find_newer(
             alloc,
             linked,
@@ -237,74 +240,53 @@ fn make_ready(
 }
 
 // Finds for each row of the route whose first row is that at the place the next of it that changed later.
-fn find_newer(
+fn find_newer<'x>(
     alloc: Global,
-    linked: LinkedRows,
-    times: &[Times],
+    linked: LinkedRows<'x>,
+    times: &'x [Times],
     newer: &mut Vec<u32>,
     first: u32,
 ) -> Result<(), Memory>
-    requires one_each { (length times.now ≡ length linked.rows.now) × (length newer.old.items ≡ length linked.rows.now) }
-    requires first { (bits : ℕ) × IsFirstOfRoute linked.rows.now bits first }
-    ensures one_each { OnOk result (length newer.new.items ≡ length linked.entry.rows.now) }
-    ensures own { OnOk result ((bits : ℕ) → IsFirstOfRoute linked.entry.rows.now bits first
-        → AreNewerOf bits 0 linked.entry.rows.now times.now newer.new.items) }
-    ensures others { OnOk result ((bits k : ℕ) (d : ARow) → IsFirstOfRoute linked.entry.rows.now bits first
-        → k < length linked.entry.rows.now
-        → ((slice_index_or linked.entry.rows.now k d).route.bits ≡ bits → ⊥)
+    requires one_each { (length times.now ≡ length linked.table.rows.now) × (length newer.old.items ≡ length linked.table.rows.now) }
+    requires first { (bits : ℕ) × IsFirstOfRoute linked.table.rows.now bits first }
+    ensures one_each { OnOk result (length newer.new.items ≡ length linked.entry.table.rows.now) }
+    ensures own { OnOk result ((bits : ℕ) → IsFirstOfRoute linked.entry.table.rows.now bits first
+        → AreNewerOf bits 0 linked.entry.table.rows.now times.now newer.new.items) }
+    ensures others { OnOk result ((bits k : ℕ) (d : ARow) → IsFirstOfRoute linked.entry.table.rows.now bits first
+        → k < length linked.entry.table.rows.now
+        → ((slice_index_or linked.entry.table.rows.now k d).route.bits ≡ bits → ⊥)
         → slice_index newer.new.items k ≡ slice_index newer.old.items k) }
 {
-    let rows = linked.rows;
-    let links = linked.links;
+    let rows = linked.table.rows;
     let list = places_from(alloc, linked, first)?;
     let places = list.as_slice();
     let mut k = places.len();
     while k > 0 {
         k -= 1;
         let place = places[k];
-        newer[place as usize] = changed_after(
-            rows,
+        let behind = ChangesBehind {
+            linked,
             times,
-            links,
             newer,
-            place,
-            changed_at(times, place as usize),
-        );
+            k: place,
+        };
+        let next = changed_after(behind, times[place as usize].changed);
+        newer[place as usize] = next;
     }
     Ok(())
 }
 
-// When the row at the place last changed.
-fn changed_at(times: &[Times], place: usize) -> usize
-    requires { place < length times.now }
-    ensures { (e : ATimes) → (slice_index_or times.now place e).changed ≡ result }
+// The next row of the route of the row that changed after the time.
+fn changed_after(behind: ChangesBehind, time: usize) -> u32
+    ensures { IsNextSince behind.entry.linked.table.rows.now behind.entry.times.now behind.entry.k (suc time) result }
 {
-    times[place].changed
-}
-
-// When the row at the place was last tried.
-fn tried_at(times: &[Times], place: usize) -> usize
-    requires { place < length times.now }
-    ensures { (e : ATimes) → (slice_index_or times.now place e).tried ≡ result }
-{
-    times[place].tried
-}
-
-// The next row of the route of row `k` that changed after the time.
-fn changed_after(
-    rows: &[Row],
-    times: &[Times],
-    links: &Links,
-    newer: &[u32],
-    k: u32,
-    time: usize,
-) -> u32
-    requires { AreChangesFrom k (suc k) rows.now times.now links.now.next.items newer.now }
-    ensures { IsNextSince rows.now times.now k (suc time) result }
-{
-    let mut place = links.next[k as usize];
+    let rows = behind.linked.table.rows;
+    let times = behind.times;
+    let newer = behind.newer;
+    let links = behind.linked.links;
+    let mut place = links.next[behind.k as usize];
     while (place as usize) < rows.len() {
-        let changed = changed_at(times, place as usize);
+        let changed = times[place as usize].changed;
         if changed > time {
             return place;
         }
@@ -313,24 +295,17 @@ fn changed_after(
     place
 }
 
-// The next row of the route of row `k` that changed at the time or later: only such a row need be tried with one that was
+// The next row of the route of the row that changed at the time or later: only such a row need be tried with one that was
 // tried then.
-fn next_to_try(
-    rows: &[Row],
-    times: &[Times],
-    links: &Links,
-    newer: &[u32],
-    k: u32,
-    time: usize,
-) -> u32
-    requires { AreChangesFrom k 0 rows.now times.now links.now.next.items newer.now }
-    ensures { IsNextSince rows.now times.now k time result }
+fn next_to_try(behind: ChangesBehind, time: usize) -> u32
+    ensures { IsNextSince behind.entry.linked.table.rows.now behind.entry.times.now behind.entry.k time result }
 {
-    let next = links.next[k as usize];
+    let links = behind.linked.links;
+    let next = links.next[behind.k as usize];
     if time == 0 {
         return next;
     }
-    changed_after(rows, times, links, newer, k, time - 1)
+    changed_after(behind, time - 1)
 }
 
 // The list of two places.
@@ -343,28 +318,32 @@ fn two_places(alloc: Global, i: u32, j: u32) -> Result<Seq<u32>, Memory>
     Ok(set)
 }
 
-// The first row behind row `i` that can be merged with it: only those of its route can that changed since it was tried.
-fn partner(
-    table: RivaledRows,
-    times: &[Times],
-    links: &Links,
-    newer: &[u32],
-    i: u32,
-    last: &mut LastMet,
-) -> Option<u32>
-    requires tried { AreTried table.rows.now times.now }
-    requires changes { AreChangesFrom i 0 table.rows.now times.now links.now.next.items newer.now }
-    ensures { MatchOption result ((b : ℕ) → IsLegalPair table.entry.rows.now i b
-        → ⊥) (λ j. IsFirstPartner table.entry.rows.now i j) }
+// The first row behind the row that can be merged with it: only those of its route can that changed since it was tried.
+fn partner(behind: ChangesBehind, last: &mut LastMet) -> Option<u32>
+    requires { AreTried behind.linked.table.rows.now behind.times.now }
+    ensures { MatchOption result ((b : ℕ) → IsLegalPair behind.entry.linked.table.rows.now behind.entry.k b
+        → ⊥) (λ j. IsFirstPartner behind.entry.linked.table.rows.now behind.entry.k j) }
 {
+    let linked = behind.linked;
+    let table = linked.table;
+    let times = behind.times;
+    let newer = behind.newer;
+    let i = behind.k;
     let rows = table.rows;
-    let tried = tried_at(times, i as usize);
-    let mut j = next_to_try(rows, times, links, newer, i, tried);
+    let tried = times[i as usize].tried;
+    let mut j = next_to_try(behind, tried);
     while (j as usize) < rows.len() {
-        if is_legal_pair(table, i, j, last) {
+        let pair = RowPair { table, i, j };
+        if is_legal_pair(pair, last) {
             return Some(j);
         }
-        j = next_to_try(rows, times, links, newer, j, tried);
+        let further = ChangesBehind {
+            linked,
+            times,
+            newer,
+            k: j,
+        };
+        j = next_to_try(further, tried);
     }
     None
 }

@@ -11,12 +11,13 @@ ghost use Rattle.cover_merge.specs.Merges.{sets_of};
 use crate::carrying::{carry_times, merge_rows, met_places, touch};
 use crate::choosing::chosen;
 use crate::gaps::Gaps;
-use crate::keeping::{forget_near, forget_own};
+use crate::keeping::forget_near;
 use crate::knowing::{Known, known_of};
 use crate::links::carry_numbers;
 use crate::merged_block;
 use crate::merging::LegalMerge;
-use crate::rivaled::SoundRows;
+use crate::places::RowPlaces;
+use crate::rivaled::{OrderedRows, SoundRows};
 use crate::rivals::place_in;
 use spin_base::{Memory, Seq, Shared};
 use std::alloc::Global;
@@ -103,8 +104,12 @@ fn merge_at(
 {
     let rows = table.rows.as_slice();
     let members = places.as_slice();
-    let block = merged_block(rows, members);
-    let place = place_in(rows, generality(block));
+    let set = RowPlaces {
+        rows,
+        places: members,
+    };
+    let block = merged_block(set);
+    let place = place_in(OrderedRows { rows }, generality(block));
     let gaps = Gaps {
         places: members,
         place,
@@ -142,6 +147,6 @@ fn forget(merge: LegalMerge, known: &mut Known)
 {
     let places = merge.gaps.places;
     let own = known.numbers[places[0] as usize] as usize;
-    forget_own(&mut known.kept, own);
+    known.kept[own] = None;
     forget_near(&mut known.kept, merge.block);
 }

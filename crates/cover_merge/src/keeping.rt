@@ -1,6 +1,6 @@
 // What is kept of each route from one merge to the next: how many places its refined set has. The set itself is not kept,
 // so no place changes.
-ghost use Rattle.std.specs.Prelude.{◌≡◌, ◌+◌, ◌<◌, ◌≤◌, ◌⊎◌, Some, MatchBool, ⊤, length};
+ghost use Rattle.std.specs.Prelude.{◌≡◌, ◌+◌, ◌<◌, ◌≤◌, ◌⊎◌, ℕ, List, Option, None, Some, MatchBool, ⊤, length, slice_index, slice_index_or};
 ghost use Rattle.tern_word.specs.Ternary.{generality};
 ghost use Rattle.cover_merge.specs.Known.{AreStillKept, IsApart, IsMostBefore};
 ghost use Rattle.cover_merge.specs.declared.keeping.Kept.{Kept as AKept};
@@ -36,22 +36,19 @@ pub(crate) fn most_of(routes: &[u32], kept: &[Option<Kept>]) -> Most
         size: 0,
     };
     for c in 0..routes.len() {
-        most = greater(routes, kept, c, most);
+        most = greater(c, routes[c], kept[c], most);
     }
     most
 }
 
-// The greater one of that of the routes so far and the next.
-fn greater(routes: &[u32], kept: &[Option<Kept>], c: usize, most: Most) -> Most
-    requires one_each { length kept.now ≡ length routes.now }
-    requires inside { c < length routes.now }
-    requires most { IsMostBefore routes.now kept.now c most }
-    ensures { IsMostBefore routes.now kept.now (c + 1) result }
+// The greater one of that of the routes so far and the next, which has this number and these bits, and of which this is kept.
+fn greater(c: usize, bits: u32, kept: Option<Kept>, most: Most) -> Most
+    ensures { (routes : List ℕ) (all : List (Option AKept)) → IsMostBefore routes all c most → c < length routes
+        → slice_index routes c ≡ bits → slice_index_or all c None ≡ kept → IsMostBefore routes all (c + 1) result }
 {
-    let Some(it) = kept[c] else {
+    let Some(it) = kept else {
         return most;
     };
-    let bits = routes[c];
     if beats(it.size, bits, most.size, most.bits) {
         return Most {
             number: c,
@@ -68,14 +65,6 @@ fn beats(n: usize, bits: u32, m: usize, other: u32) -> bool
         ⊎ ((n ≡ m) × (other ≤ bits))) }
 {
     m < n || (n == m && bits < other)
-}
-
-/// Forgets what is kept of the route of this number.
-pub(crate) fn forget_own(kept: &mut Vec<Option<Kept>>, own: usize)
-    requires { own < length kept.old.items }
-    ensures { AreStillKept (λ c it. c ≡ own → ⊥) kept.old.items kept.new.items }
-{
-    kept[own] = None;
 }
 
 /// Forgets what is kept of routes for which a block was down-checked that a merge of this block may meet.

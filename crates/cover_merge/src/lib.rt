@@ -26,6 +26,7 @@ mod laws;
 mod links;
 mod meeting;
 mod merging;
+mod places;
 mod refining;
 mod rivaled;
 mod rivals;
@@ -34,9 +35,10 @@ mod times;
 
 pub use applying::apply;
 pub use checking::{
-    down_check, insert_place, is_clear, merged_block, passes_down, passes_up, place_for, up_check,
+    down_check, insert_place, merged_block, passes_down, passes_up, place_for, up_check,
 };
 pub use covering::{Covered, Merge, cover};
 pub use laws::coverings_are_determined;
+pub use places::RowPlaces;
 pub use refining::refine;
 pub use tern_word::misses;

@@ -1,10 +1,13 @@
 // The rows of one route, one after another.
-ghost use Rattle.std.specs.Prelude.{◌≡◌, ◌+◌, ◌<◌, ◌^◌, ℕ, List, All, IfOk, OnOk, length, slice_index};
+ghost use Rattle.std.specs.Prelude.{◌≡◌, ◌<◌, ◌≤◌, ◌^◌, ℕ, suc, List, IfOk, OnOk, length};
 ghost use Rattle.cover_merge.specs.Merge.{after};
-ghost use Rattle.cover_merge.specs.Links.{place_of_route, AreRoutes, IsRouteAdded, IsEachOnce, AreNexts, AreNumbers, IsAhead, AreLinks};
+ghost use Rattle.cover_merge.specs.Links.{place_of_route, AreRoutes, IsRouteAdded, IsEachOnce, AreNexts, AreNumbers, AreLinks};
+ghost use Rattle.cover_merge.specs.Tried.{AreChangesFrom};
 
 use crate::applying::replace_all;
 use crate::merging::LegalMerge;
+use crate::rivaled::RivaledRows;
+use crate::times::Times;
 use spin_base::Memory;
 use std::alloc::Global;
 use tern_word::Row;
@@ -16,13 +19,22 @@ pub(crate) struct Links {
     pub(crate) heads: Vec<u32>,
 }
 
-/// The rows of a table, fewer than 2^32, and the next row of the route of each.
+/// The rows of a table with their rivals, and the next row of the route of each.
 #[derive(Clone, Copy)]
 pub(crate) struct LinkedRows<'a> {
-    pub(crate) rows: &'a [Row],
+    pub(crate) table: RivaledRows<'a>,
     pub(crate) links: &'a Links,
-    pub ghost few: { length rows.now < 2 ^ 32 },
-    pub ghost nexts: { AreNexts rows.now links.now.next.items },
+    pub ghost nexts: { AreNexts table.rows.now links.now.next.items },
+}
+
+/// Row `k`, and for each row of its route behind it the next one that changed later.
+#[derive(Clone, Copy)]
+pub(crate) struct ChangesBehind<'a> {
+    pub(crate) linked: LinkedRows<'a>,
+    pub(crate) times: &'a [Times],
+    pub(crate) newer: &'a [u32],
+    pub(crate) k: u32,
+    pub ghost behind: { AreChangesFrom k (suc k) linked.table.rows.now times.now linked.links.now.next.items newer.now },
 }
 
 /// The routes of the rows, each once.
@@ -49,9 +61,8 @@ fn add_route(routes: &mut Vec<u32>, bits: u32) -> Result<(), Memory>
 
 /// The number of each row's route: its place among the routes.
 pub(crate) fn numbers_of(alloc: Global, rows: &[Row], routes: &[u32]) -> Result<Vec<u32>, Memory>
-    requires few { length routes.now < 2 ^ 32 }
-    requires routes { AreRoutes rows.now routes.now }
-    ensures { IfOk result (λ v. AreNumbers routes.now rows.now v.items) }
+    requires { length routes.now < 2 ^ 32 }
+    ensures { IfOk result (λ v. AreRoutes rows.now routes.now → AreNumbers routes.now rows.now v.items) }
 {
     let mut numbers = Vec::with_capacity(alloc, rows.len())?;
     for s in 0..rows.len() {
@@ -62,7 +73,8 @@ pub(crate) fn numbers_of(alloc: Global, rows: &[Row], routes: &[u32]) -> Result<
 
 // The place of the route of these bits among the routes, and their number where it is not there.
 fn number_of(routes: &[u32], bits: u32) -> usize
-    ensures { result ≡ place_of_route routes.now bits }
+    ensures value { result ≡ place_of_route routes.now bits }
+    ensures bound { result ≤ length routes.now }
 {
     for k in 0..routes.len() {
         if routes[k] == bits {
@@ -83,7 +95,7 @@ pub(crate) fn carry_numbers(merge: LegalMerge, numbers: &mut Vec<u32>)
     replace_all(numbers, merge.gaps, number);
 }
 
-/// The next row of the route of each row, and the first row of each route.
+/// The next row of the route of each row, and the first row of each route: the last row is linked first.
 pub(crate) fn links_of(
     alloc: Global,
     rows: &[Row],
@@ -99,23 +111,6 @@ pub(crate) fn links_of(
     let none = rows.len() as u32;
     let mut heads = vec![in alloc; none; routes.len()]?;
     let mut next = vec![in alloc; none; numbers.len()]?;
-    link(numbers, &mut heads, &mut next);
-    Ok(Links { next, heads })
-}
-
-// Writes the next place of the same number behind each place, and the first place of each number.
-fn link(numbers: &[u32], heads: &mut Vec<u32>, next: &mut Vec<u32>)
-    requires few { length numbers.now < 2 ^ 32 }
-    requires below { All (λ c. c < length heads.old.items) numbers.now }
-    requires one_each { length next.old.items ≡ length numbers.now }
-    requires none { All (λ x. x ≡ length numbers.now) heads.old.items }
-    ensures one_each { length next.new.items ≡ length numbers.now }
-    ensures limit { length heads.new.items ≡ length heads.old.items }
-    ensures heads { (c : ℕ) → c < length heads.old.items
-        → IsAhead numbers.now 0 c (slice_index heads.new.items c) }
-    ensures next { (k : ℕ) → k < length numbers.now
-        → IsAhead numbers.now (k + 1) (slice_index numbers.now k) (slice_index next.new.items k) }
-{
     let mut k = numbers.len();
     while k > 0 {
         k -= 1;
@@ -123,4 +118,5 @@ fn link(numbers: &[u32], heads: &mut Vec<u32>, next: &mut Vec<u32>)
         next[k] = heads[number];
         heads[number] = k as u32;
     }
+    Ok(Links { next, heads })
 }

@@ -7,9 +7,9 @@ ghost use Rattle.tern_word.specs.declared.tables.Row.{Row as ARow};
 ghost use Rattle.cover_merge.specs.Merge.{PassesDown, place_for};
 ghost use Rattle.cover_merge.specs.Refinement.{IsFirstMet, IsFirstMetFrom};
 
-use crate::rivaled::RivaledRows;
+use crate::rivaled::{OrderedRows, RivaledRow, RivaledRows};
 use crate::rivals::place_in;
-use crate::spans::first_met;
+use crate::spans::{SpannedAliases, first_met};
 use spin_base::Block;
 use tern_word::{Alias, Row, generality, intersects};
 
@@ -61,7 +61,7 @@ pub(crate) fn passes_behind(
         return false;
     }
     let rows = table.rows;
-    match first_met_from(table, block, place_in(rows, general)) {
+    match first_met_from(table, block, place_in(OrderedRows { rows }, general)) {
         Some(met) => {
             remember(last, met.place);
             false
@@ -70,34 +70,29 @@ pub(crate) fn passes_behind(
     }
 }
 
-// Whether the block meets an alias at one of the places, of a row that is more general. Then that place comes first.
+// Whether the block meets an alias at one of the places, of a row that is more general. Then that place changes with the first.
 fn meets_again(table: RivaledRows, block: Block, general: u32, last: &mut LastMet) -> bool
     ensures { IsTrue result → PassesDown table.entry.rows.now block (place_for table.entry.rows.now general) → ⊥ }
 {
     for k in 0..REMEMBERED {
-        if meets_at(table, block, general, last.places[k]) {
-            bring_first(last, k);
+        let place = last.places[k];
+        if meets_at(table, block, general, place) {
+            last.places[k] = last.places[0];
+            last.places[0] = place;
             return true;
         }
     }
     false
 }
 
-// Exchanges the place with the first. It is a hint, and no promise rests on it.
-fn bring_first(last: &mut LastMet, k: usize)
-    requires { k < 16 }
-{
-    let place = last.places[k];
-    last.places[k] = last.places[0];
-    last.places[0] = place;
-}
-
 // Puts the place before the others, and forgets the last. It is a hint, and no promise rests on it.
 fn remember(last: &mut LastMet, place: AliasPlace) {
-    for k in 1..REMEMBERED {
-        bring_first(last, k);
+    let mut next = place;
+    for k in 0..REMEMBERED {
+        let here = last.places[k];
+        last.places[k] = next;
+        next = here;
     }
-    last.places[0] = place;
 }
 
 // Whether an alias stands at the place that the block meets, of a row that is more general.
@@ -139,21 +134,21 @@ pub(crate) fn first_met_from(table: RivaledRows, block: Block, p: usize) -> Opti
         IsFirstMetFrom table.entry.rows.now block p met.block) }
 {
     for r in p..table.rows.len() {
-        if let Some(met) = first_met_in(table, r, block) {
+        if let Some(met) = first_met_in(RivaledRow { table, r }, block) {
             return Some(met);
         }
     }
     None
 }
 
-// The first alias of row `r` that the block meets: none lies outside the row's block.
-fn first_met_in(table: RivaledRows, r: usize, block: Block) -> Option<Met>
-    requires { r < length table.rows.now }
-    ensures { MatchOption result ((d : ARow) → Misses block (slice_index_or table.entry.rows.now r d)) (λ met.
-        (d : ARow) → IsFirstMet block (slice_index_or table.entry.rows.now r d).aliases met.block) }
+// The first alias of the row that the block meets: none lies outside the row's block.
+fn first_met_in(given: RivaledRow, block: Block) -> Option<Met>
+    ensures { MatchOption result ((d : ARow) → Misses block (slice_index_or given.entry.table.rows.now given.entry.r d)) (λ met.
+        (d : ARow) → IsFirstMet block (slice_index_or given.entry.table.rows.now given.entry.r d).aliases met.block) }
 {
-    let rows = table.rows;
-    let rivals = table.rivals;
+    let rows = given.table.rows;
+    let rivals = given.table.rivals;
+    let r = given.r;
     let row = &rows[r];
     if !intersects(block, row.block) {
         return None;
@@ -161,7 +156,8 @@ fn first_met_in(table: RivaledRows, r: usize, block: Block) -> Option<Met>
     let serial = rivals.serials[r];
     let spans = rivals.spans[serial].as_slice();
     let aliases = row.aliases.as_slice();
-    match first_met(aliases, spans, block) {
+    let spanned = SpannedAliases { aliases, spans };
+    match first_met(spanned, block) {
         Some(alias) => Some(Met {
             place: AliasPlace { row: r, alias },
             block: aliases[alias].block,

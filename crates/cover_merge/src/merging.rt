@@ -19,3 +19,11 @@ pub(crate) struct LegalMerge<'a, 'b> {
     pub ghost place_is: { gaps.place ≡ insert_place rows.now gaps.places.now },
     pub ghost within: { gaps.place ≤ length rows.now },
 }
+
+/// A row of the table before the merge, by its place.
+#[derive(Clone, Copy)]
+pub(crate) struct RowBefore<'a, 'b> {
+    pub(crate) merge: LegalMerge<'a, 'b>,
+    pub(crate) s: usize,
+    pub ghost inside: { s < length merge.rows.now },
+}

@@ -1,5 +1,5 @@
 // The refined set of places of one route.
-ghost use Rattle.std.specs.Prelude.{◌≡◌, true, ◌<◌, ◌≤◌, ◌^◌, ◌↔◌, ◌⊎◌, [], IsTrue, IfOk, MatchOption, MatchBool, All, length, filter, not, ◌==◌, ◌+◌, ℕ, List, take, drop, ◌++◌, slice_index, slice_index_or, if◌then◌else◌};
+ghost use Rattle.std.specs.Prelude.{◌≡◌, true, ◌<◌, ◌≤◌, ◌^◌, ◌↔◌, ◌⊎◌, [], IsTrue, IfOk, MatchOption, MatchBool, All, length, filter, not, ◌==◌, ◌+◌, ℕ, List, take, ◌++◌, slice_index, slice_index_or, if◌then◌else◌};
 ghost use Rattle.std.specs.Int.{bit_at};
 ghost use Rattle.spin_base.specs.declared.blocks.Block.{Block as ABlock};
 ghost use Rattle.tern_word.specs.Ternary.{all_keys};
@@ -11,7 +11,8 @@ ghost use Rattle.cover_merge.specs.Refinement.{AreMerges, can_choose, keeps, par
 use crate::keeping::Kept;
 use crate::meeting::first_met_from;
 use crate::merged_block;
-use crate::rivaled::{RivaledRows, SoundRows};
+use crate::places::RowPlaces;
+use crate::rivaled::{AlikeBehind, OrderedRows, RivaledRows, RoutePlaces, SoundRows};
 use crate::rivals::{passes, place_in, rivals_of};
 use spin_base::{Block, Memory, Seq};
 use std::alloc::Global;
@@ -37,6 +38,20 @@ pub fn refine(alloc: Global, table: &Table, places: Seq<u32>) -> Result<Seq<u32>
     };
     let Refined { set, kept: _ } = refine_within(alloc, rivaled, places)?;
     Ok(set)
+}
+
+// What is left of places of rows: some at the front, with the merges of the rows up to each, and some behind.
+#[derive(Clone, Copy)]
+struct LeftPlaces<'a, 'b, 'c> {
+    rows: &'a [Row],
+    merges: &'b [Block],
+    front: &'c [u32],
+    back: &'c [u32],
+    ghost inside: { All (λ s. s < length rows.now) (front.now ++ back.now) },
+    ghost some: { 0 < length (front.now ++ back.now) },
+    ghost known: { (k : ℕ) (d : ABlock) → k < length front.now → k < length merges.now
+        → slice_index_or merges.now k d ≡ merged_block rows.now (take (k + 1) front.now) },
+    ghost many: { length front.now ≤ length merges.now },
 }
 
 /// A refined set, and what is kept of its route.
@@ -113,21 +128,32 @@ fn sifted(alloc: Global, table: RivaledRows, set: &mut Vec<u32>) -> Result<Optio
     ensures fewer { length set.new.items ≤ length set.old.items }
     ensures sifted { IfOk result (IsSifted table.entry.rows.now set.old.items set.new.items) }
 {
-    let merged = merged_block(table.rows, set);
-    if all_pass(table, set, generality(merged)) {
+    let members = RowPlaces {
+        rows: table.rows,
+        places: set,
+    };
+    let merged = merged_block(members);
+    let route = RoutePlaces { table, places: set };
+    if all_pass(route, generality(merged)) {
         return Ok(Some(merged));
     }
     sift(alloc, table, set)
 }
 
 // Whether no place fails the up-check with a merge of this generality.
-fn all_pass(table: RivaledRows, set: &[u32], general: u32) -> bool
-    requires { IsOneRoute table.rows.now set.now }
-    ensures { IsTrue result → (s : ℕ) → has_row set.now s ≡ true
-        → PassesUp table.entry.rows.now set.now s (place_for table.entry.rows.now general) }
+fn all_pass(route: RoutePlaces, general: u32) -> bool
+    ensures { IsTrue result → (s : ℕ) → has_row route.entry.places.now s ≡ true
+        → PassesUp route.entry.table.rows.now route.entry.places.now s (place_for route.entry.table.rows.now general) }
 {
+    let table = route.table;
+    let set = route.places;
     for k in 0..set.len() {
-        if !passes(table, &set[k + 1..], set[k], general) {
+        let row = AlikeBehind {
+            table,
+            places: &set[k + 1..],
+            s: set[k],
+        };
+        if !passes(row, general) {
             return false;
         }
     }
@@ -143,20 +169,35 @@ fn sift(alloc: Global, table: RivaledRows, set: &mut Vec<u32>) -> Result<Option<
     ensures sifted { IfOk result (IsSifted table.entry.rows.now set.old.items set.new.items) }
 {
     let rows = table.rows;
-    let merges = merges_of(alloc, rows, set)?;
+    let members = RowPlaces { rows, places: set };
+    let merges = merges_of(alloc, members)?;
+    let firsts: &[Block] = &merges;
     let mut merged = merges[set.len() - 1];
     let mut i = set.len();
     let mut kept = set.len();
     while i > 0 && i + (set.len() - kept) >= 2 {
         i -= 1;
-        if passes(table, &set[kept..], set[i], generality(merged)) {
+        let row = AlikeBehind {
+            table,
+            places: &set[kept..],
+            s: set[i],
+        };
+        if passes(row, generality(merged)) {
             kept -= 1;
             set[kept] = set[i];
         } else {
-            merged = merge_from(rows, &merges, &set[..i], &set[kept..]);
+            let left = LeftPlaces {
+                rows,
+                merges: firsts,
+                front: &set[..i],
+                back: &set[kept..],
+            };
+            merged = merge_from(left);
         }
     }
-    take_out_run(set, i, kept);
+    let len = set.len();
+    set.copy_within(kept..len, i);
+    set.truncate(i + (len - kept));
     if set.len() < 2 {
         Ok(None)
     } else {
@@ -164,23 +205,12 @@ fn sift(alloc: Global, table: RivaledRows, set: &mut Vec<u32>) -> Result<Option<
     }
 }
 
-// Takes out the places from index `from` up to `to`.
-fn take_out_run(set: &mut Vec<u32>, from: usize, to: usize)
-    requires order { from ≤ to }
-    requires inside { to ≤ length set.old.items }
-    ensures { set.new.items ≡ take from set.old.items ++ drop to set.old.items }
-{
-    let len = set.len();
-    set.copy_within(to..len, from);
-    set.truncate(from + (len - to));
-}
-
 // For each place of the set the merge of the rows up to it.
-fn merges_of(alloc: Global, rows: &[Row], set: &[u32]) -> Result<Vec<Block>, Memory>
-    requires in_range { All (λ s. s < length rows.now) set.now }
-    requires some { 0 < length set.now }
-    ensures { IfOk result (λ v. AreMerges rows.now set.now v.items) }
+fn merges_of(alloc: Global, members: RowPlaces) -> Result<Vec<Block>, Memory>
+    ensures { IfOk result (λ v. AreMerges members.entry.rows.now members.entry.places.now v.items) }
 {
+    let rows = members.rows;
+    let set = members.places;
     let mut merges = Vec::with_capacity(alloc, set.len())?;
     merges.push(rows[set[0] as usize].block)?;
     for k in 1..set.len() {
@@ -190,17 +220,16 @@ fn merges_of(alloc: Global, rows: &[Row], set: &[u32]) -> Result<Vec<Block>, Mem
     Ok(merges)
 }
 
-// The merge of the rows at both lists of places, where the merges of the first places of the first are known.
-fn merge_from(rows: &[Row], merges: &[Block], front: &[u32], back: &[u32]) -> Block
-    requires in_range { All (λ s. s < length rows.now) (front.now ++ back.now) }
-    requires some { 0 < length (front.now ++ back.now) }
-    requires known { (k : ℕ) (d : ABlock) → k < length front.now → k < length merges.now
-        → slice_index_or merges.now k d ≡ merged_block rows.now (take (k + 1) front.now) }
-    requires many { length front.now ≤ length merges.now }
-    ensures { result ≡ merged_block rows.now (front.now ++ back.now) }
+// The merge of the rows at the places that are left.
+fn merge_from(left: LeftPlaces) -> Block
+    ensures { result ≡ merged_block left.entry.rows.now (left.entry.front.now ++ left.entry.back.now) }
 {
+    let rows = left.rows;
+    let merges = left.merges;
+    let front = left.front;
+    let back = left.back;
     if front.is_empty() {
-        return merged_block(rows, back);
+        return merged_block(RowPlaces { rows, places: back });
     }
     let mut merged = merges[front.len() - 1];
     for k in 0..back.len() {
@@ -217,7 +246,7 @@ fn narrow(table: RivaledRows, set: &mut Vec<u32>, merged: Block) -> bool
         × (length set.new.items < length set.old.items)) }
 {
     let rows = table.rows;
-    let place = place_in(rows, generality(merged));
+    let place = place_in(OrderedRows { rows }, generality(merged));
     match first_met_from(table, merged, place) {
         Some(met) => {
             choose(rows, set, merged, met.block);

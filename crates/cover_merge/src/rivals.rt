@@ -1,13 +1,14 @@
 // Rivals of rows: whether a row can be merged, without a look at the rows behind it.
 ghost use Rattle.std.specs.Prelude.{◌≡◌, ◌<◌, ◌≤◌, ◌^◌, ◌↔◌, ◌∷◌, [], ℕ, All, IfOk, IsTrue, List, length, slice_index};
-ghost use Rattle.tern_word.specs.SoundTable.{HoldsItsAliases, IsOrdered, IsSound, Misses};
+ghost use Rattle.tern_word.specs.SoundTable.{Misses};
 ghost use Rattle.tern_word.specs.Ternary.{generality};
-ghost use Rattle.cover_merge.specs.Merge.{place_for, IsMergeSet, IsLegal, PassesUp};
-ghost use Rattle.cover_merge.specs.Rivals.{AreAlikeBehind, AreJoined, AreRivalsAt, IsOriginal, IsRivalOf, IsRivaled, is_at_one};
+ghost use Rattle.cover_merge.specs.Merge.{place_for, IsLegal, PassesUp};
+ghost use Rattle.cover_merge.specs.Rivals.{AreJoined, AreRivalsAt, IsOriginal, IsRivalOf, IsRivaled, is_at_one};
 
 use crate::meeting::{LastMet, passes_behind};
 use crate::merged_block;
-use crate::rivaled::{RivaledRows, SoundRows};
+use crate::places::RowPlaces;
+use crate::rivaled::{AlikeBehind, HoldingRow, NumberedRow, OrderedRows, RowPair, SoundRows};
 use crate::spans::spans_of_all;
 use spin_base::{Block, Memory, Seq};
 use std::alloc::Global;
@@ -87,7 +88,7 @@ fn rivals_among(
     let mut list = Seq::new(alloc);
     for k in 0..joined.len() {
         let r = joined[k];
-        if s < r && !is_missed(rows[r].block, &rows[s]) {
+        if s < r && !is_missed(rows[r].block, HoldingRow { row: &rows[s] }) {
             list.push(rival_of(&rows[r], r))?;
         }
     }
@@ -107,21 +108,16 @@ fn rival_of(row: &Row, serial: usize) -> Rival
     }
 }
 
-/// The rivals of row `s`, found among all rows behind it.
-pub(crate) fn rivals_behind(
-    alloc: Global,
-    rows: &[Row],
-    serials: &[usize],
-    s: usize,
-) -> Result<Seq<Rival>, Memory>
-    requires sound { IsSound rows.now }
-    requires one_each { length serials.now ≡ length rows.now }
-    requires inside { s < length rows.now }
-    ensures { IfOk result (AreRivalsAt rows.now serials.now s) }
+/// The rivals of the row, found among all rows behind it.
+pub(crate) fn rivals_behind(alloc: Global, row: NumberedRow) -> Result<Seq<Rival>, Memory>
+    ensures { IfOk result (AreRivalsAt row.entry.rows.now row.entry.serials.now row.entry.s) }
 {
+    let rows = row.rows;
+    let serials = row.serials;
+    let s = row.s;
     let mut list = Seq::new(alloc);
     for r in s + 1..rows.len() {
-        if !is_missed(rows[r].block, &rows[s]) {
+        if !is_missed(rows[r].block, HoldingRow { row: &rows[s] }) {
             list.push(rival_of(&rows[r], serials[r]))?;
         }
     }
@@ -129,24 +125,25 @@ pub(crate) fn rivals_behind(
 }
 
 /// Whether the block meets no alias of the row: none lies outside the row's block.
-pub(crate) fn is_missed(block: Block, row: &Row) -> bool
-    requires { HoldsItsAliases row.now }
-    ensures { IsTrue result ↔ Misses block row.now }
+pub(crate) fn is_missed(block: Block, holding: HoldingRow) -> bool
+    ensures { IsTrue result ↔ Misses block holding.entry.row.now }
 {
+    let row = holding.row;
     if !intersects(block, row.block) {
         return true;
     }
     misses(block, row)
 }
 
-/// Whether no row behind row `s`, of generality at most `general` and not at one of the places, meets an alias of it. The
-/// places behind it are of rows of its route.
-pub(crate) fn passes(table: RivaledRows, places: &[u32], s: u32, general: u32) -> bool
-    requires { AreAlikeBehind table.rows.now places.now s }
-    ensures { IsTrue result ↔ PassesUp table.entry.rows.now places.now s (place_for table.entry.rows.now general) }
+/// Whether no row behind the row, of generality at most `general` and not at one of the places, meets an alias of it.
+pub(crate) fn passes(row: AlikeBehind, general: u32) -> bool
+    ensures { IsTrue result ↔ PassesUp row.entry.table.rows.now row.entry.places.now row.entry.s
+        (place_for row.entry.table.rows.now general) }
 {
-    let rows = table.rows;
-    let rivals = table.rivals;
+    let rows = row.table.rows;
+    let rivals = row.table.rivals;
+    let places = row.places;
+    let s = row.s;
     let bits = rows[s as usize].route.bits;
     let serial = rivals.serials[s as usize];
     let list = rivals.of[serial].as_slice();
@@ -176,11 +173,11 @@ pub(crate) fn is_at_one(serials: &[usize], places: &[u32], serial: usize) -> boo
 }
 
 /// The number of rows whose generality is at most `general`: the place behind them.
-pub(crate) fn place_in(rows: &[Row], general: u32) -> usize
-    requires { IsOrdered rows.now }
-    ensures value { result ≡ place_for rows.now general }
-    ensures bound { result ≤ length rows.now }
+pub(crate) fn place_in(table: OrderedRows, general: u32) -> usize
+    ensures value { result ≡ place_for table.entry.rows.now general }
+    ensures bound { result ≤ length table.entry.rows.now }
 {
+    let rows = table.rows;
     let mut low = 0;
     let mut high = rows.len();
     while low < high {
@@ -195,16 +192,28 @@ pub(crate) fn place_in(rows: &[Row], general: u32) -> usize
 }
 
 /// Whether the merge of two rows of one route is legal.
-pub(crate) fn is_legal_pair(table: RivaledRows, i: u32, j: u32, last: &mut LastMet) -> bool
-    requires { IsMergeSet table.rows.now (i ∷ j ∷ []) }
-    ensures { IsTrue result ↔ IsLegal table.entry.rows.now (i ∷ j ∷ []) }
+pub(crate) fn is_legal_pair(pair: RowPair, last: &mut LastMet) -> bool
+    ensures { IsTrue result ↔ IsLegal pair.entry.table.rows.now (pair.entry.i ∷ pair.entry.j ∷ []) }
 {
-    let merged = merged_block(table.rows, &[i, j]);
+    let table = pair.table;
+    let rows = table.rows;
+    let places: &[u32] = &[pair.i, pair.j];
+    let merged = merged_block(RowPlaces { rows, places });
     let general = generality(merged);
-    if !passes(table, &[i, j], i, general) {
+    let first = AlikeBehind {
+        table,
+        places,
+        s: pair.i,
+    };
+    if !passes(first, general) {
         return false;
     }
-    if !passes(table, &[i, j], j, general) {
+    let second = AlikeBehind {
+        table,
+        places,
+        s: pair.j,
+    };
+    if !passes(second, general) {
         return false;
     }
     passes_behind(table, merged, general, last)

@@ -1,9 +1,7 @@
 // Spans of aliases. A row that was merged may stand for thousands of them, and most lie far from a block. So each thirty-two of
 // them in a row have a block around them, and are looked at only where it is met.
-ghost use Rattle.std.specs.Prelude.{◌≡◌, ◌+◌, ◌*◌, ◌<◌, ◌≤◌, ℕ, [], ◌∷◌, ◌++◌, List, All, IfOk, OnOk, MatchOption, length, slice_index_or};
-ghost use Rattle.spin_base.specs.declared.blocks.Block.{Block as ABlock};
+ghost use Rattle.std.specs.Prelude.{◌+◌, ◌<◌, ◌≤◌, ℕ, All, IfOk, MatchOption, length, slice_index_or};
 ghost use Rattle.tern_word.specs.declared.tables.Alias.{Alias as AnAlias};
-ghost use Rattle.tern_word.specs.declared.tables.Row.{Row as ARow};
 ghost use Rattle.tern_word.specs.Ternary.{Intersects, LiesIn};
 ghost use Rattle.cover_merge.specs.Spans.{AreSpansOf, AreSpansOfAll, IsFirstAt, IsFreeUpTo};
 
@@ -14,35 +12,28 @@ use tern_word::{Alias, Row, intersects, merge_two};
 // How many aliases have a span together.
 const TOGETHER: usize = 32;
 
+/// Aliases with their spans.
+#[derive(Clone, Copy)]
+pub(crate) struct SpannedAliases<'a> {
+    pub(crate) aliases: &'a [Alias],
+    pub(crate) spans: &'a [Block],
+    pub ghost are: { AreSpansOf aliases.now spans.now },
+}
+
 /// The spans of the aliases of each row.
 pub(crate) fn spans_of_all(alloc: Global, rows: &[Row]) -> Result<Vec<Seq<Block>>, Memory>
     ensures { IfOk result (λ v. AreSpansOfAll rows.now v.items) }
 {
     let mut spans = Vec::with_capacity(alloc, rows.len())?;
     for s in 0..rows.len() {
-        push_spans(alloc, rows, &mut spans, s)?;
+        let own = spans_of(alloc, rows[s].aliases.as_slice())?;
+        spans.push(own)?;
     }
     Ok(spans)
 }
 
-/// Adds the spans of the aliases of row `s`.
-pub(crate) fn push_spans(
-    alloc: Global,
-    rows: &[Row],
-    spans: &mut Vec<Seq<Block>>,
-    s: usize,
-) -> Result<(), Memory>
-    requires { s < length rows.now }
-    ensures { OnOk result ((own : List ABlock) × (spans.new.items ≡ spans.old.items ++ own ∷ [])
-        × ((d : ARow) → AreSpansOf (slice_index_or rows.now s d).aliases own)) }
-{
-    let own = spans_of(alloc, rows[s].aliases.as_slice())?;
-    spans.push(own)?;
-    Ok(())
-}
-
-// The spans of the aliases. Those behind the last span are fewer than have one together.
-fn spans_of(alloc: Global, aliases: &[Alias]) -> Result<Seq<Block>, Memory>
+/// The spans of the aliases. Those behind the last span are fewer than have one together.
+pub(crate) fn spans_of(alloc: Global, aliases: &[Alias]) -> Result<Seq<Block>, Memory>
     ensures { IfOk result (AreSpansOf aliases.now) }
 {
     let mut spans = Seq::new(alloc);
@@ -66,11 +57,12 @@ fn span_from(aliases: &[Alias], from: usize) -> Block
 }
 
 /// The number of the first of the aliases that the block meets.
-pub(crate) fn first_met(aliases: &[Alias], spans: &[Block], block: Block) -> Option<usize>
-    requires { AreSpansOf aliases.now spans.now }
-    ensures { MatchOption result (All (λ a. ¬ (Intersects block a.block)) aliases.now)
-        (IsFirstAt block aliases.now 0 (length aliases.now)) }
+pub(crate) fn first_met(spanned: SpannedAliases, block: Block) -> Option<usize>
+    ensures { MatchOption result (All (λ a. ¬ (Intersects block a.block)) spanned.entry.aliases.now)
+        (IsFirstAt block spanned.entry.aliases.now 0 (length spanned.entry.aliases.now)) }
 {
+    let aliases = spanned.aliases;
+    let spans = spanned.spans;
     for k in 0..spans.len() {
         if !intersects(block, spans[k]) {
             continue;
@@ -85,8 +77,7 @@ pub(crate) fn first_met(aliases: &[Alias], spans: &[Block], block: Block) -> Opt
 
 // The number of the first of the aliases from `from` up to `to` that the block meets.
 fn first_between(aliases: &[Alias], from: usize, to: usize, block: Block) -> Option<usize>
-    requires order { from ≤ to }
-    requires inside { to ≤ length aliases.now }
+    requires { to ≤ length aliases.now }
     ensures { MatchOption result (IsFreeUpTo block aliases.now from to) (IsFirstAt block aliases.now from to) }
 {
     for i in from..to {

@@ -2,7 +2,7 @@
 ghost use Rattle.std.specs.Prelude.{◌≡◌, ◌∷◌, [], IfOk, length};
 ghost use Rattle.cover_merge.specs.Merge.{IsOneRoute};
 
-use cover_merge::{down_check, refine, up_check};
+use cover_merge::{RowPlaces, down_check, refine, up_check};
 use spin_base::{Block, Memory, Port, Route, Seq};
 use std::alloc::Global;
 use tern_word::{Alias, Row, Table, block_of, is_sound};
@@ -60,8 +60,11 @@ fn refined(alloc: Global) -> Result<Seq<u32>, Memory> {
 // Whether the merge of all rows that go East passes the up-check, and whether it passes the down-check.
 fn checked(alloc: Global) -> Result<(bool, bool), Memory> {
     let table = table(alloc)?;
-    let places = [0, 1, 2, 3];
-    Ok((up_check(&table, &places), down_check(&table, &places)))
+    let set = RowPlaces {
+        rows: table.rows.as_slice(),
+        places: &[0, 1, 2, 3],
+    };
+    Ok((up_check(set), down_check(set)))
 }
 
 // It would be as general as the row that goes North and stand behind it: that row takes each of its keys, and no row is left

@@ -1,5 +1,5 @@
 // Putting a row's pieces into a table.
-ghost use Rattle.std.specs.Prelude.{◌≡◌, ◌<◌, ◌≤◌, ◌+◌, ◌^◌, IfOk, OnOk, length, map};
+ghost use Rattle.std.specs.Prelude.{◌≡◌, ◌≤◌, ◌+◌, IfOk, OnOk, length, map};
 ghost use Rattle.table_rules.specs.Made.{IsRowAdded, alias_of, piece_row, whole_row, with_row, with_rows};
 
 use crate::rows::RoutedBlock;
@@ -16,7 +16,6 @@ pub(crate) fn put(
     given: RoutedBlock,
     pieces: &[Block],
 ) -> Result<(), Memory>
-    requires { length rows.old.items + length pieces.now < 2 ^ 32 }
     ensures put { OnOk result (IsRowAdded rows.old.items given pieces.now rows.new.items) }
     ensures few { OnOk result (length rows.new.items ≤ length rows.old.items + length pieces.now) }
 {
@@ -38,7 +37,6 @@ fn put_whole(
     given: RoutedBlock,
     pieces: &[Block],
 ) -> Result<(), Memory>
-    requires { length rows.old.items < 2 ^ 32 }
     ensures { OnOk result (rows.new.items ≡ with_row rows.old.items (whole_row given pieces.now)) }
 {
     let row = whole_row(alloc, given, pieces)?;
@@ -77,11 +75,10 @@ fn alias_of(port: Port, piece: Block) -> Alias
 
 // Puts a row behind all rows that are at most as general.
 fn put_row(rows: &mut Vec<Row>, row: Row) -> Result<(), Memory>
-    requires { length rows.old.items < 2 ^ 32 }
     ensures { OnOk result (rows.new.items ≡ with_row rows.old.items row) }
 {
     let place = place_for(rows, generality(row.block));
-    rows.insert(place as usize, row)?;
+    rows.insert(place, row)?;
     Ok(())
 }
 
@@ -92,7 +89,6 @@ fn put_pieces(
     given: RoutedBlock,
     pieces: &[Block],
 ) -> Result<(), Memory>
-    requires { length rows.old.items + length pieces.now < 2 ^ 32 }
     ensures put { OnOk result
         (rows.new.items ≡ with_rows rows.old.items (map (piece_row given) pieces.now)) }
     ensures few { OnOk result (length rows.new.items ≤ length rows.old.items + length pieces.now) }

@@ -3,4 +3,5 @@ use Rattle.cover_merge.proofs.ApplyLemmas.{row_made}
 use Rattle.cover_merge.proofs.applying.merged_row.Goals as goal
 
 pub returns : goal.returns
-returns c = row_made c.args.rows.now c.args.places.now c.index-rows-places.result c.merged_block.result c.in_ok-aliases.aliases c.requires.in_range c.requires.some c.merged_block.ensures c.in_ok-aliases.ensures
+returns c =
+    let set = c.args.set in row_made set.rows.now set.places.now c.index-rows-places.result c.merged_block.result c.in_ok-aliases.aliases set.inside set.some c.merged_block.ensures c.in_ok-aliases.ensures

@@ -10,23 +10,23 @@ pub move_down-requires-clause-by : goal.move_down-requires-clause-by
 move_down-requires-clause-by c = omega (
   arith,
   (starts c.args.gaps.places.now c.args.gaps.place c.args.gaps.ascending c.args.gaps.before c.args.merged c.args.rows.now.items c.requires c.loop-i.i c.loop-i-test.true c.loop-i.rows.items c.loop-i.rows.items c.loop-i.invariant
-      (get_or c.args.gaps.places.now c.loop-i.i 0 + 1) c.next_place-to.result refl c.next_place-to.ensures).0,
+      (get_or c.args.gaps.places.now c.loop-i.i 0 + 1) c.next_place-to.result refl (c.next_place-to.ensures (omega (arith, c.loop-i-test.true)))).0,
 )
 
 pub move_down-requires-clause-order : goal.move_down-requires-clause-order
 move_down-requires-clause-order c =
     (starts c.args.gaps.places.now c.args.gaps.place c.args.gaps.ascending c.args.gaps.before c.args.merged c.args.rows.now.items c.requires c.loop-i.i c.loop-i-test.true c.loop-i.rows.items c.loop-i.rows.items c.loop-i.invariant
-    (get_or c.args.gaps.places.now c.loop-i.i 0 + 1) c.next_place-to.result refl c.next_place-to.ensures).1
+    (get_or c.args.gaps.places.now c.loop-i.i 0 + 1) c.next_place-to.result refl (c.next_place-to.ensures (omega (arith, c.loop-i-test.true)))).1
 
 pub move_down-requires-clause-inside : goal.move_down-requires-clause-inside
 move_down-requires-clause-inside c =
     (starts c.args.gaps.places.now c.args.gaps.place c.args.gaps.ascending c.args.gaps.before c.args.merged c.args.rows.now.items c.requires c.loop-i.i c.loop-i-test.true c.loop-i.rows.items c.loop-i.rows.items c.loop-i.invariant
-    (get_or c.args.gaps.places.now c.loop-i.i 0 + 1) c.next_place-to.result refl c.next_place-to.ensures).2
+    (get_or c.args.gaps.places.now c.loop-i.i 0 + 1) c.next_place-to.result refl (c.next_place-to.ensures (omega (arith, c.loop-i-test.true)))).2
 
 pub loop-i-preserved : goal.loop-i-preserved
 loop-i-preserved c =
     one_closed c.args.gaps.places.now c.args.gaps.place c.args.gaps.ascending c.args.gaps.before c.args.merged c.args.rows.now.items c.requires c.loop-i.i c.loop-i-test.true c.loop-i.rows.items c.move_down.new.rows.items c.loop-i.invariant
-    (get_or c.args.gaps.places.now c.loop-i.i 0 + 1) c.next_place-to.result refl c.next_place-to.ensures
+    (get_or c.args.gaps.places.now c.loop-i.i 0 + 1) c.next_place-to.result refl (c.next_place-to.ensures (omega (arith, c.loop-i-test.true)))
     (record { one_each = c.move_down.ensures.one_each; front = c.move_down.ensures.front; rest = c.move_down.ensures.rest })
 
 pub overflow_sub-place : goal.overflow_sub-place

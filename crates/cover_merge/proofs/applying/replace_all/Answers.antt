@@ -9,33 +9,33 @@ loop-i-init g c = none_closed c.args.gaps.places.now c.args.gaps.place c.args.ga
 pub overflow_sub-from-in-loop-i : goal.overflow_sub-from-in-loop-i
 overflow_sub-from-in-loop-i g c =
     (starts c.args.gaps.places.now c.args.gaps.place c.args.gaps.ascending c.args.gaps.before c.args.item c.args.items.now.items c.requires c.loop-i.i c.loop-i-test.true c.loop-i.items.items c.loop-i.items.items c.loop-i.invariant
-    (get_or c.args.gaps.places.now c.loop-i.i 0 + 1) c.next_place-to.result refl c.next_place-to.ensures).0
+    (get_or c.args.gaps.places.now c.loop-i.i 0 + 1) c.next_place-to.result refl (c.next_place-to.ensures (omega (arith, c.loop-i-test.true)))).0
 
 pub copy_within-requires-clause-start_le_end : goal.copy_within-requires-clause-start_le_end
 copy_within-requires-clause-start_le_end g c =
     (starts c.args.gaps.places.now c.args.gaps.place c.args.gaps.ascending c.args.gaps.before c.args.item c.args.items.now.items c.requires c.loop-i.i c.loop-i-test.true c.loop-i.items.items c.loop-i.items.items c.loop-i.invariant
-    (get_or c.args.gaps.places.now c.loop-i.i 0 + 1) c.next_place-to.result refl c.next_place-to.ensures).1
+    (get_or c.args.gaps.places.now c.loop-i.i 0 + 1) c.next_place-to.result refl (c.next_place-to.ensures (omega (arith, c.loop-i-test.true)))).1
 
 pub copy_within-requires-clause-in_bounds : goal.copy_within-requires-clause-in_bounds
 copy_within-requires-clause-in_bounds g c = omega (
   arith,
   (starts c.args.gaps.places.now c.args.gaps.place c.args.gaps.ascending c.args.gaps.before c.args.item c.args.items.now.items c.requires c.loop-i.i c.loop-i-test.true c.loop-i.items.items c.loop-i.items.items c.loop-i.invariant
-      (get_or c.args.gaps.places.now c.loop-i.i 0 + 1) c.next_place-to.result refl c.next_place-to.ensures).2,
+      (get_or c.args.gaps.places.now c.loop-i.i 0 + 1) c.next_place-to.result refl (c.next_place-to.ensures (omega (arith, c.loop-i-test.true)))).2,
 )
 
 pub copy_within-requires-clause-dest_in_bounds : goal.copy_within-requires-clause-dest_in_bounds
 copy_within-requires-clause-dest_in_bounds g c = subst (λ n. get_or c.args.gaps.places.now c.loop-i.i 0 + 1 - 1 - c.loop-i.i + (c.next_place-to.result - (get_or c.args.gaps.places.now c.loop-i.i 0 + 1)) ≤ n) (sym c.loop-i.items.ok.0)
     (starts c.args.gaps.places.now c.args.gaps.place c.args.gaps.ascending c.args.gaps.before c.args.item c.args.items.now.items c.requires c.loop-i.i c.loop-i-test.true c.loop-i.items.items c.loop-i.items.items c.loop-i.invariant
-    (get_or c.args.gaps.places.now c.loop-i.i 0 + 1) c.next_place-to.result refl c.next_place-to.ensures).3
+    (get_or c.args.gaps.places.now c.loop-i.i 0 + 1) c.next_place-to.result refl (c.next_place-to.ensures (omega (arith, c.loop-i-test.true)))).3
 
 pub loop-i-preserved : goal.loop-i-preserved
 loop-i-preserved g c =
     let from = get_or c.args.gaps.places.now c.loop-i.i 0 + 1 in
     let at = starts c.args.gaps.places.now c.args.gaps.place c.args.gaps.ascending c.args.gaps.before c.args.item c.args.items.now.items c.requires c.loop-i.i c.loop-i-test.true c.loop-i.items.items c.loop-i.items.items c.loop-i.invariant
-    from c.next_place-to.result refl c.next_place-to.ensures in
+    from c.next_place-to.result refl (c.next_place-to.ensures (omega (arith, c.loop-i-test.true))) in
     let dest : from - 1 - c.loop-i.i ≡ from - (c.loop-i.i + 1) = omega arith in
     one_closed c.args.gaps.places.now c.args.gaps.place c.args.gaps.ascending c.args.gaps.before c.args.item c.args.items.now.items c.requires c.loop-i.i c.loop-i-test.true c.loop-i.items.items c.copy_within.new.self.items c.loop-i.invariant
-    from c.next_place-to.result refl c.next_place-to.ensures
+    from c.next_place-to.result refl (c.next_place-to.ensures (omega (arith, c.loop-i-test.true)))
     (copied_down from c.next_place-to.result (c.loop-i.i + 1) (from - 1 - c.loop-i.i) c.loop-i.items.items c.copy_within.new.self.items (omega (arith, at.0)) at.1 at.2 dest c.copy_within.ensures.items)
 
 pub overflow_sub-place : goal.overflow_sub-place

@@ -1,6 +1,7 @@
 -- The rivals of all rows that stay are those after the merge, and those of the merged row are found.
 use Rattle.std.proofs.Common.{◌≡◌, ◌∙◌, ◌+◌, ◌-◌, ◌<◌, [], ℕ, List, sym, ap, subst, length, get_or, arith}
 use Rattle.std.specs.Prelude.{All, AllPairs, insert}
+use Rattle.std.proofs.lemmas.List.{get_or_default}
 use Rattle.tern_word.specs.{declared.tables.Row.Row, SoundTable.IsSound, Ternary.generality}
 use Rattle.cover_merge.specs.{Merge.after, Merge.merged_block, Merge.insert_place, Rivals.AreRivalsAfter, Rivals.AreRivalsAt, Rivals.CanMerge, Rivals.IsRivaled, Spans.AreSpansOf}
 use Rattle.cover_merge.specs.declared.rivals.Rivals.{Rivals}
@@ -25,8 +26,8 @@ serials_here c =
     c.as_slice-members.result.now c.renew_all.new.rivals.serials.items c.replace_all.new.items.items c.place_in-place.result c.merged_rival-merged.result.serial
     c.as_slice-members.ensures c.in_ok-renew_all.ensures.serials (place_here (goal.at.overflow_sub-at c).After-place_in-place) c.merged_rival-merged.ensures.serial c.replace_all.ensures
 
-pub renew_all-requires-clause-can : goal.renew_all-requires-clause-can
-renew_all-requires-clause-can c =
+pub renew_all-requires : goal.renew_all-requires
+renew_all-requires c =
     subst (λ l. CanMerge l c.args.rivals.now c.as_slice-members.result.now c.args.met.now) (sym c.as_slice-2.ensures)
     (subst (λ l. CanMerge c.args.table.now.rows c.args.rivals.now l c.args.met.now) (sym c.as_slice-members.ensures) c.requires)
 
@@ -44,32 +45,19 @@ invariant_of-gaps c =
 pub overflow_sub-at : goal.overflow_sub-at
 overflow_sub-at c = omega (arith, stands_here (goal.at.overflow_sub-at c).After-place_in-place)
 
-pub rivals_behind-requires-clause-sound : goal.rivals_behind-requires-clause-sound
-rivals_behind-requires-clause-sound c = subst IsSound (sym (c.as_slice-4.ensures ∙ c.in_ok-apply.ensures.ok)) c.requires.merge.legal
-
-pub rivals_behind-requires-clause-one_each : goal.rivals_behind-requires-clause-one_each
-rivals_behind-requires-clause-one_each c =
-    ap length (c.deref.ensures.value ∙ serials_here (goal.at.rivals_behind-requires-clause-one_each c).After-replace_all)
-    ∙ carried_length c.args.table.now.rows c.args.places.now c.requires.rivaled.sound c.requires.merge.set c.args.rivals.now.serials.items c.requires.rivaled.one_each (length c.args.rivals.now.of.items)
-    ∙ sym (ap length (c.as_slice-4.ensures ∙ c.in_ok-apply.ensures.ok))
-
-pub rivals_behind-requires-clause-inside : goal.rivals_behind-requires-clause-inside
-rivals_behind-requires-clause-inside c =
-    omega (
-      arith,
-      stands_here (goal.at.rivals_behind-requires-clause-inside c).After-place_in-place,
-      ap length (c.as_slice-4.ensures ∙ c.in_ok-apply.ensures.ok),
-      at_inside c.args.table.now.rows c.args.places.now c.requires.rivaled.sound c.requires.merge.set c.args.rivals.now.serials.items c.requires.rivaled.one_each (length c.args.rivals.now.of.items),
-    )
-
-pub push_spans-requires : goal.push_spans-requires
-push_spans-requires c =
-    omega (
-      arith,
-      stands_here (goal.at.push_spans-requires c).After-place_in-place,
-      ap length (c.as_slice-5.ensures ∙ c.in_ok-apply.ensures.ok),
-      at_inside c.args.table.now.rows c.args.places.now c.requires.rivaled.sound c.requires.merge.set c.args.rivals.now.serials.items c.requires.rivaled.one_each (length c.args.rivals.now.of.items),
-    )
+pub invariant_of-row : goal.invariant_of-row
+invariant_of-row c =
+    let rows = c.args.table.now.rows in
+    let old = c.requires.rivaled in
+    let serials = c.args.rivals.now.serials.items in
+    let n = length c.args.rivals.now.of.items in
+    let read = c.as_slice-rows.ensures ∙ c.in_ok-apply.ensures.ok in record {
+      sound = subst IsSound (sym read) c.requires.merge.legal;
+      one_each = ap length (c.deref.ensures.value ∙ serials_here (goal.at.invariant_of-row c).After-replace_all)
+          ∙ carried_length rows c.args.places.now old.sound c.requires.merge.set serials old.one_each n
+          ∙ sym (ap length read);
+      inside = omega (arith, stands_here (goal.at.invariant_of-row c).After-place_in-place, ap length read, at_inside rows c.args.places.now old.sound c.requires.merge.set serials old.one_each n);
+    }
 
 pub returns-clause-rivaled : goal.returns-clause-rivaled
 returns-clause-rivaled c =
@@ -82,13 +70,13 @@ returns-clause-rivaled c =
     let told = c.merged_rival-merged.ensures in
     let of = c.renew_all.new.rivals.of.items in
     let list = c.in_ok-list.list in
-    let rivals : Rivals = record { serials = c.replace_all.new.items; of = c.push.new.self; spans = c.push_spans.new.spans } in
+    let rivals : Rivals = record { serials = c.replace_all.new.items; of = c.push.new.self; spans = c.push-2.new.self } in
     let numbers = serials_here (goal.at.returns-clause-rivaled c).After-replace_all in
     let stands = stands_here (goal.at.returns-clause-rivaled c).After-place_in-place in
     let after_is = c.in_ok-apply.ensures.ok in
     let new = after rows places in
     let carried = left places 0 (insert serials (insert_place rows places) n) in
-    let read = c.as_slice-4.ensures ∙ after_is in
+    let read = c.as_slice-rows.ensures ∙ after_is in
     let at_is : c.place_in-place.result - length c.as_slice-members.result.now ≡ merged_at rows places = omega (arith, stands) in
     let general : merged.general ≡ generality (merged_block rows places) =
     told.general ∙ ap (λ l. generality (merged_block l c.as_slice-members.result.now)) c.as_slice.ensures ∙ ap (λ l. generality (merged_block rows l)) c.as_slice-members.ensures in
@@ -102,13 +90,16 @@ returns-clause-rivaled c =
     subst (λ (m : ℕ). AreRivalsAt new carried m list) at_is
     (subst (λ (l : List ℕ). AreRivalsAt new l (c.place_in-place.result - length c.as_slice-members.result.now) list) (c.deref.ensures.value ∙ numbers)
     (subst (λ (l : List Row). AreRivalsAt l c.deref.result.now (c.place_in-place.result - length c.as_slice-members.result.now) list) read c.in_ok-list.ensures)) in
-    let its = c.in_ok-push_spans.ensures in
+    let its = c.in_ok-spans.spans in
+    let at = c.place_in-place.result - length c.as_slice-members.result.now in
+    let inside : at < length c.as_slice-rows.result.now = omega (arith, stands, ap length read, at_inside rows places old.sound c.requires.merge.set serials old.one_each n) in
     let spans = c.renew_all.new.rivals.spans.items in
     let same_spans = c.in_ok-renew_all.ensures.spans in
-    let own_spans : (d : Row) → AreSpansOf (get_or new (merged_at rows places) d).aliases its.0 =
-    subst (λ (m : ℕ). (d : Row) → AreSpansOf (get_or new m d).aliases its.0) at_is
-    (subst (λ (l : List Row). (d : Row) → AreSpansOf (get_or l (c.place_in-place.result - length c.as_slice-members.result.now) d).aliases its.0) (c.as_slice-5.ensures ∙ after_is) its.2) in
+    let own_spans : (d : Row) → AreSpansOf (get_or new (merged_at rows places) d).aliases its =
+    subst (λ (m : ℕ). (d : Row) → AreSpansOf (get_or new m d).aliases its) at_is
+    (subst (λ (l : List Row). (d : Row) → AreSpansOf (get_or l at d).aliases its) read
+    (λ d. subst (λ l. AreSpansOf l its) (c.as_slice-4.ensures ∙ ap (λ (x : Row). x.aliases) (get_or_default c.as_slice-rows.result.now at c.index-rows-at.result d inside)) c.in_ok-spans.ensures)) in
     subst (λ (l : List Row). IsRivaled l rivals) (sym after_is)
     (rivaled_after rows places old.sound c.requires.merge.set serials old.one_each n c.requires.merge.legal old.below old.apart merged told.serial general bits old.few of list rivals
-    c.in_ok-renew_all.ensures.one_each renewed own numbers c.in_ok-push.ensures.items spans its.0 (ap length same_spans ∙ old.as_many)
-    (subst (λ l. (s : ℕ) (d : Row) → s < length rows → AreSpansOf (get_or rows s d).aliases (get_or l (get_or serials s 0) [])) (sym same_spans) old.spanned) own_spans its.1)
+    c.in_ok-renew_all.ensures.one_each renewed own numbers c.in_ok-push.ensures.items spans its (ap length same_spans ∙ old.as_many)
+    (subst (λ l. (s : ℕ) (d : Row) → s < length rows → AreSpansOf (get_or rows s d).aliases (get_or l (get_or serials s 0) [])) (sym same_spans) old.spanned) own_spans c.in_ok-push-2.ensures.items)

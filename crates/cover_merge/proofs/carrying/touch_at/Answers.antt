@@ -18,9 +18,9 @@ number_is rows known s n old inside is =
 pub returns-then-not-loses-clause-known : goal.returns-then-not-loses-clause-known
 returns-then-not-loses-clause-known c =
     let known = c.args.known.now in
-    let old = c.requires.known.told in
+    let old = c.requires.told in
     let n = c.index.result.now in
-    let number = number_is c.args.merge.rows.now known c.args.s n old c.requires.inside c.index.ensures in
+    let number = number_is c.args.row.merge.rows.now known c.args.row.s n old c.args.row.inside c.index.ensures in
     let low : n < length known.kept.items = omega (arith, old.one_route, number.1) in record {
       told = record {
         rivaled = old.rivaled;
@@ -32,15 +32,15 @@ returns-then-not-loses-clause-known c =
         one_route = length-set known.kept.items n None ∙ old.one_route;
         kept = λ k it inside is. old.kept k it inside ((forgotten known.kept.items n low).each k it is).0;
       };
-      marks = c.requires.known.marks;
+      marks = c.requires.marks;
     }
 
 pub returns-then-not-loses-clause-left : goal.returns-then-not-loses-clause-left
 returns-then-not-loses-clause-left c =
     let known = c.args.known.now in
-    let old = c.requires.known.told in
+    let old = c.requires.told in
     let n = c.index.result.now in
-    let number = number_is c.args.merge.rows.now known c.args.s n old c.requires.inside c.index.ensures in
+    let number = number_is c.args.row.merge.rows.now known c.args.row.s n old c.args.row.inside c.index.ensures in
     let left = forgotten known.kept.items n (omega (arith, old.one_route, number.1)) in record {
       one_each = left.one_each;
       each = λ k it is. let told = left.each k it is in (told.0, λ same. told.1 (same ∙ sym number.0));
@@ -48,17 +48,17 @@ returns-then-not-loses-clause-left c =
 
 pub returns : goal.returns
 returns c =
-    let rows = c.args.merge.rows.now in
+    let rows = c.args.row.merge.rows.now in
     let known = c.args.known.now in
-    let old = c.requires.known.told in
-    let marks = c.requires.known.marks in
+    let old = c.requires.told in
+    let marks = c.requires.marks in
     let gs = known.times.items in
-    let s = c.args.s in
+    let s = c.args.row.s in
     let n = c.index.result.now in
     let now = c.args.now in
     let g = c.changed.result in
-    let number = number_is rows known s n old c.requires.inside c.index.ensures in
-    let inside : s < length gs = omega (arith, old.one_each, c.requires.inside) in
+    let number = number_is rows known s n old c.args.row.inside c.index.ensures in
+    let inside : s < length gs = omega (arith, old.one_each, c.args.row.inside) in
     let low : n < length known.latest.items = omega (arith, old.one_time, number.1) in
     let left = forgotten known.kept.items n (omega (arith, old.one_route, number.1)) in
     let fresh : IsFresh now g = c.changed.ensures in record {
@@ -68,7 +68,7 @@ returns c =
           one_each = length-set gs s g ∙ old.one_each;
           one_time = length-set known.latest.items n now ∙ old.one_time;
           latest = times_no_later known.routes.items (set known.latest.items n now) rows gs now marks.bound s g inside
-              (λ d. omega (arith, fresh.changed, get_or-set_at known.latest.items n n now 0 refl low, ap (λ m. get_or (set known.latest.items n now) m 0) (number.0 ∙ number_at known.routes.items rows known.numbers.items old.numbers s d c.requires.inside)))
+              (λ d. omega (arith, fresh.changed, get_or-set_at known.latest.items n n now 0 refl low, ap (λ m. get_or (set known.latest.items n now) m 0) (number.0 ∙ number_at known.routes.items rows known.numbers.items old.numbers s d c.args.row.inside)))
               (latest_put known.routes.items known.latest.items rows gs now marks.bound n low old.latest);
           once = old.once;
           numbers = old.numbers;

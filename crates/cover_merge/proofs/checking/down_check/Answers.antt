@@ -8,9 +8,9 @@ returns-clause-passes c = grind arith
 
 pub returns-clause-legal : goal.returns-clause-legal
 returns-clause-legal c = λ sound up.
-    let rows = c.args.table.now.rows in
-    let places = c.args.places.now in
-    let within = c.requires.set.set.in_range in (
+    let rows = c.args.set.rows.now in
+    let places = c.args.set.places.now in
+    let within = c.args.set.inside in (
       λ t. legal_from_checks rows places sound within up ((returns-clause-passes c).0 t),
       λ legal. (returns-clause-passes c).1 (down_from_legal rows places sound within legal),
     )

@@ -4,4 +4,4 @@ use Rattle.cover_merge.specs.Merge.{merged_block}
 use Rattle.cover_merge.proofs.checking.merged_block.Given as goal
 
 abbrev pub invariant-loop-place : goal.invariant-loop-place
-invariant-loop-place l = l.merged ≡ merged_block l.rows (take (l.place-index + 1) l.places)
+invariant-loop-place l = l.merged ≡ merged_block l.rows (take (l.place-index + 1) l.set.places.now)

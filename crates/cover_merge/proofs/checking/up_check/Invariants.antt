@@ -4,4 +4,4 @@ use Rattle.cover_merge.specs.Merge.{PassesUp, insert_place}
 use Rattle.cover_merge.proofs.checking.up_check.Given as goal
 
 abbrev pub invariant-loop-s : goal.invariant-loop-s
-invariant-loop-s l = (k : ℕ) → k < l.s-index → PassesUp l.table.rows l.places (get_or l.places k 0) (insert_place l.table.rows l.places)
+invariant-loop-s l = (k : ℕ) → k < l.s-index → PassesUp l.rows l.places (get_or l.places k 0) (insert_place l.rows l.places)

@@ -1,36 +1,41 @@
 -- A row that changed no later is passed.
-use Rattle.std.proofs.Common.{◌<◌, suc, [], refl, length, get_or, arith}
-use Rattle.cover_merge.specs.Merge.{merge_rows}
+use Rattle.std.proofs.Common.{◌<◌, suc, [], ap, refl, length, get_or, arith}
+use Rattle.std.proofs.lemmas.List.{get_or_default}
+use Rattle.cover_merge.specs.{Merge.merge_rows, declared.times.Times.Times}
 use Rattle.cover_merge.proofs.{ChooseLemmas.link_next, TriedLemmas.since_first, TriedLemmas.newer_next, TriedLemmas.since_turn}
 use Rattle.cover_merge.proofs.choosing.changed_after.Goals as goal
 
 pub index-place-requires : goal.index-place-requires
-index-place-requires c = omega (arith, c.requires.inside, c.requires.nexts.one_each)
+index-place-requires c = omega (arith, c.args.behind.behind.inside, c.args.behind.behind.nexts.one_each)
 
 pub loop-place-init : goal.loop-place-init
 loop-place-init c =
-    let rows = c.args.rows.now in
-    since_first rows c.args.times.now c.args.k c.index-place.result.now (suc c.args.time)
-    (link_next rows c.args.links.now.next.items c.requires.nexts c.args.k c.index-place.result.now c.requires.inside c.index-place.ensures)
+    let b = c.args.behind in
+    let rows = b.linked.table.rows.now in
+    since_first rows b.times.now b.k c.index-place.result.now (suc c.args.time)
+    (link_next rows b.linked.links.now.next.items b.behind.nexts b.k c.index-place.result.now b.behind.inside c.index-place.ensures)
 
-pub changed_at-changed-requires : goal.changed_at-changed-requires
-changed_at-changed-requires c = omega (arith, c.loop-place-test.true, c.requires.one_each)
+pub bounds-times-place : goal.bounds-times-place
+bounds-times-place c = omega (arith, c.loop-place-test.true, c.args.behind.behind.one_each)
 
 pub bounds-newer-place : goal.bounds-newer-place
-bounds-newer-place c = omega (arith, c.loop-place-test.true, c.requires.places)
+bounds-newer-place c = omega (arith, c.loop-place-test.true, c.args.behind.behind.places)
 
 pub loop-place-smaller : goal.loop-place-smaller
 loop-place-smaller c =
-    let rows = c.args.rows.now in
+    let b = c.args.behind in
+    let rows = b.linked.table.rows.now in
     let place = c.loop-place.place in
     let inside : place < length rows = omega (arith, c.loop-place-test.true) in
-    let next = newer_next rows c.args.times.now c.args.newer.now c.args.k place (suc c.args.time) (merge_rows []) (record { tried = 0; changed = 0 }) (c.requires.newer (merge_rows [])) inside c.loop-place.invariant in
+    let next = newer_next rows b.times.now b.newer.now b.k place (suc c.args.time) (merge_rows []) (record { tried = 0; changed = 0 }) (b.behind.newer (merge_rows [])) inside c.loop-place.invariant in
     omega (arith, inside, next.behind)
 
 pub loop-place-preserved : goal.loop-place-preserved
 loop-place-preserved c =
-    let rows = c.args.rows.now in
+    let b = c.args.behind in
+    let rows = b.linked.table.rows.now in
     let place = c.loop-place.place in
     let inside : place < length rows = omega (arith, c.loop-place-test.true) in
-    since_turn rows c.args.times.now c.args.newer.now c.args.k place (get_or c.args.newer.now place 0) c.args.time c.changed_at-changed.result (merge_rows []) (record { tried = 0; changed = 0 })
-    (c.requires.newer (merge_rows [])) inside c.loop-place.invariant c.changed_at-changed.ensures (omega (arith, c.if-changed-time.false)) refl
+    let was : Times = record { tried = 0; changed = 0 } in
+    since_turn rows b.times.now b.newer.now b.k place (get_or b.newer.now place 0) c.args.time (get_or b.times.now place was).changed (merge_rows []) was
+    (b.behind.newer (merge_rows [])) inside c.loop-place.invariant (λ e. ap (λ (x : Times). x.changed) (get_or_default b.times.now place e was (omega (arith, inside, b.behind.one_each)))) (omega (arith, c.if-changed-time.false)) refl

@@ -7,41 +7,43 @@ use Rattle.cover_merge.proofs.{TriedLemmas.newer_others, choosing.find_newer.Goa
 use Rattle.cover_merge.proofs.choosing.find_newer.Goals as goal
 
 -- the places are those of the route
-are : (c : After-as_slice-places) (bits : ℕ) → IsFirstOfRoute c.args.linked.rows.now bits c.args.first → ArePlaces bits c.args.linked.rows.now c.as_slice-places.result.now
-are c = places_gathered c.args.linked.rows.now c.args.first c.in_ok-list.list c.as_slice-places.result.now c.in_ok-list.ensures c.as_slice-places.ensures
+are : (c : After-as_slice-places) (bits : ℕ) → IsFirstOfRoute c.args.linked.table.rows.now bits c.args.first → ArePlaces bits c.args.linked.table.rows.now c.as_slice-places.result.now
+are c = places_gathered c.args.linked.table.rows.now c.args.first c.in_ok-list.list c.as_slice-places.result.now c.in_ok-list.ensures c.as_slice-places.ensures
 
-pub changed_at-requires : goal.changed_at-requires
-changed_at-requires c =
+pub bounds-times-place : goal.bounds-times-place
+bounds-times-place c =
     let first = c.requires.first in
-    let places = are (goal.at.changed_at-requires c).After-as_slice-places first.0 first.1 in
+    let places = are (goal.at.bounds-times-place c).After-as_slice-places first.0 first.1 in
     omega (arith, places.inside (c.loop-k.k - 1) (omega (arith, c.loop-k.invariant.within, c.loop-k-test.true)), c.requires.one_each.0)
 
-pub changed_after-requires : goal.changed_after-requires
-changed_after-requires c =
-    let rows = c.args.linked.rows.now in
+pub invariant_of-behind : goal.invariant_of-behind
+invariant_of-behind c =
+    let rows = c.args.linked.table.rows.now in
     let list = c.as_slice-places.result.now in
     let first = c.requires.first in
-    let places = are (goal.at.changed_after-requires c).After-as_slice-places first.0 first.1 in
+    let places = are (goal.at.invariant_of-behind c).After-as_slice-places first.0 first.1 in
     let n = c.loop-k.k - 1 in
     let inside : n < length list = omega (arith, c.loop-k.invariant.within, c.loop-k-test.true) in
     let step : c.loop-k.k ≡ suc n = omega (arith, c.loop-k-test.true) in
     let done : AreNewerAt (suc n) list rows c.args.times.now c.loop-k.newer.items = subst (λ i. AreNewerAt i list rows c.args.times.now c.loop-k.newer.items) step c.loop-k.invariant.done in
-    subst (AreChangesFrom (get_or list n 0) (suc (get_or list n 0)) rows c.args.times.now c.args.linked.links.now.next.items) (sym c.deref.ensures.value)
-    (record {
-      inside = places.inside n inside;
-      one_each = c.requires.one_each.0;
-      nexts = c.args.linked.nexts;
-      newer = λ d. subst (λ b. AreNewerOf b (suc (get_or list n 0)) rows c.args.times.now c.loop-k.newer.items) (sym (places.route n d inside))
-          (newer_behind first.0 rows list places c.args.times.now n (get_or list n 0) c.loop-k.newer.items inside refl done);
-      places = c.loop-k.invariant.all;
-    })
+    record {
+      behind = subst (AreChangesFrom (get_or list n 0) (suc (get_or list n 0)) rows c.args.times.now c.args.linked.links.now.next.items) (sym c.deref.ensures.value)
+          (record {
+            inside = places.inside n inside;
+            one_each = c.requires.one_each.0;
+            nexts = c.args.linked.nexts;
+            newer = λ d. subst (λ b. AreNewerOf b (suc (get_or list n 0)) rows c.args.times.now c.loop-k.newer.items) (sym (places.route n d inside))
+                (newer_behind first.0 rows list places c.args.times.now n (get_or list n 0) c.loop-k.newer.items inside refl done);
+            places = c.loop-k.invariant.all;
+          });
+    }
 
 pub index_mut-requires : goal.index_mut-requires
 index_mut-requires c = grind (arith, are (goal.at.index_mut-requires c).After-as_slice-places (c.requires.first).0 (c.requires.first).1)
 
 pub loop-k-preserved : goal.loop-k-preserved
 loop-k-preserved c =
-    let rows = c.args.linked.rows.now in
+    let rows = c.args.linked.table.rows.now in
     let times = c.args.times.now in
     let list = c.as_slice-places.result.now in
     let newer = c.loop-k.newer.items in
@@ -50,19 +52,19 @@ loop-k-preserved c =
     let places = are (goal.at.loop-k-preserved c).After-as_slice-places in
     let n = c.loop-k.k - 1 in
     let k = get_or list n 0 in
-    let v = c.changed_after.result in
+    let v = c.changed_after-next.result in
     let inside : n < length list = omega (arith, old.within, c.loop-k-test.true) in
     let step : c.loop-k.k ≡ suc n = omega (arith, c.loop-k-test.true) in
     let done : AreNewerAt (suc n) list rows times newer = subst (λ i. AreNewerAt i list rows times newer) step old.done in record {
       within = omega (arith, old.within);
       all = length-set newer k v ∙ old.all;
-      done = newer_more first.0 rows list (places first.0 first.1) times newer (set newer k v) n k v c.changed_at.result old.all inside refl c.changed_at.ensures c.changed_after.ensures refl done;
+      done = newer_more first.0 rows list (places first.0 first.1) times newer (set newer k v) n k v _ old.all c.requires.one_each.0 inside refl c.changed_after-next.ensures refl done;
       others = λ bits j d is other. newer_others bits rows newer (set newer k v) k v (λ e. (places bits is).route n e inside) refl j d other ∙ old.others bits j d is other;
     }
 
 pub returns-clause-own : goal.returns-clause-own
 returns-clause-own c bits is =
-    let rows = c.args.linked.rows.now in
+    let rows = c.args.linked.table.rows.now in
     let list = c.as_slice-places.result.now in
     let places = are (goal.at.returns-clause-own c).After-as_slice-places bits is in
     let all : c.loop-k.k ≡ 0 = omega (arith, c.loop-k-test.false) in

@@ -8,9 +8,9 @@ use Rattle.cover_merge.proofs.choosing.find_newer.Given as goal
 abbrev pub invariant-loop-k : goal.invariant-loop-k
 invariant-loop-k l = record {
   within : l.k ≤ length l.places;
-  all : length l.newer.items ≡ length l.rows;
-  done : AreNewerAt l.k l.places l.rows l.times l.newer.items;
-  others : (bits j : ℕ) (d : Row) → IsFirstOfRoute l.rows bits l.fn.first → (get_or l.rows j d).route.bits ≢ bits → get_or l.newer.items j 0 ≡ get_or l.fn.newer.items j 0;
+  all : length l.newer.items ≡ length l.linked.table.rows.now;
+  done : AreNewerAt l.k l.places l.linked.table.rows.now l.times l.newer.items;
+  others : (bits j : ℕ) (d : Row) → IsFirstOfRoute l.linked.table.rows.now bits l.fn.first → (get_or l.linked.table.rows.now j d).route.bits ≢ bits → get_or l.newer.items j 0 ≡ get_or l.fn.newer.items j 0;
 }
 
 abbrev pub decreases-loop-k : goal.decreases-loop-k

@@ -1,5 +1,5 @@
 -- The first row with a partner is the first of the first pair.
-use Rattle.std.proofs.Common.{◌≡◌, ◌∙◌, ℕ, ◌<◌, refl, sym, ap, set, subst, length, length-set, get_or, arith}
+use Rattle.std.proofs.Common.{◌≡◌, ◌∙◌, ℕ, suc, ◌<◌, refl, sym, ap, set, subst, length, length-set, get_or, arith}
 use Rattle.std.specs.Prelude.{MatchOption}
 use borrow.Author.Count.{below_more}
 use Rattle.std.proofs.lemmas.List.{get_or_default}
@@ -35,16 +35,17 @@ loop-i-preserved-then-index c =
 pub invariant_of-table : goal.invariant_of-table
 invariant_of-table c = let it = c.loop-i.invariant.known.told.rivaled in record { few = it.few; sound = it.sound; one_each = it.one_each; below = it.below; rivaled = ∣ it ∣₁ }
 
-pub partner-requires-clause-tried : goal.partner-requires-clause-tried
-partner-requires-clause-tried c = subst (AreTried c.args.rows.now) (sym c.deref.ensures.value) c.loop-i.invariant.known.marks.tried
+pub partner-requires : goal.partner-requires
+partner-requires c = subst (AreTried c.args.rows.now) (sym c.deref.ensures.value) c.loop-i.invariant.known.marks.tried
 
-pub partner-requires-clause-changes : goal.partner-requires-clause-changes
-partner-requires-clause-changes c =
+pub invariant_of-behind : goal.invariant_of-behind
+invariant_of-behind c =
     let rows = c.args.rows.now in
-    let ready = c.in_ok-make_ready.ensures in
-    subst (AreChangesFrom c.loop-i.i 0 rows c.deref.result.now c.args.links.now.next.items) (sym c.deref-in-loop-i.ensures.value)
-    (subst (λ l. AreChangesFrom c.loop-i.i 0 rows l c.args.links.now.next.items c.make_ready.new.changes.newer.items) (sym c.deref.ensures.value)
-    (record { inside = c.loop-i-test.true; one_each = c.loop-i.invariant.known.told.one_each; nexts = ready.changes.linked.links.next; newer = ready.own; places = ready.changes.places }))
+    let ready = c.in_ok-make_ready.ensures in record {
+      behind = subst (AreChangesFrom c.loop-i.i (suc c.loop-i.i) rows c.deref.result.now c.args.links.now.next.items) (sym c.deref-in-loop-i.ensures.value)
+          (subst (λ l. AreChangesFrom c.loop-i.i (suc c.loop-i.i) rows l c.args.links.now.next.items c.make_ready.new.changes.newer.items) (sym c.deref.ensures.value)
+          (record { inside = c.loop-i-test.true; one_each = c.loop-i.invariant.known.told.one_each; nexts = ready.changes.linked.links.next; newer = λ d k e f from. ready.own d k e f (omega arith); places = ready.changes.places }));
+    }
 
 pub returns-in-Some-clause-found : goal.returns-in-Some-clause-found
 returns-in-Some-clause-found c =

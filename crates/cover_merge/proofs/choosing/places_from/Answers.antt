@@ -6,17 +6,17 @@ use Rattle.cover_merge.proofs.choosing.places_from.Goals as goal
 pub loop-place-init : goal.loop-place-init
 loop-place-init c bits first = record {
   same = first.same;
-  found = c.new-places.ensures.items ∙ places_begin c.args.linked.rows.now bits c.args.first first;
+  found = c.new-places.ensures.items ∙ places_begin c.args.linked.table.rows.now bits c.args.first first;
 }
 
 pub loop-place-smaller : goal.loop-place-smaller
 loop-place-smaller c =
-    let next = link_next c.args.linked.rows.now c.args.linked.links.now.next.items c.args.linked.nexts c.loop-place.place c.index.result.now c.loop-place-test.true c.index.ensures in
+    let next = link_next c.args.linked.table.rows.now c.args.linked.links.now.next.items c.args.linked.nexts c.loop-place.place c.index.result.now c.loop-place-test.true c.index.ensures in
     omega (arith, next.behind, c.loop-place-test.true)
 
 pub loop-place-preserved : goal.loop-place-preserved
 loop-place-preserved c bits first =
-    let rows = c.args.linked.rows.now in
+    let rows = c.args.linked.table.rows.now in
     let old = c.loop-place.invariant bits first in
     let next = link_next rows c.args.linked.links.now.next.items c.args.linked.nexts c.loop-place.place c.index.result.now c.loop-place-test.true c.index.ensures in record {
       same = λ d within. next.same d within ∙ old.same d c.loop-place-test.true;
@@ -24,4 +24,4 @@ loop-place-preserved c bits first =
     }
 
 pub returns : goal.returns
-returns c bits first = c.from_vec.ensures ∙ places_end c.args.linked.rows.now bits c.loop-place.place c.loop-place.places.items c.loop-place-test.false (c.loop-place.invariant bits first).found
+returns c bits first = c.from_vec.ensures ∙ places_end c.args.linked.table.rows.now bits c.loop-place.place c.loop-place.places.items c.loop-place-test.false (c.loop-place.invariant bits first).found

@@ -2,7 +2,7 @@
 use Rattle.std.proofs.Common.{rules, ◌≡◌, ◌∙◌, length, refl, sym, subst, arith}
 use Rattle.std.specs.Prelude.{All, Option, None}
 use Rattle.std.proofs.lemmas.List.Elements.{All-replicate}
-use Rattle.cover_merge.specs.{declared.keeping.Kept.Kept, Links.AreNumbers, Tried.IsFresh}
+use Rattle.cover_merge.specs.{declared.keeping.Kept.Kept, Links.AreNumbers, Links.AreRoutes, Tried.IsFresh}
 use Rattle.cover_merge.proofs.{KeepLemmas.none_some, KeepLemmas.inside_some, TriedLemmas.fresh_marked}
 use Rattle.cover_merge.proofs.knowing.known_of.Goals as goal
 
@@ -23,7 +23,7 @@ returns c = record {
     one_time = omega (arith, c.in_ok-latest.ensures.len, c.len-2.ensures);
     latest = λ s d e within. omega (arith, (fresh c s e within).changed);
     once = c.in_ok-routes.ensures.once;
-    numbers = subst (λ l. AreNumbers l c.args.table.rows.now c.in_ok-numbers.numbers.items) c.deref.ensures.value c.in_ok-numbers.ensures;
+    numbers = subst (λ l. AreNumbers l c.args.table.rows.now c.in_ok-numbers.numbers.items) c.deref.ensures.value (c.in_ok-numbers.ensures (subst (AreRoutes c.args.table.rows.now) (sym c.deref.ensures.value) c.in_ok-routes.ensures.routes));
     one_route = omega (arith, c.in_ok-kept.ensures.len, c.len.ensures);
     kept = λ k it low is. absurd (none_some it (sym (none c k None (inside_some c.in_ok-kept.kept.items k it is)) ∙ is));
   };

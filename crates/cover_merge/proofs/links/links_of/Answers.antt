@@ -1,9 +1,12 @@
 -- Equal numbers are equal routes.
-use Rattle.std.proofs.Common.{arith}
+use Rattle.std.proofs.Common.{◌≡◌, get_or, subst, arith}
+use Rattle.cover_merge.specs.Links.{IsAhead}
 use Rattle.cover_merge.proofs.LinkLemmas.{links_made}
 use Rattle.cover_merge.proofs.links.links_of.Goals as goal
 
 pub returns : goal.returns
 returns c =
-    links_made c.args.routes.now c.args.rows.now c.args.numbers.now c.requires.once c.requires.numbers c.link.new.next.items c.link.new.heads.items c.link.ensures.one_each (omega (arith, c.link.ensures.limit, c.in_ok-heads.ensures.len))
-    (λ k less. c.link.ensures.heads k (omega (arith, less, c.in_ok-heads.ensures.len))) c.link.ensures.next
+    let done : c.loop-k.k ≡ 0 = omega (arith, c.loop-k-test.false) in
+    links_made c.args.routes.now c.args.rows.now c.args.numbers.now c.requires.once c.requires.numbers c.loop-k.next.items c.loop-k.heads.items c.loop-k.invariant.one_each c.loop-k.invariant.limit
+    (λ n low. subst (λ k. IsAhead c.args.numbers.now k n (get_or c.loop-k.heads.items n 0)) done (c.loop-k.invariant.firsts n (omega (arith, low, c.loop-k.invariant.limit))))
+    (λ k inside. c.loop-k.invariant.nexts k (omega (arith, done)) inside)

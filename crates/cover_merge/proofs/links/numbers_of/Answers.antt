@@ -3,4 +3,4 @@ use Rattle.cover_merge.proofs.LinkLemmas.{numbers_done}
 use Rattle.cover_merge.proofs.links.numbers_of.Goals as goal
 
 pub returns : goal.returns
-returns c = numbers_done c.args.routes.now c.args.rows.now c.loop-s.numbers.items c.loop-s.s c.requires.routes c.loop-s-test.false c.loop-s.invariant
+returns c are = numbers_done c.args.routes.now c.args.rows.now c.loop-s.numbers.items c.loop-s.s are c.loop-s-test.false c.loop-s.invariant

@@ -1,10 +1,10 @@
 -- Each place taken out is a step, and those behind it still pass the up-check.
-use Rattle.std.proofs.Common.{◌≡◌, ◌<◌, ◌≤◌, ◌+◌, ◌-◌, ◌++◌, ◌↔◌, ℕ, List, IsTrue, true, take, drop, ap, sym, subst, refl, ◌∙◌, length, length-set, length-take, get_or, set, arith}
+use Rattle.std.proofs.Common.{◌≡◌, ◌<◌, ◌≤◌, ◌+◌, ◌-◌, ◌++◌, ◌↔◌, ℕ, List, IsTrue, true, take, drop, ap, sym, subst, refl, ◌∙◌, length, length-drop, length-set, length-take, get_or, set, arith}
 use Rattle.std.specs.Prelude.{All}
-use Rattle.std.proofs.lemmas.List.{take_all, take-append-drop, take_rest, take-set-le}
+use Rattle.std.proofs.lemmas.List.{take_all, take-append-drop, take_rest, take-set-le, Edits.take-paste}
 use Rattle.cover_merge.proofs.{Lists.All-right, KeptLemmasSteps.leads_on, KeptLemmasSteps.sift_leads, RefineLemmas.last_more, RefineLemmas.none_fails, SiftLemmas.all_pass, SiftLemmas.alike_behind}
 use Rattle.cover_merge.proofs.SiftLemmas.{begins_less, begins_twice, kept_now, last_within, left_many, out_count, out_in_range, out_last, out_now, sift_behind, sift_one, up_of}
-use Rattle.cover_merge.proofs.refining.sift.Goals.{then-loop-i-test+else-i-len-ge2, else-loop-i-test}
+use Rattle.cover_merge.proofs.refining.sift.Goals.{After-truncate, then-loop-i-test+else-i-len-ge2, else-loop-i-test}
 use Rattle.tern_word.specs.Ternary.{generality}
 use Rattle.cover_merge.specs.{Merge.IsOneRoute, Merge.PassesUp, Merge.PassesUpCheck, Merge.has_row, Merge.merged_block, Merge.place_for, Kept.LeadsWithin, Refinement.AreMerges}
 use Rattle.cover_merge.specs.Refinement.{IsLastFailing}
@@ -14,11 +14,11 @@ use Rattle.cover_merge.proofs.refining.sift.Goals as goal
 rest_of : (n : ℕ) (ys xs : List ℕ) → ys ≡ xs → take (length ys - n) (drop n ys) ≡ drop n xs
 rest_of n ys xs same = take_rest ys n ∙ ap (drop n) same
 
-pub merges_of-requires-clause-in_range : goal.merges_of-requires-clause-in_range
-merges_of-requires-clause-in_range c = subst (All (λ s. s < length c.args.table.rows.now)) (sym c.deref.ensures.value) c.requires.set.in_range
-
-pub merges_of-requires-clause-some : goal.merges_of-requires-clause-some
-merges_of-requires-clause-some c = subst (λ l. 0 < length l) (sym c.deref.ensures.value) (omega (arith, c.requires.two))
+pub invariant_of-members : goal.invariant_of-members
+invariant_of-members c = record {
+  inside = subst (All (λ s. s < length c.args.table.rows.now)) (sym c.deref.ensures.value) c.requires.set.in_range;
+  some = subst (λ l. 0 < length l) (sym c.deref.ensures.value) (omega (arith, c.requires.two));
+}
 
 pub loop-i-init : goal.loop-i-init
 loop-i-init c =
@@ -43,16 +43,18 @@ loop-i-init c =
 pub index-requires : goal.index-requires
 index-requires c = omega (arith, c.loop-i-test.true, c.loop-i.invariant.gap, c.loop-i.invariant.within)
 
-pub passes-requires : goal.passes-requires
-passes-requires c =
+pub invariant_of-row : goal.invariant_of-row
+invariant_of-row c =
     let rows = c.args.table.rows.now in
     let xs = c.loop-i.set.items in
     let old = c.loop-i.invariant in
     let rest = rest_of c.loop-i.kept c.deref-in-loop-i.result.now xs c.deref-in-loop-i.ensures.value in record {
-      inside = last_within rows xs c.loop-i.i c.loop-i.kept c.loop-i-test.true old.gap old.within old.set c.index.result.now c.index.ensures;
-      one_route = λ r less found.
-          alike_behind rows xs c.loop-i.i c.loop-i.kept c.loop-i-test.true old.gap old.within old.set c.index.result.now c.index.ensures r less (subst (λ l. has_row l r ≡ true) rest found);
-      in_range = subst (All (λ s. s < length rows)) (sym rest) (All-right (λ s. s < length rows) (take c.loop-i.i xs) (drop c.loop-i.kept xs) old.set.in_range);
+      are = record {
+        inside = last_within rows xs c.loop-i.i c.loop-i.kept c.loop-i-test.true old.gap old.within old.set c.index.result.now c.index.ensures;
+        one_route = λ r less found.
+            alike_behind rows xs c.loop-i.i c.loop-i.kept c.loop-i-test.true old.gap old.within old.set c.index.result.now c.index.ensures r less (subst (λ l. has_row l r ≡ true) rest found);
+        in_range = subst (All (λ s. s < length rows)) (sym rest) (All-right (λ s. s < length rows) (take c.loop-i.i xs) (drop c.loop-i.kept xs) old.set.in_range);
+      };
     }
 
 pub loop-i-preserved-then-passes : goal.loop-i-preserved-then-passes
@@ -84,30 +86,30 @@ loop-i-preserved-then-passes c =
       leads = λ outer low. subst (LeadsWithin rows outer low c.args.set.now.items) (sym same) (old.leads outer low);
     }
 
-pub merge_from-merged-requires-clause-in_range : goal.merge_from-merged-requires-clause-in_range
-merge_from-merged-requires-clause-in_range c =
-    let rows = c.args.table.rows.now in
-    let xs = c.loop-i.set.items in
-    let i = c.loop-i.i in
-    let w = c.loop-i.kept in
-    let some = c.loop-i-test.true in
-    let old = c.loop-i.invariant in
-    let read : take (i - 1) c.deref-else-passes-2.result.now ++ take (length c.deref-else-passes-3.result.now - w) (drop w c.deref-else-passes-3.result.now) ≡ take (i - 1) xs ++ drop w xs =
-    ap (λ l. take (i - 1) l ++ take (length c.deref-else-passes-3.result.now - w) (drop w c.deref-else-passes-3.result.now)) c.deref-else-passes-2.ensures.value ∙ ap (λ l. take (i - 1) xs ++ l) (rest_of w c.deref-else-passes-3.result.now xs c.deref-else-passes-3.ensures.value) in
-    subst (All (λ s. s < length rows)) (sym read) (out_in_range rows xs i w some old.gap old.within old.set)
-
-pub merge_from-merged-requires-clause-known : goal.merge_from-merged-requires-clause-known
-merge_from-merged-requires-clause-known c k d before inside =
+pub invariant_of-left : goal.invariant_of-left
+invariant_of-left c =
     let rows = c.args.table.rows.now in
     let xs = c.loop-i.set.items in
     let start = c.args.set.now.items in
     let i = c.loop-i.i in
+    let w = c.loop-i.kept in
+    let some = c.loop-i-test.true in
+    let old = c.loop-i.invariant in
+    let merges = c.deref-firsts.ensures.value in
     let known : AreMerges rows start c.in_ok-merges.merges.items = subst (λ l. AreMerges rows l c.in_ok-merges.merges.items) c.deref.ensures.value c.in_ok-merges.ensures in
-    let low : k < i - 1 = omega (arith, before, length-take (i - 1) c.deref-else-passes-2.result.now) in
-    let front : take (i - 1) c.deref-else-passes-2.result.now ≡ take (i - 1) xs = ap (take (i - 1)) c.deref-else-passes-2.ensures.value in
-    ap (λ l. get_or l k d) c.deref-else-passes.ensures.value
-    ∙ known.each k d (subst (λ l. k < length l) c.deref-else-passes.ensures.value inside)
-    ∙ ap (merged_block rows) (sym (ap (take (k + 1)) front ∙ begins_twice (k + 1) (i - 1) xs (omega (arith, low)) ∙ begins_less (k + 1) i xs start (omega (arith, low)) c.loop-i.invariant.before))
+    let front : take (i - 1) c.deref-else-passes.result.now ≡ take (i - 1) xs = ap (take (i - 1)) c.deref-else-passes.ensures.value in
+    let behind = c.deref-else-passes-2.result.now in
+    let read = ap (λ l. l ++ take (length behind - w) (drop w behind)) front ∙ ap (λ l. take (i - 1) xs ++ l) (rest_of w behind xs c.deref-else-passes-2.ensures.value) in
+    record {
+      inside = subst (All (λ s. s < length rows)) (sym read) (out_in_range rows xs i w some old.gap old.within old.set);
+      some = subst (λ l. 0 < length l) (sym read) (omega (arith, out_count rows xs i w some old.gap old.within old.set, left_many rows xs i w some old.gap old.within old.set, c.if-i-len-ge2.true, c.len-in-loop-i.ensures));
+      known = λ k d before inside.
+          let low : k < i - 1 = omega (arith, before, length-take (i - 1) c.deref-else-passes.result.now) in
+          ap (λ l. get_or l k d) merges
+          ∙ known.each k d (subst (λ l. k < length l) merges inside)
+          ∙ ap (merged_block rows) (sym (ap (take (k + 1)) front ∙ begins_twice (k + 1) (i - 1) xs (omega (arith, low)) ∙ begins_less (k + 1) i xs start (omega (arith, low)) old.before));
+      many = omega (arith, ap length front, length-take (i - 1) xs, ap length merges, known.one_each, old.same, old.gap, old.within);
+    }
 
 pub loop-i-preserved : goal.loop-i-preserved
 loop-i-preserved c =
@@ -132,8 +134,8 @@ loop-i-preserved c =
     let two : 2 ≤ length now = omega (arith, many, c.if-i-len-ge2.true, c.len-in-loop-i.ensures) in
     let count = out_count rows xs i w some old.gap old.within old.set in
     let gone = out_now rows xs i w some old.gap old.within old.set in
-    let read : take (i - 1) c.deref-else-passes-2.result.now ++ take (length c.deref-else-passes-3.result.now - w) (drop w c.deref-else-passes-3.result.now) ≡ new =
-    ap (λ l. take (i - 1) l ++ take (length c.deref-else-passes-3.result.now - w) (drop w c.deref-else-passes-3.result.now)) c.deref-else-passes-2.ensures.value ∙ ap (λ l. take (i - 1) xs ++ l) (rest_of w c.deref-else-passes-3.result.now xs c.deref-else-passes-3.ensures.value) in
+    let read : take (i - 1) c.deref-else-passes.result.now ++ take (length c.deref-else-passes-2.result.now - w) (drop w c.deref-else-passes-2.result.now) ≡ new =
+    ap (λ l. take (i - 1) l ++ take (length c.deref-else-passes-2.result.now - w) (drop w c.deref-else-passes-2.result.now)) c.deref-else-passes.ensures.value ∙ ap (λ l. take (i - 1) xs ++ l) (rest_of w c.deref-else-passes-2.result.now xs c.deref-else-passes-2.ensures.value) in
     let merge : c.merge_from-merged.result ≡ merged_block rows new = c.merge_from-merged.ensures ∙ ap (merged_block rows) read in record {
       gap = omega (arith, old.gap);
       within = old.within;
@@ -147,8 +149,20 @@ loop-i-preserved c =
           leads_on rows outer low c.args.set.now.items now new (old.leads outer low) (sift_leads rows now old.set c.args.table.sound.ordered c.loop-i.merged old.merge g general (i - 1) inside last new gone count two outer low);
     }
 
+-- the places that are left
+left_now : (c : After-truncate) → c.truncate.new.self.items ≡ take c.loop-i.i c.loop-i.set.items ++ drop c.loop-i.kept c.loop-i.set.items
+left_now c =
+    let xs = c.loop-i.set.items in
+    let old = c.loop-i.invariant in
+    let many = c.len-len.ensures ∙ c.loop-i.set.ok.0 in
+    let rest = length-drop c.loop-i.kept xs in
+    c.truncate.ensures.items
+    ∙ ap (take (c.loop-i.i + (c.len-len.result - c.loop-i.kept))) c.copy_within.ensures.items
+    ∙ take-paste xs c.loop-i.i (drop c.loop-i.kept xs) (c.len-len.result - c.loop-i.kept) (omega (arith, old.gap, old.within)) (omega (arith, many, rest))
+    ∙ ap (λ l. take c.loop-i.i xs ++ l) (take_all (c.len-len.result - c.loop-i.kept) (drop c.loop-i.kept xs) (omega (arith, many, rest)))
+
 pub returns-then-len-lt2-clause-sifted : goal.returns-then-len-lt2-clause-sifted
-returns-then-len-lt2-clause-sifted c = grind arith
+returns-then-len-lt2-clause-sifted c = grind (arith, left_now (goal.at.returns-then-len-lt2-clause-sifted c).After-truncate)
 
 pub returns-clause-sifted : goal.returns-clause-sifted
 returns-clause-sifted c =
@@ -158,7 +172,7 @@ returns-clause-sifted c =
     let w = c.loop-i.kept in
     let old = c.loop-i.invariant in
     let now = take i xs ++ drop w xs in
-    let is : c.take_out_run.new.set.items ≡ now = c.take_out_run.ensures in
+    let is = left_now (goal.at.returns-clause-sifted c).After-truncate in
     let two : 2 ≤ length now = subst (λ l. 2 ≤ length l) is (omega (arith, c.len-2.ensures, c.if-len-lt2.false)) in
     record {
       one_route = subst (IsOneRoute rows) (sym is) old.set;

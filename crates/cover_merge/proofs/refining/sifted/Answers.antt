@@ -5,14 +5,14 @@ use Rattle.cover_merge.specs.{Merge.IsOneRoute, Merge.PassesUp, Merge.has_row, M
 use Rattle.cover_merge.proofs.SiftLemmas.{all_pass}
 use Rattle.cover_merge.proofs.refining.sifted.Goals as goal
 
-pub merged_block-merged-requires-clause-in_range : goal.merged_block-merged-requires-clause-in_range
-merged_block-merged-requires-clause-in_range c = subst (All (λ s. s < length c.args.table.rows.now)) (sym c.deref.ensures.value) c.requires.set.in_range
+pub invariant_of-members : goal.invariant_of-members
+invariant_of-members c = record {
+  inside = subst (All (λ s. s < length c.args.table.rows.now)) (sym c.deref.ensures.value) c.requires.set.in_range;
+  some = subst (λ l. 0 < length l) (sym c.deref.ensures.value) (omega (arith, c.requires.two));
+}
 
-pub merged_block-merged-requires-clause-some : goal.merged_block-merged-requires-clause-some
-merged_block-merged-requires-clause-some c = subst (λ l. 0 < length l) (sym c.deref.ensures.value) (omega (arith, c.requires.two))
-
-pub all_pass-requires : goal.all_pass-requires
-all_pass-requires c = subst (IsOneRoute c.args.table.rows.now) (sym c.deref-2.ensures.value) c.requires.set
+pub invariant_of-route : goal.invariant_of-route
+invariant_of-route c = record { one_route = subst (IsOneRoute c.args.table.rows.now) (sym c.deref-2.ensures.value) c.requires.set }
 
 pub returns-then-all_pass-clause-sifted : goal.returns-then-all_pass-clause-sifted
 returns-then-all_pass-clause-sifted c =

@@ -10,7 +10,7 @@ loop-low-preserved-then-generality-general c =
     let inside : middle < c.loop-low.high = omega (arith, c.loop-low-test.true) in record {
       order = omega (arith, inside);
       within = old.within;
-      below = general_before c.args.rows.now middle c.index-rows-middle.result c.args.general c.requires (omega (arith, inside, old.within)) (subst (λ n. n ≤ c.args.general) c.generality.ensures.value c.if-generality-general.true);
+      below = general_before _ middle c.index-rows-middle.result c.args.general c.args.table.ordered (omega (arith, inside, old.within)) (subst (λ n. n ≤ c.args.general) c.generality.ensures.value c.if-generality-general.true);
       above = old.above;
     }
 
@@ -22,11 +22,11 @@ loop-low-preserved c =
       order = omega arith;
       within = omega (arith, inside, old.within);
       below = old.below;
-      above = λ k d from within. omega (arith, c.if-generality-general.false, general_behind c.args.rows.now middle c.index-rows-middle.result c.generality.result c.requires (omega (arith, inside, old.within)) c.generality.ensures.value k d from within);
+      above = λ k d from within. omega (arith, c.if-generality-general.false, general_behind _ middle c.index-rows-middle.result c.generality.result c.args.table.ordered (omega (arith, inside, old.within)) c.generality.ensures.value k d from within);
     }
 
 pub returns-clause-value : goal.returns-clause-value
 returns-clause-value c =
     let old = c.loop-low.invariant in
     let met : c.loop-low.high ≡ c.loop-low.low = omega (arith, old.order, c.loop-low-test.false) in
-    place_found c.args.rows.now c.args.general c.loop-low.low c.requires (omega (arith, old.order, old.within)) old.below (λ k d from within. old.above k d (omega (arith, from, met)) within)
+    place_found _ c.args.general c.loop-low.low c.args.table.ordered (omega (arith, old.order, old.within)) old.below (λ k d from within. old.above k d (omega (arith, from, met)) within)

@@ -1,6 +1,8 @@
 -- One row more has its spans.
-use Rattle.std.proofs.Common.{◌+◌, ◌∙◌, ap, length, arith}
-use Rattle.std.proofs.lemmas.List.{length_push}
+use Rattle.std.proofs.Common.{◌+◌, ◌∙◌, ap, length, subst, arith}
+use Rattle.std.proofs.lemmas.List.{get_or_default, length_push}
+use Rattle.tern_word.specs.declared.tables.Row.{Row}
+use Rattle.cover_merge.specs.Spans.{AreSpansOf}
 use Rattle.cover_merge.proofs.SpanLemmas.{spans_put}
 use Rattle.cover_merge.proofs.spans.spans_of_all.Goals as goal
 
@@ -10,9 +12,11 @@ loop-s-init c = grind arith
 pub loop-s-preserved : goal.loop-s-preserved
 loop-s-preserved c =
     let old = c.loop-s.invariant in
-    let now = c.in_ok-push_spans.ensures in record {
-      many = ap length now.1 ∙ length_push c.loop-s.spans.items now.0 ∙ ap (λ n. n + 1) old.many;
-      each = spans_put c.args.rows.now c.loop-s.s c.loop-s.spans.items c.push_spans.new.spans.items now.0 old.many old.each now.2 now.1;
+    let pushed = c.in_ok-push.ensures.items in
+    let row = c.index-rows-s.result in record {
+      many = ap length pushed ∙ length_push c.loop-s.spans.items c.in_ok-own.own ∙ ap (λ n. n + 1) old.many;
+      each = spans_put c.args.rows.now c.loop-s.s c.loop-s.spans.items c.push.new.self.items c.in_ok-own.own old.many old.each
+          (λ d. subst (λ l. AreSpansOf l c.in_ok-own.own) (c.as_slice.ensures ∙ ap (λ (x : Row). x.aliases) (get_or_default c.args.rows.now c.loop-s.s row d c.loop-s-test.true)) c.in_ok-own.ensures) pushed;
     }
 
 pub returns : goal.returns

@@ -1,13 +1,13 @@
 -- Of the places passed, the last first, the next of each and the first of each number stand in the lists.
 use Rattle.std.proofs.Common.{◌≡◌, ◌<◌, ◌≤◌, ◌+◌, ℕ, length, get_or}
 use Rattle.cover_merge.specs.Links.{IsAhead}
-use Rattle.cover_merge.proofs.links.link.Given as goal
+use Rattle.cover_merge.proofs.links.links_of.Given as goal
 
 abbrev pub invariant-loop-k : goal.invariant-loop-k
 invariant-loop-k l = record {
   within : l.k ≤ length l.numbers;
   one_each : length l.next.items ≡ length l.numbers;
-  limit : length l.heads.items ≡ length l.fn.heads.items;
+  limit : length l.heads.items ≡ length l.routes;
   firsts : (c : ℕ) → c < length l.heads.items → IsAhead l.numbers l.k c (get_or l.heads.items c 0);
   nexts : (j : ℕ) → l.k ≤ j → j < length l.numbers → IsAhead l.numbers (j + 1) (get_or l.numbers j 0) (get_or l.next.items j 0);
 }
