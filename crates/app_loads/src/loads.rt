@@ -2,7 +2,7 @@
 ghost use Rattle.std.specs.Prelude.{◌≡◌, ◌+◌, ◌<◌, IfOk, IfErr, OnOk, OnErr, length};
 ghost use Rattle.app_loads.specs.Applications.{AreApps};
 ghost use Rattle.app_loads.specs.Claims.{AreBlocks, claims_of};
-ghost use Rattle.app_loads.specs.Joining.{AreKeyed, CanJoin, CanServePlan, CanSettle, HaveBlocks, IsServedApp, IsSettled};
+ghost use Rattle.app_loads.specs.Joining.{AreKeyed, CanJoin, CanServePlan, CanSettle, IsServedApp, IsSettled};
 ghost use Rattle.app_loads.specs.Loading.{HasLoaded, IsWhyNotLoaded};
 ghost use Rattle.app_loads.specs.Plans.{MayLoad};
 ghost use Rattle.app_loads.specs.Taking.{AreFreeAgain, HaveRoom, IsDueAlways};
@@ -151,7 +151,14 @@ fn app_of(
     ensures blocks { IfOk result (λ app.
         AreBlocks claims.now ranges.now plan.now.nets app.blocks) }
 {
-    let blocks = blocks_of(alloc, plan.nets.len(), claims, ranges)?;
+    // The block of each net is the range that its claim got.
+    let none = Block { key: 0, mask: 0 };
+    let mut blocks = vec![in alloc; none; plan.nets.len()]?;
+    for (at, claim) in claims.iter().enumerate() {
+        if let LoadRefusal::KeysOut { net } = claim.refusal {
+            blocks[net as usize] = block_of(ranges[at].place as u32, ranges[at].size);
+        }
+    }
     let ranges = Vec::from_slice(alloc, ranges)?;
     // The plan comes last: no refusal after it has to drop it.
     let plan = plan.copy(alloc)?;
@@ -162,27 +169,6 @@ fn app_of(
         ranges: Seq::from_vec(ranges),
         blocks: Seq::from_vec(blocks),
     })
-}
-
-// The block of each net: the range that its claim got.
-fn blocks_of(
-    alloc: Global,
-    nets: usize,
-    claims: &[Claim],
-    ranges: &[Range],
-) -> Result<Vec<Block>, Memory>
-    requires { AreKeyed claims.now ranges.now nets }
-    ensures all { IfOk result (λ blocks. length blocks.items ≡ nets) }
-    ensures each { IfOk result (λ blocks. HaveBlocks claims.now ranges.now blocks.items) }
-{
-    let none = Block { key: 0, mask: 0 };
-    let mut blocks = vec![in alloc; none; nets]?;
-    for (at, claim) in claims.iter().enumerate() {
-        if let LoadRefusal::KeysOut { net } = claim.refusal {
-            blocks[net as usize] = block_of(ranges[at].place as u32, ranges[at].size);
-        }
-    }
-    Ok(blocks)
 }
 
 // The same of a mesh whose earlier deliveries are held apart.
