@@ -9,7 +9,7 @@ ghost use Rattle.app_loads.specs.Taking.{AreFreeAgain, HaveRoom, IsDueAlways};
 ghost use Rattle.app_loads.specs.Writing.{AreCopied, CanCopy, tables_in};
 
 use crate::answers::{LoadErr, LoadRefusal};
-use crate::apps::{Apps, add, put, reserve_one};
+use crate::apps::{Apps, put, reserve_one};
 use crate::claims::claims_of;
 use crate::loaded::{Claim, LoadedApp, Range};
 use crate::meshes::KeptMesh;
@@ -59,7 +59,8 @@ impl Apps {
                 self.packets += app.plan.packets.len() as u32;
                 self.senders = with_sources(self.senders.take(), &mesh, app.plan.nets.as_slice());
                 put(&mut self.mesh, mesh);
-                add(&mut self.apps, &mut self.numbers, app);
+                self.numbers.push_reserved(app.number);
+                self.apps.push_reserved(app);
                 Ok(())
             }
             Err(refusal) => {
@@ -91,7 +92,10 @@ fn join(
         Ok(app) => app,
         Err(refusal) => return (mesh, Err(refusal)),
     };
-    let (mesh, settled) = settle(alloc, mesh, &app);
+    // The deliveries that are held apart stay so.
+    let KeptMesh { mesh, earlier } = mesh;
+    let (mesh, settled) = settle_mesh(alloc, mesh, &app);
+    let mesh = KeptMesh { mesh, earlier };
     match settled {
         Ok(()) => (mesh, Ok(app)),
         Err(_) => {
@@ -169,17 +173,6 @@ fn app_of(
         ranges: Seq::from_vec(ranges),
         blocks: Seq::from_vec(blocks),
     })
-}
-
-// The same of a mesh whose earlier deliveries are held apart.
-fn settle(alloc: Global, mesh: KeptMesh, app: &LoadedApp) -> (KeptMesh, Result<(), Memory>)
-    requires { CanSettle mesh app.now }
-    ensures settled { OnOk result.1 (IsSettled app.now mesh result.0) }
-    ensures refused { OnErr result.1 (result.0 ≡ mesh) }
-{
-    let KeptMesh { mesh, earlier } = mesh;
-    let (mesh, settled) = settle_mesh(alloc, mesh, app);
-    (KeptMesh { mesh, earlier }, settled)
 }
 
 // Puts the application's rows and packets on the mesh. After a refusal the mesh is as before.

@@ -13,7 +13,7 @@ ghost use Rattle.app_loads.specs.Unloading.{HasUnloaded, IsWhyNotUnloaded, NoneW
 ghost use Rattle.app_loads.specs.Writing.{AreUnused, CanClear};
 
 use crate::answers::{Ended, UnloadErr};
-use crate::apps::{Apps, put, take_out};
+use crate::apps::{Apps, put};
 use crate::deliveries::Deliveries;
 use crate::groups::{Groups, Room};
 use crate::leaving::{Left, Parted, least_waiting, part};
@@ -57,7 +57,8 @@ impl Apps {
         );
         match left {
             Ok(ended) => {
-                take_out(&mut self.apps, &mut self.numbers, at);
+                self.numbers.remove(at);
+                drop(self.apps.remove(at));
                 put(&mut self.mesh, mesh);
                 Ok(ended)
             }
@@ -170,7 +171,12 @@ fn leave_ready(
         Ok(left) => {
             let (own, others) = earlier.part(app, room);
             let Left { delivered, dumped } = left;
-            let delivered = Deliveries::of(own, delivered);
+            let count = own.len() + delivered.len();
+            let delivered = Deliveries {
+                early: own,
+                late: delivered,
+                count,
+            };
             let mesh = KeptMesh {
                 mesh,
                 earlier: others,

@@ -9,8 +9,8 @@ use Rattle.std.proofs.Common.{OnOk}
 use Rattle.app_loads.proofs.Kept.{few_own, none_with, why_with}
 use Rattle.app_loads.proofs.unloads.leave_ready.Goals as goal
 
-pub of-delivered-requires : goal.of-delivered-requires
-of-delivered-requires c = grind (arith, few_own)
+pub overflow_add-count : goal.overflow_add-count
+overflow_add-count c = grind (arith, few_own)
 
 pub returns-in-Ok-clause-none : goal.returns-in-Ok-clause-none
 returns-in-Ok-clause-none c =
