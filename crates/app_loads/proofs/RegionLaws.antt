@@ -2,8 +2,7 @@
 use Rattle.std.proofs.Common.{◌≡◌, ℕ, ◌%◌, ◌<◌, true, false, not, ◌&&◌, List, refl, sym, subst, Option, None, Some, IfSome, IfNone, Result, Ok, Err, IfOk}
 use Rattle.spin_base.specs.declared.wants.Memory.{Memory}
 use Rattle.range_store.specs.{declared.holes.Hole.Hole, Views.Region, Regions.AreRuns, Regions.IsFirstFit, Regions.HasNoFit, Regions.is_hole_range, Regions.is_free, Regions.in_range}
-use Rattle.app_loads.specs.{declared.loaded.Claim.Claim, Host.Free, Regions.IsFreeBeside, Regions.place_of, Taking.free_places_in}
-use Rattle.app_loads.specs.Taking.{ServesClaim, RefusesClaim}
+use Rattle.app_loads.specs.{declared.loaded.Claim.Claim, Host.Free, Regions.IsFreeBeside, Regions.place_of, Taking.free_places_in, Taking.ServesClaim, Taking.RefusesClaim}
 use Rattle.app_loads.proofs.Taking.{taken_more, least_from_fit, refused_from_fit, least_from_fixed, refused_from_fixed}
 
 module _ (claim : Claim) (before after : Region) (some : 0 < claim.size) (size : after.size ≡ before.size) (runs : AreRuns 0 after.size after.holes) where

@@ -1,8 +1,7 @@
 -- Packets put to the vertices of their nets' sources, and queues emptied.
 use Rattle.std.proofs.Common.{◌≡◌, ◌≢◌, ℕ, zero, suc, ◌+◌, ◌^◌, ◌<◌, ◌≤◌, ◌==◌, List, [], ◌∷◌, ◌++◌, take, get_or, length, map, refl, sym, ap, ◌∙◌, subst, inl, inr, arith, Option, Some}
 use Rattle.std.proofs.lemmas.{Bool.cases_Bool, Bool.cases_eq, Bool.eqb-true, Bool.eq-eqb, Bool.false≢true, List.length-map, List.length-set, List.take_all}
-use Rattle.std.proofs.lemmas.{List.same_lists, List.Elements.Contains-push_cases}
-use Rattle.std.proofs.lemmas.Option.{slice_get_within, slice_get-get_or, same_Some, unwrap_or-slice_get}
+use Rattle.std.proofs.lemmas.{List.same_lists, List.Elements.Contains-push_cases, Option.slice_get_within, Option.slice_get-get_or, Option.same_Some, Option.unwrap_or-slice_get}
 use Rattle.std.specs.{Prelude.unwrap_or, List.list_any, List.slice_get, List.slice_set, List.All, List.Contains}
 use Rattle.mesh_core.proofs.ServingLaws.{vertex_at-below}
 use Rattle.mesh_core.specs.State.{Setup}

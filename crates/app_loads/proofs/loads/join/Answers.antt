@@ -1,13 +1,7 @@
-use Rattle.std.proofs.Common.{arith, subst, refl}
-use Rattle.app_loads.specs.Taking.{HaveRoom}
-use Rattle.app_loads.specs.Taking.{AreTaken}
-use Rattle.app_loads.specs.declared.loaded.Range.{Range}
-use Rattle.std.proofs.Common.{List}
-use Rattle.std.proofs.Common.{sym}
+use Rattle.std.proofs.Common.{arith, subst, refl, List, sym}
+use Rattle.app_loads.specs.{Taking.HaveRoom, Taking.AreTaken, declared.loaded.Range.Range, Claims.claims_of, Taking.AreFreeAgain, Taking.IsDueAlways, Grouping.all_grouped, Joining.CanSettle}
 use Rattle.machine_desc.specs.Description.{Description}
-use Rattle.app_loads.specs.{Claims.claims_of, Taking.AreFreeAgain, Taking.IsDueAlways}
 use Rattle.mesh_core.specs.State.{State}
-use Rattle.app_loads.specs.{Grouping.all_grouped, Joining.CanSettle}
 use Rattle.app_loads.proofs.{JoinLaws.can_settle, JoinLaws.served_on, Kept.can_settle_own}
 use Rattle.app_loads.proofs.loads.join.Goals as goal
 

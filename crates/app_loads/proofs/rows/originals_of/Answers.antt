@@ -1,12 +1,10 @@
-use Rattle.std.proofs.Common.{◌≡◌, ◌∙◌, List, ap, arith, length, subst, sym}
-use Rattle.std.proofs.lemmas.{Option.slice_get_read, List.take_all}
+use Rattle.std.proofs.{Common.◌≡◌, Common.◌∙◌, Common.List, Common.ap, Common.arith, Common.length, Common.subst, Common.sym, lemmas.Option.slice_get_read, lemmas.List.take_all}
 use Rattle.machine_desc.specs.declared.nets.NetPlan.{NetPlan}
 use Rattle.net_tables.specs.{Marks.AreBlocksOf, PlainTable.AreRoutedApart}
 use Rattle.net_tables.proofs.Whole.{all_plain_tables}
 use Rattle.spin_base.proofs.Places.{take_more_at}
 use Rattle.app_loads.specs.{Host.nets_of, Writing.tables_in}
-use Rattle.app_loads.proofs.Unsent.{nets_with_at, nets_with_long}
-use Rattle.app_loads.proofs.rows.originals_of.Goals.{After-loop-at}
+use Rattle.app_loads.proofs.{Unsent.nets_with_at, Unsent.nets_with_long, rows.originals_of.Goals.After-loop-at}
 use Rattle.app_loads.proofs.rows.originals_of.Goals as goal
 
 pub loop-at-preserved : goal.loop-at-preserved
