@@ -3,8 +3,8 @@ use Rattle.std.proofs.Common.{◌≡◌, ℕ, ◌+◌, ◌^◌, ◌<◌, ◌≤�
 use Rattle.std.proofs.lemmas.{Bool.cases_lt, Option.slice_get-get_or, Option.slice_get_within, Option.same_Some}
 use Rattle.std.specs.List.{slice_get, slice_set}
 use Rattle.spin_base.specs.declared.blocks.Block.{Block}
-use Rattle.app_loads.specs.{declared.answers.LoadRefusal.TheVariants.KeysOut, declared.loaded.Claim.Claim, declared.loaded.Range.Range, Claims.IsBlockOf, Joining.AreKeyed, Joining.IsKeyRange}
-use Rattle.app_loads.specs.Joining.{HaveBlocks}
+use Rattle.app_loads.specs.{declared.answers.LoadRefusal.TheVariants.KeysOut, declared.loaded.Claim.Claim, declared.loaded.Range.Range}
+use Rattle.app_loads.specs.{declared.plans.AppNet.AppNet, Claims.AreBlocks, Claims.IsBlockOf, Joining.AreKeyed, Joining.IsKeyRange}
 use Rattle.app_loads.proofs.{Serving.set_cases, ClaimCases.same_net}
 
 -- the nets of the claims up to a place have their blocks
@@ -47,8 +47,11 @@ module _ {claims : List Claim} {ranges : List Range} {nets at : ℕ} (d : Claim)
   pub block_skip : (blocks : List Block) → ((net : ℕ) → claim.refusal ≡ KeysOut net → ⊥) → HaveBlocksBelow claims ranges blocks at → HaveBlocksBelow claims ranges blocks (at + 1)
   block_skip blocks none so_far i n c b less is of_net has = grind (arith, cases_lt i at, is_claim, same_Some)
 
-pub all_blocks : {claims : List Claim} {ranges : List Range} {nets at : ℕ} (blocks : List Block) → AreKeyed claims ranges nets → length claims ≤ at → length blocks ≡ nets →
-    HaveBlocksBelow claims ranges blocks at → HaveBlocks claims ranges blocks
-all_blocks {claims} blocks keyed end long so_far net block has =
-    let found = keyed.all net (let w = slice_get_within blocks net block has in omega (arith, w, long)) in
-    so_far found.0 net found.1 block (omega (arith, slice_get_within claims found.0 found.1 found.2, end)) found.2 found.3 has
+pub all_blocks : {claims : List Claim} {ranges : List Range} {at : ℕ} (nets : List AppNet) (blocks : List Block) → AreKeyed claims ranges (length nets) → length claims ≤ at →
+    length blocks ≡ length nets → HaveBlocksBelow claims ranges blocks at → AreBlocks claims ranges nets blocks
+all_blocks {claims} nets blocks keyed end long so_far = record {
+  all = long;
+  each = λ net block has.
+      let found = keyed.all net (let w = slice_get_within blocks net block has in omega (arith, w, long)) in
+      so_far found.0 net found.1 block (omega (arith, slice_get_within claims found.0 found.1 found.2, end)) found.2 found.3 has;
+}

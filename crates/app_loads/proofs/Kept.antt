@@ -1,30 +1,24 @@
 -- A mesh whose earlier deliveries are held apart, seen as one mesh.
-use Rattle.std.proofs.Common.{◌≡◌, ◌≢◌, Bool, ℕ, ◌+◌, ◌^◌, ◌<◌, List, [], ◌++◌, ◌∷◌, drop, length, refl, sym, ap, ◌∙◌, subst, inl, inr, arith, Option, Result, Ok, Err, OnOk, Some, map, nat_cmp}
-use Rattle.mesh_core.specs.Ledger.{dumped_marks}
+use Rattle.std.proofs.Common.{◌≡◌, ◌≢◌, Bool, ℕ, ◌+◌, ◌^◌, ◌<◌, List, [], ◌++◌, ◌∷◌, drop, get_or, length, refl, sym, ap, ◌∙◌, subst, inl, inr, arith, Option, Result, Ok, Err, OnOk, Some, map}
+use Rattle.mesh_core.specs.{Ledger.dumped_marks, State.Setup, State.State, State.IsMesh, Trail.Mark, Trail.IsUnderWayAt, Trail.delivered}
 use Rattle.std.proofs.lemmas.{Bool.cases_Bool, Bool.eq-eqb, Option.none-some, Option.same_Some, List.append-nil, List.drop_at, List.map-append, List.Sums.count_by-le-length, List.Sums.length-filter}
-use Rattle.std.specs.{BTreeMap.BTreeMap, BTreeMap.Updates, BTreeMap.is_at, Map.lookup, List.Contains, List.filter, List.slice_get, List.slice_index_or, List.slice_set}
+use Rattle.std.specs.{BTreeMap.BTreeMap, BTreeMap.Updates, BTreeMap.is_at, Map.lookup, List.Contains, List.filter, List.slice_get, List.slice_set, Ordering.nat_cmp}
 use Rattle.spin_base.proofs.Members.{Among, among_contains, among_either, among_left, among_map, among_right, contains_among}
 use Rattle.spin_base.specs.declared.{blocks.Block.Block, copies.Delivery.Delivery, copies.McCopy.McCopy}
 use Rattle.machine_desc.specs.RightTables.{IsKeyOf}
 use Rattle.mesh_core.specs.{Expected.NothingWaits, Ledger.all_hand_marks, Ledger.core_marks, Ledger.delivered_marks, Ledger.input_marks, Ledger.marks_of, Ledger.unsent_marks, Queues.drop_front}
-use Rattle.mesh_core.specs.{State.Setup, State.State, State.IsMesh, Trail.Mark, Trail.IsUnderWayAt, Trail.delivered}
 use Rattle.mesh_drain.specs.Draining.{AreRoutedAlike, HasBrought, IsMoved, IsReachedDropless, MaySend, SendAlone, of_packet}
 use Rattle.mesh_drain.proofs.Frame.{dumped_reached, kept_reached, setup_reached}
 use Rattle.app_loads.specs.declared.answers.UnloadErr.{UnloadErr, TheVariants.NotLoaded, TheVariants.Waiting, TheVariants.Memory}
 use Rattle.app_loads.specs.{declared.known.KnownBlock.KnownBlock, declared.loaded.LoadedApp.LoadedApp, Earlier.with_earlier, Joining.CanSettle, Leaving.NoneUnderWay, Leaving.WaitsIn}
 use Rattle.app_loads.specs.{Removing.IsWhyHere, declared.arrivals.Arrival.Arrival, Groups.deliveries_at, Groups.sent_of, Running.AreAlikeInBlocks, Running.AreKnown, Running.Comes}
-use Rattle.app_loads.specs.Running.{HasBroughtMore, HasFirstUnsent, IsClean}
+use Rattle.app_loads.specs.Running.{HasBroughtMore, HasFirstUnsent, HasSomeUnsent, IsClean}
 use Rattle.app_loads.proofs.{Earlier.kept_without, Earlier.reached_with, LeftMesh.mesh_with}
 
 -- what follows where a call was answered
 pub ok_then : {X E : Type 0} {P Q : Type 0} (r : Result X E) → (P → Q) → OnOk r P → OnOk r Q
 ok_then (Ok x) f p = f p
 ok_then (Err e) f p = tt
-
--- what holds anyway holds where a call was answered
-pub ok_anyway : {X E P : Type 0} (r : Result X E) → P → OnOk r P
-ok_anyway (Ok x) p = p
-ok_anyway (Err e) p = tt
 
 -- ---- the same mesh, whose deliveries are held otherwise
 
@@ -146,12 +140,19 @@ pub some_there : (q : List McCopy) (unsent : List (List McCopy)) (v : ℕ) → s
 some_there [] unsent v some is = absurd (some is)
 some_there (k ∷ q) unsent v some is = omega arith
 
-pub first_there : (q : List McCopy) (unsent : List (List McCopy)) (v : ℕ) (k : McCopy) → slice_get unsent v ≢ Some [] → slice_get unsent v ≡ Some q → k ≡ slice_index_or q 0 k →
-    (rest : List McCopy) × (slice_get unsent v ≡ Some (k ∷ rest))
-first_there [] unsent v k some is at = absurd (some is)
-first_there (x ∷ q) unsent v k some is at = (q, is ∙ ap (λ y. Some (y ∷ q)) (sym at))
+-- so a vertex that has packets unsent has a first one
+pub first_sends : {xs : List Delivery} {s : State} {v : ℕ} (q : List McCopy) (d : McCopy) → HasSomeUnsent xs s v → slice_get s.unsent v ≡ Some q → HasFirstUnsent xs s v (get_or q 0 d)
+first_sends [] d can at = absurd (can.some at)
+first_sends (k ∷ q) d can at = record { clean = can.clean; there = can.there; first = (q, at) }
 
--- a vertex's first packet comes where it is known that it comes
+-- a vertex's first packet came, and the mesh is clean again
+pub record IsSentAgain (xs ys : List Delivery) (s u : State) (v : ℕ) : Type 0 where
+  pub reached : IsReachedDropless (with_earlier xs s) (with_earlier ys u)
+  pub clean : IsClean ys u
+  pub unsent : (first : McCopy) (rest : List McCopy) → slice_get s.unsent v ≡ Some (first ∷ rest) → u.unsent ≡ slice_set s.unsent v rest
+  pub setup : u.setup ≡ s.setup
+
+-- it comes where it is known that it comes
 module _ {xs ys : List Delivery} {s u : State} {v : ℕ} {k : McCopy} {block : Block} (arrivals : List Arrival) (sends : HasFirstUnsent xs s v k) (key : IsKeyOf block k.key)
     (comes : Comes s.setup v arrivals block) (put : ys ≡ xs ++ deliveries_at arrivals (sent_of k)) (dropped : u ≡ record s { unsent = drop_front s.unsent v (slice_get s.unsent v) }) where
   abbrev own : List Delivery
@@ -163,7 +164,7 @@ module _ {xs ys : List Delivery} {s u : State} {v : ℕ} {k : McCopy} {block : B
   is : u ≡ record s { unsent = slice_set s.unsent v sends.first.0 }
   is = dropped ∙ ap (λ q. record s { unsent = drop_front s.unsent v q }) sends.first.1
 
-  pub again_reached : IsReachedDropless (with_earlier xs s) (with_earlier ys u)
+  again_reached : IsReachedDropless (with_earlier xs s) (with_earlier ys u)
   again_reached =
       let may : MaySend (with_earlier xs s) =
       record { kept = clean.kept; quiet = record { inputs_empty = clean.quiet.inputs_empty; hands_empty = clean.quiet.hands_empty; cores_empty = clean.quiet.cores_empty } } in
@@ -173,8 +174,13 @@ module _ {xs ys : List Delivery} {s u : State} {v : ℕ} {k : McCopy} {block : B
       (ap (λ l. record s { unsent = slice_set s.unsent v sends.first.0; delivered = l }) all ∙ ap (with_earlier ys) (sym is))
       (comes (with_earlier xs s) k sends.first.0 may refl sends.first.1 key)
 
-  pub again_clean : IsClean ys u
-  again_clean = grind (arith, kept_reached (with_earlier xs s) (with_earlier ys u) clean.kept again_reached, is)
+  pub sent_again : IsSentAgain xs ys s u v
+  sent_again = record {
+    reached = again_reached;
+    clean = grind (arith, kept_reached (with_earlier xs s) (with_earlier ys u) clean.kept again_reached, is);
+    unsent = λ first rest at. ap (λ (t : State). t.unsent) dropped ∙ ap (drop_front s.unsent v) at;
+    setup = ap (λ (t : State). t.setup) dropped;
+  }
 
 -- a list of unsent copies with a first one is not empty
 pub some_first : (q : Option (List McCopy)) (k : McCopy) (rest : List McCopy) → q ≡ Some (k ∷ rest) → q ≢ Some []

@@ -1,8 +1,7 @@
 -- The least packet of an application that is under way, from the lists of the mesh.
 use Rattle.std.proofs.Common.{◌≡◌, ℕ, ◌+◌, ◌/◌, ◌%◌, ◌<◌, ◌≤◌, min, Bool, true, false, if◌then◌else◌, List, [], ◌∷◌, ◌++◌, take, length, get_or, refl, sym, ap, ◌∙◌, subst, inl, inr, arith, Option}
-use Rattle.std.proofs.Common.{None, Some, append-nil}
+use Rattle.std.proofs.{Common.None, Common.Some, Common.append-nil, lemmas.List.Elements.All-contains}
 use Rattle.std.proofs.lemmas.{Bool.cases_lt, List.get_or_default, List.take_more, List.take_all, List.Concat.flat_map-append, Option.get_or_from_slice_get, Option.slice_get-get_or}
-use Rattle.std.proofs.lemmas.List.Elements.{All-contains}
 use Rattle.std.specs.{List.slice_get, List.flat_map, List.All, List.Contains, Prelude.IfSome, Prelude.IfNone}
 use Rattle.spin_base.specs.{Gathered.gathered, declared.chips.Chip.Chip, declared.copies.McCopy.McCopy, declared.routes.Out.Out}
 use Rattle.spin_base.proofs.Members.{Among, among_contains, contains_among, among_left, among_right, among_either, among_map, map_among, among_at}
@@ -183,25 +182,28 @@ module _ (s : State) where
       of_hand c (Some h) some (inr none) = absurd none
       of_hand c None some a' = absurd a'
 
-  -- each of the packets under way has a mark
-  has_mark : IsMesh s → (n : ℕ) → Among n (under_way s) → IsMarked n (marks_of s)
-  has_mark mesh n a = elim (among_either n ((flat_map packet_numbers_of s.unsent ++ flat_map packet_numbers_of s.inputs) ++ flat_map held_packets s.hands)
-      (flat_map packet_numbers_of s.cores) a) [
-        | inr b ↦ (
-            let m = queue_marked at_core (λ i. tt) s.cores n b in
-            (m.0, in_after_unsent m.0 (in_after_inputs m.0 (among_right m.0 (all_hand_marks s) (after_hands s) (among_left m.0 (core_marks s) (after_cores s) m.1))), m.2, m.3)
-            )
+  -- what follows wherever a packet is under way
+  by_list : {P : Type 0} (n : ℕ) → (Among n (flat_map packet_numbers_of s.unsent) → P) → (Among n (flat_map packet_numbers_of s.inputs) → P) →
+      (Among n (flat_map held_packets s.hands) → P) → (Among n (flat_map packet_numbers_of s.cores) → P) → Among n (under_way s) → P
+  by_list n at_start at_ports at_routers at_cores a =
+      elim (among_either n ((flat_map packet_numbers_of s.unsent ++ flat_map packet_numbers_of s.inputs) ++ flat_map held_packets s.hands) (flat_map packet_numbers_of s.cores) a) [
+        | inr b ↦ at_cores b
         | inl b ↦ elim (among_either n (flat_map packet_numbers_of s.unsent ++ flat_map packet_numbers_of s.inputs) (flat_map held_packets s.hands) b) [
-          | inr d ↦ (let m = hand_marked mesh n d in (m.0, in_after_unsent m.0 (in_after_inputs m.0 (among_left m.0 (all_hand_marks s) (after_hands s) m.1)), m.2, m.3))
-          | inl d ↦ elim (among_either n (flat_map packet_numbers_of s.unsent) (flat_map packet_numbers_of s.inputs) d) [
-            | inl e ↦ (let m = queue_marked unsent (λ i. tt) s.unsent n e in (m.0, among_left m.0 (unsent_marks s) (after_unsent s) m.1, m.2, m.3))
-            | inr e ↦ (
-                let m = queue_marked (λ i. in_queue (chip_of s.setup.machine (i / 7)) (port_of (i % 7))) (λ i. tt) s.inputs n e in
-                (m.0, in_after_unsent m.0 (among_left m.0 (input_marks s) (after_inputs s) m.1), m.2, m.3)
-                )
-          ]
+          | inr d ↦ at_routers d
+          | inl d ↦ elim (among_either n (flat_map packet_numbers_of s.unsent) (flat_map packet_numbers_of s.inputs) d) [ inl e ↦ at_start e | inr e ↦ at_ports e ]
         ]
       ]
+
+  -- each of the packets under way has a mark
+  has_mark : IsMesh s → (n : ℕ) → Among n (under_way s) → IsMarked n (marks_of s)
+  has_mark mesh n a =
+      by_list n
+      (λ b. let m = queue_marked unsent (λ i. tt) s.unsent n b in (m.0, among_left m.0 (unsent_marks s) (after_unsent s) m.1, m.2, m.3))
+      (λ b. let m = queue_marked (λ i. in_queue (chip_of s.setup.machine (i / 7)) (port_of (i % 7))) (λ i. tt) s.inputs n b in
+      (m.0, in_after_unsent m.0 (among_left m.0 (input_marks s) (after_inputs s) m.1), m.2, m.3))
+      (λ b. let m = hand_marked mesh n b in (m.0, in_after_unsent m.0 (in_after_inputs m.0 (among_left m.0 (all_hand_marks s) (after_hands s) m.1)), m.2, m.3))
+      (λ b. let m = queue_marked at_core (λ i. tt) s.cores n b in
+      (m.0, in_after_unsent m.0 (in_after_inputs m.0 (among_right m.0 (all_hand_marks s) (after_hands s) (among_left m.0 (core_marks s) (after_cores s) m.1))), m.2, m.3)) a
     where
       in_after_unsent : (k : Mark) → Among k (after_unsent s) → Among k (marks_of s)
       in_after_unsent k b = among_right k (unsent_marks s) (after_unsent s) b
@@ -237,21 +239,14 @@ module _ (s : State) where
 
   -- what these vertices have unsent is all that is under way, where they alone have packets unsent
   in_sender : (vertices : List ℕ) → SendAlone vertices s → (n : ℕ) → Among n (under_way s) → Among n (flat_map (unsent_numbers s.unsent) vertices)
-  in_sender vertices alone n a = elim (among_either n ((flat_map packet_numbers_of s.unsent ++ flat_map packet_numbers_of s.inputs) ++ flat_map held_packets s.hands)
-      (flat_map packet_numbers_of s.cores) a) [
-        | inr b ↦ absurd (no_copies s.cores n alone.quiet.cores_empty b)
-        | inl b ↦ elim (among_either n (flat_map packet_numbers_of s.unsent ++ flat_map packet_numbers_of s.inputs) (flat_map held_packets s.hands) b) [
-          | inr d ↦ absurd (no_hands s.hands n alone.quiet.hands_empty d)
-          | inl d ↦ elim (among_either n (flat_map packet_numbers_of s.unsent) (flat_map packet_numbers_of s.inputs) d) [
-            | inr e ↦ absurd (no_copies s.inputs n alone.quiet.inputs_empty e)
-            | inl e ↦
-                let queue = among_flat packet_numbers_of n s.unsent e in
-                let at = place_of queue.0 s.unsent queue.1 in
-                flat_among (unsent_numbers s.unsent) n vertices at.0 (contains_among at.0 vertices (sender_of at.0 queue.0 at.1 queue.2))
-                (subst (λ (q : List McCopy). Among n (packet_numbers_of q)) (sym (get_or_from_slice_get s.unsent at.0 queue.0 [] at.1)) queue.2)
-          ]
-        ]
-      ]
+  in_sender vertices alone n a =
+      by_list n
+      (λ e.
+      let queue = among_flat packet_numbers_of n s.unsent e in
+      let at = place_of queue.0 s.unsent queue.1 in
+      flat_among (unsent_numbers s.unsent) n vertices at.0 (contains_among at.0 vertices (sender_of at.0 queue.0 at.1 queue.2))
+      (subst (λ (q : List McCopy). Among n (packet_numbers_of q)) (sym (get_or_from_slice_get s.unsent at.0 queue.0 [] at.1)) queue.2))
+      (λ e. absurd (no_copies s.inputs n alone.quiet.inputs_empty e)) (λ d. absurd (no_hands s.hands n alone.quiet.hands_empty d)) (λ b. absurd (no_copies s.cores n alone.quiet.cores_empty b)) a
     where
       no_copies : (queues : List (List McCopy)) (m : ℕ) → All (λ (q : List McCopy). q ≡ []) queues → Among m (flat_map packet_numbers_of queues) → ⊥
       no_copies queues m empty b =
@@ -273,37 +268,33 @@ module _ (s : State) where
       let at = slice_get-get_or s.unsent v.0 [] (omega (arith, there, mesh.unsent_lists)) in
       in_unsent n (flat_among packet_numbers_of n s.unsent (get_or s.unsent v.0 []) (among_at s.unsent v.0 (get_or s.unsent v.0 []) at) v.2)
 
-  -- so the least found is the least that waits, and where none is found, none waits
-  pub least_waits : IsMesh s → (app : LoadedApp) (o : Option ℕ) → o ≡ least_own_packet app (under_way s) → IfSome o (IsLeastUnderWay s app)
-  least_waits mesh app o is = subst (λ (r : Option ℕ). IfSome r (IsLeastUnderWay s app)) (sym is) (by_least (least_own_packet app (under_way s)) (least_is app (under_way s)))
-    where
-      by_least : (r : Option ℕ) → IsLeastIn app (under_way s) r → IfSome r (IsLeastUnderWay s app)
-      by_least None none = tt
-      by_least (Some p) least = (listed_waits mesh app p least.1 least.0, λ q waits. least.2 q (waits_listed app q waits) waits.0)
-
-  pub none_waits : (app : LoadedApp) (o : Option ℕ) → o ≡ least_own_packet app (under_way s) → IfNone o (NoneUnderWay s app)
-  none_waits app o is = subst (λ (r : Option ℕ). IfNone r (NoneUnderWay s app)) (sym is) (by_least (least_own_packet app (under_way s)) (least_is app (under_way s)))
-    where
-      by_least : (r : Option ℕ) → IsLeastIn app (under_way s) r → IfNone r (NoneUnderWay s app)
-      by_least None none = λ q waits. none q (waits_listed app q waits) waits.0
-      by_least (Some p) least = tt
-
-  -- the same where only vertices that may have packets unsent were looked at
-  module _ (mesh : IsMesh s) (app : LoadedApp) (vertices : List ℕ) (alone : SendAlone vertices s) (o : Option ℕ) (is : o ≡ least_own_packet app (flat_map (unsent_numbers s.unsent) vertices)) where
-    abbrev own : List ℕ
-    own = flat_map (unsent_numbers s.unsent) vertices
-
-    pub least_of_senders : IfSome o (IsLeastUnderWay s app)
-    least_of_senders = subst (λ (r : Option ℕ). IfSome r (IsLeastUnderWay s app)) (sym is) (by_least (least_own_packet app own) (least_is app own))
+  -- so where a list has all that are under way, the least found in it is the least that waits, and where none is found, none waits
+  module _ (app : LoadedApp) (own : List ℕ) (all : (n : ℕ) → Among n (under_way s) → Among n own) (o : Option ℕ) (is : o ≡ least_own_packet app own) where
+    found_waits : ((n : ℕ) → is_packet_of app n ≡ true → Among n own → WaitsIn s app n) → IfSome o (IsLeastUnderWay s app)
+    found_waits waits_there = subst (λ (r : Option ℕ). IfSome r (IsLeastUnderWay s app)) (sym is) (by_least (least_own_packet app own) (least_is app own))
       where
         by_least : (r : Option ℕ) → IsLeastIn app own r → IfSome r (IsLeastUnderWay s app)
         by_least None none = tt
-        by_least (Some p) least =
-            (listed_waits mesh app p least.1 (of_sender mesh vertices alone p least.0), λ q waits. least.2 q (in_sender vertices alone q (waits_listed app q waits)) waits.0)
+        by_least (Some p) least = (waits_there p least.1 least.0, λ q waits. least.2 q (all q (waits_listed app q waits)) waits.0)
 
-    pub none_of_senders : IfNone o (NoneUnderWay s app)
-    none_of_senders = subst (λ (r : Option ℕ). IfNone r (NoneUnderWay s app)) (sym is) (by_least (least_own_packet app own) (least_is app own))
+    none_found : IfNone o (NoneUnderWay s app)
+    none_found = subst (λ (r : Option ℕ). IfNone r (NoneUnderWay s app)) (sym is) (by_least (least_own_packet app own) (least_is app own))
       where
         by_least : (r : Option ℕ) → IsLeastIn app own r → IfNone r (NoneUnderWay s app)
-        by_least None none = λ q waits. none q (in_sender vertices alone q (waits_listed app q waits)) waits.0
+        by_least None none = λ q waits. none q (all q (waits_listed app q waits)) waits.0
         by_least (Some p) least = tt
+
+  pub least_waits : IsMesh s → (app : LoadedApp) (o : Option ℕ) → o ≡ least_own_packet app (under_way s) → IfSome o (IsLeastUnderWay s app)
+  least_waits mesh app o is = found_waits app (under_way s) (λ n a. a) o is (listed_waits mesh app)
+
+  pub none_waits : (app : LoadedApp) (o : Option ℕ) → o ≡ least_own_packet app (under_way s) → IfNone o (NoneUnderWay s app)
+  none_waits app o is = none_found app (under_way s) (λ n a. a) o is
+
+  -- the same where only vertices that may have packets unsent were looked at
+  module _ (mesh : IsMesh s) (app : LoadedApp) (vertices : List ℕ) (alone : SendAlone vertices s) (o : Option ℕ) (is : o ≡ least_own_packet app (flat_map (unsent_numbers s.unsent) vertices)) where
+    pub least_of_senders : IfSome o (IsLeastUnderWay s app)
+    least_of_senders =
+        found_waits app (flat_map (unsent_numbers s.unsent) vertices) (in_sender vertices alone) o is (λ n own a. listed_waits mesh app n own (of_sender mesh vertices alone n a))
+
+    pub none_of_senders : IfNone o (NoneUnderWay s app)
+    none_of_senders = none_found app (flat_map (unsent_numbers s.unsent) vertices) (in_sender vertices alone) o is

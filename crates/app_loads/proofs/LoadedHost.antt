@@ -1,17 +1,11 @@
 -- A host to which an application came.
 use Rattle.std.proofs.Common.{◌≡◌, ◌≢◌, ℕ, zero, suc, ◌+◌, ◌<◌, ◌≤◌, ◌==◌, true, false, List, [], ◌∷◌, ◌++◌, ◌∙◌, Option, None, Some, if◌then◌else◌, length, take, refl, sym, ap, subst, inl, inr}
-use Rattle.app_loads.proofs.Holes.{same_holes}
-use Rattle.app_loads.specs.Regions.{place_of}
-use Rattle.app_loads.specs.declared.places.Region.TheVariants.{Rows}
-use Rattle.app_loads.specs.Applications.{HasRows}
-use Rattle.range_store.specs.Regions.{AreRuns}
-use Rattle.machine_desc.specs.RightTables.{table_at}
-use Rattle.machine_desc.specs.Live.{IsInside}
-use Rattle.spin_base.specs.declared.chips.Chip.{Chip}
-use Rattle.std.proofs.Common.{not}
-use Rattle.std.proofs.Common.{ltb}
-use Rattle.std.proofs.Common.{◌&&◌}
-use Rattle.std.proofs.Common.{arith, append-nil, append_assoc, get_or}
+use Rattle.app_loads.proofs.{Holes.same_holes, Settling.settled_mesh, Settling.usable_there, Others.pairs_with_last, RegionLaws.one_free}
+use Rattle.app_loads.specs.{Regions.place_of, Applications.HasRows, declared.places.Region.TheVariants.Rows}
+use Rattle.range_store.specs.{Regions.AreRuns, Views.Region}
+use Rattle.machine_desc.specs.{RightTables.table_at, Live.IsInside}
+use Rattle.spin_base.specs.{declared.chips.Chip.Chip, declared.blocks.Entry.Entry, declared.chips.Spot.Spot, declared.copies.McCopy.McCopy, declared.copies.Packet.Packet, Equality.spot_eq}
+use Rattle.std.proofs.Common.{not, ltb, ◌&&◌, arith, append-nil, append_assoc, get_or}
 use Rattle.std.proofs.lemmas.{Bool.cases_eq, Bool.eq-eqb, Bool.eqb-true, Bool.false≢true, Bool.and_parts, Bool.ne_eqb, Bool.or_parts, List.Elements.All-append, List.Elements.All-contains}
 use Rattle.std.proofs.lemmas.{List.Elements.All-weaker, List.Elements.filter_map-append, List.Elements.All-push, List.Folds.list_any-append, Option.slice_get_within, Option.same_Some}
 use Rattle.std.proofs.lemmas.{Option.none-some, Option.slice_get-get_or, List.flat_map_more, List.take_all, List.same_lists}
@@ -19,9 +13,7 @@ use Rattle.std.specs.{Option.option_map_or, List.list_any, List.slice_get, List.
 use Rattle.spin_base.proofs.{Members.Among, Members.Contains-at, Members.among_any, Members.among_left, Members.among_right, Members.among_contains, Members.contains_among, Pairs.AllPairs-append}
 use Rattle.spin_base.proofs.{Pairs.AllPairs-right, Pairs.AllPairs-across, Places.All-each, Places.enumerate_more, Places.slice_get_there, Places.slice_get-set_same, Places.slice_get-set_other}
 use Rattle.spin_base.proofs.{Equality.spot_eq_same, Gathering.gathered_among}
-use Rattle.spin_base.specs.{declared.blocks.Entry.Entry, declared.chips.Spot.Spot, declared.copies.McCopy.McCopy, declared.copies.Packet.Packet, Equality.spot_eq}
 use Rattle.machine_desc.specs.{Description.Description, RoutingTree.IsRoutingTree, declared.nets.NetPlan.NetPlan, NetsOn.AreNetsOn, NetsOn.HaveDisjointBlocks, NetsOn.vertex_at, RightTables.IsKeyOf}
-use Rattle.range_store.specs.Views.{Region}
 use Rattle.mesh_core.specs.{State.State, Trail.Mark, Trail.unsent, Ledger.MeetsLedgerFor, Ledger.marks_of, Ledger.marks_at, Ledger.unsent_marks, Opened.copy_from, Opened.first_copy}
 use Rattle.mesh_core.proofs.Ways.{vertex_at_stands}
 use Rattle.app_loads.specs.declared.answers.{LoadErr.LoadErr, LoadErr.TheVariants.Refused, LoadErr.TheVariants.Memory, LoadRefusal.LoadRefusal, LoadRefusal.TheVariants.Loaded}
@@ -34,7 +26,6 @@ use Rattle.app_loads.specs.{Regions.range_has, Regions.is_taken, Regions.region_
 use Rattle.app_loads.proofs.AppNets.{apps_disjoint, different_of, facts_at, facts_of, key_of_index, own_disjoint, roots_of, sources_in, targets_in, trees_of, usable_spot}
 use Rattle.app_loads.proofs.{ClaimCases.among_flat, ClaimCases.flat_among, ClaimCases.facts, Copying.mine_at, Copying.same_part, JoinLaws.loaded_from, Ledgers.more_nets, LeavingLists.after_unsent}
 use Rattle.app_loads.proofs.{PacketLedger.asked_is, PacketLedger.none_past, PacketLedger.other_tables, PacketLedger.same_packets, PacketLedger.sent_ledger, RightRows.right_rows, Serving.none_taken}
-use Rattle.app_loads.proofs.{Settling.settled_mesh, Settling.usable_there, Others.pairs_with_last, RegionLaws.one_free}
 
 -- regions with the same free places are the same
 pub same_frees : (m : Description) (taken : List Range) (xs ys : List Free) → AreFreeBeside m taken xs → AreFreeBeside m taken ys → xs ≡ ys

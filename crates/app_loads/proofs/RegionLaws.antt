@@ -1,9 +1,8 @@
 -- What serving a claim in its region answers, from what the region's calls promise.
-use Rattle.std.proofs.Common.{◌≡◌, ℕ, ◌%◌, ◌<◌, true, false, not, ◌&&◌, List, [], ◌∷◌, ◌++◌, refl, sym, subst, Option, None, Some, IfSome, IfNone, Result, Ok, Err, IfOk}
+use Rattle.std.proofs.Common.{◌≡◌, ℕ, ◌%◌, ◌<◌, true, false, not, ◌&&◌, List, refl, sym, subst, Option, None, Some, IfSome, IfNone, Result, Ok, Err, IfOk}
 use Rattle.spin_base.specs.declared.wants.Memory.{Memory}
 use Rattle.range_store.specs.{declared.holes.Hole.Hole, Views.Region, Regions.AreRuns, Regions.IsFirstFit, Regions.HasNoFit, Regions.is_hole_range, Regions.is_free, Regions.in_range}
-use Rattle.app_loads.specs.{declared.loaded.Claim.Claim, declared.loaded.Range.Range, Host.Free, Regions.IsFreeBeside, Regions.place_of, Claims.IsLeastOpenRange, Taking.free_places_in}
-use Rattle.app_loads.specs.Taking.{ServesClaim, RefusesClaim}
+use Rattle.app_loads.specs.{declared.loaded.Claim.Claim, Host.Free, Regions.IsFreeBeside, Regions.place_of, Taking.free_places_in, Taking.ServesClaim, Taking.RefusesClaim}
 use Rattle.app_loads.proofs.Taking.{taken_more, least_from_fit, refused_from_fit, least_from_fixed, refused_from_fixed}
 
 module _ (claim : Claim) (before after : Region) (some : 0 < claim.size) (size : after.size ≡ before.size) (runs : AreRuns 0 after.size after.holes) where
@@ -25,25 +24,16 @@ module _ (claim : Claim) (before after : Region) (some : 0 < claim.size) (size :
   none_by_take (Ok None) none = λ m taken beside. refused_from_fit m taken claim (free_places_in before) beside some none.0
   none_by_take (Err e) none = tt
 
-  pub by_fixed : (r : Result (Option ℕ) Memory) (place : ℕ) → claim.fixed ≡ Some place → place % claim.align ≡ 0 →
-      IfOk r (λ o. IfSome o (λ p. (p ≡ place) × (is_hole_range before.holes place claim.size ≡ true))) →
-      IfOk r (λ o. IfSome o (λ p. (k : ℕ) → is_free after.holes k ≡ (is_free before.holes k && not (in_range place claim.size k)))) →
-      IfOk r (λ o. IfSome o (ServesClaim claim before after))
-  by_fixed (Ok (Some p)) place is aligned found free = λ m taken beside.
-      subst (λ q. (let range : Range = record { region = place_of m claim.region; place = q; size = claim.size } in
-      IsLeastOpenRange m taken claim range × IsFreeBeside m (taken ++ range ∷ []) (place_of m claim.region) (free_places_in after))) (sym found.0) (
-        least_from_fixed m taken claim (free_places_in before) place is aligned beside some found.1,
-        taken_more m taken (place_of m claim.region) (free_places_in before) (free_places_in after)
-            (record { region = place_of m claim.region; place = place; size = claim.size }) refl beside size runs free,
-      )
-  by_fixed (Ok None) place is aligned found free = tt
-  by_fixed (Err e) place is aligned found free = tt
+  pub by_fixed : (place : ℕ) → claim.fixed ≡ Some place → place % claim.align ≡ 0 → is_hole_range before.holes place claim.size ≡ true →
+      ((k : ℕ) → is_free after.holes k ≡ (is_free before.holes k && not (in_range place claim.size k))) → ServesClaim claim before after place
+  by_fixed place is aligned found free m taken beside = (
+    least_from_fixed m taken claim (free_places_in before) place is aligned beside some found,
+    taken_more m taken (place_of m claim.region) (free_places_in before) (free_places_in after)
+        (record { region = place_of m claim.region; place = place; size = claim.size }) refl beside size runs free,
+  )
 
-  pub none_by_fixed : (r : Result (Option ℕ) Memory) (place : ℕ) → claim.fixed ≡ Some place →
-      IfOk r (λ o. IfNone o ((is_hole_range before.holes place claim.size ≡ false) × (after ≡ before))) → IfOk r (λ o. IfNone o (RefusesClaim claim before))
-  none_by_fixed (Ok (Some p)) place is none = tt
-  none_by_fixed (Ok None) place is none = λ m taken beside. refused_from_fixed m taken claim (free_places_in before) place is beside some none.0
-  none_by_fixed (Err e) place is none = tt
+  pub none_by_fixed : (place : ℕ) → claim.fixed ≡ Some place → is_hole_range before.holes place claim.size ≡ false → RefusesClaim claim before
+  none_by_fixed place is none m taken beside = refused_from_fixed m taken claim (free_places_in before) place is beside some none
 
 pub one_free : (s t : ℕ) (hs gs : List Hole) → hs ≡ gs → s ≡ t → (let a : Free = record { size = s; holes = hs } in let b : Free = record { size = t; holes = gs } in a ≡ b)
 one_free s t hs gs p q = cc

@@ -10,8 +10,8 @@ use Rattle.spin_base.proofs.{Members.among_contains, Places.All-at, Places.slice
 use Rattle.spin_base.specs.{declared.chips.Chip.Chip, Equality.chip_eq, declared.wants.Memory.Memory}
 use Rattle.machine_desc.specs.{declared.trees.Edge.Edge, Description.Description, Live.index_of, Live.chip_of, Live.IsInside, RoutingTree.end_of}
 use Rattle.machine_desc.proofs.{Far.far_inside, Far.index_below, Far.same_index, Far.live_ends, Far.live_inside, Live.index_of-chip_of, Live.chip_of-inside, Same.chip_eq-from_same}
-use Rattle.app_loads.specs.{declared.loaded.Claim.Claim, declared.plans.AppNet.AppNet, Regions.chip_count, Claims.has_chip, Claims.entries_claim, Claims.row_claim, Counting.HasTree, Counting.IsRunEnd}
-use Rattle.app_loads.specs.Counting.{chip_places, end_places, tree_places, run_claim}
+use Rattle.app_loads.specs.{declared.loaded.Claim.Claim, declared.plans.AppNet.AppNet, Regions.chip_count, Claims.has_chip, Claims.entries_claim, Claims.row_claim}
+use Rattle.app_loads.specs.Counting.{HasTree, HasTreeInside, IsRunEnd, chip_places, end_places, tree_places, run_claim}
 use Rattle.app_loads.proofs.LeavingLists.{one_if}
 
 -- of two tests at most one of which holds
@@ -169,8 +169,11 @@ pub leads_to : (c : Chip) (o : Option Chip) → option_map_or (chip_eq c) o fals
 leads_to c None hit = cc
 leads_to c (Some d) hit = ap Some (sym (chip_eq_true c d hit))
 
-pub edges_in : (m : Description) (net : AppNet) → HasTree m net → All (λ (e : Edge). IsInside m e.chip) net.tree.edges
+edges_in : (m : Description) (net : AppNet) → HasTree m net → All (λ (e : Edge). IsInside m e.chip) net.tree.edges
 edges_in m net has k d less = live_inside m (get_or net.tree.edges k d).chip (live_ends m (get_or net.tree.edges k d).chip (get_or net.tree.edges k d).dir (has.tree.edges_live k d less)).2
+
+pub trees_inside : (m : Description) (nets : List AppNet) → All (HasTree m) nets → All (HasTreeInside m) nets
+trees_inside m nets = All-weaker (HasTree m) (HasTreeInside m) (λ net has. record { root = has.root; edges = edges_in m net has }) nets
 
 module _ (m : Description) (i : ℕ) (below : i < m.width * m.height) where
   abbrev c : Chip
@@ -264,13 +267,13 @@ module _ (m : Description) where
   end_within e inside None is = All-nil Within
   end_within e inside (Some d) is = All-cons Within (index_of m d) [] (index_below m d (far_inside m e.chip d e.dir inside is)) (All-nil Within)
 
-  net_within : (net : AppNet) → HasTree m net → All Within (tree_places m net)
+  net_within : (net : AppNet) → HasTreeInside m net → All Within (tree_places m net)
   net_within net has =
       All-cons Within (index_of m net.tree.root) (flat_map (end_places m) net.tree.edges) (index_below m net.tree.root has.root)
       (All-flat_map Within (end_places m) net.tree.edges (All-weaker (λ (e : Edge). IsInside m e.chip) (λ (e : Edge). All Within (end_places m e))
-      (λ e inside. end_within e inside (end_of m e) refl) net.tree.edges (edges_in m net has)))
+      (λ e inside. end_within e inside (end_of m e) refl) net.tree.edges has.edges))
 
-  pub places_inside : (nets : List AppNet) (chips : List ℕ) → All (HasTree m) nets → IsPermutation (flat_map (tree_places m) nets) chips → All (λ i. i < chip_count m) chips
+  pub places_inside : (nets : List AppNet) (chips : List ℕ) → All (HasTreeInside m) nets → IsPermutation (flat_map (tree_places m) nets) chips → All (λ i. i < chip_count m) chips
   places_inside nets chips trees same =
       All-permutation Within (flat_map (tree_places m) nets) chips same
-      (All-flat_map Within (tree_places m) nets (All-weaker (HasTree m) (λ (net : AppNet). All Within (tree_places m net)) net_within nets trees))
+      (All-flat_map Within (tree_places m) nets (All-weaker (HasTreeInside m) (λ (net : AppNet). All Within (tree_places m net)) net_within nets trees))

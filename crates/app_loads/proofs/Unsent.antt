@@ -1,16 +1,16 @@
 -- Packets put to the vertices of their nets' sources, and queues emptied.
-use Rattle.std.proofs.Common.{◌≡◌, ◌≢◌, ℕ, zero, suc, ◌+◌, ◌^◌, ◌<◌, ◌≤◌, ◌==◌, List, [], ◌∷◌, ◌++◌, take, get_or, length, refl, sym, ap, ◌∙◌, subst, inl, inr, arith, Option, Some}
-use Rattle.std.proofs.lemmas.{Bool.cases_Bool, Bool.cases_eq, Bool.eqb-true, Bool.eq-eqb, Bool.false≢true, List.length-set, List.take_all, List.same_lists, List.Elements.Contains-push_cases}
-use Rattle.std.proofs.lemmas.Option.{slice_get_within, slice_get-get_or, same_Some, unwrap_or-slice_get}
+use Rattle.std.proofs.Common.{◌≡◌, ◌≢◌, ℕ, zero, suc, ◌+◌, ◌^◌, ◌<◌, ◌≤◌, ◌==◌, List, [], ◌∷◌, ◌++◌, take, get_or, length, map, refl, sym, ap, ◌∙◌, subst, inl, inr, arith, Option, Some}
+use Rattle.std.proofs.lemmas.{Bool.cases_Bool, Bool.cases_eq, Bool.eqb-true, Bool.eq-eqb, Bool.false≢true, List.length-map, List.length-set, List.take_all}
+use Rattle.std.proofs.lemmas.{List.same_lists, List.Elements.Contains-push_cases, Option.slice_get_within, Option.slice_get-get_or, Option.same_Some, Option.unwrap_or-slice_get}
 use Rattle.std.specs.{Prelude.unwrap_or, List.list_any, List.slice_get, List.slice_set, List.All, List.Contains}
 use Rattle.mesh_core.proofs.ServingLaws.{vertex_at-below}
 use Rattle.mesh_core.specs.State.{Setup}
 use Rattle.spin_base.proofs.{Members.Contains-at, Members.any_among, Members.among_any, Members.among_contains, Members.contains_among, Places.All-at, Places.slice_get_there}
-use Rattle.spin_base.proofs.Places.{slice_get-set_same, slice_get-set_other, slice_get-push_cases, take_more_at}
+use Rattle.spin_base.proofs.Places.{slice_get-set_same, slice_get-mapped, slice_get-set_other, take_more_at}
 use Rattle.spin_base.specs.declared.{blocks.Block.Block, chips.Spot.Spot, copies.McCopy.McCopy, copies.Packet.Packet}
 use Rattle.machine_desc.specs.NetsOn.{vertex_at}
 use Rattle.app_loads.specs.{declared.loaded.LoadedApp.LoadedApp, declared.plans.AppNet.AppNet, Host.net_with, Host.nets_with, Joining.AreSent, Joining.NoneUnsent, Sending.AreCleared}
-use Rattle.app_loads.specs.Sending.{AreSources, CanAdd, IsPacketOn, IsSameBeside, IsSendingFrom}
+use Rattle.app_loads.specs.Sending.{AreSources, CanAdd, IsPacketOn, IsSameBeside, IsSendingFrom, source_at}
 
 -- a net of the application, by its place
 pub nets_with_at : (nets : List AppNet) (blocks : List Block) (i : ℕ) (net : AppNet) (block : Block) → slice_get nets i ≡ Some net → slice_get blocks i ≡ Some block →
@@ -141,18 +141,18 @@ put_back spots nets sources old mid new are none same cleared =
 
 -- ---- the sources of nets
 
--- what looking the source up gives
-pub source_is : (u : Setup) (nets : List AppNet) (i : ℕ) (net : AppNet) → All (IsSendingFrom u) nets → slice_get nets i ≡ Some net → (o : Option ℕ) → o ≡ vertex_at u.spots net.source → (v : ℕ) →
-    v ≡ unwrap_or o 0 → vertex_at u.spots net.source ≡ Some v
-source_is u nets i net all at o found v is = grind (arith, All-at (IsSendingFrom u) nets i net all at)
-
-pub sources_more : (spots : List Spot) (nets : List AppNet) (vertices after : List ℕ) (i v : ℕ) (net : AppNet) → slice_get nets i ≡ Some net → vertex_at spots net.source ≡ Some v →
-    after ≡ vertices ++ v ∷ [] → length vertices ≡ i → ((j w : ℕ) (n : AppNet) → slice_get nets j ≡ Some n → slice_get vertices j ≡ Some w → vertex_at spots n.source ≡ Some w) →
-    (j w : ℕ) (n : AppNet) → slice_get nets j ≡ Some n → slice_get after j ≡ Some w → vertex_at spots n.source ≡ Some w
-sources_more spots nets vertices after i v net at is pushed long each j w n at_j here = grind (arith, slice_get-push_cases, same_Some)
-
-pub sources_of : (spots : List Spot) (nets given : List AppNet) (sources : List ℕ) → given ≡ nets → AreSources spots given sources → AreSources spots nets sources
-sources_of spots nets given sources is are = subst (λ (l : List AppNet). AreSources spots l sources) is are
+-- each source that has a vertex was given this one
+pub sources_of : (u : Setup) (nets given : List AppNet) (sources : List ℕ) → All (IsSendingFrom u) nets → given ≡ nets → sources ≡ map (source_at u.spots) given → AreSources u.spots nets sources
+sources_of u nets given sources sending given_is is = record {
+  all = ap length whole ∙ length-map nets (source_at u.spots);
+  each = λ i v net at here.
+      let on = All-at (IsSendingFrom u) nets i net sending at in
+      let mine : source_at u.spots net ≡ v = same_Some _ _ (sym (slice_get-mapped (source_at u.spots) nets i net at) ∙ (ap (λ l. slice_get l i) (sym whole) ∙ here)) in
+      on.is ∙ ap Some (sym (ap (λ o. unwrap_or o 0) on.is) ∙ mine);
+}
+  where
+    whole : sources ≡ map (source_at u.spots) nets
+    whole = is ∙ ap (map (source_at u.spots)) given_is
 
 -- what adding asks of the sources
 pub can_add : (setup_spots : List Spot) (queues : ℕ) (app : LoadedApp) (unsent : List (List McCopy)) (sources : List ℕ) → length unsent ≡ length setup_spots →

@@ -1,5 +1,5 @@
 -- How often nets have a chip in their trees, as the private functions say it.
-use Rattle.std.specs.Prelude.{◌≡◌, ℕ, ◌<◌, ◌≤◌, ◌==◌, List, [], ◌∷◌, Option, Some, None, count_by, length, slice_get}
+use Rattle.std.specs.Prelude.{◌≡◌, ℕ, ◌<◌, ◌≤◌, ◌==◌, List, [], ◌∷◌, All, Option, Some, None, count_by, length, slice_get}
 use Rattle.std.specs.List.{flat_map}
 use Rattle.spin_base.specs.declared.chips.Chip.{Chip}
 use Rattle.machine_desc.specs.declared.trees.Edge.{Edge}
@@ -19,6 +19,11 @@ pub record IsKeyCount (keys : ℕ) : Type 0 where
 pub record HasTree (m : Description) (net : AppNet) : Type 0 where
   pub root : IsInside m net.tree.root
   pub tree : IsRoutingTree m net.tree.root net.tree.edges net.targets
+
+-- its root, and the chips at which its edges begin, are inside the grid
+pub record HasTreeInside (m : Description) (net : AppNet) : Type 0 where
+  pub root : IsInside m net.tree.root
+  pub edges : All (λ (e : Edge). IsInside m e.chip) net.tree.edges
 
 abbrev pub chip_places : Description → Option Chip → List ℕ
 chip_places m (Some c) = index_of m c ∷ []

@@ -1,5 +1,5 @@
 -- What contracts see of the fields of a host, and what these keep.
-use Rattle.std.specs.Prelude.{◌≡◌, ◌+◌, ◌<◌, ◌≤◌, ℕ, false, true, List, [], map, Option, Some, None, IfSome, is_some}
+use Rattle.std.specs.Prelude.{◌≡◌, ℕ, false, true, List, [], map, Option, Some, None, IfSome, is_some}
 use Rattle.mesh_core.specs.State.{State}
 use Rattle.mesh_drain.specs.Draining.{SendAlone}
 use Rattle.app_loads.specs.Host.{Host}
@@ -30,16 +30,6 @@ host_of s = record { mesh = mesh_in s.mesh; regions = frees s.regions.items; app
 -- the numbers of applications, in their order
 abbrev pub numbers_of : List LoadedApp → List ℕ
 numbers_of apps = map (λ (app : LoadedApp). app.number) apps
-
--- two lists of these lengths and capacities have room for one item more
-pub record HaveRoomForOne (apps apps_room numbers numbers_room : ℕ) : Type 0 where
-  pub room : apps + 1 ≤ apps_room
-  pub number_room : numbers + 1 ≤ numbers_room
-
--- both lists, of these lengths, have an item at the place
-pub record IsInBoth (at apps numbers : ℕ) : Type 0 where
-  pub there : at < apps
-  pub number_there : at < numbers
 
 -- The mesh is there, the host is one, and the numbers are those of its applications. Where senders are known, they alone have packets
 -- unsent, and no copy waits.

@@ -1,7 +1,6 @@
 -- What loading an application makes of the parts of a host, as the private functions say it.
 use Rattle.std.specs.Prelude.{◌≡◌, AllPairs, ℕ, ◌+◌, ◌%◌, ◌^◌, ◌<◌, ◌≤◌, false, zero, suc, List, [], ◌∷◌, ◌++◌, Contains, Some, length, slice_get, slice_set}
 use Rattle.std.specs.Int.{IsPowerOfTwo}
-use Rattle.spin_base.specs.declared.blocks.Block.{Block}
 use Rattle.spin_base.specs.declared.blocks.Entry.{Entry}
 use Rattle.spin_base.specs.declared.chips.Chip.{Chip}
 use Rattle.spin_base.specs.declared.chips.Spot.{Spot}
@@ -26,7 +25,7 @@ use Rattle.app_loads.specs.declared.plans.AppPlan.{AppPlan}
 use Rattle.app_loads.specs.Host.{nets_of}
 use Rattle.app_loads.specs.declared.places.Region.TheVariants.{Rows}
 use Rattle.app_loads.specs.Regions.{ShareNoPlace, is_taken, place_of}
-use Rattle.app_loads.specs.Claims.{claims_of, AreBlocks, IsBlockOf}
+use Rattle.app_loads.specs.Claims.{claims_of, AreBlocks}
 use Rattle.app_loads.specs.Taking.{AreRegionsOf, AreServedAlways, AreTakenAlways}
 use Rattle.app_loads.specs.Applications.{HasRows, IsLoadedOn}
 use Rattle.app_loads.specs.Opening.{usable_spots}
@@ -87,10 +86,6 @@ pub record IsSettled (app : LoadedApp) (old new : State) : Type 0 where
 -- the queues of unsent copies of all sources are empty
 abbrev pub NoneUnsent : List Spot → List AppNet → List (List McCopy) → Type 0
 NoneUnsent spots nets unsent = (net : AppNet) → Contains nets net → (v : ℕ) → vertex_at spots net.source ≡ Some v → slice_get unsent v ≡ Some []
-
--- the blocks are ranges of claims of their nets
-abbrev pub HaveBlocks : List Claim → List Range → List Block → Type 0
-HaveBlocks claims ranges blocks = (net : ℕ) (block : Block) → slice_get blocks net ≡ Some block → IsBlockOf claims ranges net block
 
 -- The regions are those of the machine, the plan can be loaded there, packets can be numbered, and the sources have nothing unsent.
 pub record CanJoin (s : State) (regions : List Region) (first : ℕ) (plan : AppPlan) : Type 0 where

@@ -49,11 +49,6 @@ pub record CanSendAll (earlier : List Delivery) (s : State) (v : ℕ) (apps : Li
   pub there : v < length s.setup.spots
   pub alike : AreAlikeInBlocks s.setup apps
 
--- the vertex is there, and has a packet unsent
-pub record HasUnsent (s : State) (v : ℕ) : Type 0 where
-  pub there : v < length s.setup.spots
-  pub some : slice_get s.unsent v ≢ Some []
-
 -- A clean mesh has the vertex, which has a packet unsent.
 pub record HasSomeUnsent (earlier : List Delivery) (s : State) (v : ℕ) : Type 0 where
   pub clean : IsClean earlier s

@@ -1,5 +1,5 @@
 -- Packets put to the vertices of their nets' sources, as the private functions say it.
-use Rattle.std.specs.Prelude.{◌≡◌, ℕ, ◌+◌, ◌^◌, ◌<◌, List, [], ◌++◌, All, Contains, Option, Some, length, slice_get}
+use Rattle.std.specs.Prelude.{◌≡◌, ℕ, ◌+◌, ◌^◌, ◌<◌, List, [], ◌++◌, All, Contains, Option, Some, length, slice_get, unwrap_or}
 use Rattle.spin_base.specs.declared.blocks.Block.{Block}
 use Rattle.spin_base.specs.declared.chips.Spot.{Spot}
 use Rattle.spin_base.specs.declared.copies.McCopy.{McCopy}
@@ -24,6 +24,10 @@ pub record IsSendingFrom (u : Setup) (net : AppNet) : Type 0 where
 -- the vertex of a net's source, if there is one
 abbrev pub source_vertex : List Spot → AppNet → List ℕ
 source_vertex spots net = option_to_list (vertex_behind spots net.source.chip (Core net.source.core))
+
+-- the same, and 0 where there is none
+abbrev pub source_at : List Spot → AppNet → ℕ
+source_at spots net = unwrap_or (vertex_at spots net.source) 0
 
 -- The vertices were known before, and those of the nets' sources came to them.
 pub record AreWithSources (s : State) (nets : List AppNet) (before : Option (List ℕ)) (vertices : List ℕ) : Type 0 where

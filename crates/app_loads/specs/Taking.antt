@@ -59,21 +59,10 @@ pub record CanServeOne (claim : Claim) (held : ℕ) (region : Region) : Type 0 w
   pub fair : IsFairFor claim region
   pub few : held ≤ 262144
 
--- a range asked for at a place has some places, all within the region
-pub record IsRangeOf (region : Region) (place size : ℕ) : Type 0 where
-  pub some : 0 < size
-  pub within : place + size ≤ region.size
-
 -- each range is of one of the regions, and they are no more than a plan can ask for
 pub record AreFewOf (regions : ℕ) (ranges : List Range) : Type 0 where
   pub there : All (λ (range : Range). range.region < regions) ranges
   pub few : length ranges ≤ 262144
-
--- besides, no range is counted yet
-pub record AreFewUncounted (regions : ℕ) (ranges : List Range) (counts : List ℕ) : Type 0 where
-  pub there : All (λ (range : Range). range.region < regions) ranges
-  pub few : length ranges ≤ 262144
-  pub none : counts ≡ replicate regions 0
 
 -- the regions' lists of holes have room for so many more as there are ranges of each region
 abbrev pub HaveRoom : List Range → List Region → Type 0

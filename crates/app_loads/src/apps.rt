@@ -1,11 +1,10 @@
 // The applications of a machine, and what can be asked of them.
-ghost use Rattle.std.specs.Prelude.{◌≡◌, ◌==◌, ◌+◌, ◌≤◌, ◌++◌, ◌∷◌, [], Contains, IfOk, OnOk, Some, false, vec_capacity, vec_len};
-ghost use Rattle.std.specs.List.{list_any, remove};
+ghost use Rattle.std.specs.Prelude.{◌≡◌, ◌==◌, ◌+◌, ◌≤◌, [], Contains, IfOk, OnOk, Some, false, vec_capacity, vec_len};
+ghost use Rattle.std.specs.List.{list_any};
 ghost use Rattle.spin_base.specs.Equality.{spot_eq};
 ghost use Rattle.app_loads.specs.Applications.{AreApps};
 ghost use Rattle.app_loads.specs.declared.loaded.LoadedApp.{LoadedApp as AnApp};
 ghost use Rattle.app_loads.specs.Host.{is_free_spot, is_loaded, is_spot_taken};
-ghost use Rattle.app_loads.specs.Inner.{HaveRoomForOne, IsInBoth};
 ghost use Rattle.app_loads.specs.Opening.{bare_host};
 
 use crate::loaded::LoadedApp;
@@ -157,25 +156,4 @@ pub(crate) fn reserve_one(apps: &mut Vec<LoadedApp>, numbers: &mut Vec<u32>) -> 
     apps.reserve(1)?;
     numbers.reserve(1)?;
     Ok(())
-}
-
-// Puts an application and its number at the back of the lists, which have room for them.
-pub(crate) fn add(apps: &mut Vec<LoadedApp>, numbers: &mut Vec<u32>, app: LoadedApp)
-    requires { HaveRoomForOne (vec_len apps.old) (vec_capacity apps.old)
-        (vec_len numbers.old) (vec_capacity numbers.old) }
-    ensures apps { apps.new.items ≡ apps.old.items ++ app ∷ [] }
-    ensures numbers { numbers.new.items ≡ numbers.old.items ++ app.number ∷ [] }
-{
-    numbers.push_reserved(app.number);
-    apps.push_reserved(app);
-}
-
-// Takes the application at a place and its number out of the lists.
-pub(crate) fn take_out(apps: &mut Vec<LoadedApp>, numbers: &mut Vec<u32>, at: usize)
-    requires { IsInBoth at (vec_len apps.old) (vec_len numbers.old) }
-    ensures apps { apps.new.items ≡ remove apps.old.items at }
-    ensures numbers { numbers.new.items ≡ remove numbers.old.items at }
-{
-    numbers.remove(at);
-    drop(apps.remove(at));
 }

@@ -7,7 +7,7 @@ ghost use Rattle.machine_desc.specs.Live.{IsInside};
 ghost use Rattle.app_graph.specs.ValidGraph.{IsFixedFor};
 ghost use Rattle.app_loads.specs.declared.plans.AppNet.{AppNet as ANet};
 ghost use Rattle.app_loads.specs.Claims.{claims_of, memory_claim, fixed_claim, key_claim, entries_claim, row_claim, size_for};
-ghost use Rattle.app_loads.specs.Counting.{HasTree, IsKeyCount, IsRunEnd, end_places, run_claim, tree_places};
+ghost use Rattle.app_loads.specs.Counting.{HasTree, HasTreeInside, IsKeyCount, IsRunEnd, end_places, run_claim, tree_places};
 ghost use Rattle.app_loads.specs.Plans.{IsPlan, IsAppNet};
 ghost use Rattle.app_loads.specs.Regions.{chip_count};
 
@@ -39,6 +39,29 @@ struct NumberedNets<'a> {
     ghost keys: { All (λ (net : ANet). IsKeyCount net.keys) list.now },
 }
 
+// A net that needs some keys.
+#[derive(Clone, Copy)]
+struct KeyedNet<'a> {
+    net: &'a AppNet,
+    ghost keys: { IsKeyCount net.now.keys },
+}
+
+// Nets whose trees are inside a machine's grid.
+#[derive(Clone, Copy)]
+struct NetsInside<'a> {
+    machine: &'a Machine,
+    list: &'a [AppNet],
+    ghost inside: { All (HasTreeInside machine.now) list.now },
+}
+
+// One of them.
+#[derive(Clone, Copy)]
+struct NetInside<'a> {
+    machine: &'a Machine,
+    net: &'a AppNet,
+    ghost inside: { HasTreeInside machine.now net.now },
+}
+
 // Indices of chips of a machine, in order.
 #[derive(Clone, Copy)]
 struct ChipIndices<'a> {
@@ -46,6 +69,16 @@ struct ChipIndices<'a> {
     list: &'a [u32],
     ghost sorted: { AllPairs (λ a b. a ≤ b) list.now },
     ghost inside: { All (λ i. i < chip_count machine.now) list.now },
+}
+
+// Some rows of the chip of an index.
+#[derive(Clone, Copy)]
+struct ChipRows<'a> {
+    machine: &'a Machine,
+    index: u32,
+    count: u64,
+    ghost inside: { index < chip_count machine.now },
+    ghost some: { 0 < count },
 }
 
 // The claims of a plan, in the order in which they are served: memory vertex by vertex, the fixed blocks of its nets, the blocks of
@@ -138,54 +171,54 @@ fn claim_keys(claims: &mut Vec<Claim>, nets: NumberedNets) -> Result<(), Memory>
 {
     let list = nets.list;
     for (net, wanted) in list.iter().enumerate() {
-        push_keys(claims, net as u32, wanted.keys, wanted.fixed)?;
+        let keyed = KeyedNet { net: wanted };
+        push_keys(claims, net as u32, keyed)?;
     }
     Ok(())
 }
 
 // A net's block, if it has no fixed one.
-fn push_keys(
-    claims: &mut Vec<Claim>,
-    net: u32,
-    keys: u64,
-    fixed: Option<Block>,
-) -> Result<(), Memory>
-    requires { IsKeyCount keys }
-    ensures { OnOk result (claims.new.items ≡ claims.old.items ++ key_claim net keys fixed) }
+fn push_keys(claims: &mut Vec<Claim>, number: u32, keyed: KeyedNet) -> Result<(), Memory>
+    ensures { OnOk result (claims.new.items ≡ claims.old.items
+        ++ key_claim number keyed.entry.net.now.keys keyed.entry.net.now.fixed) }
 {
+    let fixed = keyed.net.fixed;
     if fixed.is_none() {
-        let size = size_for(keys);
+        let size = size_for(keyed);
         claims.push(Claim {
             region: Region::Keys,
             size,
             align: size,
             fixed: None,
-            refusal: LoadRefusal::KeysOut { net },
+            refusal: LoadRefusal::KeysOut { net: number },
         })?;
     }
     Ok(())
 }
 
-// The least power of two that is not below a number of keys.
-fn size_for(keys: u64) -> u64
-    requires { IsKeyCount keys }
-    ensures { result ≡ size_for keys }
+// The least power of two that is not below the net's number of keys.
+fn size_for(keyed: KeyedNet) -> u64
+    ensures { result ≡ size_for keyed.entry.net.now.keys }
 {
-    keys.next_power_of_two()
+    keyed.net.keys.next_power_of_two()
 }
 
 // Entries, chip by chip.
-fn claim_rows(
+fn claim_rows<'x>(
     alloc: Global,
     claims: &mut Vec<Claim>,
-    machine: &Machine,
-    nets: &[AppNet],
+    machine: &'x Machine,
+    nets: &'x [AppNet],
 ) -> Result<(), Memory>
     requires { All (HasTree machine.now) nets.now }
     ensures { OnOk result (claims.new.items ≡ claims.old.items
         ++ flat_map (row_claim machine.now nets.now) (range_with_len 0 (chip_count machine.now))) }
 {
-    let chips = tree_chips(alloc, machine, nets)?;
+    let trees = NetsInside {
+        machine,
+        list: nets,
+    };
+    let chips = tree_chips(alloc, trees)?;
     let indices = ChipIndices {
         machine,
         list: &chips,
@@ -202,28 +235,26 @@ fn claim_runs(claims: &mut Vec<Claim>, indices: ChipIndices) -> Result<(), Memor
     let mut at = 0;
     'runs: while at < indices.list.len() {
         let end = run_end(indices.list, at);
-        push_rows(claims, indices.machine, indices.list[at], (end - at) as u64)?;
+        let rows = ChipRows {
+            machine: indices.machine,
+            index: indices.list[at],
+            count: (end - at) as u64,
+        };
+        push_rows(claims, rows)?;
         at = end;
     }
     Ok(())
 }
 
-// So many entries of the chip of an index.
-fn push_rows(
-    claims: &mut Vec<Claim>,
-    machine: &Machine,
-    index: u32,
-    rows: u64,
-) -> Result<(), Memory>
-    requires inside { index < chip_count machine.now }
-    requires some { 0 < rows }
+// So many entries of a chip.
+fn push_rows(claims: &mut Vec<Claim>, rows: ChipRows) -> Result<(), Memory>
     ensures { OnOk result (claims.new.items ≡ claims.old.items
-        ++ entries_claim machine.now index rows) }
+        ++ entries_claim rows.entry.machine.now rows.entry.index rows.entry.count) }
 {
-    let chip = machine.chip_at(index);
+    let chip = rows.machine.chip_at(rows.index);
     claims.push(Claim {
         region: Region::Rows(chip),
-        size: rows,
+        size: rows.count,
         align: 1,
         fixed: None,
         refusal: LoadRefusal::RowsOut { chip },
@@ -244,25 +275,30 @@ fn run_end(items: &[u32], at: usize) -> usize
 }
 
 // The indices of the chips of all nets' trees, in order: each as often as a net has it.
-fn tree_chips(alloc: Global, machine: &Machine, nets: &[AppNet]) -> Result<Vec<u32>, Memory>
-    requires { All (HasTree machine.now) nets.now }
-    ensures same { IfOk result (λ chips.
-        IsPermutation (flat_map (tree_places machine.now) nets.now) chips.items) }
+fn tree_chips(alloc: Global, nets: NetsInside) -> Result<Vec<u32>, Memory>
+    ensures same { IfOk result (λ chips. IsPermutation
+        (flat_map (tree_places nets.entry.machine.now) nets.entry.list.now) chips.items) }
     ensures sorted { IfOk result (λ chips. AllPairs (λ a b. a ≤ b) chips.items) }
 {
     let mut chips = Vec::new(alloc);
-    for net in nets {
-        push_tree(machine, net, &mut chips)?;
+    for net in nets.list {
+        let one = NetInside {
+            machine: nets.machine,
+            net,
+        };
+        push_tree(&mut chips, one)?;
     }
     chips.sort_unstable();
     Ok(chips)
 }
 
 // The indices of the chips of a net's tree: its root, and where its edges lead.
-fn push_tree(machine: &Machine, net: &AppNet, chips: &mut Vec<u32>) -> Result<(), Memory>
-    requires { HasTree machine.now net.now }
-    ensures { OnOk result (chips.new.items ≡ chips.old.items ++ tree_places machine.now net.now) }
+fn push_tree(chips: &mut Vec<u32>, one: NetInside) -> Result<(), Memory>
+    ensures { OnOk result (chips.new.items ≡ chips.old.items
+        ++ tree_places one.entry.machine.now one.entry.net.now) }
 {
+    let machine = one.machine;
+    let net = one.net;
     chips.push(machine.index(net.tree.root))?;
     for edge in net.tree.edges.as_slice() {
         push_end(machine, *edge, chips)?;

@@ -1,6 +1,5 @@
 // What an application was delivered.
-ghost use Rattle.std.specs.Prelude.{◌≡◌, ◌+◌, ◌<◌, ◌^◌, ◌++◌, OnOk, length};
-ghost use Rattle.app_loads.specs.Grouping.{all_grouped};
+ghost use Rattle.std.specs.Prelude.{◌≡◌, ◌++◌, OnOk, length};
 
 use crate::groups::Groups;
 use spin_base::{Delivery, Memory, Seq};
@@ -12,9 +11,10 @@ use std::marker::Model;
 /// vertex.
 #[derive(Drop)]
 pub struct Deliveries {
-    early: Groups,
-    late: Seq<Delivery>,
-    count: usize,
+    // Those of groups, and then others.
+    pub(crate) early: Groups,
+    pub(crate) late: Seq<Delivery>,
+    pub(crate) count: usize,
 }
 
 impl Model for Deliveries {
@@ -30,15 +30,6 @@ impl Model for Deliveries {
 }
 
 impl Deliveries {
-    // Those of groups, and then others.
-    pub(crate) fn of(early: Groups, late: Seq<Delivery>) -> Deliveries
-        requires { length (all_grouped early) + length late < 2 ^ 64 }
-        ensures { result ≡ all_grouped early ++ late }
-    {
-        let count = early.len() + late.len();
-        Deliveries { early, late, count }
-    }
-
     /// How many there are. It takes constant time.
     pub fn len(&self) -> usize
         ensures { result ≡ length self.now }

@@ -3,17 +3,17 @@ ghost use Rattle.std.specs.Prelude.{◌≡◌, ◌≢◌, ◌<◌, ℕ, ◌∷�
 ghost use Rattle.spin_base.specs.declared.copies.McCopy.{McCopy as Copy};
 ghost use Rattle.mesh_core.specs.Expected.{IsAtRest};
 ghost use Rattle.machine_desc.specs.RightTables.{IsKeyOf};
-ghost use Rattle.mesh_drain.specs.Draining.{IsMoved, IsReachedDropless, MeetsSomeLedger, SendAlone};
+ghost use Rattle.mesh_drain.specs.Draining.{IsMoved, IsReachedDropless, SendAlone};
 ghost use Rattle.app_loads.specs.Applications.{AreApps};
 ghost use Rattle.app_loads.specs.Earlier.{with_earlier};
 ghost use Rattle.app_loads.specs.Grouping.{all_grouped};
 ghost use Rattle.app_loads.specs.Groups.{last_arrivals};
 ghost use Rattle.spin_base.specs.declared.blocks.Block.{Block as ABlock};
-ghost use Rattle.app_loads.specs.Running.{AreAlikeInBlocks, AreKnown, CanDrain, CanSendAll, Comes, HasBroughtMore, HasFirstUnsent, HasMovedMesh, HasSomeUnsent, HasUnsent, IsClean};
+ghost use Rattle.app_loads.specs.Running.{AreAlikeInBlocks, AreKnown, CanDrain, CanSendAll, Comes, HasBroughtMore, HasFirstUnsent, HasMovedMesh, HasSomeUnsent, IsClean};
 
 use crate::apps::Apps;
 use crate::groups::Groups;
-use crate::known::{Known, KnownBlock, block_of, has_key, known_of, remember, share_near};
+use crate::known::{Known, block_of, has_key, known_of, remember, share_near};
 use crate::loaded::LoadedApp;
 use crate::meshes::{KeptMesh, keep, restore};
 use mesh_core::Mesh;
@@ -58,20 +58,13 @@ fn drain_known(
 {
     match senders.take() {
         Some(vertices) => drain_known_from(alloc, mesh, vertices.as_slice(), apps)?,
-        None => drain_whole(alloc, mesh)?,
+        None => {
+            restore(alloc, &mut mesh.mesh, &mut mesh.earlier)?;
+            drain(alloc, &mut mesh.mesh)?;
+        }
     }
     *senders = Some(Seq::new(alloc));
     Ok(())
-}
-
-// The same for any mesh.
-fn drain_whole(alloc: Global, mesh: &mut KeptMesh) -> Result<(), Memory>
-    requires { MeetsSomeLedger mesh.old }
-    ensures at_rest { OnOk result (IsAtRest mesh.new) }
-    ensures moved { IsMoved mesh.old mesh.new }
-{
-    restore(alloc, &mut mesh.mesh, &mut mesh.earlier)?;
-    drain(alloc, &mut mesh.mesh)
 }
 
 // The same for a mesh on which no copy waits, and no vertex but these has packets unsent. Where none was dropped, each packet's
@@ -138,8 +131,9 @@ fn send_all(
     Ok(())
 }
 
-// A vertex sends its first packet. Where it is known of its net's block where it comes, it is not brought there step by step. Answers
-// the block whose packets come where those of the last group came, if that is known.
+// A vertex sends its first packet. Where it is known of its net's block where it comes, it is not brought there step by step: to where
+// the packets of the last group came, or to the block's places. Answers the block whose packets come where those of the last group
+// came, if that is known.
 fn send_next(
     alloc: Global,
     mesh: &mut Mesh,
@@ -162,13 +156,18 @@ fn send_next(
     ensures last { IfOk result (λ now.
         IfSome now (Comes mesh.new.setup vertex (last_arrivals earlier.new))) }
 {
-    let copy = first_unsent(mesh, vertex);
+    let copy = mesh.unsent(vertex)[0];
     if is_last(last, copy.key) {
-        send_again(mesh, earlier, vertex, copy)?;
+        earlier.repeat(copy)?;
+        mesh.drop_unsent(vertex);
         return Ok(last);
     }
     match known_of(known, copy.key) {
-        Some(it) => send_to(alloc, mesh, earlier, vertex, copy, it),
+        Some(it) => {
+            earlier.put(alloc, copy, &it.arrivals)?;
+            mesh.drop_unsent(vertex);
+            Ok(Some(it.block))
+        }
         None => send_new(alloc, mesh, earlier, vertex, copy, apps, known),
     }
 }
@@ -209,14 +208,6 @@ fn send_new(
     Ok(Some(block))
 }
 
-// The first copy that a vertex has not sent yet.
-fn first_unsent(mesh: &Mesh, vertex: u32) -> McCopy
-    requires { HasUnsent mesh.now vertex }
-    ensures { (rest : List Copy) × (slice_get mesh.now.unsent vertex ≡ Some (result ∷ rest)) }
-{
-    mesh.unsent(vertex)[0]
-}
-
 // Whether the key is one of the last group's block.
 fn is_last(last: Option<Block>, key: u32) -> bool
     ensures { result ≡ true → (block : ABlock) × (last ≡ Some block) × IsKeyOf block key }
@@ -225,56 +216,6 @@ fn is_last(last: Option<Block>, key: u32) -> bool
         Some(block) => has_key(block, key),
         None => false,
     }
-}
-
-// A vertex sends its first packet, which comes where the packets of the last group came.
-fn send_again(
-    mesh: &mut Mesh,
-    earlier: &mut Groups,
-    vertex: u32,
-    copy: McCopy,
-) -> Result<(), Memory>
-    requires sends { HasFirstUnsent (all_grouped earlier.old) mesh.old vertex copy }
-    requires comes { (block : ABlock) × IsKeyOf block copy.key × Comes mesh.old.setup vertex (last_arrivals earlier.old) block }
-    ensures reached { IsReachedDropless (with_earlier (all_grouped earlier.old) mesh.old)
-        (with_earlier (all_grouped earlier.new) mesh.new) }
-    ensures clean { OnOk result (IsClean (all_grouped earlier.new) mesh.new) }
-    ensures unsent { OnOk result ((rest : List Copy)
-        → slice_get mesh.old.unsent vertex ≡ Some (copy ∷ rest) →
-        mesh.new.unsent ≡ slice_set mesh.old.unsent vertex rest) }
-    ensures setup { mesh.new.setup ≡ mesh.old.setup }
-    ensures arrivals { last_arrivals earlier.new ≡ last_arrivals earlier.old }
-{
-    earlier.repeat(copy)?;
-    mesh.drop_unsent(vertex);
-    Ok(())
-}
-
-// A vertex sends its first packet, with a key of this block, and comes to its places.
-fn send_to(
-    alloc: Global,
-    mesh: &mut Mesh,
-    earlier: &mut Groups,
-    vertex: u32,
-    copy: McCopy,
-    to: &KnownBlock,
-) -> Result<Option<Block>, Memory>
-    requires sends { HasFirstUnsent (all_grouped earlier.old) mesh.old vertex copy }
-    requires comes { IsKeyOf to.now.block copy.key
-        × Comes mesh.old.setup vertex to.now.arrivals to.now.block }
-    ensures reached { IsReachedDropless (with_earlier (all_grouped earlier.old) mesh.old)
-        (with_earlier (all_grouped earlier.new) mesh.new) }
-    ensures clean { OnOk result (IsClean (all_grouped earlier.new) mesh.new) }
-    ensures unsent { OnOk result ((first : Copy) (rest : List Copy)
-        → slice_get mesh.old.unsent vertex ≡ Some (first ∷ rest) →
-        mesh.new.unsent ≡ slice_set mesh.old.unsent vertex rest) }
-    ensures setup { mesh.new.setup ≡ mesh.old.setup }
-    ensures last { IfOk result (λ now.
-        IfSome now (Comes mesh.new.setup vertex (last_arrivals earlier.new))) }
-{
-    earlier.put(alloc, copy, &to.arrivals)?;
-    mesh.drop_unsent(vertex);
-    Ok(Some(to.block))
 }
 
 // A vertex sends its first packet, whose deliveries are held apart.

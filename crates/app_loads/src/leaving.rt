@@ -10,6 +10,14 @@ use mesh_core::{Hand, MeshParts};
 use spin_base::{Delivery, DumpRec, Fifo, McCopy, Memory, Seq};
 use std::alloc::Global;
 
+// Vertices, each of which has its queue among those of unsent copies.
+#[derive(Clone, Copy)]
+struct Senders<'a> {
+    unsent: &'a [Fifo<McCopy>],
+    vertices: &'a [usize],
+    ghost there: { All (λ v. v < length unsent.now) vertices.now },
+}
+
 /// What an application leaves: deliveries and dump records.
 #[derive(Drop)]
 pub struct Left {
@@ -97,9 +105,9 @@ pub(crate) fn is_packet_of(app: &LoadedApp, packet: u32) -> bool
 
 // The least number of a packet of the application of which a copy is unsent or waits, if there is one. Where it is known that no
 // copy waits, only the vertices that may have packets unsent are looked at.
-pub(crate) fn least_waiting(
-    parts: &MeshParts,
-    senders: &Option<Seq<usize>>,
+pub(crate) fn least_waiting<'x>(
+    parts: &'x MeshParts,
+    senders: &'x Option<Seq<usize>>,
     app: &LoadedApp,
 ) -> Option<u32>
     requires { AreKnownIn parts.now senders.now }
@@ -107,19 +115,24 @@ pub(crate) fn least_waiting(
     ensures none { IfNone result (NoneUnderWay parts.now app.now) }
 {
     match senders {
-        Some(vertices) => least_unsent(parts.unsent.as_slice(), vertices.as_slice(), app),
+        Some(known) => {
+            let unsent = parts.unsent.as_slice();
+            let vertices = known.as_slice();
+            let these = Senders { unsent, vertices };
+            least_unsent(these, app)
+        }
         None => least_of_all(parts, app),
     }
 }
 
 // The least of the application's packets that these vertices have not sent.
-fn least_unsent(unsent: &[Fifo<McCopy>], vertices: &[usize], app: &LoadedApp) -> Option<u32>
-    requires { All (λ v. v < length unsent.now) vertices.now }
-    ensures { result
-        ≡ least_own_packet app.now (flat_map (unsent_numbers unsent.now) vertices.now) }
+fn least_unsent(senders: Senders, app: &LoadedApp) -> Option<u32>
+    ensures { result ≡ least_own_packet app.now
+        (flat_map (unsent_numbers senders.entry.unsent.now) senders.entry.vertices.now) }
 {
+    let unsent = senders.unsent;
     let mut least = None;
-    for vertex in vertices {
+    for vertex in senders.vertices {
         least = least_in(unsent[*vertex].as_slice(), app, least);
     }
     least
@@ -127,8 +140,7 @@ fn least_unsent(unsent: &[Fifo<McCopy>], vertices: &[usize], app: &LoadedApp) ->
 
 // The least of all packets of the application that are unsent or wait anywhere.
 fn least_of_all(parts: &MeshParts, app: &LoadedApp) -> Option<u32>
-    requires { IsMesh parts.now }
-    ensures some { IfSome result (IsLeastUnderWay parts.now app.now) }
+    ensures some { IsMesh parts.now → IfSome result (IsLeastUnderWay parts.now app.now) }
     ensures none { IfNone result (NoneUnderWay parts.now app.now) }
 {
     let unsent = least_in_queues(parts.unsent.as_slice(), app, None);

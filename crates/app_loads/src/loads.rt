@@ -2,14 +2,14 @@
 ghost use Rattle.std.specs.Prelude.{◌≡◌, ◌+◌, ◌<◌, IfOk, IfErr, OnOk, OnErr, length};
 ghost use Rattle.app_loads.specs.Applications.{AreApps};
 ghost use Rattle.app_loads.specs.Claims.{AreBlocks, claims_of};
-ghost use Rattle.app_loads.specs.Joining.{AreKeyed, CanJoin, CanServePlan, CanSettle, HaveBlocks, IsServedApp, IsSettled};
+ghost use Rattle.app_loads.specs.Joining.{AreKeyed, CanJoin, CanServePlan, CanSettle, IsServedApp, IsSettled};
 ghost use Rattle.app_loads.specs.Loading.{HasLoaded, IsWhyNotLoaded};
 ghost use Rattle.app_loads.specs.Plans.{MayLoad};
 ghost use Rattle.app_loads.specs.Taking.{AreFreeAgain, HaveRoom, IsDueAlways};
 ghost use Rattle.app_loads.specs.Writing.{AreCopied, CanCopy, tables_in};
 
 use crate::answers::{LoadErr, LoadRefusal};
-use crate::apps::{Apps, add, put, reserve_one};
+use crate::apps::{Apps, put, reserve_one};
 use crate::claims::claims_of;
 use crate::loaded::{Claim, LoadedApp, Range};
 use crate::meshes::KeptMesh;
@@ -59,7 +59,8 @@ impl Apps {
                 self.packets += app.plan.packets.len() as u32;
                 self.senders = with_sources(self.senders.take(), &mesh, app.plan.nets.as_slice());
                 put(&mut self.mesh, mesh);
-                add(&mut self.apps, &mut self.numbers, app);
+                self.numbers.push_reserved(app.number);
+                self.apps.push_reserved(app);
                 Ok(())
             }
             Err(refusal) => {
@@ -91,7 +92,10 @@ fn join(
         Ok(app) => app,
         Err(refusal) => return (mesh, Err(refusal)),
     };
-    let (mesh, settled) = settle(alloc, mesh, &app);
+    // The deliveries that are held apart stay so.
+    let KeptMesh { mesh, earlier } = mesh;
+    let (mesh, settled) = settle_mesh(alloc, mesh, &app);
+    let mesh = KeptMesh { mesh, earlier };
     match settled {
         Ok(()) => (mesh, Ok(app)),
         Err(_) => {
@@ -151,7 +155,14 @@ fn app_of(
     ensures blocks { IfOk result (λ app.
         AreBlocks claims.now ranges.now plan.now.nets app.blocks) }
 {
-    let blocks = blocks_of(alloc, plan.nets.len(), claims, ranges)?;
+    // The block of each net is the range that its claim got.
+    let none = Block { key: 0, mask: 0 };
+    let mut blocks = vec![in alloc; none; plan.nets.len()]?;
+    for (at, claim) in claims.iter().enumerate() {
+        if let LoadRefusal::KeysOut { net } = claim.refusal {
+            blocks[net as usize] = block_of(ranges[at].place as u32, ranges[at].size);
+        }
+    }
     let ranges = Vec::from_slice(alloc, ranges)?;
     // The plan comes last: no refusal after it has to drop it.
     let plan = plan.copy(alloc)?;
@@ -162,38 +173,6 @@ fn app_of(
         ranges: Seq::from_vec(ranges),
         blocks: Seq::from_vec(blocks),
     })
-}
-
-// The block of each net: the range that its claim got.
-fn blocks_of(
-    alloc: Global,
-    nets: usize,
-    claims: &[Claim],
-    ranges: &[Range],
-) -> Result<Vec<Block>, Memory>
-    requires { AreKeyed claims.now ranges.now nets }
-    ensures all { IfOk result (λ blocks. length blocks.items ≡ nets) }
-    ensures each { IfOk result (λ blocks. HaveBlocks claims.now ranges.now blocks.items) }
-{
-    let none = Block { key: 0, mask: 0 };
-    let mut blocks = vec![in alloc; none; nets]?;
-    for (at, claim) in claims.iter().enumerate() {
-        if let LoadRefusal::KeysOut { net } = claim.refusal {
-            blocks[net as usize] = block_of(ranges[at].place as u32, ranges[at].size);
-        }
-    }
-    Ok(blocks)
-}
-
-// The same of a mesh whose earlier deliveries are held apart.
-fn settle(alloc: Global, mesh: KeptMesh, app: &LoadedApp) -> (KeptMesh, Result<(), Memory>)
-    requires { CanSettle mesh app.now }
-    ensures settled { OnOk result.1 (IsSettled app.now mesh result.0) }
-    ensures refused { OnErr result.1 (result.0 ≡ mesh) }
-{
-    let KeptMesh { mesh, earlier } = mesh;
-    let (mesh, settled) = settle_mesh(alloc, mesh, app);
-    (KeptMesh { mesh, earlier }, settled)
 }
 
 // Puts the application's rows and packets on the mesh. After a refusal the mesh is as before.

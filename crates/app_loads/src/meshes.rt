@@ -1,5 +1,5 @@
 // A mesh whose earlier deliveries are held apart.
-ghost use Rattle.std.specs.Prelude.{◌≡◌, ◌≤◌, ◌+◌, ◌++◌, [], IfOk, OnOk, OnErr, length, take, drop};
+ghost use Rattle.std.specs.Prelude.{◌≡◌, ◌≤◌, ◌++◌, [], IfOk, OnOk, OnErr, length, take};
 ghost use Rattle.mesh_core.specs.State.{behind};
 ghost use Rattle.mesh_core.specs.Serving.{queue_named};
 ghost use Rattle.mesh_core.specs.Step.{after_event, answer};
@@ -93,7 +93,12 @@ pub(crate) fn keep(alloc: Global, mesh: &mut Mesh, earlier: &mut Groups) -> Resu
     if kept == list.len() {
         return Ok(());
     }
-    mesh.swap_delivered(without_first(list, kept));
+    // Those that are not kept stay with the mesh.
+    let mut items = list.into_vec();
+    let left = items.len() - kept;
+    items.copy_within(kept.., 0);
+    items.truncate(left);
+    mesh.swap_delivered(Seq::from_vec(items));
     Err(Memory)
 }
 
@@ -108,16 +113,4 @@ fn keep_each(alloc: Global, earlier: &mut Groups, list: &[Delivery]) -> usize
         }
     }
     list.len()
-}
-
-// A list without so many items at its front.
-fn without_first(list: Seq<Delivery>, count: usize) -> Seq<Delivery>
-    requires { count ≤ length list }
-    ensures { result ≡ drop count list }
-{
-    let mut items = list.into_vec();
-    let left = items.len() - count;
-    items.copy_within(count.., 0);
-    items.truncate(left);
-    Seq::from_vec(items)
 }

@@ -1,9 +1,9 @@
 // The parts of a machine on which no application is loaded.
-ghost use Rattle.std.specs.Prelude.{◌≡◌, ◌≢◌, ◌<◌, ◌≤◌, ◌*◌, ◌++◌, ◌∷◌, [], All, AllPairs, filter, map, length, replicate, IfOk, OnOk};
+ghost use Rattle.std.specs.Prelude.{◌≡◌, ◌≢◌, ◌≤◌, ◌++◌, ◌∷◌, [], All, AllPairs, filter, map, length, replicate, IfOk, OnOk};
 ghost use Rattle.machine_desc.specs.Live.{IsSite, is_usable};
 ghost use Rattle.tcam_find.specs.Memory.{empty_memory};
 ghost use Rattle.mesh_core.specs.State.{IsMesh};
-ghost use Rattle.app_loads.specs.Opening.{spot_of, usable_spots, bare_mesh};
+ghost use Rattle.app_loads.specs.Opening.{usable_spots, bare_mesh};
 ghost use Rattle.app_loads.specs.Regions.{all_free, open_regions};
 ghost use Rattle.app_loads.specs.Taking.{free_places_in};
 
@@ -33,7 +33,7 @@ pub(crate) fn bare_mesh(alloc: Global, machine: &Machine, queue: u32) -> Result<
     Ok(mesh)
 }
 
-// The usable cores of the machine, in the order of their chips' indices and their numbers.
+// The usable cores of the machine, in the order of their chips' indices and their numbers. Each chip has 17, for its cores 1 to 17.
 fn usable_spots(alloc: Global, machine: &Machine) -> Result<Seq<Spot>, Memory>
     ensures spots { IfOk result (λ spots. spots ≡ usable_spots machine.now) }
     ensures sites { IfOk result (All (IsSite machine.now)) }
@@ -41,21 +41,13 @@ fn usable_spots(alloc: Global, machine: &Machine) -> Result<Seq<Spot>, Memory>
 {
     let mut spots = Seq::new(alloc);
     for number in 0..CORES * machine.chips() as u32 {
-        let spot = spot_of(machine, number);
+        let spot = Spot {
+            chip: machine.chip_at(number / CORES),
+            core: (number % CORES) as u8 + 1,
+        };
         push_usable(machine, &mut spots, spot)?;
     }
     Ok(spots)
-}
-
-// The spot of a number: 17 a chip, for its cores 1 to 17.
-fn spot_of(machine: &Machine, number: u32) -> Spot
-    requires { number < 17 * (machine.now.width * machine.now.height) }
-    ensures { result ≡ spot_of machine.now number }
-{
-    Spot {
-        chip: machine.chip_at(number / CORES),
-        core: (number % CORES) as u8 + 1,
-    }
 }
 
 // Puts the spot at the back of the list, where it is usable.

@@ -1,9 +1,8 @@
 // Ranges taken from the regions, and given back.
 ghost use Rattle.std.specs.Prelude.{vec_capacity};
-ghost use Rattle.std.specs.Prelude.{◌≡◌, ℕ, ◌+◌, ◌≤◌, ◌&&◌, not, IfOk, IfErr, IfSome, IfNone, OnOk, OnErr, length, Some, true, false};
+ghost use Rattle.std.specs.Prelude.{◌≡◌, ℕ, ◌+◌, ◌≤◌, IfOk, IfErr, IfSome, IfNone, OnOk, OnErr, length};
 ghost use Rattle.machine_desc.specs.Description.{Description};
-ghost use Rattle.range_store.specs.Regions.{AreRuns, is_free, is_hole_range, in_range};
-ghost use Rattle.app_loads.specs.Taking.{free_places_in, frees, ServesClaim, RefusesClaim, AreFewOf, AreFewUncounted, CanGiveAll, CanServeAll, CanServeEach, CanServeOne, IsDueOf, IsFairFor, IsRangeOf, HaveRoom, AreFreeAgain, AreGivenBack, AreTakenAlways, AreServedAlways, IsDueAlways};
+ghost use Rattle.app_loads.specs.Taking.{free_places_in, frees, ServesClaim, RefusesClaim, AreFewOf, CanGiveAll, CanServeAll, CanServeEach, CanServeOne, IsDueOf, IsFairFor, HaveRoom, AreFreeAgain, AreGivenBack, AreTakenAlways, AreServedAlways, IsDueAlways};
 
 use crate::answers::LoadErr;
 use crate::loaded::{Claim, Range};
@@ -92,7 +91,7 @@ fn take_claim(region: &mut Ranges, claim: &Claim, held: u32) -> Result<u64, Load
     }
 }
 
-// Makes room for so many holes more, and takes the least range for the claim, if there is one.
+// Makes room for so many holes more, and takes the fixed range of the claim, if it is free, or the least for it, if there is one.
 fn take_with_room(region: &mut Ranges, claim: &Claim, room: u32) -> Result<Option<u64>, Memory>
     requires { IsFairFor claim.now region.old }
     ensures taken { IfOk result (λ o. IfSome o (ServesClaim claim.now region.old region.new)) }
@@ -107,29 +106,13 @@ fn take_with_room(region: &mut Ranges, claim: &Claim, room: u32) -> Result<Optio
     region.reserve(room)?;
     match claim.fixed {
         None => region.take(claim.size, claim.align),
-        Some(place) => take_fixed(region, place, claim.size),
-    }
-}
-
-// Takes the range from a place on, if it is free.
-fn take_fixed(region: &mut Ranges, place: u64, size: u64) -> Result<Option<u64>, Memory>
-    requires { IsRangeOf region.old place size }
-    ensures found { IfOk result (λ o. IfSome o (λ p.
-        (p ≡ place) × (is_hole_range region.old.holes place size ≡ true))) }
-    ensures free { IfOk result (λ o. IfSome o (λ p. (k : ℕ) →
-        is_free region.new.holes k
-        ≡ (is_free region.old.holes k && not (in_range place size k)))) }
-    ensures none { IfOk result (λ o. IfNone o
-        ((is_hole_range region.old.holes place size ≡ false) × (region.new ≡ region.old))) }
-    ensures refused { OnErr result (region.new.holes ≡ region.old.holes) }
-    ensures size { region.new.size ≡ region.old.size }
-    ensures spare { region.old.spare ≤ region.new.spare + 1 }
-    ensures runs { AreRuns 0 region.new.size region.new.holes }
-{
-    if region.take_at(place, size)? {
-        Ok(Some(place))
-    } else {
-        Ok(None)
+        Some(place) => {
+            if region.take_at(place, claim.size)? {
+                Ok(Some(place))
+            } else {
+                Ok(None)
+            }
+        }
     }
 }
 
@@ -143,20 +126,8 @@ pub(crate) fn make_room(
     ensures room { OnOk result (HaveRoom ranges.now regions.new) }
     ensures same { frees regions.new ≡ frees regions.old }
 {
+    // How many ranges of each region came so far.
     let mut counts = vec![in alloc; 0u32; regions.len()]?;
-    make_room_for_each(regions, &mut counts, ranges)
-}
-
-// Makes it, and counts the ranges of each region.
-fn make_room_for_each(
-    regions: &mut [Ranges],
-    counts: &mut [u32],
-    ranges: &[Range],
-) -> Result<(), Memory>
-    requires { AreFewUncounted (length regions.old) ranges.now counts.old }
-    ensures room { OnOk result (HaveRoom ranges.now regions.new) }
-    ensures same { frees regions.new ≡ frees regions.old }
-{
     for range in ranges {
         let at = range.region;
         let count = counts[at];

@@ -1,7 +1,6 @@
 // The plain rows of an application, and their ranges in the tables.
-ghost use Rattle.std.specs.Prelude.{◌≡◌, ◌+◌, ◌*◌, ◌<◌, ◌≤◌, ◌++◌, ◌∷◌, All, IfOk, drop, length, map, take};
+ghost use Rattle.std.specs.Prelude.{◌≡◌, ◌+◌, ◌*◌, ◌≤◌, ◌++◌, All, IfOk, drop, length, map, take};
 ghost use Rattle.std.specs.List.{AllZip};
-ghost use Rattle.std.specs.Vec.Iter.{into_iter_items};
 ghost use Rattle.machine_desc.specs.declared.nets.NetPlan.{NetPlan as Plan};
 ghost use Rattle.tern_word.specs.Entries.{entry_of};
 ghost use Rattle.net_tables.specs.Marks.{IsTableOf, row_of_mark, table_of_sorted};
@@ -19,7 +18,6 @@ use net_tables::marks::Mark;
 use net_tables::{in_row_order, original_blocks};
 use spin_base::{Block, Entry, Memory, Seq};
 use std::alloc::Global;
-use std::vec::IntoIter;
 use tcam_find::{Room, RoomyTcam, Tcam};
 
 // The original blocks of the application's nets, by the chips' indices, in the order of the rows of their plain tables. So no row is
@@ -35,7 +33,11 @@ pub(crate) fn originals_of(
     ensures plain { IfOk result (λ lists.
         AtEach machine.now (tables_in lists) (IsPlainTable machine.now (nets_of app.now))) }
 {
-    let nets = nets_of(alloc, app)?;
+    // The application's nets with their blocks.
+    let mut nets = Seq::new(alloc);
+    for (at, net) in app.plan.nets.as_slice().iter().enumerate() {
+        nets.push(net_with(alloc, net, *app.blocks.get(at))?)?;
+    }
     let blocks = original_blocks(alloc, machine, &nets)?;
     let originals = in_order(alloc, blocks.into_vec())?;
     Ok(originals)
@@ -60,18 +62,6 @@ fn sorted_marks(marks: Seq<Mark>) -> Result<Seq<Mark>, Memory>
         return Ok(marks);
     }
     in_row_order(marks)
-}
-
-// The application's nets with their blocks.
-fn nets_of(alloc: Global, app: &LoadedApp) -> Result<Seq<NetPlan>, Memory>
-    requires { length app.now.blocks ≡ length app.now.plan.nets }
-    ensures { IfOk result (λ nets. nets ≡ nets_of app.now) }
-{
-    let mut nets = Seq::new(alloc);
-    for (at, net) in app.plan.nets.as_slice().iter().enumerate() {
-        nets.push(net_with(alloc, net, *app.blocks.get(at))?)?;
-    }
-    Ok(nets)
 }
 
 // The net with a block.
@@ -151,7 +141,10 @@ pub(crate) fn write_rows(
 {
     let mut rooms = rooms.into_iter();
     for range in ranges {
-        let room = next_room(&mut rooms);
+        // There is a room for each range.
+        let Some(room) = rooms.next() else {
+            unreachable!()
+        };
         if let Region::Rows(chip) = Region::at(machine, range.region) {
             let at = machine.index(chip) as usize;
             put_rows(
@@ -164,17 +157,6 @@ pub(crate) fn write_rows(
         } else {
             drop(room);
         }
-    }
-}
-
-// The room that comes next.
-fn next_room(rooms: &mut IntoIter<Room>) -> Room
-    requires { 0 < length (into_iter_items rooms.old) }
-    ensures { into_iter_items rooms.old ≡ result ∷ into_iter_items rooms.new }
-{
-    match rooms.next() {
-        Some(room) => room,
-        None => unreachable!(),
     }
 }
 

@@ -1,11 +1,11 @@
 // An application's packets put to the vertices that send them.
-ghost use Rattle.std.specs.Prelude.{◌≡◌, ◌+◌, ◌<◌, ◌++◌, List, All, IfOk, IfSome, OnOk, OnErr, length};
+ghost use Rattle.std.specs.Prelude.{◌≡◌, ◌+◌, ◌<◌, ◌++◌, List, All, IfOk, IfSome, OnOk, OnErr, length, map};
 ghost use Rattle.std.specs.Option.{option_to_list};
 ghost use Rattle.mesh_core.specs.State.{vertex_behind};
 ghost use Rattle.spin_base.specs.declared.routes.Out.TheVariants.{Core};
 ghost use Rattle.spin_base.specs.declared.chips.Spot.{Spot as ASpot};
 ghost use Rattle.app_loads.specs.Joining.{AreSent};
-ghost use Rattle.app_loads.specs.Sending.{AreCleared, AreSources, AreWithSources, CanAdd, CanSend, IsSameBeside, IsSendingFrom};
+ghost use Rattle.app_loads.specs.Sending.{AreCleared, AreSources, AreWithSources, CanAdd, CanSend, IsSameBeside, source_at};
 
 use crate::loaded::LoadedApp;
 use crate::meshes::KeptMesh;
@@ -36,14 +36,12 @@ pub(crate) fn send(
     }
 }
 
-// The vertex of each net's source.
+// The vertex of each net's source, and the first vertex for a source that has none.
 fn source_vertices(alloc: Global, setup: &MeshSetup, nets: &[AppNet]) -> Result<Vec<usize>, Memory>
-    requires { All (IsSendingFrom setup.now) nets.now }
-    ensures { IfOk result (λ sources. AreSources setup.now.spots nets.now sources.items) }
+    ensures { IfOk result (λ sources. sources.items ≡ map (source_at setup.now.spots) nets.now) }
 {
     let mut vertices = Vec::new(alloc);
     for net in nets {
-        // Each source has a vertex.
         let vertex = setup.vertex_at(net.source).unwrap_or(0);
         vertices.push(vertex)?;
     }

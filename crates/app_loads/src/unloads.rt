@@ -5,15 +5,15 @@ ghost use Rattle.app_loads.specs.declared.loaded.LoadedApp.{LoadedApp as AnApp};
 ghost use Rattle.app_loads.specs.Applications.{AreApps};
 ghost use Rattle.app_loads.specs.Earlier.{with_earlier};
 ghost use Rattle.app_loads.specs.Grouping.{all_grouped, is_mixed_group};
-ghost use Rattle.app_loads.specs.Leaving.{IsPartedBy, NoneUnderWay};
+ghost use Rattle.app_loads.specs.Leaving.{NoneUnderWay};
 ghost use Rattle.app_loads.specs.Parting.{CanPart};
 ghost use Rattle.app_loads.specs.Removing.{CanLeaveFrom, HasLeft, IsWhyHere};
-ghost use Rattle.app_loads.specs.Taking.{AreFewOf, AreGivenBack, HaveRoom, frees};
+ghost use Rattle.app_loads.specs.Taking.{AreGivenBack, frees};
 ghost use Rattle.app_loads.specs.Unloading.{HasUnloaded, IsWhyNotUnloaded, NoneWaits};
 ghost use Rattle.app_loads.specs.Writing.{AreUnused, CanClear};
 
 use crate::answers::{Ended, UnloadErr};
-use crate::apps::{Apps, put, take_out};
+use crate::apps::{Apps, put};
 use crate::deliveries::Deliveries;
 use crate::groups::{Groups, Room};
 use crate::leaving::{Left, Parted, least_waiting, part};
@@ -21,7 +21,7 @@ use crate::loaded::{LoadedApp, Range};
 use crate::meshes::{KeptMesh, restore};
 use crate::regions::{give_all, make_room};
 use crate::rows::clear_rows;
-use mesh_core::{Mesh, MeshParts, MeshSetup};
+use mesh_core::{Mesh, MeshSetup};
 use range_store::Ranges;
 use spin_base::{Memory, Seq};
 use std::alloc::Global;
@@ -57,7 +57,8 @@ impl Apps {
         );
         match left {
             Ok(ended) => {
-                take_out(&mut self.apps, &mut self.numbers, at);
+                self.numbers.remove(at);
+                drop(self.apps.remove(at));
                 put(&mut self.mesh, mesh);
                 Ok(ended)
             }
@@ -170,7 +171,12 @@ fn leave_ready(
         Ok(left) => {
             let (own, others) = earlier.part(app, room);
             let Left { delivered, dumped } = left;
-            let delivered = Deliveries::of(own, delivered);
+            let count = own.len() + delivered.len();
+            let delivered = Deliveries {
+                early: own,
+                late: delivered,
+                count,
+            };
             let mesh = KeptMesh {
                 mesh,
                 earlier: others,
@@ -206,7 +212,10 @@ fn leave_mesh(
             Err(UnloadErr::Waiting { packet }),
         );
     }
-    match make_ready(alloc, regions, &parts, app) {
+    if make_room(alloc, regions, app.ranges.as_slice()).is_err() {
+        return (Mesh::put_together(parts), Err(UnloadErr::Memory));
+    }
+    match part(alloc, &parts, app) {
         Ok(parted) => {
             give_all(regions, app.ranges.as_slice());
             uninstall(alloc, &mut parts.setup, app.ranges.as_slice());
@@ -216,22 +225,6 @@ fn leave_mesh(
         }
         Err(_) => (Mesh::put_together(parts), Err(UnloadErr::Memory)),
     }
-}
-
-// Room to give the application's ranges back, and its deliveries and records apart from those of all others.
-fn make_ready(
-    alloc: Global,
-    regions: &mut [Ranges],
-    parts: &MeshParts,
-    app: &LoadedApp,
-) -> Result<Parted, Memory>
-    requires { AreFewOf (length regions.old) app.now.ranges }
-    ensures parted { IfOk result (IsPartedBy app.now parts.now) }
-    ensures room { OnOk result (HaveRoom app.now.ranges regions.new) }
-    ensures same { frees regions.new ≡ frees regions.old }
-{
-    make_room(alloc, regions, app.ranges.as_slice())?;
-    part(alloc, parts, app)
 }
 
 // Takes the rows out of the ranges of the setup's tables.

@@ -1,17 +1,16 @@
-use Rattle.std.proofs.Common.{arith}
-use Rattle.std.proofs.lemmas.{List.take_all, Option.slice_get-get_or}
+use Rattle.std.proofs.{Common.arith, lemmas.List.take_all, lemmas.Option.slice_get-get_or}
 use Rattle.machine_desc.specs.Live.{index_of}
 use Rattle.app_loads.specs.Counting.{end_places}
-use Rattle.app_loads.proofs.RowClaims.{edges_in, ends_more}
+use Rattle.app_loads.proofs.RowClaims.{ends_more}
 use Rattle.app_loads.proofs.claims.push_tree.Goals as goal
 
 pub push_end-requires : goal.push_end-requires
-push_end-requires c = grind (arith, edges_in c.args.machine.now c.args.net.now c.requires)
+push_end-requires c = grind (arith, c.args.one.inside.edges)
 
 pub loop-edge-preserved : goal.loop-edge-preserved
 loop-edge-preserved c =
-    ends_more (end_places c.args.machine.now) c.as_slice-edge-items.result.now c.loop-edge.edge-index _ c.args.chips.now.items c.loop-edge.chips.items c.push_end.new.chips.items
-    (index_of c.args.machine.now c.args.net.now.tree.root)
+    ends_more (end_places c.args.one.machine.now) c.as_slice-edge-items.result.now c.loop-edge.edge-index _ c.args.chips.now.items c.loop-edge.chips.items c.push_end.new.chips.items
+    (index_of c.args.one.machine.now c.args.one.net.now.tree.root)
     (slice_get-get_or c.as_slice-edge-items.result.now c.loop-edge.edge-index _ c.loop-edge-test.true) c.loop-edge.invariant c.in_ok-push_end.ensures
 
 pub returns : goal.returns

@@ -1,8 +1,5 @@
 use Rattle.mesh_drain.proofs.Frame.{setup_reached}
-use Rattle.std.proofs.Common.{sym}
-use Rattle.std.proofs.Common.{drop}
-use Rattle.std.proofs.Common.{ap}
-use Rattle.std.proofs.Common.{◌∙◌}
+use Rattle.std.proofs.Common.{sym, ap, drop, ◌∙◌}
 use Rattle.spin_base.specs.declared.blocks.Block.{Block}
 use Rattle.app_loads.specs.{Earlier.with_earlier, Grouping.all_grouped, Groups.last_arrivals, Running.AreKnown, Running.Comes, Running.IsBlockWith}
 use Rattle.app_loads.proofs.{Kept.comes_again, Kept.known_still, Kept.some_first, drains.send_new.Goals.After-ends_with, drains.send_new.Goals.After-block_of}

@@ -1,34 +1,65 @@
-use Rattle.std.proofs.Common.{arith}
-use Rattle.app_loads.specs.Running.{Comes}
-use Rattle.app_loads.specs.Groups.{last_arrivals}
+use Rattle.std.proofs.Common.{arith, None, subst, sym}
 use Rattle.std.specs.Prelude.{IfSome}
-use Rattle.std.proofs.Common.{subst}
-use Rattle.app_loads.proofs.Kept.{known_still, ok_anyway}
+use Rattle.spin_base.specs.declared.copies.McCopy.{McCopy}
+use Rattle.mesh_core.specs.State.{Setup}
+use Rattle.mesh_drain.proofs.Frame.{reached_none}
+use Rattle.app_loads.specs.{Earlier.with_earlier, Grouping.all_grouped, Groups.last_arrivals, Running.Comes}
+use Rattle.app_loads.proofs.Kept.{IsSentAgain, comes_there, first_sends, known_still, sent_again, some_there}
+use Rattle.app_loads.proofs.drains.send_next.Goals.{After-drop_unsent, After-drop_unsent-in-Some}
 use Rattle.app_loads.proofs.drains.send_next.Goals as goal
 
-pub first_unsent-copy-requires : goal.first_unsent-copy-requires
-first_unsent-copy-requires c = record { there = c.requires.can.there; some = c.requires.can.some }
+abbrev no_copy : McCopy
+no_copy = record { packet = 0; key = 0; payload = None; hop = 0 }
 
-pub send_again-requires-clause-comes : goal.send_again-requires-clause-comes
-send_again-requires-clause-comes c =
-    let is = c.is_last.ensures c.if-is_last.true in
-    (is.0, is.2, subst (λ k. IfSome k (Comes c.args.mesh.now.setup c.args.vertex (last_arrivals c.args.earlier.now))) is.1 c.requires.last)
+pub unsent-requires : goal.unsent-requires
+unsent-requires c = c.requires.can.there
 
-pub send_to-requires-clause-comes : goal.send_to-requires-clause-comes
-send_to-requires-clause-comes c = grind arith
+pub bounds-unsent-0 : goal.bounds-unsent-0
+bounds-unsent-0 c = some_there c.unsent.result.now c.args.mesh.now.unsent c.args.vertex c.requires.can.some c.unsent.ensures
 
-pub send_again-requires-clause-sends : goal.send_again-requires-clause-sends
-send_again-requires-clause-sends c = record { clean = c.requires.can.clean; there = c.requires.can.there; first = c.first_unsent-copy.ensures }
+-- its packets come where those of the last group came
+to_last : (c : After-drop_unsent) → IsSentAgain (all_grouped c.args.earlier.now) (all_grouped c.repeat.new.self) c.args.mesh.now c.drop_unsent.new.self c.args.vertex
+to_last c =
+    let its = c.is_last.ensures c.if-is_last.true in
+    sent_again (last_arrivals c.args.earlier.now) (first_sends c.unsent.result.now no_copy c.requires.can c.unsent.ensures) its.2
+    (subst (λ k. IfSome k (Comes c.args.mesh.now.setup c.args.vertex (last_arrivals c.args.earlier.now))) its.1 c.requires.last) c.in_ok-repeat.ensures.put c.drop_unsent.ensures
 
-pub send_to-requires-clause-sends : goal.send_to-requires-clause-sends
-send_to-requires-clause-sends c = record { clean = c.requires.can.clean; there = c.requires.can.there; first = c.first_unsent-copy.ensures }
+-- they come to its block's places
+to_places : (c : After-drop_unsent-in-Some) →
+    IsSentAgain (all_grouped c.args.earlier.now) (all_grouped c.put.new.self) c.args.mesh.now c.drop_unsent-in-Some.new.self c.args.vertex
+to_places c =
+    sent_again c.in-Some.it.now.arrivals (first_sends c.unsent.result.now no_copy c.requires.can c.unsent.ensures) c.in-Some.ensures.has
+    (c.requires.known.come c.in-Some.ensures.first c.in-Some.it.now c.in-Some.ensures.is) c.in_ok-put-in-Some.ensures.put c.drop_unsent-in-Some.ensures
+
+pub returns-in_err-repeat-clause-reached : goal.returns-in_err-repeat-clause-reached
+returns-in_err-repeat-clause-reached c = grind (arith, reached_none (with_earlier (all_grouped c.args.earlier.now) c.args.mesh.now))
+
+pub returns-then-is_last : goal.returns-then-is_last
+returns-then-is_last c =
+    let it = to_last (goal.at.returns-then-is_last c).After-drop_unsent in
+    record {
+      reached = it.reached;
+      clean = it.clean;
+      unsent = it.unsent;
+      known = known_still c.args.mesh.now.setup c.drop_unsent.new.self.setup c.args.vertex c.args.apps.now c.args.known.now it.setup c.requires.known;
+      last = subst (λ (u : Setup). IfSome c.args.last (Comes u c.args.vertex (last_arrivals c.repeat.new.self))) (sym it.setup)
+          (subst (λ l. IfSome c.args.last (Comes c.args.mesh.now.setup c.args.vertex l)) (sym c.repeat.ensures.arrivals) c.requires.last);
+    }
+
+pub returns-in_err-put-in-Some-clause-reached : goal.returns-in_err-put-in-Some-clause-reached
+returns-in_err-put-in-Some-clause-reached c = grind (arith, reached_none (with_earlier (all_grouped c.args.earlier.now) c.args.mesh.now))
+
+pub returns-in_ok-put-in-Some : goal.returns-in_ok-put-in-Some
+returns-in_ok-put-in-Some c =
+    let it = to_places (goal.at.returns-in_ok-put-in-Some c).After-drop_unsent-in-Some in
+    record {
+      reached = it.reached;
+      clean = it.clean;
+      unsent = it.unsent;
+      known = known_still c.args.mesh.now.setup c.drop_unsent-in-Some.new.self.setup c.args.vertex c.args.apps.now c.args.known.now it.setup c.requires.known;
+      last = comes_there c.args.mesh.now.setup c.drop_unsent-in-Some.new.self.setup c.args.vertex c.in-Some.it.now.block c.in-Some.it.now.arrivals (last_arrivals c.put.new.self) it.setup
+          c.in_ok-put-in-Some.ensures.arrivals (c.requires.known.come c.in-Some.ensures.first c.in-Some.it.now c.in-Some.ensures.is);
+    }
 
 pub send_new-requires-clause-sends : goal.send_new-requires-clause-sends
-send_new-requires-clause-sends c = record { clean = c.requires.can.clean; there = c.requires.can.there; first = c.first_unsent-copy.ensures }
-
-pub returns-then-is_last-clause-known : goal.returns-then-is_last-clause-known
-returns-then-is_last-clause-known c = known_still c.args.mesh.now.setup c.send_again.new.mesh.setup c.args.vertex c.args.apps.now c.args.known.now c.send_again.ensures.setup c.requires.known
-
-pub returns-in-Some-clause-known : goal.returns-in-Some-clause-known
-returns-in-Some-clause-known c =
-    ok_anyway c.send_to.result (known_still c.args.mesh.now.setup c.send_to.new.mesh.setup c.args.vertex c.args.apps.now c.args.known.now c.send_to.ensures.setup c.requires.known)
+send_new-requires-clause-sends c = first_sends c.unsent.result.now no_copy c.requires.can c.unsent.ensures

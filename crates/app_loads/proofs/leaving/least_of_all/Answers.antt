@@ -8,7 +8,7 @@ least_is : (c : goal.After-least_in_queues) → c.least_in_queues.result ≡ lea
 least_is c = grind (arith, scanned)
 
 pub returns-clause-some : goal.returns-clause-some
-returns-clause-some c = least_waits c.args.parts.now c.requires c.args.app.now c.least_in_queues.result (least_is c)
+returns-clause-some c mesh = least_waits c.args.parts.now mesh c.args.app.now c.least_in_queues.result (least_is c)
 
 pub returns-clause-none : goal.returns-clause-none
 returns-clause-none c = none_waits c.args.parts.now c.args.app.now c.least_in_queues.result (least_is c)

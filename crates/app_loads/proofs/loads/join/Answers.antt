@@ -1,12 +1,8 @@
-use Rattle.std.proofs.Common.{arith, subst, refl}
-use Rattle.app_loads.specs.Taking.{HaveRoom}
-use Rattle.app_loads.specs.Taking.{AreTaken}
-use Rattle.app_loads.specs.declared.loaded.Range.{Range}
-use Rattle.std.proofs.Common.{List}
-use Rattle.std.proofs.Common.{sym}
+use Rattle.std.proofs.Common.{arith, subst, refl, List, sym}
+use Rattle.app_loads.specs.{Taking.HaveRoom, Taking.AreTaken, declared.loaded.Range.Range, Claims.claims_of, Taking.AreFreeAgain, Taking.IsDueAlways, Grouping.all_grouped, Joining.CanSettle}
 use Rattle.machine_desc.specs.Description.{Description}
-use Rattle.app_loads.specs.{Claims.claims_of, Taking.AreFreeAgain, Taking.IsDueAlways}
-use Rattle.app_loads.proofs.JoinLaws.{can_settle, served_on}
+use Rattle.mesh_core.specs.State.{State}
+use Rattle.app_loads.proofs.{JoinLaws.can_settle, JoinLaws.served_on, Kept.can_settle_own}
 use Rattle.app_loads.proofs.loads.join.Goals as goal
 
 pub serve-requires : goal.serve-requires
@@ -21,8 +17,10 @@ returns-in-Err-clause-mesh_refused c = refl
 pub returns-in-Err-clause-back : goal.returns-in-Err-clause-back
 returns-in-Err-clause-back c = subst (λ (m : Description). AreFreeAgain m c.args.regions.now c.serve.new.regions) c.machine.ensures c.in-Err.ensures.back
 
-pub settle-mesh-requires : goal.settle-mesh-requires
-settle-mesh-requires c = can_settle c.requires (served_on c.machine.ensures c.in-Ok.ensures.served)
+pub settle_mesh-mesh-requires : goal.settle_mesh-mesh-requires
+settle_mesh-mesh-requires c =
+    can_settle_own (all_grouped c.mesh.inside.earlier) c.mesh.inside.mesh c.in-Ok.app
+    (subst (λ (s : State). CanSettle s c.in-Ok.app) (sym c.mesh.view_is) (can_settle c.requires (served_on c.machine.ensures c.in-Ok.ensures.served)))
 
 pub returns-in-Ok-settled-clause-served : goal.returns-in-Ok-settled-clause-served
 returns-in-Ok-settled-clause-served c = served_on c.machine.ensures c.in-Ok.ensures.served

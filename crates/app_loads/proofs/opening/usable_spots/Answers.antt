@@ -1,4 +1,4 @@
-use Rattle.std.proofs.Common.{◌≡◌, ◌≢◌, sym, subst, arith, List}
+use Rattle.std.proofs.Common.{◌≡◌, ◌≢◌, ◌%◌, ◌+◌, ap, sym, subst, arith, List}
 use Rattle.std.specs.List.{All, AllPairs}
 use Rattle.spin_base.specs.declared.chips.Spot.{Spot}
 use Rattle.machine_desc.specs.Live.{IsSite}
@@ -8,8 +8,8 @@ use Rattle.app_loads.proofs.opening.usable_spots.Goals as goal
 
 pub loop-number-preserved : goal.loop-number-preserved
 loop-number-preserved c =
-    one_spot_more c.args.machine.now c.loop-number.number c.spot_of-spot.result c.loop-number.spots c.push_usable.new.spots
-    c.spot_of-spot.ensures c.loop-number.invariant c.in_ok-push_usable.ensures
+    one_spot_more c.args.machine.now c.loop-number.number _ c.loop-number.spots c.push_usable.new.spots
+    (ap (λ chip. record { chip = chip; core = c.loop-number.number % 17 + 1 }) c.chip_at.ensures.chip) c.loop-number.invariant c.in_ok-push_usable.ensures
 
 whole : (c : goal.After-loop-number) → c.loop-number.spots ≡ usable_spots c.args.machine.now
 whole c = grind arith

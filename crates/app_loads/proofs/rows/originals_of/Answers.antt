@@ -1,14 +1,29 @@
-use Rattle.std.proofs.Common.{List, subst}
+use Rattle.std.proofs.{Common.◌≡◌, Common.◌∙◌, Common.List, Common.ap, Common.arith, Common.length, Common.subst, Common.sym, lemmas.Option.slice_get_read, lemmas.List.take_all}
 use Rattle.machine_desc.specs.declared.nets.NetPlan.{NetPlan}
-use Rattle.net_tables.specs.Marks.{AreBlocksOf}
+use Rattle.net_tables.specs.{Marks.AreBlocksOf, PlainTable.AreRoutedApart}
 use Rattle.net_tables.proofs.Whole.{all_plain_tables}
+use Rattle.spin_base.proofs.Places.{take_more_at}
 use Rattle.app_loads.specs.{Host.nets_of, Writing.tables_in}
+use Rattle.app_loads.proofs.{Unsent.nets_with_at, Unsent.nets_with_long, rows.originals_of.Goals.After-loop-at}
 use Rattle.app_loads.proofs.rows.originals_of.Goals as goal
+
+pub loop-at-preserved : goal.loop-at-preserved
+loop-at-preserved c = grind (arith, slice_get_read, nets_with_at, take_more_at)
+
+whole : (c : After-loop-at) → c.loop-at.nets ≡ nets_of c.args.app.now
+whole c =
+    let long = nets_with_long c.args.app.now.plan.nets c.args.app.now.blocks in
+    let end = c.loop-at-test.false in
+    let same = ap length c.as_slice-net-items.ensures in
+    c.loop-at.invariant ∙ take_all c.loop-at.at (nets_of c.args.app.now) (omega (arith, long, end, same))
+
+pub original_blocks-requires : goal.original_blocks-requires
+original_blocks-requires c = subst (AreRoutedApart c.args.machine.now) (sym (whole (goal.at.original_blocks-requires c).After-loop-at)) c.requires.routed
 
 pub returns : goal.returns
 returns c =
     let made =
     all_plain_tables c.args.machine.now (nets_of c.args.app.now) c.in_ok-blocks.blocks (tables_in c.in_ok-originals.originals) c.requires.routed
-    (subst (λ (l : List NetPlan). AreBlocksOf c.args.machine.now l c.in_ok-blocks.blocks) c.in_ok-nets.ensures c.in_ok-blocks.ensures.blocks)
+    (subst (λ (l : List NetPlan). AreBlocksOf c.args.machine.now l c.in_ok-blocks.blocks) (whole (goal.at.returns c).After-loop-at) c.in_ok-blocks.ensures.blocks)
     (rw c.into_vec.ensures at c.in_ok-originals.ensures) in
     record { long = made.long; plain = made.plain }

@@ -1,5 +1,6 @@
-use Rattle.std.proofs.lemmas.{List.length-drop, List.length-map, Option.slice_get-get_or}
-use Rattle.std.proofs.Common.{◌+◌, ◌∙◌, [], refl, sym, ap, subst, arith, take, length}
+use Rattle.std.proofs.lemmas.{Grind.common_steps, List.length-drop, List.length-map, Option.slice_get-get_or}
+use Rattle.std.specs.Vec.Iter.{into_iter_items}
+use Rattle.std.proofs.Common.{◌≡◌, ◌+◌, ◌∙◌, [], refl, sym, ap, subst, arith, take, length}
 use Rattle.net_tables.specs.Marks.{row_of_mark, table_of_sorted}
 use Rattle.app_loads.proofs.Copying.{of_chip, there, place_of_no_rows, j_below, j_in_tables, j_in_rows, T_long, R_fits, R_size, place_small, all_copied, copied_skip, copied_more, put_listed}
 use Rattle.app_loads.proofs.{Copying.rows_listed, Rooms.left_first}
@@ -40,8 +41,8 @@ put_rows-requires c =
     let as_long = length-map c.as_slice.result.now row_of_mark in
     let size = R_size _ c.requires c.loop-range-test.true c.loop-range.invariant.copied of c.index-tables-at.result (table_of_sorted c.index-lists-at.result) in
     let i = c.loop-range.range-index in
-    let next = left_first c.args.rooms.items i c.next_room-room.result _ (sym c.loop-range.invariant.left ∙ c.next_room-room.ensures) in
-    let room = c.requires.room.each i _ c.next_room-room.result (slice_get-get_or c.args.ranges.now i _ c.loop-range-test.true) next.0 c.in-Rows.chip of.region_is in
+    let next = left_first c.args.rooms.items i c.in-Some.room _ (sym c.loop-range.invariant.left ∙ c.in-Some.ensures.items) in
+    let room = c.requires.room.each i _ c.in-Some.room (slice_get-get_or c.args.ranges.now i _ c.loop-range-test.true) next.0 c.in-Rows.chip of.region_is in
     record {
       has = record {
         size = T_long _ c.requires c.loop-range-test.true c.loop-range.invariant.copied of c.index-tables-at.result (table_of_sorted c.index-lists-at.result);
@@ -61,15 +62,17 @@ loop-range-preserved c = record {
         (copied_more _ c.requires c.loop-range-test.true c.loop-range.invariant.copied (of_chip w.in-Rows.is c.at.ensures.its c.at.ensures.place w.index-at.ensures.value)
         w.index-tables-at.result (table_of_sorted w.index-lists-at.result) _ refl w.put_rows.new.table
         (put_listed _ _ _ _ c.args.lists.now _ w.index-lists-at.result w.put_rows.ensures (w.as_slice.ensures ∙ w.index-lists-at.is)))
-    | goal.in_default w ↦
+    | goal.in_default-at w ↦
         subst (AreCopied c.args.machine.now (tables_in c.args.lists.now) (take (c.loop-range.range-index + 1) c.args.ranges.now) c.args.tables.now) (sym w.tables-is)
-        (copied_skip _ c.requires c.loop-range-test.true c.loop-range.invariant.copied (place_of_no_rows c.args.machine.now c.at.result w.in_default.not-Rows c.at.ensures.its _ c.at.ensures.place))
+        (copied_skip _ c.requires c.loop-range-test.true c.loop-range.invariant.copied (place_of_no_rows c.args.machine.now c.at.result w.in_default-at.not-Rows c.at.ensures.its _ c.at.ensures.place))
   ];
-  left = (left_first c.args.rooms.items c.loop-range.range-index c.next_room-room.result _ (sym c.loop-range.invariant.left ∙ c.next_room-room.ensures)).1;
+  left = (left_first c.args.rooms.items c.loop-range.range-index c.in-Some.room _ (sym c.loop-range.invariant.left ∙ c.in-Some.ensures.items)).1;
 }
 
 pub returns : goal.returns
 returns c = all_copied c.args.machine.now (tables_in c.args.lists.now) c.args.ranges.now c.args.tables.now c.loop-range.tables c.loop-range.range-index c.loop-range-test.false c.loop-range.invariant.copied
 
-pub next_room-room-requires : goal.next_room-room-requires
-next_room-room-requires c = grind (arith, length-drop c.loop-range.range-index c.args.rooms.items)
+pub unreachable-requires : goal.unreachable-requires
+unreachable-requires c =
+    let none : length (into_iter_items c.loop-range.rooms) ≡ 0 = grind (arith, common_steps, c.in_default.ensures.cases.0) in
+    omega (arith, none, ap length c.loop-range.invariant.left, length-drop c.loop-range.range-index c.args.rooms.items, c.requires.room.all, c.loop-range-test.true)

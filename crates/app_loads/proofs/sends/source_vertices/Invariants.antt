@@ -1,12 +1,7 @@
-use Rattle.std.proofs.Common.{◌≡◌, ℕ, length, Some}
-use Rattle.std.specs.List.{slice_get}
-use Rattle.machine_desc.specs.NetsOn.{vertex_at}
-use Rattle.app_loads.specs.declared.plans.AppNet.{AppNet}
+use Rattle.std.proofs.Common.{◌≡◌, map, take}
+use Rattle.app_loads.specs.Sending.{source_at}
 use Rattle.app_loads.proofs.sends.source_vertices.Given as goal
 
--- the nets so far have their vertices
+-- the vertices of the nets so far
 abbrev pub invariant-loop-net : goal.invariant-loop-net
-invariant-loop-net l = record {
-  long : length l.vertices.items ≡ l.net-index;
-  each : (i v : ℕ) (net : AppNet) → slice_get l.nets i ≡ Some net → slice_get l.vertices.items i ≡ Some v → vertex_at l.setup.spots net.source ≡ Some v;
-}
+invariant-loop-net l = l.vertices.items ≡ map (source_at l.setup.spots) (take l.net-index l.nets)

@@ -1,8 +1,7 @@
-use Rattle.std.proofs.Common.{arith, ◌∙◌, sym, subst, List}
-use Rattle.std.proofs.lemmas.List.Elements.{All-weaker}
+use Rattle.std.proofs.{Common.arith, Common.◌∙◌, Common.sym, Common.subst, Common.List, lemmas.List.Elements.All-weaker}
 use Rattle.mesh_core.specs.State.{State, IsMesh}
 use Rattle.app_loads.specs.{declared.loaded.Range.Range, Leaving.IsLeastUnderWay, Taking.HaveRoom}
-use Rattle.app_loads.proofs.LeftMesh.{can_clear, parted_whole, taken_still}
+use Rattle.app_loads.proofs.{LeftMesh.can_clear, LeftMesh.parted_whole, LeftMesh.taken_still, LoadedParts.on_ok}
 use Rattle.app_loads.proofs.unloads.leave_mesh.Goals as goal
 
 pub least_waiting-requires : goal.least_waiting-requires
@@ -20,25 +19,32 @@ returns-in-Some-clause-why c = subst (λ (s : State). IsLeastUnderWay s c.args.a
 pub returns-in-Some-clause-mesh_refused : goal.returns-in-Some-clause-mesh_refused
 returns-in-Some-clause-mesh_refused c = c.put_together.ensures ∙ c.take_apart-parts.ensures.parts
 
-pub make_ready-requires : goal.make_ready-requires
-make_ready-requires c = grind (arith, All-weaker)
+pub make_room-requires : goal.make_room-requires
+make_room-requires c = grind (arith, All-weaker)
+
+pub put_together-requires-then-is_err : goal.put_together-requires-then-is_err
+put_together-requires-then-is_err c = subst IsMesh (sym c.take_apart-parts.ensures.parts) c.take_apart-parts.ensures.mesh
+
+pub returns-then-is_err-clause-mesh_refused : goal.returns-then-is_err-clause-mesh_refused
+returns-then-is_err-clause-mesh_refused c = c.put_together-then-is_err.ensures ∙ c.take_apart-parts.ensures.parts
 
 pub returns-in-Err-clause-back : goal.returns-in-Err-clause-back
-returns-in-Err-clause-back c = c.make_ready.ensures.same
+returns-in-Err-clause-back c = c.make_room.ensures.same
 
 pub give_all-requires : goal.give_all-requires
 give_all-requires c = record {
   taken = (
     c.args.mesh.setup.machine,
     c.requires.can.others,
-    taken_still c.args.mesh.setup.machine c.requires.can.others c.args.app.now.ranges c.as_slice.result.now c.args.regions.now
-        c.make_ready.new.regions c.make_ready.ensures.same c.as_slice.ensures c.requires.can.taken,
+    taken_still c.args.mesh.setup.machine c.requires.can.others c.args.app.now.ranges c.as_slice-in-Ok.result.now c.args.regions.now
+        c.make_room.new.regions c.make_room.ensures.same c.as_slice-in-Ok.ensures c.requires.can.taken,
   );
-  room = subst (λ (l : List Range). HaveRoom l c.make_ready.new.regions) (sym c.as_slice.ensures) c.in-Ok.ensures.room;
+  room = subst (λ (l : List Range). HaveRoom l c.make_room.new.regions) (c.as_slice.ensures ∙ sym c.as_slice-in-Ok.ensures)
+      (on_ok (HaveRoom c.as_slice.result.now c.make_room.new.regions) c.make_room.result (sym c.is_err.ensures.value ∙ c.if-is_err.false) c.make_room.ensures.room);
 }
 
 pub uninstall-requires : goal.uninstall-requires
-uninstall-requires c = can_clear (c.parts.view_is ∙ c.take_apart-parts.ensures.parts) c.take_apart-parts.ensures.mesh c.requires.can c.as_slice-in-Ok.ensures
+uninstall-requires c = can_clear (c.parts.view_is ∙ c.take_apart-parts.ensures.parts) c.take_apart-parts.ensures.mesh c.requires.can c.as_slice-in-Ok-2.ensures
 
 pub put_together-requires-in-Ok : goal.put_together-requires-in-Ok
 put_together-requires-in-Ok c = parted_whole (c.parts.view_is ∙ c.take_apart-parts.ensures.parts) c.take_apart-parts.ensures.mesh c.uninstall.ensures.setup c.uninstall.ensures.cleared.all
@@ -46,4 +52,4 @@ put_together-requires-in-Ok c = parted_whole (c.parts.view_is ∙ c.take_apart-p
 pub returns-in-Ok-clause-given : goal.returns-in-Ok-clause-given
 returns-in-Ok-clause-given c others taken =
     c.give_all.ensures.free c.args.mesh.setup.machine others
-    (taken_still c.args.mesh.setup.machine others c.args.app.now.ranges c.as_slice.result.now c.args.regions.now c.make_ready.new.regions c.make_ready.ensures.same c.as_slice.ensures taken)
+    (taken_still c.args.mesh.setup.machine others c.args.app.now.ranges c.as_slice-in-Ok.result.now c.args.regions.now c.make_room.new.regions c.make_room.ensures.same c.as_slice-in-Ok.ensures taken)

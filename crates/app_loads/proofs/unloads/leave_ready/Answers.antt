@@ -1,16 +1,10 @@
-use Rattle.std.proofs.Common.{arith}
-use Rattle.app_loads.specs.Leaving.{NoneUnderWay}
-use Rattle.app_loads.specs.Grouping.{all_grouped}
-use Rattle.app_loads.specs.declared.leaving.Left.{Left}
-use Rattle.app_loads.specs.declared.answers.UnloadErr.{UnloadErr}
-use Rattle.std.proofs.Common.{subst}
-use Rattle.std.proofs.Common.{Result}
-use Rattle.std.proofs.Common.{OnOk}
+use Rattle.std.proofs.Common.{arith, OnOk, subst, Result}
+use Rattle.app_loads.specs.{Leaving.NoneUnderWay, Grouping.all_grouped, declared.leaving.Left.Left, declared.answers.UnloadErr.UnloadErr}
 use Rattle.app_loads.proofs.Kept.{few_own, none_with, why_with}
 use Rattle.app_loads.proofs.unloads.leave_ready.Goals as goal
 
-pub of-delivered-requires : goal.of-delivered-requires
-of-delivered-requires c = grind (arith, few_own)
+pub overflow_add-count : goal.overflow_add-count
+overflow_add-count c = grind (arith, few_own)
 
 pub returns-in-Ok-clause-none : goal.returns-in-Ok-clause-none
 returns-in-Ok-clause-none c =

@@ -4,7 +4,7 @@ use Rattle.std.specs.{Prelude.IfSome, Prelude.vec_capacity, Prelude.vec_len, Vec
 use Rattle.app_loads.specs.{declared.loaded.LoadedApp.LoadedApp, declared.plans.AppNet.AppNet, Applications.AreApps, Claims.claims_of, Joining.IsServedApp, Joining.IsSettled, Sending.AreWithSources}
 use Rattle.app_loads.specs.Taking.{AreFreeAgain, IsDueAlways, frees}
 use Rattle.app_loads.proofs.LoadedParts.{IsOut, Joins, Stands, can_join, err_why, free_again, never_none, on_err, on_ok, ok_host, ok_loaded, packets_fit, still}
-use Rattle.app_loads.proofs.apps.Apps.load.Goals.{After-add, After-deref_mut, After-len, After-put-in-Err, After-reserve_one}
+use Rattle.app_loads.proofs.apps.Apps.load.Goals.{After-push_reserved-in-Ok, After-deref_mut, After-len, After-put-in-Err, After-reserve_one}
 use Rattle.app_loads.proofs.apps.Apps.load.Goals as goal
 
 -- room was made, or not
@@ -19,12 +19,12 @@ numbered : (c : After-len) → IsOut c.self.inside c.args.self.now c.in-Some.mes
 numbered c taken = grind (arith, packets_fit taken c.args.plan.now c.requires, IfOk-at_ok)
 
 -- the application joined
-joined : (c : After-add) → Joins c.self.inside (record {
+joined : (c : After-push_reserved-in-Ok) → Joins c.self.inside (record {
   mesh = c.put.new.held;
   regions = with_items c.self.inside.regions c.join-mesh.new.regions;
-  apps = c.add.new.apps;
+  apps = c.push_reserved-in-Ok.new.self;
   packets = c.self.inside.packets + c.len.result;
-  numbers = c.add.new.numbers;
+  numbers = c.push_reserved.new.self;
   senders = c.with_sources.result;
 }) c.args.self.now c.in-Some.mesh c.deref_mut.result.now c.args.number c.args.plan.now c.in-Ok.app
 joined c = record {
@@ -37,9 +37,9 @@ joined c = record {
   settled = IfOk-at_ok (λ (a : LoadedApp). IsSettled a c.in-Some.mesh c.join-mesh.result.0) c.in-Ok.is c.join-mesh.ensures.settled;
   mesh_is = c.put.ensures;
   regions = with_items_is c.self.inside.regions c.join-mesh.new.regions (c.join-mesh.auto.regions ∙ c.deref_mut.ensures.len);
-  apps = c.add.ensures.apps ∙ ap (λ (l : List LoadedApp). l ++ c.in-Ok.app ∷ []) c.reserve_one.ensures.apps;
+  apps = c.push_reserved-in-Ok.ensures.items ∙ ap (λ (l : List LoadedApp). l ++ c.in-Ok.app ∷ []) c.reserve_one.ensures.apps;
   packets = ap (λ n. c.self.inside.packets + n) c.len.ensures;
-  numbers = c.add.ensures.numbers ∙ ap (λ (l : List ℕ). l ++ c.in-Ok.app.number ∷ []) c.reserve_one.ensures.numbers;
+  numbers = c.push_reserved.ensures.items ∙ ap (λ (l : List ℕ). l ++ c.in-Ok.app.number ∷ []) c.reserve_one.ensures.numbers;
   sources = subst (λ (nets : List AppNet). IfSome c.with_sources.result (AreWithSources c.join-mesh.result.0 nets c.self.inside.senders)) c.as_slice.ensures
       (subst (λ (o : Option (List ℕ)). IfSome c.with_sources.result (AreWithSources c.join-mesh.result.0 c.as_slice.result.now o)) c.take-in-Ok.ensures.value c.with_sources.ensures);
 }
@@ -82,16 +82,19 @@ overflow_cast-self c = record { fits = omega (arith, numbered (goal.at.overflow_
 pub overflow_add-self : goal.overflow_add-self
 overflow_add-self c = record { fits = numbered (goal.at.overflow_add-self c).After-len (out (goal.at.overflow_add-self c).After-deref_mut) }
 
-pub add-requires : goal.add-requires
-add-requires c =
-    let is = sym c.is_err.ensures.value ∙ c.if-is_err.false in
-    record {
-      room = on_ok (vec_len c.reserve_one.new.apps + 1 ≤ vec_capacity c.reserve_one.new.apps) c.reserve_one.result is c.reserve_one.ensures.room;
-      number_room = on_ok (vec_len c.reserve_one.new.numbers + 1 ≤ vec_capacity c.reserve_one.new.numbers) c.reserve_one.result is c.reserve_one.ensures.number_room;
-    }
+pub push_reserved-requires : goal.push_reserved-requires
+push_reserved-requires c =
+    let room = on_ok (vec_len c.reserve_one.new.numbers + 1 ≤ vec_capacity c.reserve_one.new.numbers) c.reserve_one.result (sym c.is_err.ensures.value ∙ c.if-is_err.false)
+    c.reserve_one.ensures.number_room in
+    omega (arith, room)
+
+pub push_reserved-requires-in-Ok : goal.push_reserved-requires-in-Ok
+push_reserved-requires-in-Ok c =
+    let room = on_ok (vec_len c.reserve_one.new.apps + 1 ≤ vec_capacity c.reserve_one.new.apps) c.reserve_one.result (sym c.is_err.ensures.value ∙ c.if-is_err.false) c.reserve_one.ensures.room in
+    omega (arith, room)
 
 pub invariant_of-self-in-Ok : goal.invariant_of-self-in-Ok
-invariant_of-self-in-Ok c = ok_host (out (goal.at.invariant_of-self-in-Ok c).After-deref_mut) (joined (goal.at.invariant_of-self-in-Ok c).After-add)
+invariant_of-self-in-Ok c = ok_host (out (goal.at.invariant_of-self-in-Ok c).After-deref_mut) (joined (goal.at.invariant_of-self-in-Ok c).After-push_reserved-in-Ok)
 
 pub invariant_of-self-in-Err : goal.invariant_of-self-in-Err
 invariant_of-self-in-Err c = (refused (goal.at.invariant_of-self-in-Err c).After-put-in-Err (out (goal.at.invariant_of-self-in-Err c).After-deref_mut)).host
@@ -99,7 +102,7 @@ invariant_of-self-in-Err c = (refused (goal.at.invariant_of-self-in-Err c).After
 pub returns-in-Ok : goal.returns-in-Ok
 returns-in-Ok c =
     let taken = out (goal.at.returns-in-Ok c).After-deref_mut in
-    let all = joined (goal.at.returns-in-Ok c).After-add in
+    let all = joined (goal.at.returns-in-Ok c).After-push_reserved-in-Ok in
     record { loaded = ok_loaded taken all; why = tt; refused = tt; apps = (ok_host taken all).apps }
 
 pub returns-in-Err : goal.returns-in-Err

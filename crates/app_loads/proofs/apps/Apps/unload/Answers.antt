@@ -1,5 +1,4 @@
-use Rattle.std.proofs.Common.{◌≡◌, ◌∙◌, refl, sym, ap, Some}
-use Rattle.std.proofs.lemmas.{List.with_items_is, Result.IfOk-at_ok, Result.IfErr-at_err}
+use Rattle.std.proofs.{Common.◌≡◌, Common.◌∙◌, Common.refl, Common.sym, Common.ap, Common.Some, lemmas.List.with_items_is, lemmas.Result.IfOk-at_ok, lemmas.Result.IfErr-at_err}
 use Rattle.std.specs.Vec.{with_items}
 use Rattle.app_loads.specs.{declared.answers.Ended.Ended, Leaving.NoneUnderWay, Removing.HasLeft, Removing.IsWhyHere, Taking.AreGivenBack, Taking.frees}
 use Rattle.app_loads.proofs.LeftParts.{HasGone, Leaves, can_leave, not_loaded, ok_host, ok_none, ok_unloaded, on_ok_is, senders_known, why_stays}
@@ -18,8 +17,8 @@ leaves c = record {
 gone : (c : After-put) → HasGone c.self.inside (record c.self.inside {
   mesh = c.put.new.held;
   regions = with_items c.self.inside.regions c.leave-mesh.new.regions;
-  apps = c.take_out.new.apps;
-  numbers = c.take_out.new.numbers;
+  apps = c.remove-in-Ok.new.self;
+  numbers = c.remove.new.self;
 }) c.in-Some-take.mesh c.deref_mut.result.now c.args.number c.in-Some.at c.index.result.now c.in-Ok.ended
 gone c = record {
   after = c.leave-mesh.result.0;
@@ -29,9 +28,9 @@ gone c = record {
   none = on_ok_is (NoneUnderWay c.in-Some-take.mesh c.index.result.now) c.in-Ok.is c.leave-mesh.ensures.none;
   mesh_is = c.put.ensures;
   regions = with_items_is c.self.inside.regions c.leave-mesh.new.regions (c.leave-mesh.auto.regions ∙ c.deref_mut.ensures.len);
-  apps = c.take_out.ensures.apps;
+  apps = c.remove-in-Ok.ensures.items;
   packets = refl;
-  numbers = c.take_out.ensures.numbers;
+  numbers = c.remove.ensures.items;
   senders = refl;
 }
 

@@ -2,7 +2,7 @@ use Rattle.std.proofs.Common.{◌≡◌, ℕ, Some, length, take}
 use Rattle.std.specs.List.{slice_get}
 use Rattle.app_loads.specs.Taking.{HaveRoom, frees}
 use Rattle.app_loads.proofs.Serving.{of_region}
-use Rattle.app_loads.proofs.regions.make_room_for_each.Given as goal
+use Rattle.app_loads.proofs.regions.make_room.Given as goal
 
 -- the ranges so far are counted by their regions, which have room for them
 abbrev pub invariant-loop-range : goal.invariant-loop-range
@@ -10,6 +10,6 @@ invariant-loop-range l = record {
   room : HaveRoom (take l.range-index l.ranges) l.regions;
   same : frees l.regions ≡ frees l.fn.regions;
   long : length l.regions ≡ length l.fn.regions;
-  counts : length l.counts ≡ length l.fn.regions;
-  counted : (k n : ℕ) → slice_get l.counts k ≡ Some n → n ≡ of_region k (take l.range-index l.ranges);
+  counts : length l.counts.items ≡ length l.fn.regions;
+  counted : (k n : ℕ) → slice_get l.counts.items k ≡ Some n → n ≡ of_region k (take l.range-index l.ranges);
 }

@@ -1,6 +1,6 @@
 use Rattle.std.proofs.Common.{◌≡◌, take}
 use Rattle.app_loads.specs.Host.{nets_of}
-use Rattle.app_loads.proofs.rows.nets_of.Given as goal
+use Rattle.app_loads.proofs.rows.originals_of.Given as goal
 
 -- the nets so far
 abbrev pub invariant-loop-at : goal.invariant-loop-at

@@ -1,10 +1,10 @@
 use Rattle.std.proofs.Common.{◌≡◌, length}
 use Rattle.app_loads.proofs.BlockLists.{HaveBlocksBelow}
-use Rattle.app_loads.proofs.loads.blocks_of.Given as goal
+use Rattle.app_loads.proofs.loads.app_of.Given as goal
 
 -- the nets of the claims so far have their blocks
 abbrev pub invariant-loop-at : goal.invariant-loop-at
 invariant-loop-at l = record {
-  long : length l.blocks.items ≡ l.nets;
+  long : length l.blocks.items ≡ length l.plan.nets;
   each : HaveBlocksBelow l.claims l.ranges l.blocks.items l.at;
 }

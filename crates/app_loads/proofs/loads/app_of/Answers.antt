@@ -1,9 +1,8 @@
 use Rattle.app_loads.proofs.BlockLists.{HaveBlocksBelow, key_range, net_there, block_more, block_skip, all_blocks}
-use Rattle.std.proofs.Common.{◌∙◌, ◌+◌, sym, ap, subst, arith, length, Vec, Global, None}
-use Rattle.std.proofs.lemmas.List.{length-set}
+use Rattle.std.proofs.{Common.◌∙◌, Common.◌+◌, Common.sym, Common.ap, Common.subst, Common.arith, Common.length, Common.Vec, Common.Global, Common.None, lemmas.List.length-set}
 use Rattle.spin_base.specs.declared.blocks.Block.{Block}
 use Rattle.app_loads.specs.declared.{answers.LoadRefusal.TheVariants.Loaded, places.Region.TheVariants.Keys, loaded.Claim.Claim, loaded.Range.Range}
-use Rattle.app_loads.proofs.loads.blocks_of.Goals as goal
+use Rattle.app_loads.proofs.loads.app_of.Goals as goal
 
 abbrev no_claim : Claim
 no_claim = record { region = Keys; size = 0; align = 0; fixed = None; refusal = Loaded }
@@ -35,5 +34,5 @@ loop-at-preserved c = elim c.match-claim.branch [
   }
 ]
 
-pub returns-clause-each : goal.returns-clause-each
-returns-clause-each c = all_blocks c.loop-at.blocks.items c.requires c.loop-at-test.false c.loop-at.invariant.long c.loop-at.invariant.each
+pub returns-clause-blocks : goal.returns-clause-blocks
+returns-clause-blocks c = grind (arith, all_blocks c.args.plan.now.nets c.loop-at.blocks.items c.requires c.loop-at-test.false c.loop-at.invariant.long c.loop-at.invariant.each)
