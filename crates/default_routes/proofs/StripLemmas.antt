@@ -247,17 +247,16 @@ pub apart_from_keys : (rows : List Row) (mask : ℕ) → All HoldsItsAliases row
     All (λ (r : Row). r.block.mask ≡ mask) rows → AllPairs (λ (r s : Row). Misses s.block r) rows
 apart_from_keys rows mask hold ascending masked i j d less inside m e among met = grind arith
 
--- then no later kept row meets an alias of the row before
-pub later_clear : (rows : List Row) (kept : List ℕ) (i : ℕ) (d : Row) → AllPairs (λ (r s : Row). Misses s.block r) rows →
-    All (λ s. s < length rows) kept → 0 < i → i ≤ length rows → KeptFrom rows i (reverse kept) →
-    All (λ (r : Row). Misses r.block (get_or rows (i - 1) d)) (rows_at rows kept)
-later_clear rows kept i d apart in_range some within from =
-    misses_all rows kept (get_or rows (i - 1) d) (length kept) (omega arith) (λ k e less.
+-- then no later kept row meets an alias of the row before, as it was read
+pub missed : (rows : List Row) (kept list : List ℕ) → list ≡ kept → (i : ℕ) (row : Row) → row ≡ get_or rows (i - 1) row → AllPairs (λ (r s : Row). Misses s.block r) rows →
+    All (λ s. s < length rows) kept → 0 < i → i ≤ length rows → KeptFrom rows i (reverse kept) → All (λ (r : Row). Misses r.block row) (rows_at rows list)
+missed rows kept list same i row read apart in_range some within from =
+    subst (λ ks. All (λ (r : Row). Misses r.block row) (rows_at rows ks)) (sym same)
+    (misses_all rows kept row (length kept) (omega arith) (λ k e less.
     let behind : i ≤ get_or kept k 0 = subst (λ s. i ≤ s) (get_or-reverse-reverse k less)
     ((places_from rows i (reverse kept) from).behind (length kept - 1 - k) 0 (rw (length-reverse kept) (omega arith))) in
-    let at : i - 1 < length rows = omega arith in
-    subst (λ (r : Row). Misses (get_or rows (get_or kept k 0) e).block r) (get_or_default rows (i - 1) e d at)
-    (apart (i - 1) (get_or kept k 0) e (omega arith) (in_range k 0 less)))
+    subst (λ (r : Row). Misses (get_or rows (get_or kept k 0) e).block r) (get_or_default rows (i - 1) e row (omega arith) ∙ sym read)
+    (apart (i - 1) (get_or kept k 0) e (omega arith) (in_range k 0 less))))
   where
     get_or-reverse-reverse : (k : ℕ) → k < length kept → get_or (reverse kept) (length kept - 1 - k) 0 ≡ get_or kept k 0
     get_or-reverse-reverse k less = get_or-reverse kept (length kept - 1 - k) 0 (omega arith) ∙ ap (λ n. get_or kept n 0) (omega arith)

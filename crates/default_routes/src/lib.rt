@@ -11,4 +11,4 @@ mod stripping;
 
 pub use laws::final_tables_are_determined;
 pub use shortening::shorten;
-pub use stripping::{Final, strip};
+pub use stripping::{Final, RowsAt, RowsToStrip, strip};

@@ -6,7 +6,7 @@ ghost use Rattle.cover_merge.specs.Merges.{sets_of};
 ghost use Rattle.std.specs.List.Sorted.{IsPermutation};
 ghost use Rattle.default_routes.specs.FinalTable.{HaveRoutesOf, IsShortened, RoutesAlone};
 
-use crate::stripping::{Final, final_at, strip};
+use crate::stripping::{Final, RowsAt, RowsToStrip, final_at, strip};
 use cover_merge::{Covered, cover};
 use spin_base::{Memory, Seq};
 use std::alloc::Global;
@@ -25,8 +25,12 @@ pub fn shorten(alloc: Global, table: Table, target: u32) -> Result<Final, Memory
 {
     let covered = cover_long(alloc, table, target)?;
     let rows = covered.table.rows.as_slice();
-    let kept = strip(alloc, rows)?;
-    let done = final_at(alloc, rows, kept.as_slice())?;
+    let kept = strip(alloc, RowsToStrip { rows })?;
+    let at = RowsAt {
+        rows,
+        places: kept.as_slice(),
+    };
+    let done = final_at(alloc, at)?;
     Ok(done)
 }
 

@@ -1,7 +1,7 @@
 // Leaving out the rows that default routing replaces.
 ghost use Rattle.std.specs.Prelude.{◌≡◌, ◌<◌, ◌^◌, IfOk, All, AllPairs, MatchOption, MatchBool, length, map, true};
 ghost use Rattle.tern_word.specs.Entries.{entry_of};
-ghost use Rattle.tern_word.specs.SoundTable.{IsSound, HoldsItsAliases, Misses, served};
+ghost use Rattle.tern_word.specs.SoundTable.{IsSound, Misses, served};
 ghost use Rattle.cover_merge.specs.Merge.{rows_at};
 ghost use Rattle.spin_base.specs.Lookup.{straight_on};
 ghost use Rattle.spin_base.specs.declared.chips.Dir.{Dir};
@@ -20,45 +20,61 @@ pub struct Final {
 
 impl Shared for Final {}
 
+/// The rows of a sound table, fewer than 2^32.
+#[derive(Clone, Copy)]
+pub struct RowsToStrip<'a> {
+    pub rows: &'a [Row],
+    pub ghost few: { length rows.now < 2 ^ 32 },
+    pub ghost sound: { IsSound rows.now },
+}
+
+/// Some places of rows.
+#[derive(Clone, Copy)]
+pub struct RowsAt<'a> {
+    pub rows: &'a [Row],
+    pub places: &'a [u32],
+    pub ghost in_range: { All (λ s. s < length rows.now) places.now },
+}
+
 /// The places of the rows that default routing does not replace, ascending. From the last row to the first, a row goes where its
 /// route is one link, each alias arrives at the opposite link, and no later kept row meets an alias of it.
-pub fn strip(alloc: Global, rows: &[Row]) -> Result<Seq<u32>, Memory>
-    requires few { length rows.now < 2 ^ 32 }
-    requires sound { IsSound rows.now }
-    ensures kept { IfOk result (AreKept rows.now) }
-    ensures places { IfOk result (ArePlaces rows.now) }
-    ensures routes { IfOk result (RoutesAll rows.now) }
-    ensures serves { IfOk result (λ kept. All (λ o. Routes (rows_at rows.now kept) o)
-        (served rows.now)) }
+pub fn strip(alloc: Global, sound: RowsToStrip) -> Result<Seq<u32>, Memory>
+    ensures kept { IfOk result (AreKept sound.entry.rows.now) }
+    ensures places { IfOk result (ArePlaces sound.entry.rows.now) }
+    ensures routes { IfOk result (RoutesAll sound.entry.rows.now) }
+    ensures serves { IfOk result (λ kept. All (λ o. Routes (rows_at sound.entry.rows.now kept) o)
+        (served sound.entry.rows.now)) }
 {
-    let kept = kept_places(alloc, rows)?;
+    let kept = kept_places(alloc, sound)?;
     Ok(kept)
 }
 
 // The final table of the entries of the rows at these places.
-pub(crate) fn final_at(alloc: Global, rows: &[Row], places: &[u32]) -> Result<Final, Memory>
-    requires { All (λ s. s < length rows.now) places.now }
-    ensures { IfOk result (λ f. f.entries ≡ map entry_of (rows_at rows.now places.now)) }
+pub(crate) fn final_at(alloc: Global, at: RowsAt) -> Result<Final, Memory>
+    ensures { IfOk result (λ f.
+        f.entries ≡ map entry_of (rows_at at.entry.rows.now at.entry.places.now)) }
 {
     let mut entries = Seq::new(alloc);
-    for place in places {
-        entries.push(rows[*place as usize].entry())?;
+    for place in at.places {
+        entries.push(at.rows[*place as usize].entry())?;
     }
     Ok(Final { entries })
 }
 
 // The places of the kept rows, ascending: found from the last row to the first, and then turned round.
-fn kept_places(alloc: Global, rows: &[Row]) -> Result<Seq<u32>, Memory>
-    requires few { length rows.now < 2 ^ 32 }
-    requires hold { All HoldsItsAliases rows.now }
-    ensures { IfOk result (λ kept. AreKept rows.now kept) }
+fn kept_places(alloc: Global, sound: RowsToStrip) -> Result<Seq<u32>, Memory>
+    ensures { IfOk result (AreKept sound.entry.rows.now) }
 {
-    let apart = are_apart(rows);
+    let apart = are_apart(sound);
     let mut kept = Vec::new(alloc);
-    let mut i = rows.len();
+    let mut i = sound.rows.len();
     while i > 0 {
         i -= 1;
-        if !can_go(&rows[i], rows, &kept, apart) {
+        let later = RowsAt {
+            rows: sound.rows,
+            places: &kept,
+        };
+        if !can_go(&sound.rows[i], later, apart) {
             kept.push(i as u32)?;
         }
     }
@@ -67,10 +83,10 @@ fn kept_places(alloc: Global, rows: &[Row]) -> Result<Seq<u32>, Memory>
 }
 
 // Whether all rows have one mask, and their keys ascend: then no row meets an alias of another.
-fn are_apart(rows: &[Row]) -> bool
-    requires { All HoldsItsAliases rows.now }
-    ensures { result ≡ true → AllPairs (λ (r s : Row). Misses s.block r) rows.now }
+fn are_apart(sound: RowsToStrip) -> bool
+    ensures { result ≡ true → AllPairs (λ (r s : Row). Misses s.block r) sound.entry.rows.now }
 {
+    let rows = sound.rows;
     !rows.is_empty() && keys_ascend(rows, rows[0].block.mask)
 }
 
@@ -94,15 +110,16 @@ fn keys_ascend(rows: &[Row], mask: u32) -> bool
 }
 
 // Whether the row can go, where these later rows are kept. Where rows are apart, none of them meets it.
-fn can_go(row: &Row, rows: &[Row], kept: &[u32], apart: bool) -> bool
-    requires in_range { All (λ s. s < length rows.now) kept.now }
-    requires apart { apart ≡ true → All (λ r. Misses r.block row.now) (rows_at rows.now kept.now) }
-    ensures { MatchBool result (IsStrippable row.now (rows_at rows.now kept.now))
-        (IsStrippable row.now (rows_at rows.now kept.now) → ⊥) }
+fn can_go(row: &Row, kept: RowsAt, apart: bool) -> bool
+    ensures { (apart ≡ true → All (λ r. Misses r.block row.now)
+        (rows_at kept.entry.rows.now kept.entry.places.now))
+        → MatchBool result
+        (IsStrippable row.now (rows_at kept.entry.rows.now kept.entry.places.now))
+        (IsStrippable row.now (rows_at kept.entry.rows.now kept.entry.places.now) → ⊥) }
 {
     match arrival_of(row.route.bits) {
         Some(arrival) => {
-            all_arrive(row.aliases.as_slice(), arrival) && is_clear(row, rows, kept, apart)
+            all_arrive(row.aliases.as_slice(), arrival) && is_clear(row, kept, apart)
         }
         None => false,
     }
@@ -148,23 +165,26 @@ fn is_link(port: Port, link: Dir) -> bool
 }
 
 // The same as `all_clear`, which need not be asked where rows are apart.
-fn is_clear(row: &Row, rows: &[Row], kept: &[u32], apart: bool) -> bool
-    requires in_range { All (λ s. s < length rows.now) kept.now }
-    requires apart { apart ≡ true → All (λ r. Misses r.block row.now) (rows_at rows.now kept.now) }
-    ensures { MatchBool result (All (λ r. Misses r.block row.now) (rows_at rows.now kept.now))
-        (All (λ r. Misses r.block row.now) (rows_at rows.now kept.now) → ⊥) }
+fn is_clear(row: &Row, kept: RowsAt, apart: bool) -> bool
+    ensures { (apart ≡ true → All (λ r. Misses r.block row.now)
+        (rows_at kept.entry.rows.now kept.entry.places.now))
+        → MatchBool result (All (λ r. Misses r.block row.now)
+        (rows_at kept.entry.rows.now kept.entry.places.now))
+        (All (λ r. Misses r.block row.now)
+        (rows_at kept.entry.rows.now kept.entry.places.now) → ⊥) }
 {
-    apart || all_clear(row, rows, kept)
+    apart || all_clear(row, kept)
 }
 
 // Whether no row at the places meets an alias of the row.
-fn all_clear(row: &Row, rows: &[Row], places: &[u32]) -> bool
-    requires { All (λ s. s < length rows.now) places.now }
-    ensures { MatchBool result (All (λ r. Misses r.block row.now) (rows_at rows.now places.now))
-        (All (λ r. Misses r.block row.now) (rows_at rows.now places.now) → ⊥) }
+fn all_clear(row: &Row, at: RowsAt) -> bool
+    ensures { MatchBool result (All (λ r. Misses r.block row.now)
+        (rows_at at.entry.rows.now at.entry.places.now))
+        (All (λ r. Misses r.block row.now)
+        (rows_at at.entry.rows.now at.entry.places.now) → ⊥) }
 {
-    for s in places {
-        if !misses(rows[*s as usize].block, row) {
+    for s in at.places {
+        if !misses(at.rows[*s as usize].block, row) {
             return false;
         }
     }

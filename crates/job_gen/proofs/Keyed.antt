@@ -1,5 +1,5 @@
 -- Nets that need at most 16 keys each, and have none fixed: the first i nets take keys below 16 * i, so a range is left.
-use Rattle.std.proofs.Common.{◌≡◌, ℕ, zero, suc, ◌+◌, ◌-◌, ◌*◌, ◌%◌, ◌^◌, ◌<◌, ◌≤◌, List, [], ◌∷◌, ◌++◌, length, take, get_or, leb, ltb, Some, None, MatchOption, slice_get, inl, inr, ◌⊎◌, refl, sym}
+use Rattle.std.proofs.Common.{◌≡◌, ℕ, zero, suc, ◌+◌, ◌*◌, ◌%◌, ◌^◌, ◌<◌, ◌≤◌, List, [], ◌∷◌, ◌++◌, length, take, get_or, leb, ltb, Some, None, MatchOption, slice_get, inl, inr, ◌⊎◌, refl, sym}
 use Rattle.std.proofs.Common.{subst, arith}
 use Rattle.std.proofs.{lemmas.Bool.cases_lt, lemmas.Bool.and_parts, lemmas.Bool.leb-true, lemmas.Bool.ltb-true, Math.Pow.pow_mono, lemmas.List.length-take, lemmas.List.get_or-take}
 use Rattle.std.proofs.lemmas.{List.take_all, Option.slice_get_within, Option.slice_get-get_or}

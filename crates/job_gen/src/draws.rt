@@ -25,6 +25,14 @@ pub struct DrawnNet {
     pub keys: u32,
 }
 
+// All nets as they were drawn.
+#[derive(Clone, Copy)]
+struct AllNets<'a> {
+    nets: &'a [DrawnNet],
+    ghost many: { length nets.now ≡ 300 },
+    ghost keys: { All NeedsKey nets.now },
+}
+
 /// A packet as it was drawn: its net, its index in the net's keys, and its payload.
 #[derive(Clone, Copy)]
 pub struct DrawnPacket {
@@ -52,7 +60,10 @@ pub fn draw_job(alloc: Global, n: u64) -> Result<Drawn, Memory>
     let mut generator = Xoshiro256PlusPlus::seed_from_u64(n);
     let sdrams = draw_sdrams(alloc, &mut generator)?;
     let nets = draw_nets(alloc, &mut generator)?;
-    let packets = draw_packets(alloc, &mut generator, nets.as_slice())?;
+    let all = AllNets {
+        nets: nets.as_slice(),
+    };
+    let packets = draw_packets(alloc, &mut generator, all)?;
     Ok(Drawn {
         sdrams,
         nets,
@@ -130,30 +141,26 @@ fn draw_targets(
 fn draw_packets(
     alloc: Global,
     generator: &mut Xoshiro256PlusPlus,
-    nets: &[DrawnNet],
+    all: AllNets,
 ) -> Result<Seq<DrawnPacket>, Memory>
-    requires nets { length nets.now ≡ 300 }
-    requires keys { All NeedsKey nets.now }
     ensures { IfOk result (λ packets. (packets, generator.new)
-        ≡ draws (drawn_packet nets.now) 1200 generator.old) }
+        ≡ draws (drawn_packet all.entry.nets.now) 1200 generator.old) }
 {
     let mut packets = Vec::new(alloc);
     for i in 0..PACKETS {
-        let packet = draw_packet(generator, nets, i);
+        let packet = draw_packet(generator, all, i);
         packets.push(packet)?;
     }
     Ok(Seq::from_vec(packets))
 }
 
 // The packet of a number.
-fn draw_packet(generator: &mut Xoshiro256PlusPlus, nets: &[DrawnNet], i: usize) -> DrawnPacket
-    requires nets { length nets.now ≡ 300 }
-    requires packet { i < 1200 }
-    requires keys { All NeedsKey nets.now }
-    ensures { (result, generator.new) ≡ drawn_packet nets.now i generator.old }
+fn draw_packet(generator: &mut Xoshiro256PlusPlus, all: AllNets, i: usize) -> DrawnPacket
+    requires { i < 1200 }
+    ensures { (result, generator.new) ≡ drawn_packet all.entry.nets.now i generator.old }
 {
     let net = i / 4;
-    let index = draw(generator, u64::from(nets[net].keys)) as u32;
+    let index = draw(generator, u64::from(all.nets[net].keys)) as u32;
     let payload = draw(generator, 4_294_967_296) as u32;
     DrawnPacket {
         net: net as u32,

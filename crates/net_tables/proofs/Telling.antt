@@ -93,9 +93,12 @@ pub routes_start : (m : Description) (edges : List Edge) (routes : List Route) �
 routes_start m edges routes clear c o inside valid = ap (λ r. has r o) (clear.clear c inside) ∙ (has_nothing o ∙ sym (none_wanted c o))
 
 -- where the route of a chip of the tree is written, chips off the tree have none as before
-pub off_kept : (m : Description) (net : NetPlan) (k : Chip) (p : ℕ) (r : Route) (routes : List Route) → IsInside m k → HasChip m net k → p ≡ index_of m k →
+pub off_kept : (m : Description) (net : NetPlan) (k : Chip) (p : ℕ) (r : Route) (routes : List Route) → IsInside m k → ((HasChip m net k → ⊥) → ⊥) → p ≡ index_of m k →
     IsClearOff m net routes → IsClearOff m net (set routes p r)
-off_kept m net k p r routes k_in on at none c inside off = grind (arith, get_or-set_other, same_index)
+off_kept m net k p r routes k_in on at none c inside off = elim (cases_eq (index_of m c) p) [
+  | inl here ↦ absurd (on (subst (λ x. HasChip m net x → ⊥) (same_index m c k inside k_in (here ∙ at)) off))
+  | inr other ↦ get_or-set_other routes p (index_of m c) r nothing other ∙ none c inside off
+]
 
 -- one output more at one chip
 module _ (m : Description) (k : Chip) (x : Out) (added : Chip → Out → Bool) (is : added k x ≡ true)

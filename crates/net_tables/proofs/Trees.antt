@@ -1,12 +1,12 @@
 -- A routing tree is inside the grid, and what is told of its chips is what their lists get.
 use Rattle.std.proofs.Common.{arith, ◌≡◌, ℕ, ◌<◌, List, length, get_or, Option, Some, None, refl, sym, subst, inl, inr}
 use Rattle.std.specs.List.{All}
-use Rattle.std.proofs.{Math.ListN.get_or-map, lemmas.List.length-map, lemmas.List.Elements.All-contains}
+use Rattle.std.proofs.{Math.ListN.get_or-map, Math.Logic.∥∥₁_elim, Props.props, lemmas.List.length-map, lemmas.List.Elements.All-contains}
 use Rattle.spin_base.specs.{declared.chips.Chip.Chip, declared.chips.Spot.Spot, declared.chips.Port.Port, declared.routes.Out.Out, declared.routes.Route.Route, Outputs.has, Outputs.IsOutput}
 use Rattle.machine_desc.specs.{declared.trees.Edge.Edge, Description.Description, Live.IsInside, RoutingTree.IsTreeChip, RoutingTree.IsRoutingTree, declared.nets.NetPlan.NetPlan, Outputs.is_wanted}
 use Rattle.machine_desc.specs.Outputs.{ComesIn}
 use Rattle.machine_desc.proofs.{Far.far_inside, Far.live_inside, Far.live_ends, TreeLemmas.tree_cases}
-use Rattle.net_tables.specs.{declared.marks.Mark.Mark, Marks.TellsPort, Marks.GainsMark, Marks.with_mark}
+use Rattle.net_tables.specs.{declared.marks.Mark.Mark, Marks.IsRouted, Marks.TellsPort, Marks.GainsMark, Marks.with_mark, PlainTable.HasChip}
 
 module _ (m : Description) (root : Chip) (edges : List Edge) (targets : List Spot) (tree : IsRoutingTree m root edges targets) where
   pub edges_inside : All (λ (e : Edge). IsInside m e.chip) edges
@@ -22,20 +22,30 @@ module _ (m : Description) (root : Chip) (edges : List Edge) (targets : List Spo
       subst (IsTreeChip m root edges) (get_or-map (λ (s : Spot). s.chip) targets k d)
       (tree.has_targets k d.chip (subst (λ n. k < n) (sym (length-map targets (λ (s : Spot). s.chip))) below))
 
-  -- the same of an edge or a target that is read from a list that is theirs
-  module _ (items : List Edge) (same : items ≡ edges) (k : ℕ) (d : Edge) (below : k < length items) where
-    pub edge_inside : IsInside m (get_or items k d).chip
-    edge_inside = subst (All (λ (e : Edge). IsInside m e.chip)) (sym same) edges_inside k d below
+-- the same of an edge or a target that is read from a list that is a net's
+module _ (m : Description) (net : NetPlan) (routed : ∥ IsRouted m net ∥₁) where
+  pub root_in : IsInside m net.tree.root
+  root_in = ∥∥₁_elim routed (hlevel props) (λ is. is.root)
 
-    pub edge_on : IsTreeChip m root edges (get_or items k d).chip
-    edge_on = subst (All (λ (e : Edge). IsTreeChip m root edges e.chip)) (sym same) tree.edges_begin k d below
+  module _ (items : List Edge) (same : items ≡ net.tree.edges) (k : ℕ) (d : Edge) (below : k < length items) where
+    pub edge_in : IsInside m (get_or items k d).chip
+    edge_in = ∥∥₁_elim routed (hlevel props) (λ is. subst (All (λ (e : Edge). IsInside m e.chip)) (sym same) (edges_inside m net.tree.root net.tree.edges net.targets is.tree) k d below)
 
-  module _ (items : List Spot) (same : items ≡ targets) (k : ℕ) (d : Spot) (below : k < length items) where
-    pub target_on : IsTreeChip m root edges (get_or items k d).chip
-    target_on = subst (All (λ (s : Spot). IsTreeChip m root edges s.chip)) (sym same) targets_on k d below
+    pub edge_not_off : (HasChip m net (get_or items k d).chip → ⊥) → ⊥
+    edge_not_off off = ∥∥₁_elim routed (hlevel props) (λ is. off (subst (All (λ (e : Edge). HasChip m net e.chip)) (sym same) is.tree.edges_begin k d below))
 
-    pub target_inside : IsInside m root → IsInside m (get_or items k d).chip
-    target_inside root_in = chips_inside root_in (get_or items k d).chip target_on
+  module _ (items : List Spot) (same : items ≡ net.targets) (k : ℕ) (d : Spot) (below : k < length items) where
+    on : IsRouted m net → HasChip m net (get_or items k d).chip
+    on is = subst (All (λ (s : Spot). HasChip m net s.chip)) (sym same) (targets_on m net.tree.root net.tree.edges net.targets is.tree) k d below
+
+    pub target_in : IsInside m (get_or items k d).chip
+    target_in = ∥∥₁_elim routed (hlevel props) (λ is. chips_inside m net.tree.root net.tree.edges net.targets is.tree is.root (get_or items k d).chip (on is))
+
+    pub target_not_off : (HasChip m net (get_or items k d).chip → ⊥) → ⊥
+    target_not_off off = ∥∥₁_elim routed (hlevel props) (λ is. off (on is))
+
+    pub core_in : (get_or items k d).core < 24
+    core_in = ∥∥₁_elim routed (hlevel props) (λ is. subst (All (λ (s : Spot). s.core < 24)) (sym same) is.cores k d below)
 
 -- where packets come in is a chip of the tree
 pub comes_in_tree : (m : Description) (root : Chip) (edges : List Edge) (c : Chip) (port : Port) → ComesIn m root edges c port → IsTreeChip m root edges c

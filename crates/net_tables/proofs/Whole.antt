@@ -16,8 +16,12 @@ use Rattle.tern_word.specs.SoundTable.{Misses, HoldsItsAliases, IsSound, served}
 use Rattle.tern_word.proofs.BlockLaws.{Intersects-sym}
 use Rattle.net_tables.specs.{declared.marks.Mark.Mark, PlainTable.HasChip, PlainTable.IsOriginalOf, PlainTable.AreOriginals, PlainTable.IsRowNotAfter, PlainTable.IsPlainTable}
 use Rattle.net_tables.specs.PlainTable.{ServesOriginals, AtEach, AreRoutedApart, ArePlainTables, row_of, entry_of, entries}
-use Rattle.net_tables.specs.Marks.{AreApart, AreBlocksOf, AreTurningBlocksOf, original_of, row_of_mark, turns, IsTableOf}
+use Rattle.net_tables.specs.Marks.{AreApart, AreBlocksOf, AreTurningBlocksOf, IsRouted, original_of, row_of_mark, turns, IsTableOf}
 use Rattle.net_tables.proofs.Trees.{chips_inside, comes_in_tree}
+
+-- nets that are routed apart are each routed
+pub all_routed : (m : Description) (nets : List NetPlan) → AreRoutedApart m nets → All (IsRouted m) nets
+all_routed m nets are k d below = record { tree = are.trees k d below; root = are.roots k d below; cores = are.cores k d below }
 
 -- ---- lists
 

@@ -15,6 +15,14 @@ pub struct Mark {
     pub route: Route,
 }
 
+/// A net's plan on a machine: its tree is a routing tree for its targets, with the root in the grid.
+#[derive(Clone, Copy)]
+pub struct RoutedPlan<'a> {
+    pub machine: &'a Machine,
+    pub net: &'a NetPlan,
+    pub ghost routed: { ∥ IsRouted machine.now net.now ∥₁ },
+}
+
 /// A board without a port.
 pub fn no_ports(alloc: Global, machine: &Machine) -> Result<Vec<Option<Port>>, Memory>
     ensures { IfOk result (λ v. IsBlank machine.now None v.items) }
@@ -30,46 +38,48 @@ pub fn no_routes(alloc: Global, machine: &Machine) -> Result<Vec<Route>, Memory>
 }
 
 /// Writes the port at which packets come in at each chip of the net's tree.
-pub fn set_ports(machine: &Machine, net: &NetPlan, ports: &mut [Option<Port>])
-    requires routed { IsRouted machine.now net.now }
-    requires clear { IsBlank machine.now None ports.old }
-    ensures long { length ports.new ≡ machine.now.width * machine.now.height }
-    ensures told { TellsPorts machine.now net.now.tree.root net.now.tree.edges ports.new }
+pub fn set_ports(plan: RoutedPlan, ports: &mut [Option<Port>])
+    requires { IsBlank plan.machine.now None ports.old }
+    ensures long { length ports.new
+        ≡ plan.entry.machine.now.width * plan.entry.machine.now.height }
+    ensures told { TellsPorts plan.entry.machine.now plan.entry.net.now.tree.root
+        plan.entry.net.now.tree.edges ports.new }
 {
-    ports[machine.index(net.tree.root) as usize] = Some(Port::Local);
-    for edge in net.tree.edges.as_slice() {
-        if let Some(chip) = machine.far(edge.chip, edge.dir) {
-            ports[machine.index(chip) as usize] = Some(Port::Link(edge.dir.opposite()));
+    ports[plan.machine.index(plan.net.tree.root) as usize] = Some(Port::Local);
+    for edge in plan.net.tree.edges.as_slice() {
+        if let Some(chip) = plan.machine.far(edge.chip, edge.dir) {
+            ports[plan.machine.index(chip) as usize] = Some(Port::Link(edge.dir.opposite()));
         }
     }
 }
 
 /// Writes the links by which the net's tree goes on from each of its chips.
-pub fn set_links(machine: &Machine, net: &NetPlan, routes: &mut [Route])
-    requires routed { IsRouted machine.now net.now }
-    requires clear { IsBlank machine.now nothing routes.old }
-    ensures long { length routes.new ≡ machine.now.width * machine.now.height }
-    ensures told { TellsRoutes machine.now net.now.tree.edges [] routes.new }
-    ensures clear_off { IsClearOff machine.now net.now routes.new }
+pub fn set_links(plan: RoutedPlan, routes: &mut [Route])
+    requires { IsBlank plan.machine.now nothing routes.old }
+    ensures long { length routes.new
+        ≡ plan.entry.machine.now.width * plan.entry.machine.now.height }
+    ensures told { TellsRoutes plan.entry.machine.now plan.entry.net.now.tree.edges [] routes.new }
+    ensures clear_off { IsClearOff plan.entry.machine.now plan.entry.net.now routes.new }
 {
-    for edge in net.tree.edges.as_slice() {
-        let place = machine.index(edge.chip) as usize;
+    for edge in plan.net.tree.edges.as_slice() {
+        let place = plan.machine.index(edge.chip) as usize;
         routes[place] = routes[place].with(Out::Link(edge.dir));
     }
 }
 
 /// Adds the outputs of the net's targets to the links.
-pub fn set_targets(machine: &Machine, net: &NetPlan, routes: &mut [Route])
-    requires routed { IsRouted machine.now net.now }
-    requires long { length routes.old ≡ machine.now.width * machine.now.height }
-    requires links { TellsRoutes machine.now net.now.tree.edges [] routes.old }
-    requires clear_off { IsClearOff machine.now net.now routes.old }
-    ensures long { length routes.new ≡ machine.now.width * machine.now.height }
-    ensures told { TellsRoutes machine.now net.now.tree.edges net.now.targets routes.new }
-    ensures clear_off { IsClearOff machine.now net.now routes.new }
+pub fn set_targets(plan: RoutedPlan, routes: &mut [Route])
+    requires { length routes.old ≡ plan.machine.now.width * plan.machine.now.height }
+    ensures long { length routes.new
+        ≡ plan.entry.machine.now.width * plan.entry.machine.now.height }
+    ensures told { TellsRoutes plan.entry.machine.now plan.entry.net.now.tree.edges [] routes.old
+        → TellsRoutes plan.entry.machine.now plan.entry.net.now.tree.edges
+        plan.entry.net.now.targets routes.new }
+    ensures clear_off { IsClearOff plan.entry.machine.now plan.entry.net.now routes.old
+        → IsClearOff plan.entry.machine.now plan.entry.net.now routes.new }
 {
-    for target in net.targets.as_slice() {
-        let place = machine.index(target.chip) as usize;
+    for target in plan.net.targets.as_slice() {
+        let place = plan.machine.index(target.chip) as usize;
         routes[place] = routes[place].with(out_of(target.core));
     }
 }

@@ -5,7 +5,7 @@ ghost use Rattle.net_tables.specs.PlainTable.{AreRoutedApart};
 ghost use Rattle.net_tables.specs.Marks.{AreApart, AreTurningBlocksOf, goes_straight, turns};
 ghost use Rattle.net_tables.specs.declared.marks.Mark.{Mark};
 
-use crate::gather::{empty_lists, marks_of};
+use crate::gather::{RoutedPlans, empty_lists, marks_of};
 use crate::marks::Mark;
 use machine_desc::{Machine, NetPlan};
 use spin_base::{Dir, Memory, Port, Route, Seq};
@@ -16,10 +16,10 @@ const NETS_AT_A_TIME: usize = 64;
 
 /// Of the original blocks of each chip, by the chip's index, those that do not go straight on, in the order of the nets. No
 /// more are held at a time than these and the original blocks of a few nets.
-pub fn turning_blocks(
+pub fn turning_blocks<'x>(
     alloc: Global,
-    machine: &Machine,
-    nets: &Seq<NetPlan>,
+    machine: &'x Machine,
+    nets: &'x Seq<NetPlan>,
 ) -> Result<Seq<Seq<Mark>>, Memory>
     requires { AreRoutedApart machine.now nets.now }
     ensures blocks { IfOk result (AreTurningBlocksOf machine.now nets.now) }
@@ -31,10 +31,10 @@ pub fn turning_blocks(
 }
 
 // The same, some nets at a time.
-fn turning_lists(
+fn turning_lists<'x>(
     alloc: Global,
-    machine: &Machine,
-    nets: &Seq<NetPlan>,
+    machine: &'x Machine,
+    nets: &'x Seq<NetPlan>,
 ) -> Result<Vec<Seq<Mark>>, Memory>
     requires { AreRoutedApart machine.now nets.now }
     ensures { IfOk result (λ v. AreTurningBlocksOf machine.now nets.now v.items) }
@@ -44,7 +44,11 @@ fn turning_lists(
     let mut done = 0;
     while done < plans.len() {
         let end = plans.len().min(done + NETS_AT_A_TIME);
-        let lists = marks_of(alloc, machine, &plans[done..end])?;
+        let some = RoutedPlans {
+            machine,
+            nets: &plans[done..end],
+        };
+        let lists = marks_of(alloc, some)?;
         add_turning(&lists, &mut kept)?;
         done = end;
     }

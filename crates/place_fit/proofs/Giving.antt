@@ -1,26 +1,26 @@
 -- Cores and memory given back to a board.
-use Rattle.std.proofs.Common.{◌≡◌, ◌≢◌, ℕ, zero, suc, ◌-◌, ◌^◌, ◌<◌, ◌≤◌, ◌==◌, Bool, true, false, ◌||◌, cond, List, [], ◌∷◌, ◌++◌, length, set, get_or, refl, sym, ap, ap₂, ◌∙◌, Some, slice_get, inl}
+use Rattle.std.proofs.Common.{◌≡◌, ◌≢◌, ℕ, zero, suc, ◌^◌, ◌<◌, ◌≤◌, ◌==◌, Bool, true, false, ◌||◌, cond, List, [], ◌∷◌, ◌++◌, length, get_or, refl, sym, ap, ap₂, ◌∙◌, Some, slice_get, inl}
 use Rattle.std.proofs.Common.{inr, arith}
 use Rattle.std.specs.{Int.bit_at, List.list_any}
 use Rattle.std.proofs.lemmas.Bool.{cases_Bool, cases_eq, cases_lt, and_left, and_right, and_from, both_ways, cond-true, cond-false, or_from, or_left, or_parts, or_right, Decides.nat_tests}
-use Rattle.std.proofs.lemmas.{List.get_or-set_same, List.get_or-set_other, List.length-set, List.Folds.list_any-append, Nat.Bits.bit_at_above, Option.slice_get_within}
+use Rattle.std.proofs.lemmas.{List.get_or-set_same, List.get_or-set_other, List.Folds.list_any-append, Nat.Bits.bit_at_above, Option.slice_get_within}
 use Rattle.std.proofs.Math.Bool.{or-false}
 use Rattle.spin_base.proofs.{Places.slice_get_there, Equality.chip_eq_true, Equality.chip_eq_same}
 use Rattle.spin_base.specs.{declared.chips.Chip.Chip, declared.chips.Spot.Spot, Equality.chip_eq, Equality.spot_eq}
 use Rattle.machine_desc.specs.{Description.Description, Live.is_usable}
 use Rattle.place_fit.specs.{declared.boards.Board.Board, declared.boards.Placed.Placed, Curve.hilbert, Curve.IsCurveLevel, Quarters.curve_place, Boards.AreFreeOn, Boards.AreGiven}
-use Rattle.place_fit.specs.Boards.{AreOthersKept, AreSettled, HaveOneGrid, IsBoard, IsFilled, IsFreed, IsJoined, IsWholeBoard, IsWith, has_spot_on, room_left}
+use Rattle.place_fit.specs.Boards.{AreOthersKept, AreSettled, HaveOneGrid, IsFilled, IsFreed, IsJoined, IsMadeWhole, IsWholeBoard, IsWith, has_spot_on, room_left}
 use Rattle.place_fit.specs.Placement.{core_spot}
 use Rattle.place_fit.proofs.{CurveLaws.place_at, Standing.usable_parts}
 
 -- ---- one spot
 
-module _ (old mid new : Board) (s : Spot) (place : ℕ) (was : IsBoard old) (board : IsBoard mid) (level : mid.level ≡ old.level)
+module _ (old mid new : Board) (s : Spot) (place : ℕ) (level : mid.level ≡ old.level)
     (sdram : mid.sdram ≡ old.sdram) (chips : mid.chips ≡ old.chips) (rooms : mid.rooms ≡ old.rooms)
     (at : slice_get old.chips place ≡ Some s.chip) (kept : (q : ℕ) → q ≢ place → get_or mid.cores.items q 0 ≡ get_or old.cores.items q 0)
-    (is : new ≡ record mid { rooms = set mid.rooms place (room_left (get_or mid.cores.items place 0) mid.sdram) }) where
+    (made : IsMadeWhole place mid new) where
   on_curve : (q : ℕ) (c : Chip) → slice_get old.chips q ≡ Some c → slice_get (hilbert old.level) q ≡ Some c
-  on_curve q c here = ap (λ l. slice_get l q) (sym was.chips) ∙ here
+  on_curve q c here = ap (λ l. slice_get l q) (sym old.curve) ∙ here
 
   apart : (q : ℕ) (c : Chip) → slice_get old.chips q ≡ Some c → q ≢ place → chip_eq c s.chip ≡ false
   apart q c here other =
@@ -35,42 +35,26 @@ module _ (old mid new : Board) (s : Spot) (place : ℕ) (was : IsBoard old) (boa
   here_chip : (q : ℕ) (c : Chip) → slice_get old.chips q ≡ Some c → q ≡ place → c ≡ s.chip
   here_chip q c here same = grind (arith, slice_get old.chips)
 
-  same_level : new.level ≡ mid.level
-  same_level = ap (λ (b : Board). b.level) is
-
-  same_chips : new.chips ≡ mid.chips
-  same_chips = ap (λ (b : Board). b.chips) is
-
-  same_cores : new.cores.items ≡ mid.cores.items
-  same_cores = ap (λ (b : Board). b.cores.items) is
-
-  new_rooms : new.rooms ≡ set mid.rooms place (room_left (get_or mid.cores.items place 0) mid.sdram)
-  new_rooms = ap (λ (b : Board). b.rooms) is
-
-  new_board : IsBoard new
-  new_board = grind (arith, same_level, same_chips, same_cores, new_rooms, length-set mid.rooms place (room_left (get_or mid.cores.items place 0) mid.sdram), get_or mid.cores.items place 0)
-
   has_here : (q : ℕ) (c : Chip) → slice_get old.chips q ≡ Some c → q ≡ place → has_spot_on c (s ∷ []) ≡ true
   has_here q c here same = or-false (chip_eq c s.chip) ∙ (ap (λ d. chip_eq d s.chip) (here_chip q c here same) ∙ chip_eq_same s.chip)
 
   pub settled_one : AreSettled (s ∷ []) old new
   settled_one = record {
-    level = same_level ∙ level;
-    sdram = ap (λ (b : Board). b.sdram) is ∙ sdram;
-    chips = same_chips ∙ chips;
-    board = new_board;
+    level = made.level ∙ level;
+    sdram = made.sdram ∙ sdram;
+    chips = made.chips ∙ chips;
     rooms = λ q c here.
         let room = room_left (get_or mid.cores.items place 0) mid.sdram in
         elim (cases_eq q place) [
           | inl same ↦ (
-              let within : place < length mid.rooms = omega (arith, slice_get_within old.chips place s.chip at, board.rooms, ap length chips) in
-              let read : get_or new.rooms q 0 ≡ room = ap₂ (λ (l : List ℕ) (i : ℕ). get_or l i 0) new_rooms same ∙ get_or-set_same mid.rooms place room 0 within in
-              let cores : get_or mid.cores.items place 0 ≡ get_or new.cores.items q 0 = ap₂ (λ (l : List ℕ) (i : ℕ). get_or l i 0) (sym same_cores) (sym same) in
+              let within : place < length mid.rooms = omega (arith, slice_get_within old.chips place s.chip at, mid.rooms_beside, ap length chips) in
+              let read : get_or new.rooms q 0 ≡ room = ap₂ (λ (l : List ℕ) (i : ℕ). get_or l i 0) made.rooms same ∙ get_or-set_same mid.rooms place room 0 within in
+              let cores : get_or mid.cores.items place 0 ≡ get_or new.cores.items q 0 = ap₂ (λ (l : List ℕ) (i : ℕ). get_or l i 0) (sym made.cores) (sym same) in
               read
               ∙ (ap₂ room_left cores sdram
               ∙ sym (cond-true (has_spot_on c (s ∷ [])) (room_left (get_or new.cores.items q 0) old.sdram) (get_or old.rooms q 0) (has_here q c here same)))
               )
-          | inr other ↦ ap (λ l. get_or l q 0) new_rooms
+          | inr other ↦ ap (λ l. get_or l q 0) made.rooms
               ∙ (get_or-set_other mid.rooms place q room 0 other
               ∙ (ap (λ l. get_or l q 0) rooms
               ∙ sym (cond-false (has_spot_on c (s ∷ [])) (room_left (get_or new.cores.items q 0) old.sdram) (get_or old.rooms q 0) (or-false (chip_eq c s.chip) ∙ apart q c here other))))
@@ -78,13 +62,13 @@ module _ (old mid new : Board) (s : Spot) (place : ℕ) (was : IsBoard old) (boa
     cores = λ q c here none.
         elim (cases_eq q place) [
           | inl same ↦ absurd (both_ways _ none (has_here q c here same))
-          | inr other ↦ ap (λ l. get_or l q 0) same_cores ∙ kept q other
+          | inr other ↦ ap (λ l. get_or l q 0) made.cores ∙ kept q other
         ];
   }
 
   -- the spot is no core
   given_none : mid.cores.items ≡ old.cores.items → 18 ≤ s.core → AreGiven (s ∷ []) old new
-  given_none same high = grind (arith, settled_one, same_cores, nat_tests, get_or, apart, cond-false, or-false, and_right)
+  given_none same high = grind (arith, settled_one, made.cores, nat_tests, get_or, apart, cond-false, or-false, and_right)
 
   given_one : IsJoined (get_or old.cores.items place 0) s.core (get_or mid.cores.items place 0) → AreGiven (s ∷ []) old new
   given_one joined = record {
@@ -93,7 +77,7 @@ module _ (old mid new : Board) (s : Spot) (place : ℕ) (was : IsBoard old) (boa
         let given : Bool = list_any (spot_eq (core_spot c p)) (s ∷ []) in
         elim (cases_eq q place) [
           | inl same ↦ (
-              let bits : get_or new.cores.items q 0 ≡ get_or mid.cores.items place 0 = ap₂ (λ (l : List ℕ) (i : ℕ). get_or l i 0) same_cores same in
+              let bits : get_or new.cores.items q 0 ≡ get_or mid.cores.items place 0 = ap₂ (λ (l : List ℕ) (i : ℕ). get_or l i 0) made.cores same in
               elim (cases_eq p s.core) [
                 | inl core ↦ (
                     let is_it : given ≡ true = or-false (spot_eq (core_spot c p) s)
@@ -109,17 +93,17 @@ module _ (old mid new : Board) (s : Spot) (place : ℕ) (was : IsBoard old) (boa
               )
           | inr other ↦ (
               let is_not : given ≡ false = or-false (spot_eq (core_spot c p) s) ∙ and_left (chip_eq c s.chip) (p == s.core) (apart q c here other) in
-              ap (λ n. bit_at n p) (ap (λ l. get_or l q 0) same_cores ∙ kept q other) ∙ sym (cond-false given 1 (bit_at (get_or old.cores.items q 0) p) is_not)
+              ap (λ n. bit_at n p) (ap (λ l. get_or l q 0) made.cores ∙ kept q other) ∙ sym (cond-false given 1 (bit_at (get_or old.cores.items q 0) p) is_not)
               )
         ];
   }
 
-pub given : (old mid new : Board) (s : Spot) (place : ℕ) → IsBoard old → IsFreed place s.core old mid → slice_get old.chips place ≡ Some s.chip
-    → new ≡ record mid { rooms = set mid.rooms place (room_left (get_or mid.cores.items place 0) mid.sdram) } → AreGiven (s ∷ []) old new
-given old mid new s place was freed at is =
+pub given : (old mid new : Board) (s : Spot) (place : ℕ) → IsFreed place s.core old mid → slice_get old.chips place ≡ Some s.chip
+    → IsMadeWhole place mid new → AreGiven (s ∷ []) old new
+given old mid new s place freed at made =
     elim (cases_lt s.core 18) [
-      | inl low ↦ given_one old mid new s place was freed.board freed.level freed.sdram freed.chips freed.rooms at freed.others is (freed.low low)
-      | inr high ↦ given_none old mid new s place was freed.board freed.level freed.sdram freed.chips freed.rooms at freed.others is (freed.high high) high
+      | inl low ↦ given_one old mid new s place freed.level freed.sdram freed.chips freed.rooms at freed.others made (freed.low low)
+      | inr high ↦ given_none old mid new s place freed.level freed.sdram freed.chips freed.rooms at freed.others made (freed.high high) high
     ]
 
 -- ---- one spot after others
@@ -134,11 +118,11 @@ few_push (y ∷ ys) x all low (suc q) = few_push ys x (λ k. all (suc k)) low q
 pub kept_more : (spots : List Spot) (a b c : Board) (place sdram : ℕ) (r : Placed) → AreOthersKept spots a b → IsFilled place sdram b c r → AreOthersKept (spots ++ r.spot ∷ []) a c
 kept_more spots a b c place sdram r kept filled = grind (arith, slice_get b.chips, chip_eq_same r.spot.chip, get_or b.rooms place 0, or_parts, list_any-append, both_ways, or-false, get_or-set_other)
 
-pub settled_none : (b : Board) → IsBoard b → AreSettled [] b b
-settled_none b board = record { level = refl; sdram = refl; chips = refl; board = board; rooms = λ q c here. refl; cores = λ q c here none. refl }
+pub settled_none : (b : Board) → AreSettled [] b b
+settled_none b = record { level = refl; sdram = refl; chips = refl; rooms = λ q c here. refl; cores = λ q c here none. refl }
 
-pub given_nothing : (b : Board) → IsBoard b → AreGiven [] b b
-given_nothing b board = record { settled = settled_none b board; free = λ q c here p low. refl }
+pub given_nothing : (b : Board) → AreGiven [] b b
+given_nothing b = record { settled = settled_none b; free = λ q c here p low. refl }
 
 module _ (spots : List Spot) (s : Spot) (a b c : Board) where
   both : (d : Chip) → has_spot_on d (spots ++ s ∷ []) ≡ (has_spot_on d spots || has_spot_on d (s ∷ []))
@@ -149,7 +133,6 @@ module _ (spots : List Spot) (s : Spot) (a b c : Board) where
     level = then.level ∙ first.level;
     sdram = then.sdram ∙ first.sdram;
     chips = then.chips ∙ first.chips;
-    board = then.board;
     rooms = λ q d here.
         let there : slice_get b.chips q ≡ Some d = ap (λ l. slice_get l q) first.chips ∙ here in
         let all : Bool = has_spot_on d (spots ++ s ∷ []) in
@@ -211,7 +194,6 @@ kept_same spots b = record { level = refl; sdram = refl; chips = refl; cores = �
 
 pub whole_again : (spots : List Spot) (old mid new : Board) → IsWholeBoard old → AreOthersKept spots old mid → AreSettled spots mid new → IsWholeBoard new
 whole_again spots old mid new whole kept settled = record {
-  board = settled.board;
   rooms = λ q inside.
       let (c, at_new) = slice_get_there new.chips q inside in
       let at_mid : slice_get mid.chips q ≡ Some c = ap (λ l. slice_get l q) (sym settled.chips) ∙ at_new in
@@ -251,6 +233,6 @@ free_with spots m n old new free more given = record {
         | inl core ↦ given.free q c at p core
             ∙ (ap (cond (list_any (spot_eq s) spots) 1) (free.free q c at p low)
             ∙ (cond_or (is_usable m s) (list_any (spot_eq s) spots) ∙ ap (λ (t : Bool). cond t 1 0) (sym (more.usable s))))
-        | inr high ↦ high_bit n c (get_or new.cores.items q 0) p (given.settled.board.few q) high
+        | inr high ↦ high_bit n c (get_or new.cores.items q 0) p (new.few q) high
       ];
 }

@@ -11,7 +11,7 @@ use Rattle.machine_desc.specs.{declared.trees.Edge.Edge, Description.Description
 use Rattle.machine_desc.proofs.{Same.same_edge, Same.same_dir, Same.below_six, Sites.usable_site}
 use Rattle.app_graph.specs.{declared.graphs.Vertex.Vertex, ValidGraph.HaveDifferentDevices}
 use Rattle.place_fit.specs.{declared.boards.Board.Board, declared.boards.Placed.Placed, Curve.hilbert, Curve.IsCurveLevel, Quarters.curve_place, Boards.AreFreeOn, Boards.AreGiven, Boards.AreSettled}
-use Rattle.place_fit.specs.Boards.{IsBoard, IsWithout, IsWholeBoard, IsPlaceWithRoom, HasNoRoomAt, HasNoPlace, IsFilled, IsPutOnCore, IsPutAtLink, IsPut, HasNoSpot}
+use Rattle.place_fit.specs.Boards.{IsWithout, IsWholeBoard, IsPlaceWithRoom, HasNoRoomAt, HasNoPlace, IsFilled, IsPutOnCore, IsPutAtLink, IsPut, HasNoSpot}
 use Rattle.place_fit.specs.Placement.{core_spot, need_of, used_on, HasRoom, IsFirstChip, choices, IsCoreFor, HasDeviceRoom, device_spot, IsSpotFor, FindsNoRoom, HasNoRoom, AreFirstSpots}
 use Rattle.place_fit.specs.{Placement.AreFirstMemories, Placement.memory_of, Standing.ArePlaced, Standing.IsChipTold, Standing.Stands}
 use Rattle.place_fit.proofs.{CurveLaws.at_place, Giving.high_bit, Giving.same_curve, UsableSpots.any_usable, Standing.live_in, Standing.free_parts, Standing.free_at, Standing.bit_of_free}
@@ -38,7 +38,7 @@ first_has P (x ∷ xs) c f = elim f [ inl here ↦ subst P here.1 here.0 | inr l
 
 module _ (m : Description) (vs : List Vertex) (ss : List Spot) (b : Board) (stands : Stands m vs ss b) (v : Vertex) where
   on_board : (q : ℕ) (c : Chip) → slice_get (hilbert b.level) q ≡ Some c → slice_get b.chips q ≡ Some c
-  on_board q c at = ap (λ l. slice_get l q) stands.board.chips ∙ at
+  on_board q c at = ap (λ l. slice_get l q) b.curve ∙ at
 
   -- a place has room exactly where its number says so
   told_at : (q : ℕ) (c : Chip) → slice_get b.chips q ≡ Some c → IsChipTold m vs ss c (get_or b.cores.items q 0) (get_or b.rooms q 0)
@@ -52,12 +52,12 @@ module _ (m : Description) (vs : List Vertex) (ss : List Spot) (b : Board) (stan
     here = stands.told place r.spot.chip filled.chip
 
     has : HasRoom m vs ss v r.spot.chip
-    has = has_room m vs ss r.spot.chip (get_or b.cores.items place 0) (get_or b.rooms place 0) here v (stands.board.few place) found.enough
+    has = has_room m vs ss r.spot.chip (get_or b.cores.items place 0) (get_or b.rooms place 0) here v (b.few place) found.enough
 
     by_choice : (at : Option Chip) → MatchOption at ((q : ℕ) → q < place → get_or b.rooms q 0 ≤ v.sdram) (λ c. slice_get b.chips place ≡ Some c)
         → IsFirstChip (HasRoom m vs ss v) (choices (filter (is_live_chip m) (hilbert b.level)) at) r.spot.chip
     by_choice None first =
-        first_from_place (HasRoom m vs ss v) (is_live_chip m) (hilbert b.level) place r.spot.chip (ap (λ l. slice_get l place) (sym stands.board.chips) ∙ filled.chip) has (lives r.spot.chip has)
+        first_from_place (HasRoom m vs ss v) (is_live_chip m) (hilbert b.level) place r.spot.chip (ap (λ l. slice_get l place) (sym b.curve) ∙ filled.chip) has (lives r.spot.chip has)
         (λ j d low is room. let more = room_for m vs ss d (get_or b.cores.items j 0) (get_or b.rooms j 0) (told_at j d (on_board j d is)) v room in omega (arith, more, first j low))
     by_choice (Some c) is = grind (arith, has)
 
@@ -90,7 +90,7 @@ module _ (m : Description) (vs : List Vertex) (ss : List Spot) (b : Board) (stan
       let at = on_board q c (slice_get-get_or (hilbert b.level) q d inside) in
       let more = room_for m vs ss c (get_or b.cores.items q 0) (get_or b.rooms q 0) (told_at q c at) v room in
       let within = slice_get_within b.chips q c at in
-      omega (arith, more, none q 0 (omega (arith, within, stands.board.rooms))))
+      omega (arith, more, none q 0 (omega (arith, within, b.rooms_beside))))
   none_by (Some c) none =
       All-cons (λ z. HasRoom m vs ss v z → ⊥) c [] (λ room.
       let live = lives c room in
@@ -112,7 +112,7 @@ module _ (m : Description) (vs : List Vertex) (ss : List Spot) (b : Board) (stan
     pub stands_more : Stands m (vs ++ v ∷ []) (ss ++ r.spot ∷ []) new
     pub level : new.level ≡ b.level
 
-  module _ (new : Board) (r : Placed) (board : IsBoard new) where
+  module _ (new : Board) (r : Placed) where
     pub stood_on_core : v.device ≡ None → IsPutOnCore b new v r → HasStood new r
     stood_on_core is put =
         let plain = need_of_core v is in
@@ -120,7 +120,7 @@ module _ (m : Description) (vs : List Vertex) (ss : List Spot) (b : Board) (stan
         record {
           spot = subst (λ o. MatchOption o (IsCoreFor m (filter (is_live_chip m) (hilbert b.level)) vs ss v r.spot) (λ device. HasDeviceRoom m device × (r.spot ≡ device_spot device))) (sym is) right;
           memory = memory_is put.place put.found new r put.filled plain;
-          stands_more = one_stands_more m vs ss b new stands v put.place r plain put.found.within put.found.enough put.filled board;
+          stands_more = one_stands_more m vs ss b new stands v put.place r plain put.found.within put.found.enough put.filled;
           level = put.filled.level;
         }
 
@@ -360,6 +360,6 @@ module _ (m : Description) (vertices : List Vertex) (spots : List Spot) (memory 
                 | inr none ↦ cond-false any 1 old none
                     ∙ (told.free p low ∙ ap (λ (t : Bool). cond t 1 0) (ap (λ (t : Bool). is_usable m s && not t) none ∙ and-true (is_usable m s)))
               ]
-          | inr high ↦ high_bit m c (get_or new.cores.items q 0) p (given.settled.board.few q) high
+          | inr high ↦ high_bit m c (get_or new.cores.items q 0) p (new.few q) high
         ];
   }

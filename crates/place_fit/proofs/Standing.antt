@@ -10,7 +10,7 @@ use Rattle.spin_base.specs.{declared.chips.Chip.Chip, declared.chips.Spot.Spot, 
 use Rattle.machine_desc.specs.{declared.trees.Edge.Edge, Description.Description, Live.is_live_chip, Live.is_usable}
 use Rattle.machine_desc.proofs.{Far.live_inside, Far.inside_parts, Same.same_spot}
 use Rattle.app_graph.specs.declared.graphs.Vertex.{Vertex}
-use Rattle.place_fit.specs.{declared.boards.Board.Board, declared.boards.Placed.Placed, Curve.hilbert, Curve.IsCurveLevel, Quarters.curve_place, Boards.AreFreeOn, Boards.IsBoard, Boards.IsFairBoard}
+use Rattle.place_fit.specs.{declared.boards.Board.Board, declared.boards.Placed.Placed, Curve.hilbert, Curve.IsCurveLevel, Quarters.curve_place, Boards.AreFreeOn}
 use Rattle.place_fit.specs.{Boards.IsFilled, Boards.IsParted, Boards.IsWholeBoard, Boards.room_left, Placement.core_spot, Placement.need_of, Placement.used_on, Placement.is_free_core}
 use Rattle.place_fit.specs.{Placement.HasRoom, Standing.IsChipTold, Standing.Stands}
 use Rattle.place_fit.proofs.CurveLaws.{IsIn, place_at}
@@ -82,8 +82,9 @@ room_none cores left none = let t : eqb cores 0 ≡ true = grind (arith, nat_tes
 pub stands_first : (m : Description) (b : Board) → IsWholeBoard b → AreFreeOn m b → Stands m [] [] b
 stands_first m b whole free = grind (arith, slice_get_within, and-true, room_none, room_some, get_or)
 
-pub whole_fair : (b : Board) → IsWholeBoard b → IsFairBoard b
-whole_fair b whole = grind (arith, get_or, cases_lt, room_some, room_none)
+-- a chip with so much left of its memory has a free core, if it has room, and no more memory than that
+pub room_fair : (cores left : ℕ) → 0 < room_left cores left → (0 < cores) × (room_left cores left ≤ left + 1)
+room_fair cores left some = grind (arith, cases_lt, room_some, room_none)
 
 -- ---- one vertex more
 
@@ -164,7 +165,7 @@ module _ (m : Description) (vs : List Vertex) (ss : List Spot) (old new : Board)
   spot_is = same_spot (core_spot r.spot.chip r.spot.core) r.spot refl refl
 
   on_curve : (q : ℕ) (c : Chip) → slice_get old.chips q ≡ Some c → slice_get (hilbert old.level) q ≡ Some c
-  on_curve q c at = ap (λ l. slice_get l q) (sym stands.board.chips) ∙ at
+  on_curve q c at = ap (λ l. slice_get l q) (sym old.curve) ∙ at
 
   apart : (q : ℕ) (c : Chip) → slice_get old.chips q ≡ Some c → q ≢ place → chip_eq c r.spot.chip ≡ false
   apart q c at other =
@@ -176,44 +177,40 @@ module _ (m : Description) (vs : List Vertex) (ss : List Spot) (old new : Board)
         | inr differ ↦ differ
       ]
 
-  pub stands_more : IsBoard new → Stands m (vs ++ v ∷ []) (ss ++ r.spot ∷ []) new
-  stands_more board =
-      let b = stands.board in
-      record {
-        board = board;
-        level = subst (IsCurveLevel m) (sym filled.level) stands.level;
-        sdram = filled.sdram_is ∙ stands.sdram;
-        same = length_push vs v ∙ (ap (λ n. n + 1) stands.same ∙ sym (length_push ss r.spot));
-        told = λ q c at_new.
-            let at : slice_get old.chips q ≡ Some c = ap (λ l. slice_get l q) (sym filled.chips) ∙ at_new in
-            let others = filled.others in
-            let room = room_left others (get_or old.rooms place 0 - 1 - v.sdram) in
-            let T : ℕ → ℕ → Type 0 = λ x y. IsChipTold m (vs ++ v ∷ []) (ss ++ r.spot ∷ []) c x y in
-            elim (cases_eq q place) [
-              | inl here ↦ (
-                  let same_chip : Some r.spot.chip ≡ Some c = sym filled.chip ∙ (ap (slice_get old.chips) (sym here) ∙ at) in
-                  let chip_is : r.spot.chip ≡ c = cc in
-                  let told =
-                  told_here m vs ss stands.same v r.spot.chip (get_or old.cores.items place 0) (get_or old.rooms place 0) here_told r.spot.core others plain enough here_some filled.parted in
-                  let told_spot = subst (λ s. IsChipTold m (vs ++ v ∷ []) (ss ++ s ∷ []) r.spot.chip others room) spot_is told in
-                  let told_chip = subst (λ z. IsChipTold m (vs ++ v ∷ []) (ss ++ r.spot ∷ []) z others room) chip_is told_spot in
-                  let core_is : get_or new.cores.items q 0 ≡ others = ap (λ l. get_or l q 0) filled.cores ∙ (ap (λ n. get_or (set old.cores.items place others) n 0) here ∙ get_or-set_same old.cores.items place others 0 (omega (arith, within, b.cores))) in
-                  let room_is : get_or new.rooms q 0 ≡ room = ap (λ l. get_or l q 0) filled.rooms ∙ (ap (λ n. get_or (set old.rooms place room) n 0) here ∙ get_or-set_same old.rooms place room 0 (omega (arith, within, b.rooms))) in
-                  subst (λ x. T x (get_or new.rooms q 0)) (sym core_is) (subst (T others) (sym room_is) told_chip)
-                  )
-              | inr there ↦ (
-                  let told = told_other m vs ss stands.same v c (get_or old.cores.items q 0) (get_or old.rooms q 0) (stands.told q c at) r.spot (apart q c at there) in
-                  let core_is : get_or new.cores.items q 0 ≡ get_or old.cores.items q 0 = ap (λ l. get_or l q 0) filled.cores ∙ get_or-set_other old.cores.items place q others 0 there in
-                  let room_is : get_or new.rooms q 0 ≡ get_or old.rooms q 0 = ap (λ l. get_or l q 0) filled.rooms ∙ get_or-set_other old.rooms place q room 0 there in
-                  subst (λ x. T x (get_or new.rooms q 0)) (sym core_is) (subst (T (get_or old.cores.items q 0)) (sym room_is) told)
-                  )
-            ];
-      }
+  pub stands_more : Stands m (vs ++ v ∷ []) (ss ++ r.spot ∷ []) new
+  stands_more = record {
+    level = subst (IsCurveLevel m) (sym filled.level) stands.level;
+    sdram = filled.sdram_is ∙ stands.sdram;
+    same = length_push vs v ∙ (ap (λ n. n + 1) stands.same ∙ sym (length_push ss r.spot));
+    told = λ q c at_new.
+        let at : slice_get old.chips q ≡ Some c = ap (λ l. slice_get l q) (sym filled.chips) ∙ at_new in
+        let others = filled.others in
+        let room = room_left others (get_or old.rooms place 0 - 1 - v.sdram) in
+        let T : ℕ → ℕ → Type 0 = λ x y. IsChipTold m (vs ++ v ∷ []) (ss ++ r.spot ∷ []) c x y in
+        elim (cases_eq q place) [
+          | inl here ↦ (
+              let same_chip : Some r.spot.chip ≡ Some c = sym filled.chip ∙ (ap (slice_get old.chips) (sym here) ∙ at) in
+              let chip_is : r.spot.chip ≡ c = cc in
+              let told =
+              told_here m vs ss stands.same v r.spot.chip (get_or old.cores.items place 0) (get_or old.rooms place 0) here_told r.spot.core others plain enough here_some filled.parted in
+              let told_spot = subst (λ s. IsChipTold m (vs ++ v ∷ []) (ss ++ s ∷ []) r.spot.chip others room) spot_is told in
+              let told_chip = subst (λ z. IsChipTold m (vs ++ v ∷ []) (ss ++ r.spot ∷ []) z others room) chip_is told_spot in
+              let core_is : get_or new.cores.items q 0 ≡ others = ap (λ l. get_or l q 0) filled.cores ∙ (ap (λ n. get_or (set old.cores.items place others) n 0) here ∙ get_or-set_same old.cores.items place others 0 (omega (arith, within, old.cores_beside))) in
+              let room_is : get_or new.rooms q 0 ≡ room = ap (λ l. get_or l q 0) filled.rooms ∙ (ap (λ n. get_or (set old.rooms place room) n 0) here ∙ get_or-set_same old.rooms place room 0 (omega (arith, within, old.rooms_beside))) in
+              subst (λ x. T x (get_or new.rooms q 0)) (sym core_is) (subst (T others) (sym room_is) told_chip)
+              )
+          | inr there ↦ (
+              let told = told_other m vs ss stands.same v c (get_or old.cores.items q 0) (get_or old.rooms q 0) (stands.told q c at) r.spot (apart q c at there) in
+              let core_is : get_or new.cores.items q 0 ≡ get_or old.cores.items q 0 = ap (λ l. get_or l q 0) filled.cores ∙ get_or-set_other old.cores.items place q others 0 there in
+              let room_is : get_or new.rooms q 0 ≡ get_or old.rooms q 0 = ap (λ l. get_or l q 0) filled.rooms ∙ get_or-set_other old.rooms place q room 0 there in
+              subst (λ x. T x (get_or new.rooms q 0)) (sym core_is) (subst (T (get_or old.cores.items q 0)) (sym room_is) told)
+              )
+        ];
+  }
 
 -- a device more leaves the board as it is
 pub stands_device : (m : Description) (vs : List Vertex) (ss : List Spot) (b : Board) (v : Vertex) (s : Spot) → Stands m vs ss b → 18 ≤ s.core → need_of v ≡ 0 → Stands m (vs ++ v ∷ []) (ss ++ s ∷ []) b
 stands_device m vs ss b v s stands high none = record {
-  board = stands.board;
   level = stands.level;
   sdram = stands.sdram;
   same = length_push vs v ∙ (ap (λ n. n + 1) stands.same ∙ sym (length_push ss s));

@@ -1,5 +1,5 @@
 -- How far the chips of a machine are filled, and which cores a board has.
-use Rattle.std.specs.Prelude.{◌≡◌, ◌≢◌, ℕ, ◌+◌, ◌-◌, ◌^◌, ◌<◌, ◌≤◌, ◌==◌, ◌&&◌, ◌||◌, Bool, false, not, List, length, Some, MatchOption, All, slice_get, slice_set, slice_index, if◌then◌else◌}
+use Rattle.std.specs.Prelude.{◌≡◌, ◌≢◌, ℕ, ◌+◌, ◌-◌, ◌<◌, ◌≤◌, ◌==◌, ◌&&◌, ◌||◌, Bool, false, not, List, length, Some, MatchOption, All, slice_get, slice_set, slice_index, if◌then◌else◌}
 use Rattle.std.specs.Int.{bit_at}
 use Rattle.std.specs.List.{list_any}
 use Rattle.spin_base.specs.declared.chips.Chip.{Chip}
@@ -9,16 +9,13 @@ use Rattle.machine_desc.specs.declared.trees.Edge.{Edge}
 use Rattle.machine_desc.specs.Description.{Description}
 use Rattle.machine_desc.specs.Live.{is_usable}
 use Rattle.app_graph.specs.declared.graphs.Vertex.{Vertex}
+pub use Rattle.place_fit.specs.Cores.{AreCores, IsJoined, IsParted, room_left}
 use Rattle.place_fit.specs.declared.boards.Board.{Board}
 use Rattle.place_fit.specs.declared.boards.Placed.{Placed}
-use Rattle.place_fit.specs.Curve.{hilbert, IsCurveLevel}
+use Rattle.place_fit.specs.Curve.{IsCurveLevel}
 use Rattle.place_fit.specs.Placement.{core_spot, HasDeviceRoom, device_spot}
 
 -- ---- which cores a board has
-
--- The bits below 32 are 1 at those cores of a chip that pass a test.
-abbrev pub AreCores : (Spot → Bool) → Chip → ℕ → Type 0
-AreCores test c cores = (p : ℕ) → p < 32 → bit_at cores p ≡ (if test (core_spot c p) then 1 else 0)
 
 -- A board has the cores that are usable on a machine: of each chip of the curve whose square holds the grid. A chip has the
 -- machine's memory.
@@ -43,51 +40,9 @@ pub record IsWith (spots : List Spot) (m n : Description) : Type 0 where
   pub grid : HaveOneGrid m n
   pub usable : (s : Spot) → is_usable n s ≡ (is_usable m s || list_any (spot_eq s) spots)
 
--- ---- what a board keeps
-
--- the chips of the curve, with free cores and a room beside each
-pub record IsBoard (b : Board) : Type 0 where
-  pub small : b.level ≤ 6
-  pub chips : b.chips ≡ hilbert b.level
-  pub cores : length b.cores.items ≡ length b.chips
-  pub rooms : length b.rooms ≡ length b.chips
-  pub few : (q : ℕ) → slice_index b.cores.items q < 2 ^ 18
-
--- a place of a board
-pub record IsPlaceOf (b : Board) (place : ℕ) : Type 0 where
-  pub board : IsBoard b
-  pub within : place < length b.chips
-
--- the room of a chip with these free cores, of whose memory so many bytes are left
-abbrev pub room_left : ℕ → ℕ → ℕ
-room_left cores left = if cores == 0 then 0 else left + 1
-
 -- a board whose chips have all their memory
 pub record IsWholeBoard (b : Board) : Type 0 where
-  pub board : IsBoard b
   pub rooms : (q : ℕ) → q < length b.chips → slice_index b.rooms q ≡ room_left (slice_index b.cores.items q) b.sdram
-
--- a board where a chip with room has a free core, and at most the memory of a chip
-pub record IsFairBoard (b : Board) : Type 0 where
-  pub board : IsBoard b
-  pub rooms : (q : ℕ) → q < length b.chips → 0 < slice_index b.rooms q → (0 < slice_index b.cores.items q) × (slice_index b.rooms q ≤ b.sdram + 1)
-
--- ---- bits
-
--- the least of some cores, and the others
-pub record IsParted (cores least others : ℕ) : Type 0 where
-  pub low : least < 18
-  pub had : bit_at cores least ≡ 1
-  pub none : (p : ℕ) → p < least → bit_at cores p ≡ 0
-  pub few : others < 2 ^ 18
-  pub gone : bit_at others least ≡ 0
-  pub same : (p : ℕ) → p < 32 → p ≢ least → bit_at others p ≡ bit_at cores p
-
--- some cores, and one
-pub record IsJoined (cores core all : ℕ) : Type 0 where
-  pub few : all < 2 ^ 18
-  pub here : bit_at all core ≡ 1
-  pub same : (p : ℕ) → p ≢ core → bit_at all p ≡ bit_at cores p
 
 -- ---- one vertex more
 
@@ -104,13 +59,10 @@ HasNoRoomAt b sdram c = (q : ℕ) → slice_get b.chips q ≡ Some c → slice_i
 abbrev pub HasNoPlace : Board → Vertex → Type 0
 HasNoPlace b v = MatchOption v.at (All (λ room. room ≤ v.sdram) b.rooms) (HasNoRoomAt b v.sdram)
 
--- a place of a board where a vertex that needs so many bytes may stand: its chip has a free core, and room
+-- a place of a board where a vertex that needs so many bytes may stand: its chip has room
 pub record IsFreePlace (b : Board) (place sdram : ℕ) : Type 0 where
-  pub board : IsBoard b
   pub within : place < length b.chips
-  pub free : 0 < slice_index b.cores.items place
   pub enough : sdram < slice_index b.rooms place
-  pub few : slice_index b.rooms place ≤ b.sdram + 1
 
 -- a vertex that needs so many bytes was put on the least free core of the chip at this place
 pub record IsFilled (place sdram : ℕ) (old new : Board) (r : Placed) : Type 0 where
@@ -155,10 +107,17 @@ pub record IsFreed (place core : ℕ) (old new : Board) : Type 0 where
   pub sdram : new.sdram ≡ old.sdram
   pub chips : new.chips ≡ old.chips
   pub rooms : new.rooms ≡ old.rooms
-  pub board : IsBoard new
   pub others : (q : ℕ) → q ≢ place → slice_index new.cores.items q ≡ slice_index old.cores.items q
   pub low : core < 18 → IsJoined (slice_index old.cores.items place) core (slice_index new.cores.items place)
   pub high : 18 ≤ core → new.cores.items ≡ old.cores.items
+
+-- The chip at a place has all its memory.
+pub record IsMadeWhole (place : ℕ) (old new : Board) : Type 0 where
+  pub level : new.level ≡ old.level
+  pub sdram : new.sdram ≡ old.sdram
+  pub chips : new.chips ≡ old.chips
+  pub cores : new.cores.items ≡ old.cores.items
+  pub rooms : new.rooms ≡ slice_set old.rooms place (room_left (slice_index old.cores.items place) old.sdram)
 
 -- The chips without a spot of these have what they had.
 pub record AreOthersKept (spots : List Spot) (old new : Board) : Type 0 where
@@ -173,7 +132,6 @@ pub record AreSettled (spots : List Spot) (old new : Board) : Type 0 where
   pub level : new.level ≡ old.level
   pub sdram : new.sdram ≡ old.sdram
   pub chips : new.chips ≡ old.chips
-  pub board : IsBoard new
   pub rooms : (q : ℕ) (c : Chip) → slice_get old.chips q ≡ Some c →
       slice_index new.rooms q ≡ (if has_spot_on c spots then room_left (slice_index new.cores.items q) old.sdram else slice_index old.rooms q)
   pub cores : (q : ℕ) (c : Chip) → slice_get old.chips q ≡ Some c → has_spot_on c spots ≡ false → slice_index new.cores.items q ≡ slice_index old.cores.items q

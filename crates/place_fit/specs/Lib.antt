@@ -3,6 +3,7 @@ pub use Rattle.machine_desc.specs.Live
 pub use Rattle.app_graph.specs.ValidGraph
 pub mod Boards
 pub mod Cause
+pub mod Cores
 pub mod Curve
 pub mod Placement
 pub mod Quarters

@@ -7,7 +7,7 @@ use Rattle.machine_desc.specs.Live.{is_live_chip}
 use Rattle.app_graph.specs.declared.graphs.Vertex.{Vertex}
 use Rattle.place_fit.specs.declared.boards.Board.{Board}
 use Rattle.place_fit.specs.declared.free_cores.FreeCores.TheInside.{Inside}
-use Rattle.place_fit.specs.Boards.{AreCores, IsBoard, IsWholeBoard}
+use Rattle.place_fit.specs.Boards.{AreCores, IsWholeBoard}
 use Rattle.place_fit.specs.Curve.{hilbert, IsCurveLevel}
 use Rattle.place_fit.specs.Placement.{is_free_core, used_on, AreFirstSpots, AreFirstMemories}
 
@@ -19,7 +19,6 @@ pub record IsChipTold (m : Description) (vs : List Vertex) (ss : List Spot) (c :
 
 -- the board tells, of each chip of the curve, how far these vertices fill it
 pub record Stands (m : Description) (vs : List Vertex) (ss : List Spot) (b : Board) : Type 0 where
-  pub board : IsBoard b
   pub level : IsCurveLevel m b.level
   pub sdram : b.sdram ≡ m.sdram
   pub same : length vs ≡ length ss

@@ -1,8 +1,9 @@
 // How far the chips of a machine are filled.
-ghost use Rattle.std.specs.Prelude.{◌≡◌, ℕ, ◌==◌, ◌^◌, ◌<◌, ◌≤◌, ◌∷◌, [], Some, length, slice_get, slice_index, slice_set, if◌then◌else◌, IfOk, IfSome, IfNone};
+ghost use Rattle.std.specs.Prelude.{◌≡◌, ℕ, ◌+◌, ◌==◌, ◌^◌, ◌<◌, ◌≤◌, length, slice_index, if◌then◌else◌, IfSome, IfNone};
+ghost use Rattle.std.proofs.Props.{props};
 ghost use Rattle.machine_desc.specs.Live.{is_usable};
-ghost use Rattle.place_fit.specs.Boards.{AreCores, AreFreeOn, AreGiven, AreSettled, IsBoard, IsWholeBoard, IsFairBoard, IsParted, IsJoined, IsPlaceOf, IsPlaceWithRoom, HasNoPlace, HasNoRoomAt, IsFreePlace, IsFilled, IsFreed, IsPut, IsPutOnCore, HasNoSpot, room_left};
-ghost use Rattle.place_fit.specs.Curve.{IsCurveLevel};
+ghost use Rattle.place_fit.specs.Cores.{AreCores, IsJoined, IsParted, room_left};
+ghost use Rattle.place_fit.specs.Curve.{hilbert, IsCurveLevel};
 ghost use Rattle.place_fit.specs.Placement.{HasDeviceRoom, device_spot};
 
 use crate::curves::{OnSquare, curve, place_on_curve};
@@ -21,6 +22,13 @@ pub struct Board {
     pub chips: Seq<Chip>,
     pub cores: Vec<u32>,
     pub rooms: Rooms,
+    pub ghost small: { level ≤ 6 },
+    pub ghost curve: { chips ≡ hilbert level } by { Prim.hlevel props },
+    pub ghost cores_beside: { length cores.items ≡ length chips },
+    pub ghost rooms_beside: { length rooms ≡ length chips },
+    pub ghost few: { (q : ℕ) → slice_index cores.items q < 2 ^ 18 },
+    pub ghost fair: { (q : ℕ) → q < length chips → 0 < slice_index rooms q
+        → (0 < slice_index cores.items q) × (slice_index rooms q ≤ sdram + 1) },
 }
 
 // Where one vertex stands, and where its memory begins.
@@ -28,30 +36,6 @@ pub struct Board {
 pub struct Placed {
     pub spot: Spot,
     pub memory: u64,
-}
-
-// The board of the usable cores of a machine.
-pub(crate) fn whole_board(alloc: Global, machine: &Machine) -> Result<Board, Memory>
-    ensures whole { IfOk result IsWholeBoard }
-    ensures free { IfOk result (AreFreeOn machine.now) }
-{
-    let level = level_of(machine);
-    let chips = curve(alloc, level)?;
-    let sdram = machine.sdram();
-    let mut cores = Vec::new(alloc);
-    let mut rooms = Rooms::new(alloc, 2 * level)?;
-    for (place, chip) in chips.as_slice().iter().enumerate() {
-        let free = usable_cores(machine, *chip);
-        cores.push(free)?;
-        rooms.set(place, room_left(free, sdram));
-    }
-    Ok(Board {
-        level,
-        sdram,
-        chips,
-        cores,
-        rooms,
-    })
 }
 
 // The least level of the curve whose square holds the machine's grid.
@@ -110,11 +94,36 @@ fn room_left(cores: u32, left: u32) -> u64
 }
 
 impl Board {
+    ghost use Rattle.std.specs.Prelude.{◌≡◌, ℕ, ◌<◌, ◌∷◌, [], Some, length, slice_get, slice_index, IfOk, IfSome, IfNone};
+    ghost use Rattle.place_fit.specs.Boards.{AreFreeOn, AreGiven, AreSettled, HasNoPlace, HasNoRoomAt, HasNoSpot, IsFilled, IsFreePlace, IsFreed, IsMadeWhole, IsPlaceWithRoom, IsPut, IsPutOnCore, IsWholeBoard};
+
+    // The board of the usable cores of a machine.
+    pub(crate) fn whole(alloc: Global, machine: &Machine) -> Result<Board, Memory>
+        ensures whole { IfOk result IsWholeBoard }
+        ensures free { IfOk result (AreFreeOn machine.now) }
+    {
+        let level = level_of(machine);
+        let chips = curve(alloc, level)?;
+        let sdram = machine.sdram();
+        let mut cores = Vec::new(alloc);
+        let mut rooms = Rooms::new(alloc, 2 * level)?;
+        for (place, chip) in chips.as_slice().iter().enumerate() {
+            let free = usable_cores(machine, *chip);
+            cores.push(free)?;
+            rooms.set(place, room_left(free, sdram));
+        }
+        Ok(Board {
+            level,
+            sdram,
+            chips,
+            cores,
+            rooms,
+        })
+    }
+
     // Puts a vertex on the board: a device at its link, and any other on the least free core of the chip that is found.
     pub(crate) fn put(&mut self, machine: &Machine, vertex: &Vertex) -> Option<Placed>
-        requires { IsFairBoard self.old }
         ensures placed { IfSome result (IsPut machine.now self.old self.new vertex.now) }
-        ensures fair { IsFairBoard self.new }
         ensures none { IfNone result (HasNoSpot machine.now self.old vertex.now) }
     {
         match vertex.device {
@@ -125,9 +134,7 @@ impl Board {
 
     // Puts a vertex on the least free core of the chip that is found for it.
     pub(crate) fn put_on_core(&mut self, vertex: &Vertex) -> Option<Placed>
-        requires { IsFairBoard self.old }
         ensures placed { IfSome result (IsPutOnCore self.old self.new vertex.now) }
-        ensures fair { IsFairBoard self.new }
         ensures none { IfNone result (HasNoPlace self.old vertex.now) }
         ensures kept { IfNone result (self.new ≡ self.old) }
     {
@@ -137,7 +144,6 @@ impl Board {
 
     // The place of the chip on which a vertex stands: the first with room, or that of the chip that it names.
     fn find(&self, vertex: &Vertex) -> Option<usize>
-        requires { IsBoard self.now }
         ensures found { IfSome result (IsPlaceWithRoom self.now vertex.now) }
         ensures none { IfNone result (HasNoPlace self.now vertex.now) }
     {
@@ -149,7 +155,6 @@ impl Board {
 
     // The place of a chip, if it has room.
     fn named(&self, chip: Chip, sdram: u32) -> Option<usize>
-        requires { IsBoard self.now }
         ensures within { IfSome result (λ place. place < length self.now.chips) }
         ensures enough { IfSome result (λ place. sdram < slice_index self.now.rooms place) }
         ensures there { IfSome result (λ place. slice_get self.now.chips place ≡ Some chip) }
@@ -165,7 +170,6 @@ impl Board {
 
     // The place of a chip, if the board has it.
     fn place_of(&self, chip: Chip) -> Option<usize>
-        requires { IsBoard self.now }
         ensures within { IfSome result (λ place. place < length self.now.chips) }
         ensures there { IfSome result (λ place. slice_get self.now.chips place ≡ Some chip) }
         ensures none { IfNone result ((q : ℕ) → slice_get self.now.chips q ≡ Some chip → ⊥) }
@@ -202,7 +206,6 @@ impl Board {
 
     // The chips of these spots have all their memory.
     pub(crate) fn settle(&mut self, spots: &[Spot])
-        requires { IsBoard self.old }
         ensures settled { AreSettled spots.now self.old self.new }
         ensures same { self.new.cores.items ≡ self.old.cores.items }
     {
@@ -213,7 +216,6 @@ impl Board {
 
     // The chip of the spot has all its memory.
     fn settle_one(&mut self, spot: Spot)
-        requires { IsBoard self.old }
         ensures settled { AreSettled (spot ∷ []) self.old self.new }
         ensures same { self.new.cores.items ≡ self.old.cores.items }
     {
@@ -224,7 +226,6 @@ impl Board {
 
     // These cores are free, and their chips have all their memory.
     pub(crate) fn give(&mut self, spots: &[Spot])
-        requires { IsBoard self.old }
         ensures { AreGiven spots.now self.old self.new }
     {
         for spot in spots {
@@ -234,7 +235,6 @@ impl Board {
 
     // The core is free, and its chip has all its memory.
     fn give_one(&mut self, spot: Spot)
-        requires { IsBoard self.old }
         ensures { AreGiven (spot ∷ []) self.old self.new }
     {
         if let Some(place) = self.place_of(spot.chip) {
@@ -245,7 +245,7 @@ impl Board {
 
     // The core of the chip at a place is free, if the chip has that core.
     fn free_core(&mut self, place: usize, core: u8)
-        requires { IsPlaceOf self.old place }
+        requires { place < length self.old.chips }
         ensures { IsFreed place core self.old self.new }
     {
         if core < CORES {
@@ -255,11 +255,8 @@ impl Board {
 
     // The chip at a place has all its memory.
     fn make_whole(&mut self, place: usize)
-        requires { IsPlaceOf self.old place }
-        ensures { self.new ≡ record self.old {
-          rooms = slice_set self.old.rooms place
-              (room_left (slice_index self.old.cores.items place) self.old.sdram);
-        } }
+        requires { place < length self.old.chips }
+        ensures { IsMadeWhole place self.old self.new }
     {
         self.rooms
             .set(place, room_left(self.cores[place], self.sdram));

@@ -3,12 +3,12 @@ ghost use Rattle.std.specs.Prelude.{◌≡◌, ◌≢◌, ◌+◌, ◌≤◌, le
 ghost use Rattle.machine_desc.specs.Description.{Description};
 ghost use Rattle.app_graph.specs.declared.graphs.Vertex.{Vertex as AVertex};
 ghost use Rattle.app_graph.specs.ValidGraph.{IsValidGraph};
-ghost use Rattle.place_fit.specs.Boards.{AreFreeOn, AreOthersKept, IsFairBoard, IsWith, IsWithout};
+ghost use Rattle.place_fit.specs.Boards.{AreFreeOn, AreOthersKept, IsWith, IsWithout};
 ghost use Rattle.place_fit.specs.Cause.{IsPlacementCause};
 ghost use Rattle.place_fit.specs.Placement.{IsPlacement};
 ghost use Rattle.place_fit.specs.Standing.{ArePlaced, CanPutAll};
 
-use crate::boards::{Board, whole_board};
+use crate::boards::Board;
 use crate::placing::{PlaceErr, Placement};
 use app_graph::{Graph, Vertex};
 use machine_desc::Machine;
@@ -44,7 +44,7 @@ impl FreeCores {
     pub fn of(alloc: Global, machine: &Machine) -> Result<FreeCores, Memory>
         ensures { IfOk result (AreFreeOn machine.now) }
     {
-        let board = whole_board(alloc, machine)?;
+        let board = Board::whole(alloc, machine)?;
         Ok(FreeCores { board })
     }
 
@@ -109,7 +109,6 @@ fn put_all(
     requires { CanPutAll board.old vertices.now spots.old.items memory.old.items }
     ensures placed { (m : Description) → AreFreeOn m board.old → ArePlaced m vertices.now
         spots.new.items memory.new.items board.new }
-    ensures fair { IsFairBoard board.new }
     ensures kept { AreOthersKept spots.new.items board.old board.new }
     ensures all { OnOk result (length spots.new.items ≡ length vertices.now) }
     ensures why { (m : Description) → AreFreeOn m board.old → IfErr result

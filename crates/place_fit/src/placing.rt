@@ -7,7 +7,7 @@ ghost use Rattle.app_graph.specs.ValidGraph.{IsValidGraph};
 ghost use Rattle.place_fit.specs.Placement.{IsPlacement};
 ghost use Rattle.place_fit.specs.Cause.{IsPlacementCause};
 
-use crate::boards::whole_board;
+use crate::boards::Board;
 use app_graph::Graph;
 use machine_desc::Machine;
 use spin_base::{Memory, Seq, Shared, Spot};
@@ -58,7 +58,7 @@ pub fn place(alloc: Global, machine: &Machine, graph: &Graph) -> Result<Placemen
     ensures cores { IfOk result (λ p. AllZip
         (λ (v : Vertex) s. v.device ≡ None → IsUsable machine.now s) graph.now.vertices p.spots) }
 {
-    let mut board = whole_board(alloc, machine)?;
+    let mut board = Board::whole(alloc, machine)?;
     let mut spots = Seq::new(alloc);
     let mut memory = Seq::new(alloc);
     for (i, vertex) in graph.vertices.as_slice().iter().enumerate() {

@@ -1,6 +1,5 @@
 // Shorter rows.
-ghost use Rattle.std.specs.Prelude.{◌≡◌, ◌<◌, ◌≤◌, ◌^◌, [], All, IfOk, IfSome, MatchOption, length, map};
-ghost use Rattle.tern_word.specs.SoundTable.{IsSound};
+ghost use Rattle.std.specs.Prelude.{◌≡◌, ◌<◌, ◌≤◌, ◌^◌, [], IfOk, IfSome, MatchOption, length, map};
 ghost use Rattle.cover_merge.specs.Merge.{rows_at};
 ghost use Rattle.table_rules.specs.Made.{HasTooManyPieces, IsTableMadeOf};
 ghost use Rattle.table_rules.specs.Rows.{KeepsRoutes, routed};
@@ -11,7 +10,7 @@ use crate::making::made_table;
 use crate::pieces::pieces_of;
 use crate::rows::RoutedBlock;
 use cover_merge::cover;
-use default_routes::strip;
+use default_routes::{RowsAt, RowsToStrip, strip};
 use spin_base::{Memory, Port, Seq};
 use std::alloc::Global;
 use tern_word::{Row, Table};
@@ -70,7 +69,8 @@ fn covered_rows(
     let all = pieces.as_slice();
     let covered = cover(alloc, table, target)?;
     let covering = covered.table.rows.as_slice();
-    let left = rows_left(alloc, covering)?;
+    let sound = RowsToStrip { rows: covering };
+    let left = rows_left(alloc, sound)?;
     let shorter = shorter_of(alloc, target, left, all, all)?;
     if shorter.len() < given.len() {
         return Ok(shorter);
@@ -79,24 +79,26 @@ fn covered_rows(
 }
 
 // The rows that default routing does not replace, without their aliases.
-pub(crate) fn rows_left(alloc: Global, rows: &[Row]) -> Result<Seq<RoutedBlock>, Memory>
-    requires few { length rows.now < 2 ^ 32 }
-    requires sound { IsSound rows.now }
-    ensures { IfOk result (AreLeft rows.now) }
+pub(crate) fn rows_left(alloc: Global, sound: RowsToStrip) -> Result<Seq<RoutedBlock>, Memory>
+    ensures { IfOk result (AreLeft sound.entry.rows.now) }
 {
-    let kept = strip(alloc, rows)?;
-    let left = rows_at(alloc, rows, kept.as_slice())?;
+    let kept = strip(alloc, sound)?;
+    let at = RowsAt {
+        rows: sound.rows,
+        places: kept.as_slice(),
+    };
+    let left = rows_at(alloc, at)?;
     Ok(left)
 }
 
 // The rows at the places, without their aliases.
-fn rows_at(alloc: Global, rows: &[Row], places: &[u32]) -> Result<Seq<RoutedBlock>, Memory>
-    requires { All (λ s. s < length rows.now) places.now }
-    ensures { IfOk result (λ new. new ≡ map routed (rows_at rows.now places.now)) }
+fn rows_at(alloc: Global, at: RowsAt) -> Result<Seq<RoutedBlock>, Memory>
+    ensures { IfOk result
+        (λ new. new ≡ map routed (rows_at at.entry.rows.now at.entry.places.now)) }
 {
     let mut new = Seq::new(alloc);
-    for place in places {
-        new.push(routed(&rows[*place as usize]))?;
+    for place in at.places {
+        new.push(routed(&at.rows[*place as usize]))?;
     }
     Ok(new)
 }

@@ -13,6 +13,7 @@ use crate::routes::ROUTES;
 use crate::rows::RoutedBlock;
 use crate::shortening::{copy, rows_left};
 use cover_merge::cover;
+use default_routes::RowsToStrip;
 use spin_base::{Block, Memory, Port, Route, Seq};
 use std::alloc::Global;
 use tern_word::{Row, Table};
@@ -137,7 +138,8 @@ fn covered_within(
     let covered = cover(alloc, table, target)?;
     let covering = covered.table.rows.as_slice();
     let before = rows_before(covering, route.bits);
-    let left = rows_left(alloc, before)?;
+    let sound = RowsToStrip { rows: before };
+    let left = rows_left(alloc, sound)?;
     let shorter = shorter_of(alloc, target, left, own, all)?;
     if shorter.len() < rows.len() {
         return Ok(shorter);

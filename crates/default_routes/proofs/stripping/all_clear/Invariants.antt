@@ -4,4 +4,4 @@ use Rattle.tern_word.specs.{declared.tables.Row.Row, SoundTable.Misses}
 use Rattle.default_routes.proofs.stripping.all_clear.Given as goal
 
 abbrev pub invariant-loop-s : goal.invariant-loop-s
-invariant-loop-s l = (k : ℕ) (d : Row) → k < l.s-index → Misses (get_or l.rows (get_or l.places k 0) d).block l.row
+invariant-loop-s l = (k : ℕ) (d : Row) → k < l.s-index → Misses (get_or l.at.rows.now (get_or l.at.places.now k 0) d).block l.row

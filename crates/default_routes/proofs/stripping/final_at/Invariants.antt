@@ -5,4 +5,4 @@ use Rattle.cover_merge.specs.Merge.{rows_at}
 use Rattle.default_routes.proofs.stripping.final_at.Given as goal
 
 abbrev pub invariant-loop-place : goal.invariant-loop-place
-invariant-loop-place l = l.entries ≡ map entry_of (rows_at l.rows (take l.place-index l.places))
+invariant-loop-place l = l.entries ≡ map entry_of (rows_at l.at.rows.now (take l.place-index l.at.places.now))

@@ -6,6 +6,6 @@ use Rattle.cover_merge.specs.Merge.{rows_at}
 use Rattle.default_routes.proofs.stripping.is_clear.Goals as goal
 
 pub returns-then-apart : goal.returns-then-apart
-returns-then-apart c =
-    subst (λ b. MatchBool b (All (λ (r : Row). Misses r.block c.args.row.now) (rows_at c.args.rows.now c.args.kept.now))
-    (All (λ (r : Row). Misses r.block c.args.row.now) (rows_at c.args.rows.now c.args.kept.now) → ⊥)) (sym c.if-apart.true) (c.requires.apart c.if-apart.true)
+returns-then-apart c apart =
+    subst (λ b. MatchBool b (All (λ (r : Row). Misses r.block c.args.row.now) (rows_at c.args.kept.rows.now c.args.kept.places.now))
+    (All (λ (r : Row). Misses r.block c.args.row.now) (rows_at c.args.kept.rows.now c.args.kept.places.now) → ⊥)) (sym c.if-apart.true) (apart c.if-apart.true)

@@ -1,4 +1,4 @@
-use Rattle.std.proofs.Common.{arith, ◌≡◌, List, ℕ, length, All, ap, ◌∙◌}
+use Rattle.std.proofs.Common.{arith, ◌≡◌, List, ℕ, length, All, sym, ap, ◌∙◌, subst}
 use Rattle.job_gen.specs.{declared.draws.DrawnNet.DrawnNet, Draws.draws, Draws.drawn_net, Draws.drawn_packet, Draws.drawn, Draws.drawn_from, Draws.seeded, Draws.NeedsKey}
 use Rattle.job_gen.proofs.{DrawLemmas.number_drawn, DrawLemmas.job_from, DrawnLaws.all_keys, DrawnLaws.nets_drawn}
 use Rattle.job_gen.proofs.draws.draw_job.Goals as goal
@@ -6,11 +6,11 @@ use Rattle.job_gen.proofs.draws.draw_job.Goals as goal
 keyed : (nets : List DrawnNet) (g h : List ℕ) → (nets, h) ≡ draws drawn_net 300 g → All NeedsKey nets
 keyed nets g h is = grind (arith, all_keys (draws drawn_net 300 g).0 (nets_drawn 300 g), nets_drawn 300 g)
 
-pub draw_packets-requires-clause-nets : goal.draw_packets-requires-clause-nets
-draw_packets-requires-clause-nets c = ap length c.as_slice.ensures ∙ number_drawn drawn_net 300 c.draw_sdrams.new.generator c.draw_nets.new.generator c.in_ok-nets.nets c.in_ok-nets.ensures
-
-pub draw_packets-requires-clause-keys : goal.draw_packets-requires-clause-keys
-draw_packets-requires-clause-keys c = grind (arith, keyed c.in_ok-nets.nets c.draw_sdrams.new.generator c.draw_nets.new.generator c.in_ok-nets.ensures)
+pub invariant_of-all : goal.invariant_of-all
+invariant_of-all c = record {
+  many = ap length c.as_slice.ensures ∙ number_drawn drawn_net 300 c.draw_sdrams.new.generator c.draw_nets.new.generator c.in_ok-nets.nets c.in_ok-nets.ensures;
+  keys = subst (All NeedsKey) (sym c.as_slice.ensures) (keyed c.in_ok-nets.nets c.draw_sdrams.new.generator c.draw_nets.new.generator c.in_ok-nets.ensures);
+}
 
 pub returns : goal.returns
 unfolding drawn seeded

@@ -4,6 +4,6 @@ use Rattle.job_gen.proofs.draws.draw_packet.Goals as goal
 
 pub returns : goal.returns
 returns c =
-    packet_from c.args.nets.now c.args.i c.from.result c.draw-index.result c.draw-payload.result c.args.generator.now c.draw-index.new.generator c.draw-payload.new.generator
-    (c.from.ensures ∙ keys_there c.args.nets.now (c.args.i / 4) c.index-nets-net.result (omega arith))
+    packet_from c.args.all.nets.now c.args.i c.from.result c.draw-index.result c.draw-payload.result c.args.generator.now c.draw-index.new.generator c.draw-payload.new.generator
+    (c.from.ensures ∙ keys_there c.args.all.nets.now (c.args.i / 4) c.index-all-net.result (omega arith))
     c.draw-index.ensures.drawn c.draw-payload.ensures.drawn

@@ -8,7 +8,8 @@ use Rattle.net_tables.proofs.gather.add_nets.Given as goal
 -- the boards are clear, and the lists have the original blocks of the nets that were read
 abbrev pub invariant-loop-net : goal.invariant-loop-net
 invariant-loop-net l =
-    IsBlank l.machine None l.ports
-    × IsBlank l.machine nothing l.routes
-    × (length l.lists ≡ l.machine.width * l.machine.height)
-    × ((c : Chip) → IsInside l.machine c → AreOriginals l.machine c (take l.net-index l.nets) (map original_of (slice_index_or l.lists (index_of l.machine c) [])))
+    IsBlank l.plans.machine.now None l.ports
+    × IsBlank l.plans.machine.now nothing l.routes
+    × (length l.lists ≡ l.plans.machine.now.width * l.plans.machine.now.height)
+    × ((c : Chip) → IsInside l.plans.machine.now c →
+    AreOriginals l.plans.machine.now c (take l.net-index l.plans.nets.now) (map original_of (slice_index_or l.lists (index_of l.plans.machine.now c) [])))

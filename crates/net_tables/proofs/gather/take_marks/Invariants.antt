@@ -5,6 +5,6 @@ use Rattle.net_tables.proofs.gather.take_marks.Given as goal
 -- the chips of the edges that were read have their marks, and the boards are clear there
 abbrev pub invariant-loop-edge : goal.invariant-loop-edge
 invariant-loop-edge l =
-    IsTaken l.machine l.net.tree.root (take l.edge-index l.net.tree.edges) l.net.block
+    IsTaken l.plan.machine.now l.plan.net.now.tree.root (take l.edge-index l.plan.net.now.tree.edges) l.plan.net.now.block
     (record { ports = l.fn.ports; routes = l.fn.routes; lists = l.fn.lists })
     (record { ports = l.ports; routes = l.routes; lists = l.lists })

@@ -5,4 +5,5 @@ use Rattle.net_tables.proofs.marks.set_links.Given as goal
 -- the routes tell of the edges that were read
 abbrev pub invariant-loop-edge : goal.invariant-loop-edge
 invariant-loop-edge l =
-    (length l.routes ≡ l.machine.width * l.machine.height) × TellsRoutes l.machine (take l.edge-index l.net.tree.edges) [] l.routes × IsClearOff l.machine l.net l.routes
+    (length l.routes ≡ l.plan.machine.now.width * l.plan.machine.now.height)
+    × TellsRoutes l.plan.machine.now (take l.edge-index l.plan.net.now.tree.edges) [] l.routes × IsClearOff l.plan.machine.now l.plan.net.now l.routes

@@ -1,7 +1,7 @@
 use Rattle.std.proofs.Common.{◌-◌, ◌≤◌, ◌++◌, [], ap, drop, length, refl, take, ◌∙◌, arith}
 use Rattle.std.proofs.lemmas.List.{length-replicate, Elements.All-drop, Elements.All-take}
 use Rattle.net_tables.specs.Marks.{IsRouted}
-use Rattle.net_tables.proofs.Parting.{front_more, turning_more, turning_none}
+use Rattle.net_tables.proofs.{Parting.front_more, Parting.turning_more, Parting.turning_none, Whole.all_routed}
 use Rattle.net_tables.proofs.turning.turning_lists.Goals as goal
 
 pub loop-done-init : goal.loop-done-init
@@ -13,12 +13,11 @@ loop-done-init c = record {
   turning = turning_none c.args.machine.now c.chips.result c.in_ok-kept.kept.items c.in_ok-kept.ensures;
 }
 
-pub marks_of-requires : goal.marks_of-requires
-marks_of-requires c =
-    All-take (IsRouted c.args.machine.now) (c.min-end.result - c.loop-done.done) (drop c.loop-done.done c.as_slice-plans.result.now)
-    (All-drop (IsRouted c.args.machine.now) c.loop-done.done c.as_slice-plans.result.now
-    (rw c.as_slice-plans.ensures
-    (λ k d below. record { tree = c.requires.trees k d below; root = c.requires.roots k d below; cores = c.requires.cores k d below })))
+pub invariant_of-some : goal.invariant_of-some
+invariant_of-some c = record {
+  routed = ∣ All-take (IsRouted c.args.machine.now) (c.min-end.result - c.loop-done.done) (drop c.loop-done.done c.as_slice-plans.result.now)
+      (All-drop (IsRouted c.args.machine.now) c.loop-done.done c.as_slice-plans.result.now (rw c.as_slice-plans.ensures (all_routed c.args.machine.now c.args.nets.now c.requires))) ∣₁;
+}
 
 pub loop-done-preserved : goal.loop-done-preserved
 loop-done-preserved c =

@@ -4,13 +4,11 @@ use Rattle.spin_base.proofs.Places.{All-at}
 use Rattle.app_graph.specs.declared.graphs.Vertex.{Vertex}
 use Rattle.place_fit.specs.Boards.{AreOthersKept}
 use Rattle.place_fit.proofs.{Giving.kept_more, Giving.kept_same, SpotLaws.none_for_core, SpotLaws.placed_more, SpotLaws.placed_none, SpotLaws.has_no_room, SpotLaws.stands_here, SpotLaws.stood_on_core}
-use Rattle.place_fit.proofs.Standing.{whole_fair}
 use Rattle.place_fit.proofs.free_cores.put_all.Goals as goal
 
 pub loop-i-init : goal.loop-i-init
 loop-i-init c = record {
   each_one = ap length c.requires.no_spot;
-  fair = whole_fair c.args.board.now c.requires.whole;
   kept = kept_same c.args.spots.now.items c.args.board.now;
   placed = λ m free. rw (c.requires.no_spot, c.requires.no_memory) (placed_none m c.args.vertices.now c.args.board.now c.requires.whole free);
 }
@@ -52,13 +50,12 @@ loop-i-preserved c =
     let noted : c.push_reserved-in-loop-i.new.self.items ≡ memory ++ r.memory ∷ [] = c.push_reserved-in-loop-i.ensures.items ∙ ap (λ l. l ++ r.memory ∷ []) c.reserve_one.ensures.memory in
     record {
       each_one = ap length pushed ∙ (length_push spots r.spot ∙ ap (λ n. n + 1) inv.each_one);
-      fair = c.in-Some.ensures.fair;
       kept = subst (λ l. AreOthersKept l c.args.board.now c.put_on_core.new.self) (sym pushed)
           (kept_more spots c.args.board.now c.loop-i.board c.put_on_core.new.self put.place v.sdram r inv.kept put.filled);
       placed = λ m free.
           let placed = inv.placed m free in
           let stands = stands_here m vertices i v is spots inv.each_one memory c.loop-i.board placed in
           let stood =
-          stood_on_core m _ spots c.loop-i.board stands v c.put_on_core.new.self r c.in-Some.ensures.fair.board (All-at (λ (w : Vertex). w.device ≡ None) vertices i v c.requires.cores is) put in
+          stood_on_core m _ spots c.loop-i.board stands v c.put_on_core.new.self r (All-at (λ (w : Vertex). w.device ≡ None) vertices i v c.requires.cores is) put in
           rw (pushed, noted) (placed_more m vertices i v is spots inv.each_one memory c.loop-i.board placed c.put_on_core.new.self r stood);
     }

@@ -1,7 +1,6 @@
 use Rattle.std.proofs.Common.{◌≡◌, ◌+◌, ◌++◌, ◌∷◌, [], length, Some, slice_get, refl, sym, ap, ◌∙◌, arith}
 use Rattle.std.proofs.lemmas.{List.length_push, Option.slice_get_read}
 use Rattle.place_fit.proofs.SpotLaws.{finds_none, has_no_room, placed_more, placed_none, stands_here, stood, all_sites, all_on_cores, all_differ}
-use Rattle.place_fit.proofs.Standing.{whole_fair}
 use Rattle.place_fit.proofs.placing.place.Goals as goal
 
 pub loop-i-init : goal.loop-i-init
@@ -10,7 +9,6 @@ loop-i-init c =
     let told = c.in_ok-board.ensures in
     record {
       each_one = ap length c.new-spots.ensures;
-      fair = whole_fair b told.whole;
       placed = rw (c.new-spots.ensures, c.new-memory.ensures) (placed_none c.args.machine.now c.args.graph.now.vertices b told.whole told.free);
     }
 
@@ -32,10 +30,9 @@ loop-i-preserved c =
     let pushed : c.push.new.self ≡ spots ++ r.spot ∷ [] = c.in_ok-push.ensures.ok in
     let noted : c.push-in-loop-i.new.self ≡ memory ++ r.memory ∷ [] = c.in_ok-push-2.ensures.ok in
     let stands = stands_here m vertices i v is spots inv.each_one memory c.loop-i.board inv.placed in
-    let stood = stood m _ spots c.loop-i.board stands v c.put.new.self r c.in-Some.ensures.fair.board c.in-Some.ensures.placed in
+    let stood = stood m _ spots c.loop-i.board stands v c.put.new.self r c.in-Some.ensures.placed in
     record {
       each_one = ap length pushed ∙ (length_push spots r.spot ∙ ap (λ n. n + 1) inv.each_one);
-      fair = c.in-Some.ensures.fair;
       placed = rw (pushed, noted) (placed_more m vertices i v is spots inv.each_one memory c.loop-i.board inv.placed c.put.new.self r stood);
     }
 

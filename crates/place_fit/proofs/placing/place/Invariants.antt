@@ -1,11 +1,10 @@
 use Rattle.std.proofs.Common.{◌≡◌, length}
-use Rattle.place_fit.specs.{Boards.IsFairBoard, Standing.ArePlaced}
+use Rattle.place_fit.specs.Standing.{ArePlaced}
 use Rattle.place_fit.proofs.placing.place.Given as goal
 
 -- the vertices so far stand on the board, at their spots
 abbrev pub invariant-loop-i : goal.invariant-loop-i
 invariant-loop-i l = record {
   each_one : length l.spots ≡ l.i;
-  fair : IsFairBoard l.board;
   placed : ArePlaced l.machine l.graph.vertices l.spots l.memory l.board;
 }

@@ -5,4 +5,4 @@ use Rattle.table_rules.specs.Rows.{routed}
 use Rattle.table_rules.proofs.shortening.rows_at.Given as goal
 
 abbrev pub invariant-loop-place : goal.invariant-loop-place
-invariant-loop-place l = l.new ≡ map routed (rows_at l.rows (take l.place-index l.places))
+invariant-loop-place l = l.new ≡ map routed (rows_at l.at.rows.now (take l.place-index l.at.places.now))

@@ -9,16 +9,15 @@ use Rattle.table_rules.proofs.walling.covered_within.Goals as goal
 pub cover-requires-clause-sound : goal.cover-requires-clause-sound
 cover-requires-clause-sound c = made_is_sound c.args.room (walled c.args.given.rows.now c.args.given.route) c.args.table.rows c.requires.made
 
-pub rows_left-requires-clause-few : goal.rows_left-requires-clause-few
-rows_left-requires-clause-few c =
+pub invariant_of-sound : goal.invariant_of-sound
+invariant_of-sound c =
     let covering = c.as_slice-covering.result.now in
     let before = few_wall c.args.given.route.bits c.in_ok-covered.covered.table.rows covering c.rows_before-before.result.now c.as_slice-covering.ensures c.rows_before-before.ensures in
-    omega (arith, before, c.in_ok-covered.ensures.few, c.requires.few)
-
-pub rows_left-requires-clause-sound : goal.rows_left-requires-clause-sound
-rows_left-requires-clause-sound c =
-    sound_wall c.args.given.route.bits c.in_ok-covered.covered.table.rows c.as_slice-covering.result.now c.rows_before-before.result.now c.as_slice-covering.ensures
-    c.rows_before-before.ensures c.in_ok-covered.ensures.sound
+    record {
+      few = omega (arith, before, c.in_ok-covered.ensures.few, c.requires.few);
+      sound = sound_wall c.args.given.route.bits c.in_ok-covered.covered.table.rows covering c.rows_before-before.result.now c.as_slice-covering.ensures
+          c.rows_before-before.ensures c.in_ok-covered.ensures.sound;
+    }
 
 pub returns-then-len-rows-clause-rows : goal.returns-then-len-rows-clause-rows
 returns-then-len-rows-clause-rows c =

@@ -10,8 +10,8 @@ side k small = one_shl k 8 (omega (arith, small))
 pub returns-then-chip-side-2-clause-there : goal.returns-then-chip-side-2-clause-there
 returns-then-chip-side-2-clause-there c =
     let b = c.args.self.now in
-    let is = side b.level c.requires.small in
-    ap₂ slice_get c.requires.chips c.place_on_curve.ensures.place
+    let is = side b.level b.small in
+    ap₂ slice_get b.curve c.place_on_curve.ensures.place
     ∙ at_place b.level c.args.chip (omega (arith, c.if-chip-side.true, is), omega (arith, c.if-chip-side-2.true, is))
 
 pub returns-then-chip-side-2-clause-within : goal.returns-then-chip-side-2-clause-within
@@ -19,4 +19,4 @@ returns-then-chip-side-2-clause-within c = slice_get_within c.args.self.now.chip
 
 pub returns-else-chip-side-clause-none : goal.returns-else-chip-side-clause-none
 returns-else-chip-side-clause-none c q at =
-    grind (arith, side (c.args.self.now).level c.requires.small, inside_at, slice_get, else-chip-side-via-then-chip-side+else-chip-side-2, else-chip-side-via-else-chip-side)
+    grind (arith, side (c.args.self.now).level c.args.self.now.small, inside_at, slice_get, else-chip-side-via-then-chip-side+else-chip-side-2, else-chip-side-via-else-chip-side)

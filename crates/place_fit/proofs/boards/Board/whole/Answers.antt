@@ -5,7 +5,7 @@ use Rattle.machine_desc.specs.{Description.Description, Live.is_usable}
 use Rattle.spin_base.specs.declared.chips.Chip.{Chip}
 use Rattle.place_fit.specs.Boards.{AreCores, room_left}
 use Rattle.place_fit.proofs.{CurveLaws.hilbert_length, Giving.few_push}
-use Rattle.place_fit.proofs.boards.whole_board.Goals as goal
+use Rattle.place_fit.proofs.boards.Board.whole.Goals as goal
 
 cores_there : (m : Description) (chips : List Chip) (q i : ℕ) (d e : Chip) (free : ℕ) → q ≡ i → slice_get chips q ≡ Some d
     → AreCores (is_usable m) (get_or chips i e) free → AreCores (is_usable m) d free

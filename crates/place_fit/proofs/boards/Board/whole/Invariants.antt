@@ -2,7 +2,7 @@ use Rattle.std.proofs.Common.{◌≡◌, ℕ, ◌^◌, ◌<◌, length, Some, sl
 use Rattle.spin_base.specs.declared.chips.Chip.{Chip}
 use Rattle.machine_desc.specs.Live.{is_usable}
 use Rattle.place_fit.specs.Boards.{AreCores, room_left}
-use Rattle.place_fit.proofs.boards.whole_board.Given as goal
+use Rattle.place_fit.proofs.boards.Board.whole.Given as goal
 
 -- the chips so far have their cores and their room
 abbrev pub invariant-loop-place : goal.invariant-loop-place
