@@ -4,6 +4,8 @@ use Rattle.std.specs.List.{list_all}
 use Rattle.spin_base.specs.declared.copies.McCopy.{McCopy}
 use Rattle.chip_node.specs.Items.{Item}
 use Rattle.mesh_core.specs.State.{State, Queue, IsMesh}
+use Rattle.mesh_run.specs.declared.layout.Layout.{Layout}
+use Rattle.mesh_run.specs.Layouts.{IsLayoutOf}
 use Rattle.mesh_round.specs.RoundFlow.{Flow, held_in, HasNoHand, IsRound, HasMoved}
 
 -- a queue holds a copy, or a vertex has one that it did not send yet
@@ -36,3 +38,13 @@ pub record LeadsByRound (patience turns : ℕ) (m n : State) : Type 0 where
 pub record MayGoOn (s : State) : Type 0 where
   pub mesh : IsMesh s
   pub no_hand : HasNoHand s
+
+-- a mesh, and how its setup is shared
+pub record MeshOnLayout : Type 0 where
+  pub mesh : State
+  pub layout : Layout
+
+-- A mesh may go on by rounds on its layout.
+pub record IsLaid (m : State) (l : Layout) : Type 0 where
+  pub ready : MayGoOn m
+  pub layout : IsLayoutOf m.setup l

@@ -9,6 +9,7 @@
 #![tactic(auto)]
 
 pub mod flow_laws;
+mod laid;
 pub mod laws;
 mod putting;
 mod reinjecting;

@@ -4,13 +4,13 @@ ghost use Rattle.mesh_core.specs.declared.places.Did.TheVariants.{Moved};
 ghost use Rattle.mesh_core.specs.State.{IsMesh};
 ghost use Rattle.mesh_core.specs.PutBack.{after_put_back};
 ghost use Rattle.mesh_core.specs.Expected.{IsAtRest};
-ghost use Rattle.mesh_run.specs.Layouts.{IsLayoutOf};
 ghost use Rattle.mesh_round.specs.RoundFlow.{HasNoHand};
 ghost use Rattle.mesh_round.specs.Work.{work_in};
 ghost use Rattle.mesh_round.specs.OnThreads.{MayGoOn};
 ghost use Rattle.mesh_round.specs.Reinjecting.{put_back_answer, HasPasses, IsOfNets};
 
 use crate::flow_laws::a_round_leaves_less_to_do;
+use crate::laid::LaidMesh;
 use crate::laws::passes_keep_the_ledger;
 use crate::putting::{has_room, push_behind, queue_behind};
 use crate::rounds::run_on;
@@ -63,66 +63,54 @@ pub fn reinject<R: Threads + Wait + Sync, G: Gate>(
     ensures refused { IfErr result (λ b. HasPasses pace.patience pace.turns mesh b.0) }
     ensures ready { IfErr result (λ b. MayGoOn b.0) }
 {
-    match pass_parts(rt, alloc, mesh.take_apart(), pace, gate) {
+    let parts = mesh.take_apart();
+    let layout = match Layout::of(alloc, &parts, pace.workers) {
+        Ok(layout) => layout,
+        Err(e) => return Err((Mesh::put_together(parts), e)),
+    };
+    let laid = LaidMesh {
+        parts,
+        layout: &layout,
+    };
+    match pass_on(rt, alloc, laid, pace, gate) {
         Ok(parts) => Ok(Mesh::put_together(parts)),
         Err((parts, e)) => Err((Mesh::put_together(parts), e)),
     }
 }
 
-// Rounds and copies put back, in turn, on the parts of a mesh.
-fn pass_parts<R: Threads + Wait + Sync, G: Gate>(
-    rt: &R,
-    alloc: Global,
-    parts: MeshParts,
-    pace: Pace,
-    gate: &G,
-) -> Result<MeshParts, (MeshParts, Memory)>
-    requires ready { MayGoOn parts }
-    requires ledger { IsOfNets parts }
-    ensures passes { IfOk result (HasPasses pace.patience pace.turns parts) }
-    ensures ready { IfOk result MayGoOn }
-    ensures at_rest { IfOk result IsAtRest }
-    ensures no_record { IfOk result (λ n. n.dumped ≡ []) }
-    ensures refused { IfErr result (λ b. HasPasses pace.patience pace.turns parts b.0) }
-    ensures ready_still { IfErr result (λ b. MayGoOn b.0) }
-{
-    match Layout::of(alloc, &parts, pace.workers) {
-        Ok(layout) => pass_on(rt, alloc, parts, &layout, pace, gate),
-        Err(e) => Err((parts, e)),
-    }
-}
-
-// Rounds and copies put back, in turn, on the parts of a mesh with its layout. No pass changes what the layout is of.
+// Rounds and copies put back, in turn, of a mesh with its layout. No pass changes what the layout is of.
 fn pass_on<R: Threads + Wait + Sync, G: Gate>(
     rt: &R,
     alloc: Global,
-    parts: MeshParts,
-    layout: &Layout,
+    laid: LaidMesh<'_>,
     pace: Pace,
     gate: &G,
 ) -> Result<MeshParts, (MeshParts, Memory)>
-    requires ready { MayGoOn parts }
-    requires ledger { IsOfNets parts }
-    requires layout { IsLayoutOf parts.setup layout.now }
-    ensures passes { IfOk result (HasPasses pace.patience pace.turns parts) }
+    requires ledger { IsOfNets laid.mesh }
+    ensures passes { IfOk result (HasPasses pace.patience pace.turns laid.entry.mesh) }
     ensures ready { IfOk result MayGoOn }
     ensures at_rest { IfOk result IsAtRest }
     ensures no_record { IfOk result (λ n. n.dumped ≡ []) }
-    ensures refused { IfErr result (λ b. HasPasses pace.patience pace.turns parts b.0) }
+    ensures refused { IfErr result (λ b. HasPasses pace.patience pace.turns laid.entry.mesh b.0) }
     ensures ready_still { IfErr result (λ b. MayGoOn b.0) }
 {
     passes_keep_the_ledger();
     a_round_leaves_less_to_do();
-    let mut parts = run_on(rt, alloc, parts, layout, pace, gate)?;
+    let layout = laid.layout;
+    let mut parts = run_on(rt, alloc, laid, pace, gate)?;
     'passes: while parts.dumped.len() > 0 {
-        let filled = put_parts_back(parts)?;
-        parts = run_on(rt, alloc, filled, layout, pace, gate)?;
+        let filled = put_all_back(parts)?;
+        let refilled = LaidMesh {
+            parts: filled,
+            layout,
+        };
+        parts = run_on(rt, alloc, refilled, pace, gate)?;
     }
     Ok(parts)
 }
 
-// Puts dumped copies back, first ones first, until the first one can't be, on the parts of a mesh.
-fn put_parts_back(parts: MeshParts) -> Result<MeshParts, (MeshParts, Memory)>
+// Puts dumped copies back, first ones first, until the first one can't be.
+fn put_all_back(parts: MeshParts) -> Result<MeshParts, (MeshParts, Memory)>
     requires ready { MayGoOn parts }
     ensures passes { IfOk result (λ n. (patience turns : ℕ) → HasPasses patience turns parts n) }
     ensures ready { IfOk result MayGoOn }
@@ -131,28 +119,13 @@ fn put_parts_back(parts: MeshParts) -> Result<MeshParts, (MeshParts, Memory)>
         → HasPasses patience turns parts b.0) }
     ensures ready_still { IfErr result (λ b. MayGoOn b.0) }
 {
-    match put_all_back(Mesh::put_together(parts)) {
-        Ok(mesh) => Ok(mesh.take_apart()),
-        Err((mesh, e)) => Err((mesh.take_apart(), e)),
-    }
-}
-
-// Puts dumped copies back, first ones first, until the first one can't be.
-fn put_all_back(mesh: Mesh) -> Result<Mesh, (Mesh, Memory)>
-    requires ready { MayGoOn mesh }
-    ensures passes { IfOk result (λ n. (patience turns : ℕ) → HasPasses patience turns mesh n) }
-    ensures ready { IfOk result MayGoOn }
-    ensures less { IfOk result (λ n. put_back_answer mesh ≡ Moved → work_in n < work_in mesh) }
-    ensures refused { IfErr result (λ b. (patience turns : ℕ) → HasPasses patience turns mesh b.0) }
-    ensures ready_still { IfErr result (λ b. MayGoOn b.0) }
-{
-    let mut mesh = mesh;
+    let mut parts = parts;
     'copies: loop {
-        let (next, did) = put_back(mesh)?;
-        mesh = next;
+        let (next, did) = put_first_back(parts)?;
+        parts = next;
         match did {
             Did::Moved => {}
-            Did::Idle => return Ok(mesh),
+            Did::Idle => return Ok(parts),
         }
     }
 }

@@ -3,12 +3,12 @@ ghost use Rattle.std.specs.Prelude.{◌≡◌, IfErr, IfOk, true};
 ghost use Rattle.std.specs.List.{list_all};
 ghost use Rattle.mesh_core.specs.State.{IsMesh};
 ghost use Rattle.mesh_core.specs.Expected.{IsAtRest};
-ghost use Rattle.mesh_run.specs.Layouts.{IsLayoutOf};
 ghost use Rattle.mesh_round.specs.RoundFlow.{HasNoHand, HasRounds};
 ghost use Rattle.mesh_round.specs.OnThreads.{LeadsByRound, MayGoOn, has_none, holds_none};
 ghost use Rattle.mesh_round.specs.Bound.{HasMovingRounds, LeadsSoon};
 
 use crate::flow_laws::rounds_that_move_copies_are_few;
+use crate::laid::LaidMesh;
 use crate::laws::a_round_on_threads_is_a_round;
 use mesh_core::{Mesh, MeshParts};
 use mesh_run::{Layout, Pace, RaisedMesh, Round};
@@ -37,49 +37,36 @@ pub fn round<R: Threads + Wait + Sync, G: Gate>(
     ensures no_hand { IfOk result HasNoHand }
     ensures back { IfErr result (λ b. b.0 ≡ mesh) }
 {
-    match play_parts(rt, alloc, mesh.take_apart(), pace, number, gate) {
+    let parts = mesh.take_apart();
+    let layout = match Layout::of(alloc, &parts, pace.workers) {
+        Ok(layout) => layout,
+        Err(e) => return Err((Mesh::put_together(parts), e)),
+    };
+    let laid = LaidMesh {
+        parts,
+        layout: &layout,
+    };
+    match play_on(rt, alloc, laid, pace, number, gate) {
         Ok(parts) => Ok(Mesh::put_together(parts)),
         Err((parts, e)) => Err((Mesh::put_together(parts), e)),
     }
 }
 
-// One round on the parts of a mesh.
-fn play_parts<R: Threads + Wait + Sync, G: Gate>(
-    rt: &R,
-    alloc: Global,
-    parts: MeshParts,
-    pace: Pace,
-    number: u32,
-    gate: &G,
-) -> Result<MeshParts, (MeshParts, Memory)>
-    requires { MayGoOn parts }
-    ensures round { IfOk result (LeadsByRound pace.patience pace.turns parts) }
-    ensures ready { IfOk result MayGoOn }
-    ensures back { IfErr result (λ b. b.0 ≡ parts) }
-{
-    match Layout::of(alloc, &parts, pace.workers) {
-        Ok(layout) => play_on(rt, alloc, parts, &layout, pace, number, gate),
-        Err(e) => Err((parts, e)),
-    }
-}
-
-// One round on the parts of a mesh with its layout, in which each actor is asked to look at all its queues.
+// One round of a mesh with its layout, in which each actor is asked to look at all its queues.
 fn play_on<R: Threads + Wait + Sync, G: Gate>(
     rt: &R,
     alloc: Global,
-    parts: MeshParts,
-    layout: &Layout,
+    laid: LaidMesh<'_>,
     pace: Pace,
     number: u32,
     gate: &G,
 ) -> Result<MeshParts, (MeshParts, Memory)>
-    requires ready { MayGoOn parts }
-    requires layout { IsLayoutOf parts.setup layout.now }
-    ensures round { IfOk result (LeadsByRound pace.patience pace.turns parts) }
+    ensures round { IfOk result (LeadsByRound pace.patience pace.turns laid.entry.mesh) }
     ensures ready { IfOk result MayGoOn }
-    ensures back { IfErr result (λ b. b.0 ≡ parts) }
+    ensures back { IfErr result (λ b. b.0 ≡ laid.entry.mesh) }
 {
     a_round_on_threads_is_a_round();
+    let LaidMesh { parts, layout } = laid;
     let mut raised = RaisedMesh::raise(rt, alloc, parts, layout, pace)?;
     let round = Round {
         number,
@@ -136,31 +123,33 @@ pub fn run_out<R: Threads + Wait + Sync, G: Gate>(
         Ok(layout) => layout,
         Err(e) => return Err((Mesh::put_together(parts), e)),
     };
-    match run_on(rt, alloc, parts, &layout, pace, gate) {
+    let laid = LaidMesh {
+        parts,
+        layout: &layout,
+    };
+    match run_on(rt, alloc, laid, pace, gate) {
         Ok(parts) => Ok(Mesh::put_together(parts)),
         Err((parts, e)) => Err((Mesh::put_together(parts), e)),
     }
 }
 
-// Rounds on the parts of a mesh with its layout, numbered from 1. Where a round moved no copy, the next asks each actor to look at all its
+// Rounds of a mesh with its layout, numbered from 1. Where a round moved no copy, the next asks each actor to look at all its
 // queues; where that one moved none either, the mesh is at rest.
 pub(crate) fn run_on<R: Threads + Wait + Sync, G: Gate>(
     rt: &R,
     alloc: Global,
-    parts: MeshParts,
-    layout: &Layout,
+    laid: LaidMesh<'_>,
     pace: Pace,
     gate: &G,
 ) -> Result<MeshParts, (MeshParts, Memory)>
-    requires ready { MayGoOn parts }
-    requires layout { IsLayoutOf parts.setup layout.now }
-    ensures rounds { IfOk result (HasMovingRounds pace.patience pace.turns parts) }
+    ensures rounds { IfOk result (HasMovingRounds pace.patience pace.turns laid.entry.mesh) }
     ensures ready { IfOk result MayGoOn }
     ensures at_rest { IfOk result IsAtRest }
-    ensures refused { IfErr result (λ b. HasMovingRounds pace.patience pace.turns parts b.0) }
+    ensures refused { IfErr result (λ b. HasMovingRounds pace.patience pace.turns laid.entry.mesh b.0) }
     ensures ready_still { IfErr result (λ b. MayGoOn b.0) }
 {
     a_round_on_threads_is_a_round();
+    let LaidMesh { parts, layout } = laid;
     let mut raised = RaisedMesh::raise(rt, alloc, parts, layout, pace)?;
     let mut number: u32 = 0;
     let mut thorough = true;

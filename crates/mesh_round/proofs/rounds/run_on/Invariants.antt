@@ -4,4 +4,4 @@ use Rattle.mesh_round.proofs.rounds.run_on.Given as goal
 
 -- the mesh was reached by rounds in each of which a copy moved, at the pace that was asked for
 abbrev pub invariant-loop : goal.invariant-loop
-invariant-loop g l = IsReached l.fn.pace.patience l.fn.pace.turns l.fn.parts l.raised × (l.raised.pace ≡ l.fn.pace)
+invariant-loop g l = IsReached l.fn.pace.patience l.fn.pace.turns l.fn.laid.mesh l.raised × (l.raised.pace ≡ l.fn.pace)

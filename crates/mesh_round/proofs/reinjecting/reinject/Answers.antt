@@ -1,0 +1,9 @@
+-- Where no layout is made, there was no pass.
+use Rattle.std.proofs.Common.{◌∙◌, sym, subst}
+use Rattle.mesh_round.specs.Reinjecting.{HasPasses, none}
+use Rattle.mesh_round.proofs.reinjecting.reinject.Goals as goal
+
+pub returns-in-Err-clause-refused : goal.returns-in-Err-clause-refused
+returns-in-Err-clause-refused g c =
+    let p = c.args.pace in
+    subst (HasPasses p.patience p.turns c.args.mesh) (sym (c.put_together.ensures ∙ c.take_apart-parts.ensures.parts)) none
