@@ -1,5 +1,6 @@
 -- A graph has at most one refusal that is due, and none where it has nets with trees.
-use Rattle.std.proofs.Common.{◌≡◌, ℕ, List, Result, Ok, Err, IfOk, IfErr, sym, ap, ◌∙◌, inl, inr}
+use Rattle.std.proofs.Common.{◌≡◌, ℕ, List, [], Option, Result, Ok, Err, IfOk, IfErr, sym, ap, ◌∙◌, inl, inr}
+use Rattle.std.specs.Option.{option_map_or}
 use Rattle.spin_base.proofs.Places.{one_item_at}
 use Rattle.spin_base.specs.declared.chips.Spot.{Spot}
 use Rattle.spin_base.specs.declared.wants.Memory.{Memory as WantsMemory}
@@ -13,8 +14,8 @@ use Rattle.net_plans.specs.Cause.{IsRefusedBy}
 use Rattle.place_fit.proofs.Determined as placing
 use Rattle.key_alloc.proofs.Determined as keying
 use Rattle.run_report.specs.declared.causes.Refusal.{Refusal, TheVariants.NoRoom, TheVariants.KeysOut, TheVariants.Memory}
-use Rattle.spin_checks.specs.{Answers.HasNoAnswer, Answers.IsAnswer, Answers.IsJobRefusal, Answers.keys_out, Answers.no_room, Nets.AreNetsWith, Naming.IsNetIn, Naming.IsVertexIn, Naming.key_refusal}
-use Rattle.spin_checks.specs.Naming.{place_refusal}
+use Rattle.spin_checks.specs.{Answers.HasNoAnswer, Answers.IsAnswer, Answers.IsJobRefusal, Answers.keys_out, Answers.no_room, Nets.AreNetsWith, Naming.key_refusal, Naming.net_in, Naming.place_refusal}
+use Rattle.spin_checks.specs.Naming.{vertex_in}
 
 module _ (m : Description) (graph : Graph) where
   -- one refusal is due
@@ -53,15 +54,17 @@ module _ (m : Description) (graph : Graph) where
   refused_answer trees bytes = refused_where (IsAnswer m graph trees bytes) (λ text is r due. none_due trees is.nets r is.are due)
 
   -- the refusal by the name of the vertex without room
-  pub place_due : (e : PlaceErr) (name : Result (List ℕ) WantsMemory) (r : Refusal) → IsPlacementCause m graph.vertices e → IfOk name (IsVertexIn graph e) → r ≡ place_refusal e name →
-      HasNoAnswer m graph r
-  place_due (places.NoRoom i) (Ok name) r room named is = inl (no_room i named.0 room named.1 (is ∙ ap NoRoom named.2))
+  pub place_due : (e : PlaceErr) (name : Result (List ℕ) WantsMemory) (r : Refusal) → IsPlacementCause m graph.vertices e → IfOk name (λ n. n ≡ vertex_in graph e) →
+      r ≡ place_refusal e name → HasNoAnswer m graph r
+  place_due (places.NoRoom i) (Ok name) r room named is =
+      inl (no_room i room.vertex room room.is (is ∙ ap NoRoom (named ∙ ap (λ (o : Option Vertex). option_map_or (λ (v : Vertex). v.name) o []) room.is)))
   place_due (places.NoRoom i) (Err memory) r room named is = inr is
   place_due places.Memory name r room named is = inr is
 
   -- the refusal by the name of the net without keys
   pub key_due : (spots : List Spot) (memory : List ℕ) → IsPlacement m graph.vertices spots memory → (e : KeyErr) (name : Result (List ℕ) WantsMemory) (r : Refusal) →
-      IsKeysCause graph.nets e → IfOk name (IsNetIn graph e) → r ≡ key_refusal e name → HasNoAnswer m graph r
-  key_due spots memory placed (keys.KeysOut i) (Ok name) r out named is = inl (keys_out spots memory placed i named.0 out named.1 (is ∙ ap KeysOut named.2))
+      IsKeysCause graph.nets e → IfOk name (λ n. n ≡ net_in graph e) → r ≡ key_refusal e name → HasNoAnswer m graph r
+  key_due spots memory placed (keys.KeysOut i) (Ok name) r out named is =
+      inl (keys_out spots memory placed i out.net out out.is (is ∙ ap KeysOut (named ∙ ap (λ (o : Option Net). option_map_or (λ (n : Net). n.name) o []) out.is)))
   key_due spots memory placed (keys.KeysOut i) (Err no_name) r out named is = inr is
   key_due spots memory placed keys.Memory name r out named is = inr is

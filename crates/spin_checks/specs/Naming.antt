@@ -1,9 +1,9 @@
 -- Which refusal is told where a graph has no nets with trees, and by which name (this project's own). Want of memory is told where
 -- memory ran out, also for the name, and nowhere else.
-use Rattle.std.specs.Prelude.{◌≡◌, ℕ, List, Some, Result, Ok, Err, slice_get}
+use Rattle.std.specs.Prelude.{ℕ, List, [], Result, Ok, Err, slice_get}
+use Rattle.std.specs.Option.{option_map_or}
 use Rattle.spin_base.specs.declared.wants.Memory.{Memory}
 use Rattle.app_graph.specs.declared.graphs.Graph.{Graph}
-use Rattle.app_graph.specs.declared.graphs.Net.{Net}
 use Rattle.app_graph.specs.declared.graphs.Vertex.{Vertex}
 use Rattle.place_fit.specs.declared.placing.PlaceErr.{PlaceErr}
 use Rattle.place_fit.specs.declared.placing.PlaceErr.TheVariants as places
@@ -11,11 +11,16 @@ use Rattle.key_alloc.specs.declared.alloc.KeyErr.{KeyErr}
 use Rattle.key_alloc.specs.declared.alloc.KeyErr.TheVariants as keys
 use Rattle.run_report.specs.declared.causes.Refusal.{Refusal}
 use Rattle.run_report.specs.declared.causes.Refusal.TheVariants as refusals
+use Rattle.spin_checks.specs.Findings.{name_at}
+
+-- the name of the vertex at a place
+abbrev pub vertex_name_at : List Vertex → ℕ → List ℕ
+vertex_name_at vertices i = option_map_or (λ (vertex : Vertex). vertex.name) (slice_get vertices i) []
 
 -- the name of the vertex without room
-abbrev pub IsVertexIn : Graph → PlaceErr → List ℕ → Type 0
-IsVertexIn graph (places.NoRoom i) name = (vertex : Vertex) × (slice_get graph.vertices i ≡ Some vertex) × (name ≡ vertex.name)
-IsVertexIn graph places.Memory name = ⊥
+abbrev pub vertex_in : Graph → PlaceErr → List ℕ
+vertex_in graph (places.NoRoom i) = vertex_name_at graph.vertices i
+vertex_in graph places.Memory = []
 
 -- the refusal of a vertex without room, by this name
 abbrev pub place_refusal : PlaceErr → Result (List ℕ) Memory → Refusal
@@ -24,9 +29,9 @@ place_refusal (places.NoRoom i) (Err memory) = refusals.Memory
 place_refusal places.Memory name = refusals.Memory
 
 -- the name of the net without keys
-abbrev pub IsNetIn : Graph → KeyErr → List ℕ → Type 0
-IsNetIn graph (keys.KeysOut i) name = (net : Net) × (slice_get graph.nets i ≡ Some net) × (name ≡ net.name)
-IsNetIn graph keys.Memory name = ⊥
+abbrev pub net_in : Graph → KeyErr → List ℕ
+net_in graph (keys.KeysOut i) = name_at graph.nets i
+net_in graph keys.Memory = []
 
 -- the refusal of a net without keys, by this name
 abbrev pub key_refusal : KeyErr → Result (List ℕ) Memory → Refusal

@@ -13,7 +13,7 @@ ghost use Rattle.spin_checks.specs.Answers.{IsAnswer, IsJobRefusal, HasNoAnswer,
 ghost use Rattle.spin_checks.specs.Findings.{right_line};
 ghost use Rattle.spin_checks.specs.Plans.{HasKeptRows, trees_of};
 
-use crate::findings::finding_on;
+use crate::findings::{StandingNets, finding_on};
 use crate::lines::line_of;
 use crate::nets::nets_with;
 use app_graph::Graph;
@@ -68,7 +68,11 @@ pub fn answer(
     an_image_has_one_spelling();
     made_images_are_right();
     let nets = nets_with(alloc, machine, graph, trees)?;
-    let Ok(finding) = finding_on(alloc, machine, &nets, image) else {
+    let standing = StandingNets {
+        machine,
+        nets: &nets,
+    };
+    let Ok(finding) = finding_on(alloc, standing, image) else {
         return Err(Refusal::Memory);
     };
     match line_of(alloc, &graph.nets, finding) {

@@ -1,5 +1,6 @@
 // What is found of nets with their trees and of the bytes of an image.
 ghost use Rattle.std.specs.Prelude.{◌≡◌, ◌<◌, ◌^◌, ◌↔◌, ℕ, List, All, IfOk, IsTrue, MatchOption, Some, length, slice_get};
+ghost use Rattle.std.proofs.Props.{props};
 ghost use Rattle.spin_base.specs.declared.blocks.Entry.{Entry};
 ghost use Rattle.spin_base.specs.declared.chips.Chip.{Chip as ChipOf};
 ghost use Rattle.machine_desc.specs.declared.nets.NetPlan.{NetPlan as Plan};
@@ -32,26 +33,36 @@ pub enum Finding {
     Judged(Verdict),
 }
 
+// Nets that begin on chips of a machine, and end at its cores and devices.
+#[derive(Clone, Copy)]
+pub(crate) struct StandingNets<'a> {
+    pub(crate) machine: &'a Machine,
+    pub(crate) nets: &'a Seq<NetPlan>,
+    pub(crate) ghost few: { length nets.now < 2 ^ 32 },
+    pub(crate) ghost sites: { All (StandsOnSites machine.now) nets.now } by { Prim.hlevel props },
+}
+
 // What is found of nets and bytes.
 pub(crate) fn finding_on(
     alloc: Global,
-    machine: &Machine,
-    nets: &Seq<NetPlan>,
+    standing: StandingNets,
     bytes: &[u8],
 ) -> Result<Finding, Memory>
-    requires few { length nets.now < 2 ^ 32 }
-    requires sites { All (StandsOnSites machine.now) nets.now }
-    ensures finding { IfOk result (IsFinding machine.now nets.now bytes.now) }
+    ensures finding { IfOk result
+        (IsFinding standing.entry.machine.now standing.entry.nets.now bytes.now) }
     ensures right { IfOk result (λ f. f ≡ Finding.Judged Right
         → (v : ImageOf) (memories : List (List Entry)) → Spells v bytes.now
-        → IsLoaded v memories → AreRight machine.now memories nets.now) }
+        → IsLoaded v memories
+        → AreRight standing.entry.machine.now memories standing.entry.nets.now) }
     ensures wrong { IfOk result (λ f. (i : ℕ) (c : ChipOf) (key : ℕ)
         → f ≡ Finding.Judged (Wrong i c key)
-        → (net : Plan) × (slice_get nets.now i ≡ Some net)
+        → (net : Plan) × (slice_get standing.entry.nets.now i ≡ Some net)
         × ((v : ImageOf) (memories : List (List Entry)) → Spells v bytes.now
-        → IsLoaded v memories → IsMisrouted machine.now memories net c key)) }
+        → IsLoaded v memories
+        → IsMisrouted standing.entry.machine.now memories net c key)) }
 {
-    if let Some(net) = first_bad(alloc, machine, nets)? {
+    let StandingNets { machine, nets } = standing;
+    if let Some(net) = first_bad(alloc, standing)? {
         return Ok(Finding::BadTree { net });
     }
     let image = match decode(alloc, bytes) {
@@ -66,11 +77,12 @@ pub(crate) fn finding_on(
 }
 
 // The first net whose tree is not good.
-fn first_bad(alloc: Global, machine: &Machine, nets: &Seq<NetPlan>) -> Result<Option<u32>, Memory>
-    requires { length nets.now < 2 ^ 32 }
-    ensures { IfOk result (λ o. MatchOption o (All (HasGoodTree machine.now) nets.now)
-        (IsFirstBad machine.now nets.now)) }
+fn first_bad(alloc: Global, standing: StandingNets) -> Result<Option<u32>, Memory>
+    ensures { IfOk result (λ o. MatchOption o
+        (All (HasGoodTree standing.entry.machine.now) standing.entry.nets.now)
+        (IsFirstBad standing.entry.machine.now standing.entry.nets.now)) }
 {
+    let StandingNets { machine, nets } = standing;
     for i in 0..nets.len() {
         let net = nets.get(i);
         if !good(alloc, machine, &net.tree, net.source.chip, &net.targets)? {

@@ -27,8 +27,8 @@ pub(crate) fn line_of(alloc: Global, nets: &Seq<Net>, finding: Finding) -> Resul
     }
 }
 
-// The name of the net at this place.
-fn name_at(nets: &Seq<Net>, net: u32) -> &str
+// The name of the net at this place, and no letter where there is no such net.
+pub(crate) fn name_at(nets: &Seq<Net>, net: u32) -> &str
     ensures { result.now ≡ name_at nets.now net }
 {
     match nets.as_slice().get(net as usize) {

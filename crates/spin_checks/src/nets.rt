@@ -1,16 +1,16 @@
 // The nets of a graph, each with the tree that was handed in for it.
 ghost use Rattle.std.specs.Prelude.{◌≡◌, All, IfOk, IfErr, length};
-ghost use Rattle.app_graph.specs.ValidGraph.{IsValidGraph, IsValidNet};
-ghost use Rattle.key_alloc.specs.Cause.{IsKeysCause};
-ghost use Rattle.place_fit.specs.Cause.{IsPlacementCause};
+ghost use Rattle.app_graph.specs.ValidGraph.{IsValidGraph};
 ghost use Rattle.net_plans.specs.Cause.{IsRefusedBy};
+ghost use Rattle.net_plans.specs.Ways.{HasEndsAmong};
 ghost use Rattle.run_report.specs.declared.causes.Refusal.{Refusal as Cause};
 ghost use Rattle.run_report.specs.declared.causes.Refusal.TheVariants.{Memory as NoMemory};
 ghost use Rattle.spin_checks.specs.Answers.{IsJobRefusal, HasNoAnswer};
 ghost use Rattle.spin_checks.specs.Nets.{AreNetsWith, IsEachNetWith, IsNetWith, IsTreeOf, StandsOnSites};
-ghost use Rattle.spin_checks.specs.Naming.{IsNetIn, IsVertexIn, key_refusal, place_refusal};
+ghost use Rattle.spin_checks.specs.Naming.{key_refusal, net_in, place_refusal, vertex_in, vertex_name_at};
 
-use app_graph::{Graph, Net};
+use crate::lines::name_at;
+use app_graph::{Graph, Net, Vertex};
 use key_alloc::{KeyErr, keys};
 use machine_desc::{Edge, Machine, NetPlan, Tree};
 use net_plans::{TargetVertices, targets_of};
@@ -36,34 +36,41 @@ pub(crate) fn nets_with(
 {
     let placement = match place(alloc, machine, graph) {
         Ok(placement) => placement,
-        Err(error) => return Err(place_refusal(error, vertex_in(alloc, machine, graph, error))),
+        Err(error) => return Err(place_refusal(error, vertex_in(alloc, graph, error))),
     };
     let blocks = match keys(alloc, graph) {
         Ok(blocks) => blocks,
         Err(error) => return Err(key_refusal(error, net_in(alloc, graph, error))),
     };
-    match plans_with(alloc, graph, &placement.spots, &blocks, trees) {
+    let handed = HandedNets {
+        spots: &placement.spots,
+        nets: &graph.nets,
+        blocks: &blocks,
+        trees,
+    };
+    match plans_with(alloc, handed) {
         Ok(plans) => Ok(plans),
         Err(Memory) => Err(Refusal::Memory),
     }
 }
 
 // The name of the vertex that has no room.
-fn vertex_in(
-    alloc: Global,
-    machine: &Machine,
-    graph: &Graph,
-    error: PlaceErr,
-) -> Result<Name, Memory>
-    requires { IsPlacementCause machine.now graph.now.vertices error }
-    ensures { IfOk result (IsVertexIn graph.now error) }
+fn vertex_in(alloc: Global, graph: &Graph, error: PlaceErr) -> Result<Name, Memory>
+    ensures { IfOk result (λ name. name ≡ vertex_in graph.now error) }
 {
     match error {
-        PlaceErr::NoRoom { vertex } => {
-            let vertex = graph.vertices.get(vertex as usize);
-            Name::of(alloc, vertex.name.as_str())
-        }
+        PlaceErr::NoRoom { vertex } => Name::of(alloc, vertex_name_at(&graph.vertices, vertex)),
         PlaceErr::Memory => Err(Memory),
+    }
+}
+
+// The name of the vertex at this place, and no letter where there is no such vertex.
+fn vertex_name_at(vertices: &Seq<Vertex>, vertex: u32) -> &str
+    ensures { result.now ≡ vertex_name_at vertices.now vertex }
+{
+    match vertices.as_slice().get(vertex as usize) {
+        Some(vertex) => vertex.name.as_str(),
+        None => "",
     }
 }
 
@@ -82,14 +89,10 @@ fn place_refusal(error: PlaceErr, name: Result<Name, Memory>) -> Refusal
 
 // The name of the net that has no keys.
 fn net_in(alloc: Global, graph: &Graph, error: KeyErr) -> Result<Name, Memory>
-    requires { IsKeysCause graph.now.nets error }
-    ensures { IfOk result (IsNetIn graph.now error) }
+    ensures { IfOk result (λ name. name ≡ net_in graph.now error) }
 {
     match error {
-        KeyErr::KeysOut { net } => {
-            let net = graph.nets.get(net as usize);
-            Name::of(alloc, net.name.as_str())
-        }
+        KeyErr::KeysOut { net } => Name::of(alloc, name_at(&graph.nets, net)),
         KeyErr::Memory => Err(Memory),
     }
 }
@@ -107,39 +110,64 @@ fn key_refusal(error: KeyErr, name: Result<Name, Memory>) -> Refusal
     }
 }
 
+// The core of each vertex, and the nets, each with its block and the edges that were handed in for it.
+#[derive(Clone, Copy)]
+struct HandedNets<'a> {
+    spots: &'a Seq<Spot>,
+    nets: &'a Seq<Net>,
+    blocks: &'a Seq<Block>,
+    trees: &'a [Seq<Edge>],
+    ghost ends: { All (HasEndsAmong (length spots.now)) nets.now },
+    ghost a_block_each: { length blocks.now ≡ length nets.now },
+    ghost a_tree_each: { length trees.now ≡ length nets.now },
+}
+
 // Each net with its block and the edges that were handed in for it.
-fn plans_with(
-    alloc: Global,
-    graph: &Graph,
-    spots: &Seq<Spot>,
-    blocks: &Seq<Block>,
-    trees: &[Seq<Edge>],
-) -> Result<Seq<NetPlan>, Memory>
-    requires graph { IsValidGraph graph.now }
-    requires a_spot_each { length spots.now ≡ length graph.now.vertices }
-    requires a_block_each { length blocks.now ≡ length graph.now.nets }
-    requires a_tree_each { length trees.now ≡ length graph.now.nets }
-    ensures long { IfOk result (λ plans. length plans ≡ length graph.now.nets) }
-    ensures each { IfOk result (IsEachNetWith spots.now graph.now.nets blocks.now trees.now) }
+fn plans_with(alloc: Global, handed: HandedNets) -> Result<Seq<NetPlan>, Memory>
+    ensures long { IfOk result (λ plans. length plans ≡ length handed.entry.nets.now) }
+    ensures each { IfOk result (IsEachNetWith handed.entry.spots.now handed.entry.nets.now
+        handed.entry.blocks.now handed.entry.trees.now) }
 {
+    let HandedNets {
+        spots,
+        nets,
+        blocks,
+        trees,
+    } = handed;
     let mut plans = Seq::new(alloc);
-    for i in 0..graph.nets.len() {
-        plans.push(net_with(alloc, graph.nets.get(i), spots, *blocks.get(i), &trees[i])?)?;
+    for i in 0..nets.len() {
+        let net = HandedNet {
+            spots,
+            net: nets.get(i),
+            block: *blocks.get(i),
+            edges: &trees[i],
+        };
+        plans.push(net_with(alloc, net)?)?;
     }
     Ok(plans)
 }
 
-// One net with its block and the edges that were handed in for it.
-fn net_with(
-    alloc: Global,
-    net: &Net,
-    spots: &Seq<Spot>,
+// The core of each vertex, and a net with its block and the edges that were handed in for it.
+#[derive(Clone, Copy)]
+struct HandedNet<'a> {
+    spots: &'a Seq<Spot>,
+    net: &'a Net,
     block: Block,
-    edges: &Seq<Edge>,
-) -> Result<NetPlan, Memory>
-    requires { IsValidNet (length spots.now) net.now }
-    ensures { IfOk result (IsNetWith spots.now net.now block edges.now) }
+    edges: &'a Seq<Edge>,
+    ghost ends: { HasEndsAmong (length spots.now) net.now },
+}
+
+// One net with its block and the edges that were handed in for it.
+fn net_with(alloc: Global, handed: HandedNet) -> Result<NetPlan, Memory>
+    ensures { IfOk result (IsNetWith handed.entry.spots.now handed.entry.net.now
+        handed.entry.block handed.entry.edges.now) }
 {
+    let HandedNet {
+        spots,
+        net,
+        block,
+        edges,
+    } = handed;
     let source = *spots.get(net.source as usize);
     let wanted = TargetVertices {
         spots,

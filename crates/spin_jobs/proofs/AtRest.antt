@@ -14,11 +14,12 @@ use Rattle.mesh_core.proofs.{DeliveredLaw.delivered_as_expected, ExpectedList.in
 use Rattle.job_readers.specs.declared.jobs.Job.{Job}
 use Rattle.run_report.specs.{declared.reports.Report.Report, Listed.placed_of, ReportText.dump_line, ReportText.event_lines, ReportText.got_line, ReportText.keys_line, ReportText.line}
 use Rattle.run_report.specs.{ReportText.place_line, ReportText.report_text, ReportText.table_lines, ReportText.wait_line, RunReport.chip_waits, RunReport.copies_at, RunReport.core_waits}
-use Rattle.run_report.specs.RunReport.{hand_waits, held_waits, named_delivery, queue_waits, unsent_by, unsent_total, waits_at, waits_of, IsDeliveredOf}
+use Rattle.run_report.specs.RunReport.{hand_waits, held_waits, named_delivery, queue_waits, unsent_by, unsent_total, waits_at, waits_of, IsDeliveredOf, IsReportOf}
 use Rattle.run_report.proofs.GotLines.{got_lines, none_after}
 use Rattle.par_compile.specs.declared.compiling.Plan.{Plan}
-use Rattle.spin_jobs.specs.{declared.outcomes.WordOutput.WordOutput, declared.outcomes.Parts.Parts, Parts.parts_with, Planned.IsMeshOf, Reinjecting.HasKeptPasses, Reinjecting.HasReinjected}
-use Rattle.spin_jobs.specs.{Runs.HasLostNothing, Runs.HasRunOut, Runs.IsReachedSoon, Runs.IsRoomy, Runs.full_report, Words.IsRunKept, Words.IsReported, Words.Reports, Words.TellsRun}
+use Rattle.table_load.specs.declared.tables.Image.{Image}
+use Rattle.spin_jobs.specs.{declared.outcomes.WordOutput.WordOutput, declared.outcomes.Parts.Parts, Parts.parts_with, Planned.IsMeshOf, Planned.JobWithPlan, Planned.tables_image}
+use Rattle.spin_jobs.specs.{Reinjecting.HasKeptPasses, Reinjecting.HasReinjected, Runs.HasLostNothing, Runs.HasRunOut, Runs.IsReachedSoon, Runs.IsRoomy, Runs.full_report, Words.IsRunKept, Words.IsReported, Words.Reports, Words.TellsRun}
 
 -- ---- lists
 
@@ -122,6 +123,13 @@ pub record IsTold (job : Job) (plan : Plan) (mesh : State) (report : Report) : T
   pub kept : IsMeshOf job plan mesh
   pub at_rest : IsAtRest mesh
   pub reported : IsReported job plan mesh [] report
+
+-- the report of an image that is that of the plan's tables
+pub reported_of : (p q : JobWithPlan) → p ≡ q → (v : Image) (mesh : State) (did : List Did) (report : Report) → v ≡ tables_image p.job p.plan →
+    IsReportOf p.job.graph p.plan.placement.spots p.plan.nets v.chips mesh did report → IsReported q.job q.plan mesh did report
+reported_of p q same v mesh did report is told =
+    subst (λ (x : JobWithPlan). IsReported x.job x.plan mesh did report) same
+    (subst (λ (w : Image). IsReportOf p.job.graph p.plan.placement.spots p.plan.nets w.chips mesh did report) is told)
 
 module _ (job : Job) (plan : Plan) (mesh : State) where
   -- the report of a mesh that keeps the ledger

@@ -14,9 +14,10 @@ pub ok_weaker : {A E : Type 0} (r : Result A E) (P Q : A → Type 0) → ((x : A
 ok_weaker (Ok x) P Q more has = more x has
 ok_weaker (Err e) P Q more has = has
 
--- what holds of an output is what a word makes
-pub made_by : {E : Type 0} {w : JobWord} {job : Job} {plan : Plan} (r : Result WordOutput E) (P : Job → Plan → Parts → List ℕ → Type 0) → ((parts : Parts) (text : List ℕ) → P job plan parts text → Makes w job plan parts text) →
-    IfOk r (λ t. P job plan (parts_with job plan t.mesh t.report) t.text) → IfOk r (λ t. Makes w job plan (parts_with job plan t.mesh t.report) t.text)
+-- what holds of an output is what a word makes, of the job that it is to be made of
+pub made_by : {E X : Type 0} {w : JobWord} {job : Job} {plan : Plan} (r : Result WordOutput E) (P : Job → Plan → Parts → List ℕ → Type 0) →
+    ((parts : Parts) (text : List ℕ) → P job plan parts text → X → Makes w job plan parts text) →
+    IfOk r (λ t. P job plan (parts_with job plan t.mesh t.report) t.text) → IfOk r (λ t. X → Makes w job plan (parts_with job plan t.mesh t.report) t.text)
 made_by {job = job} {plan = plan} (Ok t) P makes has = makes (parts_with job plan t.mesh t.report) t.text has
 made_by (Err e) P makes has = has
 

@@ -1,10 +1,9 @@
 // What each word makes of a planned job.
-ghost use Rattle.std.specs.Prelude.{◌≡◌, ◌<◌, ◌^◌, IfOk};
-ghost use Rattle.run_report.specs.ReportText.{row_total};
+ghost use Rattle.std.specs.Prelude.{◌≡◌, IfOk};
 ghost use Rattle.job_gen.specs.Generated.{gen_job};
 ghost use Rattle.spin_jobs.specs.Making.{IsOutputAs};
 ghost use Rattle.spin_jobs.specs.Planned.{setup_of};
-ghost use Rattle.spin_jobs.specs.Words.{Images, IsReported, IsTraced, Lists, Reports, Summarises, TellsRun};
+ghost use Rattle.spin_jobs.specs.Words.{Images, IsTraced, Lists, Reports, Summarises, TellsRun};
 
 use crate::outcomes::WordOutput;
 use crate::planned_jobs::PlannedJob;
@@ -12,7 +11,7 @@ use crate::runs::{open_job, run_job, take_events};
 use mesh_core::laws::deliveries_are_as_many_as_expected;
 use mesh_core::{Did, Mesh};
 use par_compile::{image_of, images_fill_their_tables};
-use run_report::{PlannedGraph, Report, plan_text, report_of, summary_text, text_of};
+use run_report::{PlannedGraph, plan_text, report_of, summary_text, text_of};
 use spin_base::{Gate, Memory, Seq};
 use std::alloc::Global;
 use std::sync::Wait;
@@ -27,12 +26,18 @@ pub(crate) fn generated<R: Threads + Wait + Sync, G: Gate>(
     planned: &PlannedJob<'_>,
     gate: &G,
 ) -> Result<WordOutput, Memory>
-    requires of_number { planned.now.job ≡ gen_job number }
-    ensures { IfOk result (IsOutputAs (Summarises number) planned.now) }
+    ensures { IfOk result (IsOutputAs (λ job plan parts text.
+        job ≡ gen_job number → Summarises number job plan parts text) planned.now) }
 {
     deliveries_are_as_many_as_expected();
     let mesh = run_job(rt, alloc, planned, gate)?;
-    let report = report(alloc, planned, &mesh, Seq::new(alloc))?;
+    let image = image_of(alloc, &planned.job.machine, &planned.plan.tables)?;
+    let graph = PlannedGraph {
+        graph: &planned.job.graph,
+        spots: &planned.plan.placement.spots,
+        nets: &planned.plan.nets,
+    };
+    let report = report_of(alloc, &graph, image.chips, &mesh, Seq::new(alloc))?;
     let text = summary_text(
         alloc,
         number,
@@ -99,31 +104,17 @@ pub(crate) fn reported(
     requires setup { mesh.setup ≡ setup_of planned.now.job planned.now.plan }
     ensures { IfOk result (IsOutputAs (λ job plan. TellsRun job plan mesh did) planned.now) }
 {
-    let report = report(alloc, planned, &mesh, did)?;
-    let text = text_of(alloc, &report)?;
-    Ok(WordOutput {
-        mesh: Some(mesh),
-        report: Some(report),
-        text,
-    })
-}
-
-// The report of a job's plan, of a mesh, and of the answers to the events that led there.
-fn report(
-    alloc: Global,
-    planned: &PlannedJob<'_>,
-    mesh: &Mesh,
-    did: Seq<Did>,
-) -> Result<Report, Memory>
-    requires setup { mesh.now.setup ≡ setup_of planned.now.job planned.now.plan }
-    ensures reported { IfOk result (IsReported planned.now.job planned.now.plan mesh.now did) }
-    ensures few { IfOk result (λ report. row_total report.tables < 2 ^ 64) }
-{
     let image = image_of(alloc, &planned.job.machine, &planned.plan.tables)?;
     let graph = PlannedGraph {
         graph: &planned.job.graph,
         spots: &planned.plan.placement.spots,
         nets: &planned.plan.nets,
     };
-    report_of(alloc, &graph, image.chips, mesh, did)
+    let report = report_of(alloc, &graph, image.chips, &mesh, did)?;
+    let text = text_of(alloc, &report)?;
+    Ok(WordOutput {
+        mesh: Some(mesh),
+        report: Some(report),
+        text,
+    })
 }

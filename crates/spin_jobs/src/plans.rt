@@ -6,7 +6,6 @@ ghost use Rattle.job_gen.specs.Generated.{gen_job};
 ghost use Rattle.par_compile.specs.Compiled.{IsCompileCause};
 ghost use Rattle.spin_words.specs.declared.commands.JobWord.TheVariants.{Gen};
 ghost use Rattle.run_report.specs.declared.causes.Refusal.TheVariants.{Memory as NoMemory};
-ghost use Rattle.spin_jobs.specs.Planned.{IsThePlan};
 ghost use Rattle.spin_jobs.specs.Unplanned.{HasNoPlan, IsNameIn, refusal_of};
 ghost use Rattle.spin_jobs.specs.Words.{IsMadeOf};
 
@@ -14,7 +13,7 @@ use crate::outcomes::{Made, Parts};
 use crate::planned_jobs::PlannedJob;
 use crate::words::make;
 use job_readers::Job;
-use par_compile::{CompileErr, CompileRequest, Plan, compile};
+use par_compile::{CompileErr, CompileRequest, compile};
 use run_report::Refusal;
 use spin_base::{Gate, Memory, Name};
 use spin_words::JobWord;
@@ -41,7 +40,19 @@ pub fn made_of_job<R: Threads + Wait + Sync, G: Gate>(
     ensures made { IfOk result (λ made. IsMadeOf word job made.parts made.text) }
     ensures err { IfErr result (λ r. HasNoPlan job r ⊎ (r ≡ NoMemory)) }
 {
-    let plan = plan_of(rt, alloc, &job, gate)?;
+    let request = CompileRequest {
+        machine: &job.machine,
+        graph: &job.graph,
+        target: job.run.target,
+        workers: job.run.workers,
+    };
+    let plan = match compile(rt, alloc, &request, gate) {
+        Ok(plan) => plan,
+        Err(cause) => {
+            let name = name_in(alloc, &job, &cause);
+            return Err(refusal_of(cause, name));
+        }
+    };
     let planned = PlannedJob {
         job: &job,
         plan: &plan,
@@ -59,33 +70,6 @@ pub fn made_of_job<R: Threads + Wait + Sync, G: Gate>(
         },
         text: told.text,
     })
-}
-
-// The plan of a job, made by as many workers as the job says.
-fn plan_of<R: Threads + Sync, G: Gate>(
-    rt: &R,
-    alloc: Global,
-    job: &Job,
-    gate: &G,
-) -> Result<Plan, Refusal>
-    requires graph { IsValidGraph job.now.graph }
-    requires run { IsRunOf job.now.graph job.now.run }
-    ensures plan { IfOk result (IsThePlan job.now) }
-    ensures err { IfErr result (λ r. HasNoPlan job.now r ⊎ (r ≡ NoMemory)) }
-{
-    let request = CompileRequest {
-        machine: &job.machine,
-        graph: &job.graph,
-        target: job.run.target,
-        workers: job.run.workers,
-    };
-    match compile(rt, alloc, &request, gate) {
-        Ok(plan) => Ok(plan),
-        Err(cause) => {
-            let name = name_in(alloc, job, &cause);
-            Err(refusal_of(cause, name))
-        }
-    }
 }
 
 // The name of the vertex or net that a cause numbers. One that numbers none has no text, and takes no memory.

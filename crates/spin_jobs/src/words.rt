@@ -15,7 +15,7 @@ use std::alloc::Global;
 use std::sync::Wait;
 use std::thread::Threads;
 
-// The mesh and the report where the word asks for them, and the whole text.
+// The mesh and the report where the word asks for them, and the whole text. The job of `gen N` is to be that of the number.
 pub(crate) fn make<R: Threads + Wait + Sync, G: Gate>(
     rt: &R,
     alloc: Global,
@@ -23,8 +23,9 @@ pub(crate) fn make<R: Threads + Wait + Sync, G: Gate>(
     planned: &PlannedJob<'_>,
     gate: &G,
 ) -> Result<WordOutput, Memory>
-    requires { (number : ℕ) → word ≡ Gen number → planned.now.job ≡ gen_job number }
-    ensures { IfOk result (IsOutputAs (Makes word) planned.now) }
+    ensures { IfOk result (IsOutputAs (λ job plan parts text.
+        ((number : ℕ) → word ≡ Gen number → job ≡ gen_job number)
+        → Makes word job plan parts text) planned.now) }
 {
     match word {
         JobWord::Run => {

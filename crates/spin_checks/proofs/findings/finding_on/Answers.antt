@@ -12,7 +12,8 @@ pub returns-clause-wrong : goal.returns-clause-wrong
 returns-clause-wrong c = λ i chip key is.
     let verdict = same_verdict _ _ is in
     let of =
-    wrong_named c.args.machine.now c.in-Ok.image c.args.nets.now c.check.result i chip key (λ memories net. IsMisrouted c.args.machine.now memories net chip key) (IsLoaded c.in-Ok.image)
+    wrong_named c.args.standing.machine.now c.in-Ok.image c.args.standing.nets.now c.check.result i chip key
+    (λ memories net. IsMisrouted c.args.standing.machine.now memories net chip key) (IsLoaded c.in-Ok.image)
     c.check.ensures.verdict verdict (c.check.ensures.wrong i chip key verdict) in (
       of.0,
       of.1,

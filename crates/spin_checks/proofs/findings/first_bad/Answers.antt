@@ -8,13 +8,13 @@ pub returns-then-not-branch : goal.returns-then-not-branch
 returns-then-not-branch c = record {
   net = c.get-net.result.now;
   there = c.get-net.ensures;
-  bad = fails (HasGoodTree c.args.machine.now c.get-net.result.now) c.in_ok-good.field-0 c.in_ok-good.ensures (search rules);
+  bad = fails (HasGoodTree c.args.standing.machine.now c.get-net.result.now) c.in_ok-good.field-0 c.in_ok-good.ensures (search rules);
   before = c.loop-i.invariant;
 }
 
 pub loop-i-preserved : goal.loop-i-preserved
 loop-i-preserved c =
-    good_more c.args.machine.now c.args.nets.now c.loop-i.i c.get-net.result.now c.loop-i.invariant c.get-net.ensures (c.in_ok-good.ensures.0 (search rules))
+    good_more c.args.standing.machine.now c.args.standing.nets.now c.loop-i.i c.get-net.result.now c.loop-i.invariant c.get-net.ensures (c.in_ok-good.ensures.0 (search rules))
 
 pub returns : goal.returns
-returns c = all_good c.args.machine.now c.args.nets.now c.loop-i.i (search rules) c.loop-i.invariant
+returns c = all_good c.args.standing.machine.now c.args.standing.nets.now c.loop-i.i (search rules) c.loop-i.invariant

@@ -1,5 +1,8 @@
-use Rattle.std.proofs.Common.{rules}
-use Rattle.key_alloc.specs.KeyBlocks.{AreRightBlocks}
+use Rattle.std.proofs.Common.{length, sym, subst}
+use Rattle.std.specs.List.{All}
+use Rattle.std.proofs.lemmas.List.Elements.{All-weaker}
+use Rattle.app_graph.specs.ValidGraph.{IsValidNet}
+use Rattle.net_plans.specs.Ways.{HasEndsAmong}
 use Rattle.spin_checks.proofs.{Refusing.key_due, Refusing.place_due, Refusing.refused_nets, Sites.all_on_sites}
 use Rattle.spin_checks.proofs.nets.nets_with.Goals as goal
 
@@ -18,13 +21,21 @@ returns-in-Err-keys-clause-none c =
 pub returns-in-Err-keys-clause-refused : goal.returns-in-Err-keys-clause-refused
 returns-in-Err-keys-clause-refused c = refused_nets c.args.machine.now c.args.graph.now c.args.trees.now _ tt (returns-in-Err-keys-clause-none c)
 
+pub invariant_of-handed : goal.invariant_of-handed
+invariant_of-handed c = record {
+  ends = subst (λ n. All (HasEndsAmong n) c.args.graph.now.nets) (sym c.in-Ok.ensures.placed.all) (All-weaker (IsValidNet (length c.args.graph.now.vertices)) (HasEndsAmong _)
+      (λ net v. record { source = v.source; some_target = v.some_target; targets = v.targets }) c.args.graph.now.nets c.requires.graph.nets);
+  a_block_each = c.in-Ok-keys.ensures.blocks.all;
+  a_tree_each = c.requires.one_tree_each;
+}
+
 pub returns-in-Ok-plans_with-clause-nets : goal.returns-in-Ok-plans_with-clause-nets
 returns-in-Ok-plans_with-clause-nets c = record {
   spots = c.in-Ok.placement.spots;
   memory = c.in-Ok.placement.memory;
   placed = c.in-Ok.ensures.placed;
   blocks = _;
-  keyed = search rules;
+  keyed = c.in-Ok-keys.ensures.blocks;
   one_tree_each = c.requires.one_tree_each;
   one_plan_each = c.in-Ok-plans_with.ensures.long;
   each = c.in-Ok-plans_with.ensures.each;
@@ -32,8 +43,7 @@ returns-in-Ok-plans_with-clause-nets c = record {
 
 pub returns-in-Ok-plans_with-clause-sites : goal.returns-in-Ok-plans_with-clause-sites
 returns-in-Ok-plans_with-clause-sites c =
-    let keyed : AreRightBlocks c.args.graph.now.nets c.in-Ok-keys.blocks = search rules in
-    all_on_sites c.args.machine.now c.in-Ok.placement.spots c.in-Ok.ensures.sites c.args.graph.now.nets c.in-Ok-keys.blocks c.args.trees.now c.in-Ok-plans_with.plans keyed.all
+    all_on_sites c.args.machine.now c.in-Ok.placement.spots c.in-Ok.ensures.sites c.args.graph.now.nets c.in-Ok-keys.blocks c.args.trees.now c.in-Ok-plans_with.plans c.in-Ok-keys.ensures.blocks.all
     c.requires.one_tree_each c.in-Ok-plans_with.ensures.long c.in-Ok-plans_with.ensures.each
 
 pub returns-in-Ok-plans_with-clause-refused : goal.returns-in-Ok-plans_with-clause-refused

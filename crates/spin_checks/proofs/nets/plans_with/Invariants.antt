@@ -4,4 +4,4 @@ use Rattle.spin_checks.specs.Nets.{IsEachNetWith}
 use Rattle.spin_checks.proofs.nets.plans_with.Given as goal
 
 abbrev pub invariant-loop-i : goal.invariant-loop-i
-invariant-loop-i l = (length l.plans ≡ l.i) × IsEachNetWith l.spots l.graph.nets l.blocks l.trees l.plans
+invariant-loop-i l = (length l.plans ≡ l.i) × IsEachNetWith l.handed.spots.now l.handed.nets.now l.handed.blocks.now l.handed.trees.now l.plans

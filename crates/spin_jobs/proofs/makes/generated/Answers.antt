@@ -1,19 +1,31 @@
-use Rattle.std.proofs.Common.{List, [], refl, ap, subst, ◌∙◌}
-use Rattle.mesh_core.specs.declared.places.Did.{Did}
-use Rattle.run_report.specs.ReportText.{summary_text}
+use Rattle.std.proofs.Common.{◌<◌, ◌^◌, List, [], refl, sym, ap, subst, ◌∙◌}
+use Rattle.mesh_core.specs.{State.Setup, declared.places.Did.Did}
+use Rattle.run_report.specs.ReportText.{row_total, summary_text}
+use Rattle.run_report.proofs.Listing.{few_rows}
 use Rattle.spin_jobs.specs.{Planned.JobWithPlan, Words.IsReported}
-use Rattle.spin_jobs.proofs.{AtRest.is_kept, AtRest.ran_out, AtRest.told_count, AtRest.told_none, Generating.generated_roomy}
+use Rattle.spin_jobs.proofs.{AtRest.is_kept, AtRest.ran_out, AtRest.reported_of, AtRest.told_count, AtRest.told_none, Generating.generated_roomy}
 use Rattle.spin_jobs.proofs.makes.generated.Goals as goal
 
+pub report_of-requires : goal.report_of-requires
+report_of-requires g c = record {
+  graph = c.planned.invariant.graph;
+  mesh = ap (λ (s : Setup). s.spots) c.in_ok-mesh.ensures.kept.setup ∙ ap (λ (p : JobWithPlan). p.plan.placement.spots) (sym c.planned.view_is);
+}
+
+pub summary_text-requires : goal.summary_text-requires
+summary_text-requires g c = subst (λ ts. row_total ts < 2 ^ 64) (sym c.in_ok-report.ensures.same_tables) (few_rows c.in_ok-image.image c.in_ok-image.ensures.valid)
+
 pub returns : goal.returns
-returns g c =
+returns g c = λ of_number.
     let job = c.args.planned.now.job in
     let plan = c.args.planned.now.plan in
     let mesh = c.in_ok-mesh.mesh in
     let ran = c.in_ok-mesh.ensures in
     let report = c.in_ok-report.report in
-    let reported = subst (λ (did : List Did). IsReported job plan mesh did report) c.new.ensures c.in_ok-report.ensures.reported in
-    let no_record = ran.no_record (generated_roomy c.args.number job c.requires.of_number) in (
+    let reported = subst (λ (did : List Did). IsReported job plan mesh did report) c.new.ensures
+    (reported_of _ _ c.planned.view_is c.in_ok-image.image mesh c.new.result report c.in_ok-image.ensures.image c.in_ok-report.ensures)
+    in
+    let no_record = ran.no_record (generated_roomy c.args.number job of_number) in (
       mesh,
       report,
       is_kept job plan mesh [] report ran.kept.ledger reported,
