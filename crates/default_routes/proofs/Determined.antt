@@ -1,12 +1,6 @@
 -- At most one list of kept places, and one final table.
-use Rattle.std.proofs.Common.{◌≡◌, ℕ, suc, Some, List, [], ◌∷◌, length, refl, sym, ap, ◌∙◌, arith}
-use Rattle.std.specs.Prelude.{slice_get}
-use Rattle.std.proofs.lemmas.Option.{slice_get_within, same_Some}
-use Rattle.spin_base.specs.declared.blocks.Entry.{Entry}
-use Rattle.tern_word.specs.declared.tables.Row.{Row}
-use Rattle.cover_merge.specs.Merge.{rows_at}
-use Rattle.cover_merge.proofs.Determined.{one_covering}
-use Rattle.default_routes.specs.{declared.stripping.Final.Final, KeptRows.IsStrippable, KeptRows.KeptFrom, KeptRows.ends, KeptRows.goes, KeptRows.stays, KeptRows.AreKept, FinalTable.IsFinalOf}
+use Rattle.default_routes.proofs.Common.{AreKept, Entry, Final, IsFinalOf, IsStrippable, KeptFrom, List, Row, Some, [], ap, arith, ends, goes, length, one_covering, refl, rows_at, same_Some}
+use Rattle.default_routes.proofs.Common.{slice_get, slice_get_within, stays, suc, sym, ℕ, ◌∙◌, ◌∷◌, ◌≡◌}
 
 module _ (rows : List Row) where
   none_behind : (i : ℕ) (ys : List ℕ) → length rows ≡ i → KeptFrom rows i ys → [] ≡ ys

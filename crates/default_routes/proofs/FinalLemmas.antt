@@ -1,14 +1,9 @@
 -- The loaded rows route as the table given does.
-use Rattle.std.proofs.Common.{◌≡◌, ℕ, ◌+◌, ◌<◌, arith, Bool, true, false, cond, Some, List, [], ◌∷◌, ◌++◌, ◌≤◌, ◌⊎◌, length, get_or, take, refl, sym, ap, ◌∙◌, subst}
-use Rattle.std.specs.{Prelude.All, Prelude.map, Prelude.find, List.Contains, List.Sorted.IsPermutation, Option.option_map_or}
-use Rattle.std.proofs.lemmas.List.{length-map, map_push, take_more, Elements.All-head, Elements.All-map, Elements.All-tail, Sorted.All-permutation, Sorted.IsPermutation-sym}
-use Rattle.std.proofs.lemmas.Option.{slice_get-get_or}
-use Rattle.spin_base.specs.{declared.chips.Port.Port, declared.blocks.Entry.Entry, Lookup.matches, Lookup.default_route, Lookup.lookup}
-use Rattle.tern_word.specs.{declared.tables.Row.Row, Entries.entry_of, SoundTable.IsSound, SoundTable.Original, SoundTable.served}
-use Rattle.cover_merge.specs.{Merge.after, Merge.rows_at, Covering.Covers, Covering.HasNoLegalPair, Covering.HasRoutesOf, Covering.merged, Covering.short, Covering.stuck}
-use Rattle.cover_merge.proofs.Positions.{All-has, rows_at-from, rows_at-length, rows_at-push}
-use Rattle.default_routes.specs.{declared.stripping.Final.Final, KeptRows.AreKept, KeptRows.ArePlaces, KeptRows.Routes, FinalTable.HaveRoutesOf, FinalTable.IsFinalOf, FinalTable.IsShortened}
-use Rattle.default_routes.specs.FinalTable.{MatchesNoKey, RoutesAlone}
+use Rattle.default_routes.proofs.Common.{All, All-has, All-head, All-map, All-permutation, All-tail, AreKept, ArePlaces, Bool, Contains, Covers, Entry, Final, HasNoLegalPair, HasRoutesOf}
+use Rattle.default_routes.proofs.Common.{HaveRoutesOf, IsFinalOf, IsPermutation, IsPermutation-sym, IsShortened, IsSound, List, MatchesNoKey, Original, Port, Routes, RoutesAlone, Row, Some, [], after}
+use Rattle.default_routes.proofs.Common.{ap, arith, cond, default_route, entry_of, false, find, get_or, length, length-map, lookup, map, map_push, matches, merged, option_map_or, refl, rows_at}
+use Rattle.default_routes.proofs.Common.{rows_at-from, rows_at-length, rows_at-push, served, short, slice_get-get_or, stuck, subst, sym, take, take_more, true, ℕ, ◌++◌, ◌+◌, ◌<◌, ◌∙◌, ◌∷◌, ◌≡◌, ◌≤◌}
+use Rattle.default_routes.proofs.Common.{◌⊎◌}
 use Rattle.default_routes.proofs.StripLemmas.{kept_places}
 
 -- entries that match no key change no lookup

@@ -1,3 +1,4 @@
+mod Common
 pub mod Determined
 pub mod FinalLemmas
 pub mod ShortTables

@@ -1,11 +1,6 @@
 -- A sound table that has no more rows than wanted is covered as it stands.
-use Rattle.std.proofs.Common.{◌≡◌, ℕ, ◌≤◌, List, [], length, get_or, map, refl, inl, arith}
-use Rattle.std.specs.Prelude.{All}
-use Rattle.std.proofs.lemmas.List.{Elements.Contains-get_or, Sorted.IsPermutation-refl}
-use Rattle.spin_base.proofs.Members.{Contains-map}
-use Rattle.tern_word.specs.{declared.tables.Row.Row, Entries.entry_of, SoundTable.IsSound, SoundTable.served}
-use Rattle.cover_merge.specs.{Merge.rows_at, Covering.short}
-use Rattle.default_routes.specs.{declared.stripping.Final.Final, KeptRows.AreKept, FinalTable.HaveRoutesOf, FinalTable.IsShortened, FinalTable.RoutesAlone}
+use Rattle.default_routes.proofs.Common.{All, AreKept, Contains-get_or, Contains-map, Final, HaveRoutesOf, IsPermutation-refl, IsShortened, IsSound, List, RoutesAlone, Row, [], arith, entry_of}
+use Rattle.default_routes.proofs.Common.{get_or, inl, length, map, refl, rows_at, served, short, ℕ, ◌≡◌, ◌≤◌}
 use Rattle.default_routes.proofs.{FinalLemmas.loaded_routes, FinalLemmas.serves_given, FinalLemmas.shortened, StripLemmas.kept_places, StripLemmas.kept_serve}
 
 module _ (target : ℕ) (rows : List Row) (kept : List ℕ) (f : Final) (few : length rows ≤ target) (sound : IsSound rows) (are : AreKept rows kept)

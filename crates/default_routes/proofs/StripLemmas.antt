@@ -1,20 +1,11 @@
 -- Kept rows route as all rows do.
-use Rattle.std.proofs.Common.{◌≡◌, ℕ, suc, ◌+◌, ◌-◌, ◌^◌, ◌<◌, ◌≤◌, ◌⊎◌, inl, inr, ◌==◌, Bool, true, false, cond, Some, List, [], ◌∷◌, ◌++◌, reverse, length, get_or, take, refl, sym, ap, ◌∙◌, subst}
-use Rattle.std.proofs.Common.{arith}
-use Rattle.std.specs.Prelude.{All, AllPairs, map, find, slice_get, bit_and, MatchBool, IsTrue, ◌↔◌, if◌then◌else◌}
-use Rattle.std.specs.{List.cons_option, Option.option_map_or}
-use Rattle.std.proofs.lemmas.{Bool.cases_lt, Bool.eq-eqb, Bool.Decides.eqb_tells, List.get_or_default, List.get_or-reverse, List.length-reverse, List.reverse-append, List.reverse-reverse}
-use Rattle.std.proofs.lemmas.List.{take_more, Quantifiers.all_pairs_push, Elements.All-nil, Elements.All-append, Elements.All-cons, Elements.All-head, Elements.All-tail, Elements.All-weaker}
-use Rattle.std.proofs.lemmas.{List.Elements.All-map, List.Elements.All-more, List.Kept.AllPairs-cons, Option.slice_get_read, Option.get_or_from_slice_get, Option.slice_get_within}
-use Rattle.spin_base.specs.declared.chips.Dir.{Dir, TheVariants.East, TheVariants.NorthEast, TheVariants.North, TheVariants.West, TheVariants.SouthWest, TheVariants.South}
-use Rattle.spin_base.specs.{declared.chips.Port.Port, declared.chips.Port.TheVariants.Link, declared.blocks.Entry.Entry, declared.routes.Route.Route, Lookup.matches, Lookup.straight_on}
-use Rattle.spin_base.specs.Lookup.{default_route, lookup}
-use Rattle.tern_word.specs.{declared.tables.Alias.Alias, declared.tables.Row.Row, Entries.entry_of, Ternary.Matches, SoundTable.HoldsItsAliases, SoundTable.Misses, SoundTable.IsSound}
-use Rattle.tern_word.specs.SoundTable.{Original, served_by, served}
-use Rattle.cover_merge.specs.Merge.{has_row, rows_at}
-use Rattle.cover_merge.proofs.{Answering.fails, Lists.AllPairs-nil, Lists.All-flat_map, Positions.has-at, Positions.has-place, Positions.rows_at-from, Positions.rows_at-has}
-use Rattle.spin_base.proofs.RouteBits.{same_route}
-use Rattle.default_routes.specs.KeptRows.{IsStrippable, KeptFrom, ends, goes, stays, AreKept, ArePlaces, RoutesAll, Routes}
+use Rattle.default_routes.proofs.Common.{Alias, All, All-append, All-cons, All-flat_map, All-head, All-map, All-more, All-nil, All-tail, All-weaker, AllPairs, AllPairs-cons, AllPairs-nil, AreKept}
+use Rattle.default_routes.proofs.Common.{ArePlaces, Bool, Dir, East, Entry, HoldsItsAliases, IsSound, IsStrippable, IsTrue, KeptFrom, Link, List, MatchBool, Matches, Misses, North, NorthEast}
+use Rattle.default_routes.proofs.Common.{Original, Port, Routes, RoutesAll, Row, Some, South, SouthWest, West, [], all_pairs_push, ap, arith, bit_and, cases_lt, cond, cons_option, default_route, ends}
+use Rattle.default_routes.proofs.Common.{entry_of, eq-eqb, eqb_tells, fails, false, find, get_or, get_or-reverse, get_or_default, get_or_from_slice_get, goes, has-at, has-place, has_row}
+use Rattle.default_routes.proofs.Common.{if◌then◌else◌, inl, inr, length, length-reverse, lookup, map, matches, option_map_or, refl, reverse, reverse-append, reverse-reverse, rows_at, rows_at-from}
+use Rattle.default_routes.proofs.Common.{rows_at-has, same_route, served, served_by, slice_get, slice_get_read, slice_get_within, stays, straight_on, subst, suc, sym, take, take_more, true, ℕ, ◌++◌}
+use Rattle.default_routes.proofs.Common.{◌+◌, ◌-◌, ◌<◌, ◌==◌, ◌^◌, ◌↔◌, ◌∙◌, ◌∷◌, ◌≡◌, ◌≤◌, ◌⊎◌}
 
 -- ---- lookup, entry by entry
 
@@ -125,28 +116,11 @@ abbrev direction : ℕ → Dir
 direction bits =
     if bits == 8 then East else (if bits == 16 then NorthEast else (if bits == 32 then North else (if bits == 1 then West else (if bits == 2 then SouthWest else South))))
 
-direction_of : (d : Dir) → direction (straight_on d).bits ≡ d
-direction_of East = refl
-direction_of NorthEast = refl
-direction_of North = refl
-direction_of West = refl
-direction_of SouthWest = refl
-direction_of South = refl
-
-pub straight_injective : (d e : Dir) → (straight_on d).bits ≡ (straight_on e).bits → d ≡ e
-straight_injective d e same = sym (direction_of d) ∙ (ap direction same ∙ direction_of e)
-
 -- ---- a row that can go
 
 module _ (row : Row) (later : List Row) (d : Dir) (bits : (straight_on d).bits ≡ row.route.bits) where
   pub strips : All (λ (a : Alias). a.port ≡ Link d) row.aliases → All (λ (r : Row). Misses r.block row) later → IsStrippable row later
   strips arrives clear = record { arrival = d; route = same_route row.route (straight_on d) (sym bits); arrives = arrives; clear = clear }
-
-  pub strips_by : IsStrippable row later → All (λ (a : Alias). a.port ≡ Link d) row.aliases
-  strips_by strip = grind (arith, straight_injective)
-
-pub strips_not : (row : Row) (later : List Row) → ((d : Dir) → (straight_on d).bits ≡ row.route.bits → ⊥) → IsStrippable row later → ⊥
-strips_not row later none strip = none strip.arrival (ap (λ (r : Route). r.bits) (sym strip.route))
 
 -- both parts, as the code finds them
 pub match_strip : (row : Row) (later : List Row) (d : Dir) (b : Bool) → (straight_on d).bits ≡ row.route.bits → All (λ (a : Alias). a.port ≡ Link d) row.aliases

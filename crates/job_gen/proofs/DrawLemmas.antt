@@ -1,9 +1,8 @@
 -- Drawing one thing after another.
-use Rattle.std.proofs.Common.{◌≡◌, ℕ, zero, suc, ◌+◌, ◌/◌, ◌<◌, ◌%◌, List, [], ◌∷◌, ◌++◌, length, All, get_or, refl, ap, ◌∙◌, add-one, arith, length-append}
-use Rattle.std.proofs.lemmas.{List.Elements.All-nil, List.Elements.All-push, Nat.mod_below}
-use Rattle.rand_xoshiro.specs.Xoshiro256.{plus_plus}
-use Rattle.job_gen.specs.{declared.draws.DrawnNet.DrawnNet, declared.draws.DrawnPacket.DrawnPacket, declared.draws.Drawn.Drawn, Draws.draw, Draws.draws, Draws.drawn_sdram, Draws.drawn_target}
-use Rattle.job_gen.specs.Draws.{drawn_net, drawn_packet, drawn_from, keys_at}
+use Rattle.job_gen.proofs.Common.{All, All-nil, All-push, Drawn, DrawnNet, DrawnPacket, List, [], add-one, ap, arith, drawn_sdram, drawn_target, get_or, length, length-append, mod_below, plus_plus}
+use Rattle.job_gen.proofs.Common.{refl, suc, zero, ℕ, ◌%◌, ◌++◌, ◌+◌, ◌/◌, ◌<◌, ◌∙◌, ◌∷◌, ◌≡◌}
+use Rattle.job_gen.specs.Draws.{draw, draws}
+use Rattle.job_gen.specs.Draws.{drawn_from, drawn_net, drawn_packet, keys_at}
 
 -- a draw is what the generator's next word gives
 pub draw_from : (m w : ℕ) (before after : List ℕ) → (w, after) ≡ plus_plus before → (w % m, after) ≡ draw m before

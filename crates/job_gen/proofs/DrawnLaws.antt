@@ -1,8 +1,8 @@
 -- What holds of all that a job draws.
-use Rattle.std.proofs.Common.{◌≡◌, ℕ, ◌+◌, ◌/◌, ◌<◌, ◌≤◌, List, length, map, All, arith}
-use Rattle.std.proofs.lemmas.List.{length-map, Elements.All-get_or, Elements.All-map}
-use Rattle.job_gen.specs.{declared.draws.DrawnNet.DrawnNet, Draws.draw, Draws.draws, Draws.drawn_sdram, Draws.drawn_target, Draws.drawn_net, Draws.drawn_packet, Draws.drawn_from, Draws.drawn}
-use Rattle.job_gen.specs.{Draws.seeded, Draws.keys_at, Draws.NeedsKey, DrawnFacts.IsDrawnNet, DrawnFacts.IsDrawnPacket, DrawnFacts.IsDrawn}
+use Rattle.job_gen.proofs.Common.{All, All-get_or, All-map, DrawnNet, IsDrawn, IsDrawnNet, IsDrawnPacket, List, NeedsKey, arith, draw, draws, length, length-map, map, seeded, ℕ, ◌+◌, ◌/◌, ◌<◌, ◌≡◌}
+use Rattle.job_gen.proofs.Common.{◌≤◌}
+use Rattle.job_gen.specs.Draws.{drawn, drawn_from, drawn_net, drawn_packet, drawn_sdram, drawn_target}
+use Rattle.job_gen.specs.Draws.{keys_at}
 use Rattle.job_gen.proofs.DrawLemmas.{draw_below, length-draws, draws_each}
 
 sdram_few : (i : ℕ) (g : List ℕ) → (drawn_sdram i g).0 ≤ 1048576

@@ -1,15 +1,9 @@
 -- Generated jobs have room, keys and ways.
-use Rattle.std.proofs.Common.{◌≡◌, ℕ, ◌+◌, ◌<◌, ◌≤◌, List, [], ◌∷◌, length, take, All, Some, MatchOption, slice_get, refl, sym, ◌∙◌, subst, arith}
-use Rattle.std.proofs.lemmas.{Bool.and_parts, List.length-map, List.Elements.All-nil, List.Elements.All-cons, List.Elements.All-head, List.Elements.All-tail, Option.slice_get_within}
-use Rattle.spin_base.proofs.Places.{All-at, slice_get_there}
-use Rattle.spin_base.specs.declared.chips.{Chip.Chip, Spot.Spot}
-use Rattle.machine_desc.specs.Live.{is_live_chip, IsLiveChip}
-use Rattle.app_graph.specs.declared.graphs.Net.{Net}
-use Rattle.place_fit.specs.Placement.{IsCoreFor, HasDeviceRoom, device_spot, IsPlacement, HasNoRoom}
-use Rattle.key_alloc.specs.KeyBlocks.{fixed_of, AreKeysOut}
-use Rattle.net_plans.specs.CutOffTargets.{IsFirstNetCutOff}
-use Rattle.job_gen.specs.{declared.draws.DrawnNet.DrawnNet, declared.draws.Drawn.Drawn, Draws.drawn, DrawnFacts.IsDrawnNet, DrawnFacts.IsDrawn, Values.numbered, Board.generated_board}
-use Rattle.job_gen.specs.Generated.{generated_vertex, net_of, packet_of, graph_of, generated_run, job_of_drawn, gen_job}
+use Rattle.job_gen.proofs.Common.{All, All-at, All-cons, All-head, All-nil, All-tail, AreKeysOut, Chip, Drawn, DrawnNet, HasDeviceRoom, HasNoRoom, IsCoreFor, IsDrawn, IsDrawnNet, IsFirstNetCutOff}
+use Rattle.job_gen.proofs.Common.{IsLiveChip, IsPlacement, List, MatchOption, Net, Some, Spot, [], and_parts, arith, device_spot, drawn, fixed_of, generated_board, is_live_chip, length, length-map}
+use Rattle.job_gen.proofs.Common.{packet_of, refl, slice_get, slice_get_there, slice_get_within, subst, sym, take, ℕ, ◌+◌, ◌<◌, ◌∙◌, ◌∷◌, ◌≡◌, ◌≤◌}
+use Rattle.job_gen.specs.Values.{numbered}
+use Rattle.job_gen.specs.Generated.{gen_job, generated_run, generated_vertex, graph_of, job_of_drawn, net_of}
 use Rattle.job_gen.proofs.{DrawnLaws.is_drawn, ListReading.length-numbered, Joined.not_cut_off, Keyed.NeedsFew, Keyed.keys_are_left, Roomy.IsSmall, Roomy.room_is_left}
 
 -- what each numbered item has

@@ -1,15 +1,12 @@
 -- The graph of a generated job is read as it was drawn.
-use Rattle.std.proofs.Common.{◌≡◌, ℕ, zero, suc, ◌+◌, ◌<◌, ◌≤◌, List, [], ◌∷◌, length, map, All, codes, decimal, true, Some, None, if◌then◌else◌, refl, ap, ◌∙◌, arith}
-use Rattle.std.proofs.lemmas.{Bool.le-leb, Bool.and_from, List.map-id}
-use Rattle.std.specs.Prelude.{slice_get, option_and_then, is_some, unwrap_or}
-use Rattle.app_graph.specs.declared.graphs.{Vertex.Vertex, Net.Net}
-use Rattle.job_text.specs.Fields.{is_within}
-use Rattle.job_text.proofs.Items.{list_of-items_of}
-use Rattle.job_readers.specs.{Members.number_member_faults, Members.number_member, Members.list_member, Members.member_since, Places.name_place_in, Places.reference_faults, Places.reference_value}
-use Rattle.job_readers.specs.{Places.new_name_faults, GraphPart.name_value, GraphPart.name_faults, GraphPart.at_faults, GraphPart.at_value, GraphPart.device_faults, GraphPart.device_value}
-use Rattle.job_readers.specs.GraphPart.{vertex_faults, vertex_value, next_vertex_faults, vertex_names_of, sender_at, sender_in, net_source_faults, source_value, target_faults, target_value, has_item}
-use Rattle.job_readers.specs.GraphPart.{some_faults, targets_faults, targets_value, keys_value, fixed_faults, fixed_value, net_faults, net_value, next_net_faults, net_names}
-use Rattle.job_gen.specs.{declared.draws.DrawnNet.DrawnNet, DrawnFacts.IsDrawnNet, Values.numbered, Values.generated_vertex_name, Values.vertex_data, Values.name_data, Values.net_data}
+use Rattle.job_gen.proofs.Common.{All, DrawnNet, IsDrawnNet, List, Net, None, Some, Vertex, [], and_from, ap, arith, codes, decimal, generated_vertex_name, has_item, if◌then◌else◌, is_some, is_within}
+use Rattle.job_gen.proofs.Common.{le-leb, length, list_of-items_of, map, map-id, name_place_in, next_net_faults, next_vertex_faults, option_and_then, refl, slice_get, suc, true, unwrap_or, zero, ℕ}
+use Rattle.job_gen.proofs.Common.{◌+◌, ◌<◌, ◌∙◌, ◌∷◌, ◌≡◌, ◌≤◌}
+use Rattle.job_readers.specs.{Members.list_member, Members.member_since, Members.number_member, Members.number_member_faults, Places.reference_faults, Places.reference_value}
+use Rattle.job_readers.specs.{GraphPart.at_faults, GraphPart.at_value, GraphPart.device_faults, GraphPart.device_value, GraphPart.name_faults, GraphPart.name_value, Places.new_name_faults}
+use Rattle.job_readers.specs.GraphPart.{net_source_faults, sender_at, sender_in, source_value, target_faults, target_value, vertex_faults, vertex_names_of, vertex_value}
+use Rattle.job_readers.specs.GraphPart.{fixed_faults, fixed_value, keys_value, net_faults, net_names, net_value, some_faults, targets_faults, targets_value}
+use Rattle.job_gen.specs.Values.{name_data, net_data, numbered, vertex_data}
 use Rattle.job_gen.specs.Generated.{generated_vertex, net_of}
 use Rattle.job_gen.proofs.{NameLemmas.AreBelow, NameLemmas.absent, NameLemmas.found, NameLemmas.named, ListReading.items_clean, ListReading.items_are}
 

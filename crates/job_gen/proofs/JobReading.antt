@@ -1,22 +1,19 @@
 -- A generated job is read without a fault, as its definition gives it.
-use Rattle.std.proofs.Common.{◌≡◌, ℕ, ◌+◌, ◌-◌, ◌<◌, ◌≤◌, List, [], ◌∷◌, length, map, codes, decimal, Bool, Some, None, if◌then◌else◌, slice_index, refl, ap, ◌∙◌, arith}
-use Rattle.std.proofs.lemmas.{Bool.le-leb, List.length-map}
-use Rattle.std.specs.Prelude.{unwrap_or}
-use Rattle.machine_desc.specs.Live.{live_count_of}
-use Rattle.app_graph.specs.{declared.graphs.Vertex.Vertex, declared.graphs.Net.Net, RunPart.key_count_of}
-use Rattle.job_text.specs.{declared.faults.JobFault.TheVariants.TooMany, Fields.count_faults}
-use Rattle.job_text.proofs.Items.{list_of-items_of}
-use Rattle.job_readers.specs.{Items.items_faults, Members.number_member_faults, Members.number_member, Members.optional_number, Members.flag_member_faults, Members.flag_member}
-use Rattle.job_readers.specs.{Members.list_member_faults, Members.long_list_member_faults, Members.list_member, Entries.chip_faults, Entries.chip_value, Places.name_place_in, Places.reference_faults}
-use Rattle.job_readers.specs.{Places.reference_value, Job.job_own_faults, Job.version_faults, Job.version_value, MachinePart.entries_faults, MachinePart.machine_members_faults}
-use Rattle.job_readers.specs.{MachinePart.machine_members, MachinePart.machine_faults, MachinePart.machine_value, GraphPart.name_value, GraphPart.vertex_value, GraphPart.next_vertex_faults}
-use Rattle.job_readers.specs.GraphPart.{vertices_faults, vertices_value, net_value, next_net_faults, net_names, nets_faults, nets_value, graph_members_faults, graph_members, graph_faults, graph_value}
-use Rattle.job_readers.specs.RunPart.{packet_net_faults, packet_net, packet_faults, packet_value, packets_faults, packets_value, events_faults, events_value, places_faults, run_members_faults}
-use Rattle.job_readers.specs.{RunPart.run_members, RunPart.run_faults, RunPart.run_value, WholeJob.job_faults, WholeJob.job_value}
-use Rattle.job_gen.specs.{declared.draws.DrawnNet.DrawnNet, declared.draws.DrawnPacket.DrawnPacket, declared.draws.Drawn.Drawn, Draws.keys_at, Draws.drawn, DrawnFacts.IsDrawnNet}
-use Rattle.job_gen.specs.{DrawnFacts.IsDrawnPacket, DrawnFacts.IsDrawn, Values.numbered, Values.generated_net_name, Values.vertex_data, Values.net_data, Values.packet_data, Values.dead_pairs}
-use Rattle.job_gen.specs.{Values.machine_data, Values.graph_data, Values.run_data, Values.job_data, Values.gen_value, Board.generated_board, Generated.generated_vertex, Generated.net_of}
-use Rattle.job_gen.specs.Generated.{packet_of, graph_of, generated_run, job_of_drawn, gen_job}
+use Rattle.job_gen.proofs.Common.{Bool, Drawn, DrawnNet, DrawnPacket, IsDrawn, IsDrawnNet, IsDrawnPacket, List, Net, None, Some, TooMany, Vertex, [], ap, arith, codes, count_faults, decimal, drawn}
+use Rattle.job_gen.proofs.Common.{generated_net_name, generated_vertex, if◌then◌else◌, le-leb, length, length-map, list_of-items_of, live_count_of, map, name_place_in, next_net_faults}
+use Rattle.job_gen.proofs.Common.{next_vertex_faults, refl, slice_index, unwrap_or, vertex_data, vertex_value, ℕ, ◌+◌, ◌-◌, ◌<◌, ◌∙◌, ◌∷◌, ◌≡◌, ◌≤◌}
+use Rattle.app_graph.specs.RunPart.{key_count_of}
+use Rattle.job_readers.specs.{Items.items_faults, Members.flag_member, Members.flag_member_faults, Members.number_member, Members.number_member_faults, Members.optional_number}
+use Rattle.job_readers.specs.{Entries.chip_faults, Entries.chip_value, Members.list_member, Members.list_member_faults, Members.long_list_member_faults, Places.reference_faults}
+use Rattle.job_readers.specs.{Job.job_own_faults, Job.version_faults, Job.version_value, MachinePart.entries_faults, MachinePart.machine_members_faults, Places.reference_value}
+use Rattle.job_readers.specs.{GraphPart.name_value, MachinePart.machine_faults, MachinePart.machine_members, MachinePart.machine_value}
+use Rattle.job_readers.specs.GraphPart.{graph_faults, graph_members, graph_members_faults, graph_value, net_names, net_value, nets_faults, nets_value, vertices_faults, vertices_value}
+use Rattle.job_readers.specs.RunPart.{events_faults, events_value, packet_faults, packet_net, packet_net_faults, packet_value, packets_faults, packets_value, places_faults, run_members_faults}
+use Rattle.job_readers.specs.{RunPart.run_faults, RunPart.run_members, RunPart.run_value, WholeJob.job_faults, WholeJob.job_value}
+use Rattle.job_gen.specs.Draws.{keys_at}
+use Rattle.job_gen.specs.Values.{dead_pairs, net_data, numbered, packet_data}
+use Rattle.job_gen.specs.{Board.generated_board, Generated.net_of, Values.gen_value, Values.graph_data, Values.job_data, Values.machine_data, Values.run_data}
+use Rattle.job_gen.specs.Generated.{gen_job, generated_run, graph_of, job_of_drawn, packet_of}
 use Rattle.job_gen.proofs.{NameLemmas.found, NameLemmas.named, ListReading.items_clean, ListReading.items_are, ListReading.numbered_are, ListReading.length-numbered, ListReading.following_clean}
 use Rattle.job_gen.proofs.GraphReading.{within, vertex_clean, vertex_is, vertex_named, net_clean, net_is, net_named}
 use Rattle.job_gen.proofs.DrawnLaws.{is_drawn}

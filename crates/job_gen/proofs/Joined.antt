@@ -1,15 +1,9 @@
 -- The chips of the board are joined by live links.
-use Rattle.std.proofs.Common.{◌≡◌, ℕ, zero, suc, ◌+◌, ◌<◌, ◌≤◌, List, [], ◌∷◌, ◌++◌, Bool, true, false, not, ◌&&◌, ◌||◌, Option, Some, None, if◌then◌else◌, inl, inr, ◌⊎◌, refl, sym, ap, ◌∙◌, subst}
-use Rattle.std.proofs.Common.{arith}
-use Rattle.std.proofs.lemmas.Bool.{agree_below, agree_below_at, and_parts, or_cases, ltb-true, not-true, false≢true}
-use Rattle.std.specs.Prelude.{nat_lt}
-use Rattle.spin_base.specs.declared.chips.{Chip.Chip, Dir.Dir, Dir.TheVariants.West, Dir.TheVariants.SouthWest, Dir.TheVariants.South}
-use Rattle.spin_base.specs.{Equality.chip_eq, Links.opposite_of}
-use Rattle.spin_base.proofs.Equality.{chip_eq_true}
-use Rattle.machine_desc.specs.{Description.Description, Live.far_of, Live.is_live_chip, Live.is_live_link, Live.IsLiveChip, Live.IsLiveLink, Live.LeadsTo, Live.IsLiveWalk, Live.live_count_of}
-use Rattle.machine_desc.proofs.Far.{inside_parts, live_inside, live_ends, far_back, live_back}
-use Rattle.link_detours.specs.Repair.{last_of, IsWalkTo, IsCutOff}
-use Rattle.job_gen.specs.{Values.dead_pairs, Board.generated_board}
+use Rattle.job_gen.proofs.Common.{Bool, Chip, Description, Dir, IsCutOff, IsLiveChip, IsLiveLink, IsLiveWalk, IsWalkTo, LeadsTo, List, None, Option, Some, South, SouthWest, West, [], agree_below}
+use Rattle.job_gen.proofs.Common.{agree_below_at, and_parts, ap, arith, chip_eq, chip_eq_true, false, false≢true, far_back, far_of, if◌then◌else◌, inl, inr, inside_parts, is_live_chip, is_live_link}
+use Rattle.job_gen.proofs.Common.{last_of, live_back, live_count_of, live_ends, live_inside, ltb-true, nat_lt, not, not-true, opposite_of, or_cases, refl, subst, suc, sym, true, zero, ℕ, ◌&&◌, ◌++◌}
+use Rattle.job_gen.proofs.Common.{◌+◌, ◌<◌, ◌||◌, ◌∙◌, ◌∷◌, ◌≡◌, ◌≤◌, ◌⊎◌}
+use Rattle.job_gen.specs.{Board.generated_board, Values.dead_pairs}
 
 pub live_chips : live_count_of generated_board ≡ 48
 unfolding generated_board dead_pairs

@@ -1,12 +1,7 @@
 -- Nets that need at most 16 keys each, and have none fixed: the first i nets take keys below 16 * i, so a range is left.
-use Rattle.std.proofs.Common.{◌≡◌, ℕ, zero, suc, ◌+◌, ◌*◌, ◌%◌, ◌^◌, ◌<◌, ◌≤◌, List, [], ◌∷◌, ◌++◌, length, take, get_or, leb, ltb, Some, None, MatchOption, slice_get, inl, inr, ◌⊎◌, refl, sym}
-use Rattle.std.proofs.Common.{subst, arith}
-use Rattle.std.proofs.{lemmas.Bool.cases_lt, lemmas.Bool.and_parts, lemmas.Bool.leb-true, lemmas.Bool.ltb-true, Math.Pow.pow_mono, lemmas.List.length-take, lemmas.List.get_or-take}
-use Rattle.std.proofs.lemmas.{List.take_all, Option.slice_get_within, Option.slice_get-get_or}
-use Rattle.std.specs.Int.{IsPowerOfTwo}
-use Rattle.spin_base.specs.declared.blocks.Block.{Block}
-use Rattle.app_graph.specs.declared.graphs.Net.{Net}
-use Rattle.key_alloc.specs.KeyBlocks.{size_of, IsSizeFor, MissesRange, fixed_of, IsOpenPlace, IsLeastBlock, AreFirstBlocks, AreKeysOut}
+use Rattle.job_gen.proofs.Common.{AreFirstBlocks, AreKeysOut, Block, IsLeastBlock, IsOpenPlace, IsPowerOfTwo, IsSizeFor, List, MatchOption, MissesRange, Net, None, Some, [], and_parts, arith}
+use Rattle.job_gen.proofs.Common.{cases_lt, fixed_of, get_or, get_or-take, inl, inr, leb, leb-true, length, length-take, ltb, ltb-true, pow_mono, refl, size_of, slice_get, slice_get-get_or}
+use Rattle.job_gen.proofs.Common.{slice_get_within, subst, suc, sym, take, take_all, zero, ℕ, ◌%◌, ◌*◌, ◌++◌, ◌+◌, ◌<◌, ◌^◌, ◌∷◌, ◌≡◌, ◌≤◌, ◌⊎◌}
 
 -- ---- sizes
 

@@ -1,14 +1,12 @@
 -- The text of a generated job is short.
-use Rattle.std.proofs.Common.{◌≡◌, ℕ, zero, suc, ◌+◌, ◌*◌, ◌^◌, ◌<◌, ◌≤◌, List, [], ◌∷◌, ◌++◌, length, map, All, codes, decimal, Bool, true, false, refl, arith, length-append}
-use Rattle.std.proofs.lemmas.{Bool.cond_both, Bool.and_parts, Bool.ltb-true, Fmt.length-decimal-le, List.length-map, List.Elements.All-nil, List.Elements.All-cons, List.Elements.All-head}
-use Rattle.std.proofs.lemmas.List.Elements.{All-tail, All-get_or, All-map}
-use Rattle.std.specs.{Prelude.nat_lt, Prelude.◌&&◌, List.list_all}
-use Rattle.json.specs.Print.{escape_byte, escape, quoted}
-use Rattle.serde_json.specs.Data.{Data, Items, no_items, item, Members, no_members, member, unsigned, number, string, array, object}
-use Rattle.serde_json.specs.{View.items_of, Written.compact_text, Written.items_text, Written.members_text, Written.comma_if}
-use Rattle.job_gen.specs.{declared.draws.DrawnNet.DrawnNet, declared.draws.DrawnPacket.DrawnPacket, declared.draws.Drawn.Drawn, Draws.keys_at, Draws.drawn, DrawnFacts.IsDrawnNet}
-use Rattle.job_gen.specs.{DrawnFacts.IsDrawnPacket, DrawnFacts.IsDrawn, Values.generated_vertex_name, Values.generated_net_name, Values.vertex_data, Values.name_data, Values.net_data}
-use Rattle.job_gen.specs.Values.{packet_data, pair_data, dead_pairs, machine_data, graph_data, run_data, job_data, gen_value, gen_text_of, numbered}
+use Rattle.job_gen.proofs.Common.{All, All-cons, All-get_or, All-head, All-map, All-nil, All-tail, Bool, Data, Drawn, DrawnNet, DrawnPacket, IsDrawn, IsDrawnNet, IsDrawnPacket, Items, List, Members}
+use Rattle.job_gen.proofs.Common.{[], and_parts, arith, array, codes, comma_if, compact_text, cond_both, decimal, drawn, escape, false, generated_net_name, generated_vertex_name, item, items_of}
+use Rattle.job_gen.proofs.Common.{items_text, length, length-append, length-decimal-le, length-map, list_all, ltb-true, map, member, members_text, nat_lt, no_items, no_members, number, object}
+use Rattle.job_gen.proofs.Common.{pair_data, quoted, refl, string, suc, true, unsigned, zero, ℕ, ◌&&◌, ◌*◌, ◌++◌, ◌+◌, ◌<◌, ◌^◌, ◌∷◌, ◌≡◌, ◌≤◌}
+use Rattle.json.specs.Print.{escape_byte}
+use Rattle.job_gen.specs.Draws.{keys_at}
+use Rattle.job_gen.specs.Values.{name_data, net_data, vertex_data}
+use Rattle.job_gen.specs.Values.{dead_pairs, gen_text_of, gen_value, graph_data, job_data, machine_data, numbered, packet_data, run_data}
 use Rattle.job_gen.proofs.DrawnLaws.{is_drawn}
 
 -- ---- strings

@@ -1,3 +1,4 @@
+mod Common
 mod DrawLemmas
 pub mod DrawnLaws
 mod TextLemmas

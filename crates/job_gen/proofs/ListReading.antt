@@ -1,9 +1,6 @@
 -- Lists of items that have no fault, and what they are.
-use Rattle.std.proofs.Common.{◌≡◌, ℕ, suc, ◌+◌, ◌<◌, ◌≤◌, List, [], ◌∷◌, ◌++◌, length, map, All, refl, sym, ap, ◌∙◌, subst, arith, decimal}
-use Rattle.std.proofs.lemmas.List.{map_push, Elements.All-head, Elements.All-tail}
-use Rattle.serde_json.specs.Data.{Data}
-use Rattle.job_text.specs.{declared.faults.JobFault.JobFault, Paths.item_at}
-use Rattle.job_readers.specs.Items.{items_faults, following_faults}
+use Rattle.job_gen.proofs.Common.{All, All-head, All-tail, Data, JobFault, List, [], ap, arith, decimal, item_at, length, map, map_push, refl, subst, suc, sym, ℕ, ◌++◌, ◌+◌, ◌<◌, ◌∙◌, ◌∷◌, ◌≡◌, ◌≤◌}
+use Rattle.job_readers.specs.Items.{following_faults, items_faults}
 use Rattle.job_gen.specs.Values.{numbered}
 use Rattle.job_gen.proofs.NameLemmas.{AreBelow, below_more}
 

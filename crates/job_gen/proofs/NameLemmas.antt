@@ -1,10 +1,7 @@
 -- The names of vertices and nets: a letter and a number. They are names, and different numbers have different ones.
-use Rattle.std.proofs.Common.{◌≡◌, ℕ, zero, suc, ◌+◌, ◌%◌, ◌^◌, ◌<◌, ◌≤◌, List, [], ◌∷◌, ◌++◌, length, map, decimal, true, false, Some, None, refl, ◌∙◌, arith}
-use Rattle.std.proofs.lemmas.{Bool.and_from, Bool.le-leb, Bool.lt-ltb, Bool.false_from_ne_true, List.Folds.list_all-append, Fmt.decimal_by_steps, Fmt.decimal_injective, Fmt.length-decimal-le}
-use Rattle.std.proofs.lemmas.Slice.Eq.{bytes_eq-Decides}
-use Rattle.std.specs.{Prelude.bytes_eq, List.list_all}
-use Rattle.job_text.specs.Fields.{is_printable_byte, is_name}
-use Rattle.job_readers.specs.Places.{name_place_in}
+use Rattle.job_gen.proofs.Common.{List, None, Some, [], and_from, arith, bytes_eq, bytes_eq-Decides, decimal, decimal_by_steps, decimal_injective, false, false_from_ne_true, is_name}
+use Rattle.job_gen.proofs.Common.{is_printable_byte, le-leb, length, length-decimal-le, list_all, list_all-append, lt-ltb, map, name_place_in, refl, suc, true, zero, ℕ, ◌%◌, ◌++◌, ◌+◌, ◌<◌, ◌^◌, ◌∙◌}
+use Rattle.job_gen.proofs.Common.{◌∷◌, ◌≡◌, ◌≤◌}
 use Rattle.job_gen.specs.Values.{numbered}
 
 printable : (b : ℕ) → 33 ≤ b → b ≤ 126 → is_printable_byte b ≡ true

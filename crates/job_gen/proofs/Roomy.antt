@@ -1,17 +1,12 @@
 -- Fewer than 816 vertices of at most 1,048,576 bytes find room on the board: some chip has fewer than seventeen of them, and so
 -- a free core and the memory.
-use Rattle.std.proofs.Common.{◌≡◌, ℕ, zero, suc, ◌+◌, ◌*◌, ◌<◌, ◌≤◌, List, [], ◌∷◌, length, take, filter, All, Bool, true, false, not, ◌&&◌, ◌||◌, if◌then◌else◌, Option, Some, None, MatchOption}
-use Rattle.std.proofs.Common.{slice_get, inl, inr, ◌⊎◌, refl, sym, ap, ◌∙◌, subst, arith}
-use Rattle.std.proofs.lemmas.Bool.{cases_lt, cases_Bool, and_parts, and_from, not-true, not_from_false, true≢false, ne_eqb, le-leb, or_left, or_right, or_cases}
-use Rattle.std.proofs.lemmas.{List.Elements.All-head, List.Elements.All-tail, List.Elements.filter_passes, List.Elements.All-take, Option.slice_get_within}
-use Rattle.std.specs.{Prelude.is_none, List.list_any, List.list_all}
-use Rattle.spin_base.specs.{declared.chips.Chip.Chip, declared.chips.Spot.Spot, Equality.chip_eq, Equality.spot_eq}
-use Rattle.spin_base.proofs.Equality.{chip_eq_same, chip_eq_true, spot_eq_same, spot_eq_true}
-use Rattle.machine_desc.specs.{declared.trees.Edge.Edge, Live.is_live_chip, Live.is_usable, Live.IsLiveChip}
-use Rattle.app_graph.specs.declared.graphs.Vertex.{Vertex}
-use Rattle.place_fit.specs.{Curve.hilbert, Curve.IsCurveLevel, Curve.IsChipOrder, Placement.core_spot, Placement.need_of, Placement.used_on, Placement.is_free_core, Placement.HasRoom}
-use Rattle.place_fit.specs.Placement.{choices, HasDeviceRoom, HasNoRoom}
-use Rattle.job_gen.specs.{Values.dead_pairs, Board.generated_board}
+use Rattle.job_gen.proofs.Common.{All, All-head, All-tail, All-take, Bool, Chip, Edge, HasDeviceRoom, HasNoRoom, HasRoom, IsChipOrder, IsCurveLevel, IsLiveChip, List, MatchOption, None, Option, Some}
+use Rattle.job_gen.proofs.Common.{Spot, Vertex, [], and_from, and_parts, ap, arith, cases_Bool, cases_lt, chip_eq, chip_eq_same, chip_eq_true, choices, core_spot, false, filter, filter_passes}
+use Rattle.job_gen.proofs.Common.{if◌then◌else◌, inl, inr, is_free_core, is_live_chip, is_none, is_usable, le-leb, length, list_all, list_any, ne_eqb, need_of, not, not-true, not_from_false, or_cases}
+use Rattle.job_gen.proofs.Common.{or_left, or_right, refl, slice_get, slice_get_within, spot_eq, spot_eq_same, spot_eq_true, subst, suc, sym, take, true, true≢false, used_on, zero, ℕ, ◌&&◌, ◌*◌, ◌+◌}
+use Rattle.job_gen.proofs.Common.{◌<◌, ◌||◌, ◌∙◌, ◌∷◌, ◌≡◌, ◌≤◌, ◌⊎◌}
+use Rattle.place_fit.specs.Curve.{hilbert}
+use Rattle.job_gen.specs.{Board.generated_board, Values.dead_pairs}
 
 one_if : Bool → ℕ
 one_if true = 1

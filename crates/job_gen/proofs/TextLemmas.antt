@@ -1,11 +1,8 @@
 -- How deep the value of a generated job nests, and that no number of it is a float.
-use Rattle.std.proofs.Common.{◌≡◌, ℕ, ◌+◌, ◌≤◌, List, [], ◌∷◌, map, false, Some, refl, ap, ◌∙◌, arith}
-use Rattle.std.specs.Str.{IsUtf8}
-use Rattle.serde_json.specs.{Data.Data, Data.depth, Data.items_depth, Read.read, View.items_of, Written.has_float, Written.items_have_float, Written.compact_text}
-use Rattle.job_text.specs.Json.{json_of}
-use Rattle.job_text.proofs.Readings.{json_of-utf8}
-use Rattle.job_gen.specs.{declared.draws.DrawnNet.DrawnNet, declared.draws.DrawnPacket.DrawnPacket, declared.draws.Drawn.Drawn, Draws.drawn, Values.vertex_data, Values.name_data, Values.net_data}
-use Rattle.job_gen.specs.Values.{packet_data, pair_data, dead_pairs, machine_data, graph_data, run_data, job_data, gen_value, gen_text_of, numbered}
+use Rattle.job_gen.proofs.Common.{Data, Drawn, DrawnNet, DrawnPacket, IsUtf8, List, Some, [], ap, arith, compact_text, dead_pairs, depth, drawn, false, has_float, items_depth, items_have_float}
+use Rattle.job_gen.proofs.Common.{items_of, json_of, json_of-utf8, map, pair_data, read, refl, ℕ, ◌+◌, ◌∙◌, ◌∷◌, ◌≡◌, ◌≤◌}
+use Rattle.job_gen.specs.Values.{name_data, net_data, vertex_data}
+use Rattle.job_gen.specs.Values.{gen_text_of, gen_value, graph_data, job_data, machine_data, numbered, packet_data, run_data}
 
 -- ---- lists
 

@@ -1,20 +1,14 @@
 -- The text of a generated job is read as its value.
-use Rattle.std.proofs.Common.{◌≡◌, ℕ, ◌+◌, ◌%◌, ◌^◌, ◌<◌, ◌≤◌, Bool, true, false, List, [], ◌∷◌, ◌++◌, map, length, codes, decimal, Some, option_and_then, option_map, refl, sym, ap, ◌∙◌, arith}
-use Rattle.std.proofs.lemmas.{Bool.lt-ltb, Fmt.decimal_by_steps, List.append-nil, List.Elements.All-head, List.Elements.All-tail, Str.IsUtf8-append}
-use Rattle.std.specs.{List.All, Str.IsUtf8}
+use Rattle.job_gen.proofs.Common.{All, All-head, All-tail, ArePrintable-json_tokens, Bool, Data, Drawn, DrawnNet, DrawnPacket, IsDrawn, IsDrawnNet, IsDrawnPacket, IsNumber-decimal, IsUtf8}
+use Rattle.job_gen.proofs.Common.{IsUtf8-append, IsUtf8-are_ascii, IsUtf8-quoted, Items, List, Members, Some, [], ap, append-nil, arith, array, boolean, codes, compact_text, dead_pairs, decimal}
+use Rattle.job_gen.proofs.Common.{decimal_by_steps, depth, drawn, false, generated_net_name, generated_vertex_name, item, items_depth, items_of, items_outline, items_text, json_of, json_of-utf8}
+use Rattle.job_gen.proofs.Common.{length, lt-ltb, map, member, members_depth, members_outline, members_text, no_items, no_members, null, number, number_of-decimal, object, of_items, of_json}
+use Rattle.job_gen.proofs.Common.{of_members, option_and_then, option_map, outline, pair_data, print-outline, quoted, refl, string, sym, tokens, tokens-print, true, unsigned, value-json_tokens, ℕ}
+use Rattle.job_gen.proofs.Common.{◌%◌, ◌++◌, ◌+◌, ◌<◌, ◌^◌, ◌∙◌, ◌∷◌, ◌≡◌, ◌≤◌}
 use Rattle.json.specs.Json as json
-use Rattle.json.specs.{Lex.tokens, Print.quoted}
 use Rattle.json.specs.Tree as tree
-use Rattle.json.proofs.Printed.{Decimals.IsNumber-decimal, Tokens.tokens-print, Trees.ArePrintable-json_tokens, Trees.value-json_tokens, Utf8.IsUtf8-are_ascii, Utf8.IsUtf8-quoted}
-use Rattle.serde_json.specs.Data.{Data, null, boolean, number, string, array, object, unsigned, Items, no_items, item, Members, no_members, member, depth, items_depth, members_depth}
-use Rattle.serde_json.specs.{Read.of_items, Read.of_json, Read.of_members, View.items_of, Written.compact_text, Written.items_outline, Written.items_text, Written.members_outline}
-use Rattle.serde_json.specs.Written.{members_text, outline}
-use Rattle.serde_json.proofs.{Numbers.number_of-decimal, Texts.print-outline}
-use Rattle.job_text.specs.Json.{json_of}
-use Rattle.job_text.proofs.Readings.{json_of-utf8}
-use Rattle.job_gen.specs.{declared.draws.DrawnNet.DrawnNet, declared.draws.DrawnPacket.DrawnPacket, declared.draws.Drawn.Drawn, DrawnFacts.IsDrawn, DrawnFacts.IsDrawnNet, DrawnFacts.IsDrawnPacket}
-use Rattle.job_gen.specs.{Draws.drawn, Values.dead_pairs, Values.gen_text_of, Values.gen_value, Values.generated_net_name, Values.generated_vertex_name, Values.graph_data, Values.job_data}
-use Rattle.job_gen.specs.Values.{machine_data, name_data, net_data, numbered, packet_data, pair_data, run_data, vertex_data}
+use Rattle.job_gen.specs.Values.{gen_text_of, gen_value, graph_data, job_data}
+use Rattle.job_gen.specs.Values.{machine_data, name_data, net_data, numbered, packet_data, run_data, vertex_data}
 use Rattle.job_gen.proofs.{DrawnLaws.is_drawn, LengthLemmas.IsLow, LengthLemmas.keys_few, LengthLemmas.pairs_low, TextLemmas.depth-gen}
 
 -- ---- what a value needs so that its text is read as it

@@ -1,7 +1,5 @@
 -- Lists of values that are made one after the other.
-use Rattle.std.proofs.Common.{◌≡◌, ℕ, zero, suc, ◌+◌, ◌<◌, ◌≤◌, List, [], ◌∷◌, ◌++◌, length, map, take, get_or, ap, ◌∙◌, add-one, arith}
-use Rattle.std.proofs.lemmas.List.{take_all, take_more, map_push}
-use Rattle.serde_json.specs.{Data.Data, View.view, View.items_of, declared.value.Value.Value}
+use Rattle.job_gen.proofs.Common.{Data, List, Value, [], add-one, ap, arith, get_or, items_of, length, map, map_push, suc, take, take_all, take_more, view, zero, ℕ, ◌++◌, ◌+◌, ◌<◌, ◌∙◌, ◌∷◌, ◌≡◌, ◌≤◌}
 use Rattle.job_gen.specs.Values.{numbered}
 
 pub numbered_none : {A : Type 0} (f : ℕ → A → Data) (xs : List A) (vs : List Value) → vs ≡ [] → map view vs ≡ numbered f 0 (take 0 xs)

@@ -1,8 +1,6 @@
 -- Powers of two by their ones, and the block of a key and a mask.
-use Rattle.std.proofs.Common.{◌≡◌, ℕ, zero, suc, ◌+◌, ◌-◌, ◌*◌, ◌/◌, ◌%◌, ◌^◌, ◌<◌, ◌≤◌, true, inl, inr, ap, sym, ◌∙◌, arith}
-use Rattle.std.specs.Int.{IsPowerOfTwo, is_power_of_two, RustNames.count_ones}
-use Rattle.std.proofs.lemmas.{Bool.cases_lt, Bool.eqb-true, Nat.ones-le, Nat.ones_cat, Nat.zero_from_ones, Grind.pow_more}
-use Rattle.tern_word.proofs.BlockLaws.{exponent_le}
+use Rattle.job_readers.proofs.Common.{IsPowerOfTwo, ap, arith, cases_lt, count_ones, eqb-true, exponent_le, inl, inr, is_power_of_two, ones-le, ones_cat, pow_more, suc, sym, true, zero}
+use Rattle.job_readers.proofs.Common.{zero_from_ones, ℕ, ◌%◌, ◌*◌, ◌+◌, ◌-◌, ◌/◌, ◌<◌, ◌^◌, ◌∙◌, ◌≡◌, ◌≤◌}
 
 -- a number with one 1 is a power of two
 power_from_ones : (d n : ℕ) → n < 2 ^ d → count_ones n ≡ 1 → IsPowerOfTwo n

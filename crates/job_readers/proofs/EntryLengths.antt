@@ -1,8 +1,5 @@
 -- Lists that are no pair or triple by their number of items.
-use Rattle.std.proofs.Common.{◌≡◌, ◌<◌, ◌≤◌, List, [], ◌∷◌, length, Some, None, refl, sym, arith}
-use Rattle.serde_json.specs.{Data.Data, Find.as_array, View.items_of}
-use Rattle.job_text.proofs.Items.{list_of-items_of}
-use Rattle.job_readers.specs.Entries.{two_of, pair_of, three_of, triple_of}
+use Rattle.job_readers.proofs.Common.{Data, List, None, Some, [], arith, as_array, items_of, length, list_of-items_of, pair_of, refl, sym, three_of, triple_of, two_of, ◌<◌, ◌∷◌, ◌≡◌, ◌≤◌}
 
 two_of-short : (ds : List Data) → length ds < 2 → two_of ds ≡ None
 two_of-short [] h = refl

@@ -1,6 +1,5 @@
 -- A first fault stays first when more faults are appended, or stand inside.
-use Rattle.std.proofs.Common.{◌≡◌, List, [], ◌∷◌, ◌++◌}
-use Rattle.job_text.specs.{declared.faults.JobFault.JobFault, declared.faults.TextErr.TextErr, Reading.◌▹◌, Reading.IsFirstFault}
+use Rattle.job_readers.proofs.Common.{IsFirstFault, JobFault, List, TextErr, [], ◌++◌, ◌∷◌, ◌≡◌, ◌▹◌}
 use Rattle.job_text.specs.declared.faults.TextErr.TheVariants as errors
 
 pub fails_before : (e : TextErr) (a b : List JobFault) → IsFirstFault e a → IsFirstFault e (a ++ b)

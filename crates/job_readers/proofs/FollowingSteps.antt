@@ -1,8 +1,6 @@
 -- A loop over items whose faults depend on those before goes on with the faults of those that are left.
-use Rattle.std.proofs.Common.{arith, ◌≡◌, ℕ, ◌+◌, ◌<◌, ◌≤◌, List, [], ◌∷◌, ◌++◌, length, map, drop, get_or, refl, sym, ◌∙◌, add-one, drop-cons}
-use Rattle.std.proofs.lemmas.List.{drop_all}
-use Rattle.serde_json.specs.Data.{Data}
-use Rattle.job_text.specs.{declared.faults.JobFault.JobFault, declared.faults.TextErr.TextErr, Reading.IsFirstFault, Paths.item_at}
+use Rattle.job_readers.proofs.Common.{Data, IsFirstFault, JobFault, List, TextErr, [], add-one, arith, drop, drop-cons, drop_all, get_or, item_at, length, map, refl, sym, ℕ, ◌++◌, ◌+◌, ◌<◌, ◌∙◌, ◌∷◌}
+use Rattle.job_readers.proofs.Common.{◌≡◌, ◌≤◌}
 use Rattle.job_readers.specs.Items.{following_faults}
 use Rattle.job_readers.proofs.Firsts.{fails_before}
 

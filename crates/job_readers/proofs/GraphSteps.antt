@@ -1,15 +1,10 @@
 -- What vertices and nets so far have, and that the next one has nothing of it.
-use Rattle.std.proofs.Common.{◌≡◌, ℕ, zero, suc, ◌<◌, ◌^◌, List, [], ◌∷◌, ◌++◌, length, get_or, Bool, true, false, true≢false, Option, Some, None, refl, ap, subst, sym, ◌∙◌, arith}
-use Rattle.std.specs.{Prelude.IfSome, Prelude.AllPairs, Prelude.option_to_list, Prelude.bit_and, List.list_any, List.flat_map}
-use Rattle.std.proofs.lemmas.{Bool.eq-eqb, Bool.or_left, Bool.or_right, List.map_push, List.flat_map_more, List.Folds.list_any-append, List.Quantifiers.all_pairs_push}
-use Rattle.serde_json.specs.Data.{Data}
-use Rattle.spin_base.specs.declared.blocks.Block.{Block}
-use Rattle.machine_desc.specs.{declared.trees.Edge.Edge, Equality.edge_eq}
-use Rattle.machine_desc.proofs.Same.{edge_eq_self}
-use Rattle.app_graph.specs.{declared.graphs.Vertex.Vertex, declared.graphs.Net.Net, ValidGraph.HaveDifferentDevices, ValidGraph.AreFixedApart, ValidGraph.ShareNoKey}
-use Rattle.tern_word.proofs.BlockLaws.{agree_where_meet}
-use Rattle.job_readers.specs.{Blocks.shares_key, Hung.is_among, GraphPart.name_value, GraphPart.vertex_faults, GraphPart.vertex_value, GraphPart.next_vertex_faults, GraphPart.vertex_names_of}
-use Rattle.job_readers.specs.GraphPart.{devices_of, net_faults, net_value, next_net_faults, net_names, fixed_blocks_of}
+use Rattle.job_readers.proofs.Common.{AllPairs, AreFixedApart, Block, Bool, Data, Edge, HaveDifferentDevices, IfSome, List, Net, None, Option, ShareNoKey, Some, Vertex, [], agree_where_meet}
+use Rattle.job_readers.proofs.Common.{all_pairs_push, ap, arith, bit_and, edge_eq, edge_eq_self, eq-eqb, false, flat_map, flat_map_more, get_or, length, list_any, list_any-append, map_push}
+use Rattle.job_readers.proofs.Common.{name_value, net_faults, next_net_faults, next_vertex_faults, option_to_list, or_left, or_right, refl, shares_key, subst, suc, sym, true, true≢false}
+use Rattle.job_readers.proofs.Common.{vertex_faults, zero, ℕ, ◌++◌, ◌<◌, ◌^◌, ◌∙◌, ◌∷◌, ◌≡◌}
+use Rattle.job_readers.specs.{GraphPart.vertex_names_of, GraphPart.vertex_value, Hung.is_among}
+use Rattle.job_readers.specs.GraphPart.{devices_of, fixed_blocks_of, net_names, net_value}
 
 -- what one of the items has, is among what all have
 listed_any : {X A : Type 0} (f : X → Option A) (p : A → Bool) (xs : List X) (k : ℕ) (d : X) (a : A) → k < length xs → f (get_or xs k d) ≡ Some a → p a ≡ true → list_any p (flat_map (λ x. option_to_list (f x)) xs) ≡ true

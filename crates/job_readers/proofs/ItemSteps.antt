@@ -1,8 +1,6 @@
 -- A loop over the items of a list goes on with the faults of those that are left.
-use Rattle.std.proofs.Common.{arith, ◌≡◌, ℕ, ◌+◌, ◌<◌, ◌≤◌, List, [], ◌∷◌, ◌++◌, length, map, take, drop, get_or, refl, sym, ◌∙◌, add-one, drop-cons, take_all}
-use Rattle.std.proofs.lemmas.List.{take_more, map-append, drop_all}
-use Rattle.serde_json.specs.Data.{Data}
-use Rattle.job_text.specs.{declared.faults.JobFault.JobFault, declared.faults.TextErr.TextErr, Reading.IsFirstFault, Paths.item_at}
+use Rattle.job_readers.proofs.Common.{Data, IsFirstFault, JobFault, List, TextErr, [], add-one, arith, drop, drop-cons, drop_all, get_or, item_at, length, map, map-append, refl, sym, take, take_all}
+use Rattle.job_readers.proofs.Common.{take_more, ℕ, ◌++◌, ◌+◌, ◌<◌, ◌∙◌, ◌∷◌, ◌≡◌, ◌≤◌}
 use Rattle.job_readers.specs.Items.{items_faults}
 use Rattle.job_readers.proofs.Firsts.{fails_before}
 

@@ -1,13 +1,9 @@
 -- Vertices that were read have names, so a text that is found among these is a name.
-use Rattle.std.proofs.Common.{arith, ◌≡◌, ℕ, ◌+◌, List, [], ◌∷◌, ◌++◌, map, codes, Bool, true, false, if◌then◌else◌, Option, Some, None, option_map, refl, ap, sym, subst, ◌∙◌}
-use Rattle.std.specs.{Prelude.◌&&◌, Prelude.bytes_eq, Prelude.option_and_then, Prelude.unwrap_or, List.list_all, Cmp.Derive.both_true}
-use Rattle.std.proofs.lemmas.Slice.Eq.{bytes_eq-Decides}
-use Rattle.serde_json.specs.{Data.Data, Find.as_str}
-use Rattle.app_graph.specs.declared.graphs.Vertex.{Vertex}
-use Rattle.job_text.specs.{declared.faults.JobFault.JobFault, Fields.is_name, Fields.object_faults, Fields.range_unless, Fields.text_faults, Fields.text_value, Fields.typed_faults, Members.member_of}
-use Rattle.job_text.specs.{Paths.item_at, Paths.member_at, Reading.◌▹◌}
-use Rattle.job_readers.specs.{Items.following_faults, Places.double_faults, Places.name_place_in, Places.new_name_faults, Places.unknown_faults, GraphPart.name_faults, GraphPart.name_value}
-use Rattle.job_readers.specs.GraphPart.{next_vertex_faults, sender_at, sender_in, vertex_faults, vertex_names_of, vertex_value, vertices_faults, vertices_value}
+use Rattle.job_readers.proofs.Common.{Bool, Data, JobFault, List, None, Option, Some, Vertex, [], ap, arith, as_str, both_true, bytes_eq, bytes_eq-Decides, codes, double_faults, false, if◌then◌else◌}
+use Rattle.job_readers.proofs.Common.{is_name, item_at, list_all, map, member_at, member_of, name_place_in, next_vertex_faults, object_faults, option_and_then, option_map, range_unless, refl}
+use Rattle.job_readers.proofs.Common.{sender_at, subst, sym, text_faults, text_value, true, typed_faults, unknown_faults, unwrap_or, ℕ, ◌&&◌, ◌++◌, ◌+◌, ◌∙◌, ◌∷◌, ◌≡◌, ◌▹◌}
+use Rattle.job_readers.specs.{GraphPart.name_faults, GraphPart.name_value, Items.following_faults, Places.new_name_faults}
+use Rattle.job_readers.specs.GraphPart.{sender_in, vertex_faults, vertex_names_of, vertex_value, vertices_faults, vertices_value}
 use Rattle.job_readers.proofs.NoFaults.{none_first, none_inside, none_second}
 
 pub and_first : (a b : Bool) → (a && b) ≡ true → a ≡ true

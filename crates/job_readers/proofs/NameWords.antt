@@ -1,10 +1,9 @@
 -- The word of a text of 1 to 7 bytes tells it from all others.
-use Rattle.std.proofs.Common.{◌≡◌, ◌≢◌, ℕ, zero, suc, ◌+◌, ◌-◌, ◌*◌, ◌/◌, ◌%◌, ◌^◌, ◌<◌, ◌≤◌, List, [], ◌∷◌, ◌++◌, length, map, Bool, true, false, if◌then◌else◌, Some, cond, refl, ap, sym, subst, ◌∙◌}
-use Rattle.std.proofs.Common.{arith, inl, inr, get_or, replicate, take}
-use Rattle.std.specs.{Prelude.bytes_eq, Prelude.nat_eq, Prelude.nat_le, Prelude.slice_get, Hash.FoldHasher.initial, Hash.FoldHasher.write, Str.IsUtf8, Int.from_le_bytes, Int.to_le_bytes, Int.w64}
-use Rattle.std.proofs.Math.{Dec.ltb, Seq.take-append_seam, Utf8.encode, Utf8.encodes, Utf8.next, Utf8.scalar, Utf8.scalar_cases, Utf8.scalars}
-use Rattle.std.proofs.lemmas.{Bool.cases_Bool, Bool.cases_lt, Bool.eqb-true, Bool.leb-true, Bool.ltb-true, List.get_or-append_right, List.get_or_append_left, List.length-append, List.length-replicate}
-use Rattle.std.proofs.lemmas.{List.map_push, Nat.le_bytes_8, Option.get_or_from_slice_get, Option.slice_get-map, Option.slice_get_within, Slice.Eq.bytes_eq-Decides}
+use Rattle.job_readers.proofs.Common.{Bool, IsUtf8, List, [], ap, arith, bytes_eq, bytes_eq-Decides, cases_lt, cond, encodes, eqb-true, false, from_le_bytes, get_or, get_or-append_right}
+use Rattle.job_readers.proofs.Common.{get_or_append_left, if◌then◌else◌, initial, inl, inr, le_bytes_8, leb-true, length, length-append, length-replicate, ltb, ltb-true, map, map_push, nat_eq, nat_le}
+use Rattle.job_readers.proofs.Common.{next, refl, replicate, scalar, scalar_cases, scalars, subst, suc, sym, take, take-append_seam, to_le_bytes, true, w64, write, zero, ℕ, ◌%◌, ◌*◌, ◌++◌, ◌+◌, ◌-◌}
+use Rattle.job_readers.proofs.Common.{◌/◌, ◌<◌, ◌^◌, ◌∙◌, ◌∷◌, ◌≡◌, ◌≢◌, ◌≤◌}
+use Rattle.std.proofs.Math.Utf8.{encode}
 use Rattle.job_readers.specs.Indexed.{hash_for, word_for}
 use Rattle.job_readers.proofs.KnownNames.{and_first, and_second}
 
@@ -107,17 +106,10 @@ same_word p q text_p text_q same some =
     (bytes_eq-Decides p q).1
     (same_padded p q (sym (bytes_of_word p (utf8_small p text_p) (λ none. some (sym same ∙ none))) ∙ ap (to_le_bytes w64) same ∙ bytes_of_word q (utf8_small q text_q) some))
 
-pub other_word : (p q : List ℕ) → word_for p ≢ word_for q → bytes_eq p q ≡ false
-other_word p q differ = grind (arith, cases_Bool (bytes_eq p q), bytes_eq-Decides p q)
-
 -- the words of names, and of one name more
 pub words_more : (names more : List (List ℕ)) (s : List ℕ) (words new : List ℕ) (w : ℕ) → words ≡ map word_for names → w ≡ word_for s → new ≡ words ++ w ∷ [] → more ≡ names ++ s ∷ []
     → new ≡ map word_for more
 words_more names more s words new w kept told pushed grown = rw (pushed, kept, told, grown) (sym (map_push word_for names s))
-
--- the word that stands at a name's place
-pub word_at : (names : List (List ℕ)) (words : List ℕ) (i : ℕ) (n : List ℕ) → words ≡ map word_for names → slice_get names i ≡ Some n → (i < length words) × (get_or words i 0 ≡ word_for n)
-word_at names words i n kept at = grind (arith, slice_get-map word_for names i, slice_get_within, get_or_from_slice_get)
 
 -- ---- hashes
 

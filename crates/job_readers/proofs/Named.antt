@@ -1,19 +1,11 @@
 -- A job without a fault has no name twice.
-use Rattle.std.proofs.Common.{◌≡◌, ◌≢◌, ℕ, zero, suc, ◌+◌, ◌<◌, List, [], ◌∷◌, ◌++◌, length, map, get_or, codes, Bool, true, false, if◌then◌else◌, Option, Some, None, option_map, refl, sym, ◌∙◌}
-use Rattle.std.proofs.Common.{subst, arith, inl, inr}
-use Rattle.std.specs.{List.AllPairs, Str.bytes_eq}
-use Rattle.std.proofs.lemmas.{Bool.true≢false, Slice.Eq.bytes_eq-Decides}
-use Rattle.serde_json.specs.Data.{Data}
-use Rattle.spin_base.proofs.Members.{Among, among_left, among_right, map_among}
-use Rattle.spin_base.specs.declared.blocks.Block.{Block}
-use Rattle.machine_desc.specs.declared.trees.Edge.{Edge}
-use Rattle.app_graph.specs.declared.graphs.{Vertex.Vertex, Net.Net, Graph.Graph}
-use Rattle.job_text.specs.{declared.faults.JobFault.JobFault, Fields.object_faults, Fields.object_value, Fields.text_faults, Fields.text_value, Members.member_of, Paths.item_at, Paths.member_at}
-use Rattle.job_text.specs.Reading.{◌▹◌}
-use Rattle.job_readers.specs.{Items.following_faults, Members.list_member, Members.list_member_faults, Places.double_faults, Places.name_place_in, Places.new_name_faults, GraphPart.graph_faults}
-use Rattle.job_readers.specs.GraphPart.{graph_members, graph_members_faults, graph_value, devices_of, fixed_blocks_of, name_faults, name_value, net_faults, net_names, net_value, nets_faults}
-use Rattle.job_readers.specs.GraphPart.{nets_value, next_net_faults, next_vertex_faults, vertex_faults, vertex_names_of, vertex_value, vertices_faults, vertices_value}
-use Rattle.job_readers.specs.Named.{HasNamesApart}
+use Rattle.job_readers.proofs.Common.{AllPairs, Among, Block, Bool, Data, Edge, Graph, HasNamesApart, JobFault, List, Net, None, Option, Some, Vertex, [], among_left, among_right, arith, bytes_eq}
+use Rattle.job_readers.proofs.Common.{bytes_eq-Decides, codes, devices_of, double_faults, false, fixed_blocks_of, get_or, if◌then◌else◌, inl, inr, item_at, length, list_member, list_member_faults}
+use Rattle.job_readers.proofs.Common.{map, map_among, member_at, member_of, name_place_in, next_net_faults, next_vertex_faults, object_faults, object_value, option_map, refl, subst, suc, sym}
+use Rattle.job_readers.proofs.Common.{text_faults, text_value, true, true≢false, zero, ℕ, ◌++◌, ◌+◌, ◌<◌, ◌∙◌, ◌∷◌, ◌≡◌, ◌≢◌, ◌▹◌}
+use Rattle.job_readers.specs.{GraphPart.graph_faults, Items.following_faults, Places.new_name_faults}
+use Rattle.job_readers.specs.GraphPart.{graph_members, graph_members_faults, graph_value, name_faults, name_value, net_faults, net_names, net_value, nets_faults}
+use Rattle.job_readers.specs.GraphPart.{nets_value, vertex_faults, vertex_names_of, vertex_value, vertices_faults, vertices_value}
 use Rattle.job_readers.proofs.NoFaults.{none_first, none_inside, none_second}
 
 unmapped : (o : Option ℕ) → option_map (λ i. i + 1) o ≡ None → o ≡ None

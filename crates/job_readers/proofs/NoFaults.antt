@@ -1,6 +1,5 @@
 -- Where a part has no fault in all, none of what it has inside has one.
-use Rattle.std.proofs.Common.{◌≡◌, List, [], ◌∷◌, ◌++◌, refl}
-use Rattle.job_text.specs.{declared.faults.JobFault.JobFault, Reading.◌▹◌}
+use Rattle.job_readers.proofs.Common.{JobFault, List, [], refl, ◌++◌, ◌∷◌, ◌≡◌, ◌▹◌}
 
 pub none_first : (faults others : List JobFault) → faults ++ others ≡ [] → faults ≡ []
 none_first [] others none = refl

@@ -1,6 +1,5 @@
 -- The parts of a job in order, each read together with the job's own shape.
-use Rattle.std.proofs.Common.{◌≡◌, List, [], ◌∷◌, ◌++◌, refl}
-use Rattle.job_text.specs.{declared.faults.JobFault.JobFault, declared.faults.TextErr.TextErr, Reading.◌▹◌, Reading.IsFirstFault}
+use Rattle.job_readers.proofs.Common.{IsFirstFault, JobFault, List, TextErr, [], refl, ◌++◌, ◌∷◌, ◌≡◌, ◌▹◌}
 use Rattle.job_text.specs.declared.faults.TextErr.TheVariants as errors
 use Rattle.job_readers.proofs.Firsts.{fails_before, fails_later}
 

@@ -1,8 +1,6 @@
 -- Places of names in a list to which one is added.
-use Rattle.std.proofs.Common.{◌≡◌, ℕ, suc, ◌+◌, ◌<◌, List, [], ◌∷◌, ◌++◌, length, Bool, true, false, cond, if◌then◌else◌, Option, Some, None, refl, ap, sym, ◌∙◌, arith}
-use Rattle.std.specs.Prelude.{bytes_eq, option_map, is_some}
-use Rattle.std.proofs.lemmas.Slice.Eq.{bytes_eq-Decides}
-use Rattle.job_readers.specs.Places.{name_place_in}
+use Rattle.job_readers.proofs.Common.{Bool, List, None, Option, Some, [], ap, arith, bytes_eq, bytes_eq-Decides, cond, false, if◌then◌else◌, is_some, length, name_place_in, option_map, refl, suc, sym}
+use Rattle.job_readers.proofs.Common.{true, ℕ, ◌++◌, ◌+◌, ◌<◌, ◌∙◌, ◌∷◌, ◌≡◌}
 
 -- the first of two places
 abbrev or_else : Option ℕ → Option ℕ → Option ℕ

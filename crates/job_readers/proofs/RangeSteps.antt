@@ -1,13 +1,8 @@
 -- Blocks that are ranges: when two share a key, and what their first keys by their last keys tell of one more.
-use Rattle.std.proofs.Common.{◌≡◌, ◌≢◌, ℕ, ◌+◌, ◌-◌, ◌%◌, ◌^◌, ◌<◌, ◌≤◌, ◌↔◌, List, [], ◌∷◌, ◌++◌, true, false, true≢false, Option, Some, None, inl, inr, ap, sym, ◌∙◌, subst, arith, nat_cmp}
-use Rattle.std.specs.{Prelude.bit_and, Prelude.Contains, Prelude.nat_le, List.list_any, Ordering.is_eq, Ordering.is_gt}
-use Rattle.std.proofs.lemmas.{Bool.cases_lt, Bool.cases_eq, Bool.cases_Bool, Bool.cases_order, Bool.eqb-true, Bool.eq-eqb, Bool.le-leb, Bool.lt-leb, Nat.and_le_r, Nat.pow_pos, Nat.shr_split}
-use Rattle.std.proofs.lemmas.{Nat.Bits.and_high_mask, List.Elements.All-push, List.Elements.All-contains, List.Elements.Contains-append_left, List.Elements.Contains-append_right}
-use Rattle.std.proofs.lemmas.List.Folds.{list_any_at, list_any_none}
-use Rattle.spin_base.proofs.{Members.Contains-first, Places.All-each}
-use Rattle.spin_base.specs.declared.blocks.Block.{Block}
-use Rattle.tern_word.proofs.BlockLaws.{range_keys, key_small, meet_where_agree, agree_where_meet}
-use Rattle.job_readers.specs.{Blocks.IsRange, Blocks.last_key_of, Blocks.shares_key, FixedRanges.AreRanges}
+use Rattle.job_readers.proofs.Common.{All-contains, All-each, All-push, AreRanges, Block, Contains, Contains-append_left, Contains-append_right, Contains-first, IsRange, List, None, Option, Some, []}
+use Rattle.job_readers.proofs.Common.{agree_where_meet, and_high_mask, and_le_r, ap, arith, bit_and, cases_Bool, cases_eq, cases_lt, cases_order, eq-eqb, eqb-true, false, inl, inr, is_eq, is_gt}
+use Rattle.job_readers.proofs.Common.{key_small, last_key_of, le-leb, list_any, list_any_at, list_any_none, lt-leb, meet_where_agree, nat_cmp, nat_le, pow_pos, range_keys, shares_key, shr_split}
+use Rattle.job_readers.proofs.Common.{subst, sym, true, true≢false, ℕ, ◌%◌, ◌++◌, ◌+◌, ◌-◌, ◌<◌, ◌^◌, ◌↔◌, ◌∙◌, ◌∷◌, ◌≡◌, ◌≢◌, ◌≤◌}
 
 -- the last key has 32 bits
 pub last_small : (b : Block) → last_key_of b < 2 ^ 32

@@ -1,10 +1,5 @@
 -- Items at their places, and the items of an event.
-use Rattle.std.proofs.Common.{◌≡◌, ℕ, ◌<◌, List, length, Some, refl, subst}
-use Rattle.std.specs.Prelude.{slice_get, All}
-use Rattle.std.proofs.lemmas.Option.{get_or_from_slice_get}
-use Rattle.serde_json.specs.{Data.Data, Find.as_array, View.items_of}
-use Rattle.job_text.proofs.Items.{list_of-items_of}
-use Rattle.job_readers.specs.RunPart.{items_in}
+use Rattle.job_readers.proofs.Common.{All, Data, List, Some, as_array, get_or_from_slice_get, items_in, items_of, length, list_of-items_of, refl, slice_get, subst, ℕ, ◌<◌, ◌≡◌}
 
 -- what holds of all items holds of the one at a place
 pub holds_at : {A : Type 0} (P : A → Type 0) (xs : List A) (i : ℕ) (x : A) → All P xs → i < length xs → slice_get xs i ≡ Some x → P x

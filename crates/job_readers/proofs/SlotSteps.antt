@@ -1,11 +1,9 @@
 -- Places of names by slots, where one name more is put.
-use Rattle.std.proofs.Common.{◌≡◌, ◌≢◌, ℕ, ◌<◌, ◌≤◌, List, [], ◌∷◌, ◌++◌, length, Bool, true, false, cond, if◌then◌else◌, Option, Some, None, refl, ap, sym, ◌∙◌, subst, arith, inl, inr, slice_get}
-use Rattle.std.proofs.Common.{set, get_or, replicate, length-append}
-use Rattle.std.proofs.{Math.Nat.mod-lt, lemmas.List.get_or-replicate, lemmas.List.length-replicate, lemmas.List.length-set, lemmas.List.get_or-set_same, lemmas.List.get_or-set_other}
-use Rattle.std.proofs.lemmas.{Bool.cases_lt, Bool.cases_Bool, Bool.cases_eq, Option.slice_get_past, Slice.Eq.bytes_eq-Decides}
-use Rattle.std.specs.Prelude.{bytes_eq}
-use Rattle.spin_base.proofs.Places.{slice_get_there, slice_get-append_left, slice_get-pushed}
-use Rattle.job_readers.specs.{Places.name_place_in, Indexed.AreSlots, Indexed.by_slot, Indexed.in_slot, Indexed.slot_for}
+use Rattle.job_readers.proofs.Common.{AreSlots, Bool, List, None, Option, Some, [], ap, arith, by_slot, bytes_eq, bytes_eq-Decides, cases_Bool, cases_eq, cases_lt, cond, false, get_or}
+use Rattle.job_readers.proofs.Common.{get_or-replicate, get_or-set_other, get_or-set_same, if◌then◌else◌, in_slot, inl, inr, length, length-append, length-replicate, length-set, mod-lt, name_place_in}
+use Rattle.job_readers.proofs.Common.{refl, replicate, set, slice_get, slice_get-append_left, slice_get-pushed, slice_get_past, slice_get_there, subst, sym, true, ℕ, ◌++◌, ◌<◌, ◌∙◌, ◌∷◌, ◌≡◌, ◌≢◌}
+use Rattle.job_readers.proofs.Common.{◌≤◌}
+use Rattle.job_readers.specs.Indexed.{slot_for}
 use Rattle.job_readers.proofs.PlaceSteps.{place_in-new}
 
 -- the name that a slot's place has is the text: then it is the text's place

@@ -1,13 +1,9 @@
 -- What an event's word leads to, by what the event does.
-use Rattle.std.proofs.Common.{◌≡◌, ℕ, List, [], ◌∷◌, Bool, true, false, Option, Some, None, if◌then◌else◌, codes, refl, ap, sym, subst, ◌∙◌}
-use Rattle.std.specs.Prelude.{bytes_eq}
-use Rattle.serde_json.specs.Data.{Data}
-use Rattle.spin_base.specs.declared.copies.Event.{Event}
+use Rattle.job_readers.proofs.Common.{Bool, Collect, Data, Dump, Event, Inject, IsFirstFault, JobFault, List, None, Option, Range, Send, Some, Take, TextErr, Verb, [], ap, at_chip_faults, at_vertex}
+use Rattle.job_readers.proofs.Common.{at_vertex_faults, bytes_eq, chip_of_event, codes, false, if◌then◌else◌, out_named, out_of_event, port_named, port_of_event, refl, subst, sym, true, ℕ, ◌∙◌, ◌∷◌}
+use Rattle.job_readers.proofs.Common.{◌≡◌}
 use Rattle.spin_base.specs.declared.copies.Event.TheVariants as events
-use Rattle.job_text.specs.{declared.faults.JobFault.JobFault, declared.faults.JobFault.TheVariants.Range, declared.faults.TextErr.TextErr, Reading.IsFirstFault}
-use Rattle.job_readers.specs.declared.events.Verb.{Verb, TheVariants.Inject, TheVariants.Take, TheVariants.Send, TheVariants.Dump, TheVariants.Collect}
-use Rattle.job_readers.specs.{Verbs.verb_named, RunPart.event_word_faults, RunPart.worded_event, RunPart.at_vertex_faults, RunPart.at_vertex, RunPart.at_chip_faults, RunPart.chip_of_event}
-use Rattle.job_readers.specs.RunPart.{port_named, out_named, port_of_event, out_of_event}
+use Rattle.job_readers.specs.{RunPart.event_word_faults, RunPart.worded_event, Verbs.verb_named}
 
 abbrev pub verb_faults : List (List ℕ) → List ℕ → Option Verb → List Data → List JobFault
 verb_faults vertices path (Some Inject) ds = at_vertex_faults vertices path ds

@@ -1,11 +1,7 @@
 -- A step along an axis of the grid, and the step back.
-use Rattle.std.proofs.Common.{◌≡◌, ℕ, ◌+◌, ◌-◌, ◌%◌, ◌<◌, Bool, true, false, cond, ltb, eqb, Some, None, refl, sym, ap, ◌∙◌, arith, inl, inr}
-use Rattle.std.proofs.lemmas.Bool.{lt-ltb, le-ltb, eq-eqb, ne_eqb, cases_lt, cases_eq, cond-true, cond-false}
-use Rattle.std.proofs.Math.Nat.{mod-eq_of_lt, mod_self, add-mod_right}
-use Rattle.spin_base.specs.declared.chips.Dir.{Dir, TheVariants.East, TheVariants.NorthEast, TheVariants.North, TheVariants.West, TheVariants.SouthWest, TheVariants.South}
-use Rattle.spin_base.specs.Links.{opposite_of}
-use Rattle.machine_desc.specs.{declared.steps.Step.Step, declared.steps.Step.TheVariants.Back, declared.steps.Step.TheVariants.Stay, declared.steps.Step.TheVariants.Ahead, Live.stepped, Live.x_step}
-use Rattle.machine_desc.specs.Live.{y_step}
+use Rattle.machine_desc.proofs.Common.{Ahead, Back, Bool, Dir, East, None, North, NorthEast, Some, South, SouthWest, Stay, Step, West, add-mod_right, ap, arith, cases_eq, cases_lt, cond, cond-false}
+use Rattle.machine_desc.proofs.Common.{cond-true, eq-eqb, eqb, false, inl, inr, le-ltb, lt-ltb, ltb, mod-eq_of_lt, mod_self, ne_eqb, opposite_of, refl, stepped, sym, true, x_step, y_step, ℕ, ◌%◌, ◌+◌}
+use Rattle.machine_desc.proofs.Common.{◌-◌, ◌<◌, ◌∙◌, ◌≡◌}
 
 pub turned : Step → Step
 turned Back = Ahead

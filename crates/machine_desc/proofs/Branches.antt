@@ -1,15 +1,9 @@
 -- Branches of one routing tree: where they pass, that together they pass everywhere, and that none is long.
-use Rattle.std.proofs.Common.{◌≡◌, ◌≢◌, ℕ, zero, suc, ◌+◌, ◌*◌, ◌<◌, ◌≤◌, eqb, List, [], ◌∷◌, ◌++◌, length, get_or, map, Some, None, refl, sym, ap, ◌∙◌, subst, arith, inl, inr, ◌⊎◌}
-use Rattle.std.specs.List.{slice_get, Contains}
-use Rattle.std.proofs.lemmas.{Bool.eqb-true, Bool.ne_eqb, List.get_or_default, List.get_or-map, List.length-map, List.length-append, List.map-append, List.Elements.All-contains}
-use Rattle.std.proofs.lemmas.{List.Elements.Contains-push, List.Elements.Contains-append_left, Map.Keys.IsDistinct-from_apart, Map.Steps.length-le_from_distinct_below, Map.Views.Contains-from_any}
-use Rattle.std.proofs.lemmas.Option.{slice_get-get_or}
-use Rattle.spin_base.specs.declared.{chips.Chip.Chip, chips.Spot.Spot, chips.Dir.Dir, chips.Port.Port, chips.Port.TheVariants.Local, routes.Out.TheVariants.Link}
-use Rattle.spin_base.specs.{Links.opposite_of, Outputs.out_of}
-use Rattle.spin_base.specs.declared.chips.Port.TheVariants.{Link as ByLink}
-use Rattle.machine_desc.specs.{declared.trees.Edge.Edge, Description.Description, Live.far_of, Live.IsInside, Live.IsLiveChip, Live.index_of, RoutingTree.end_of, RoutingTree.IsTreeChip}
-use Rattle.machine_desc.specs.{RoutingTree.IsPath, RoutingTree.IsTreeTo, RoutingTree.IsRoutingTree, Branch.Exit, Branch.GoesOn, Branch.IsWay, Branch.IsBranch, Branch.port_after, Branch.arrival_from}
-use Rattle.machine_desc.specs.Branch.{arrival_at}
+use Rattle.machine_desc.proofs.Common.{All-contains, ByLink, Chip, Contains, Contains-append_left, Contains-from_any, Contains-push, Description, Dir, Edge, Exit, GoesOn, IsBranch}
+use Rattle.machine_desc.proofs.Common.{IsDistinct-from_apart, IsInside, IsLiveChip, IsPath, IsRoutingTree, IsTreeChip, IsTreeTo, IsWay, Link, List, Local, None, Port, Some, Spot, [], ap, arith}
+use Rattle.machine_desc.proofs.Common.{arrival_at, arrival_from, end_of, eqb, eqb-true, far_of, get_or, get_or-map, get_or_default, index_of, inl, inr, length, length-append}
+use Rattle.machine_desc.proofs.Common.{length-le_from_distinct_below, length-map, map, map-append, ne_eqb, opposite_of, out_of, port_after, refl, slice_get, slice_get-get_or, subst, suc, sym, zero, ℕ}
+use Rattle.machine_desc.proofs.Common.{◌*◌, ◌++◌, ◌+◌, ◌<◌, ◌∙◌, ◌∷◌, ◌≡◌, ◌≢◌, ◌≤◌, ◌⊎◌}
 use Rattle.machine_desc.proofs.{Far.live_inside, Far.far_inside, Far.same_index, Far.index_below, Same.same_edge, TreeLemmas.path_more, TreeLemmas.path_in_tree, TreeLemmas.one_edge_into}
 use Rattle.machine_desc.proofs.TreeLemmas.{edge_lives, root_lives_with_edge}
 

@@ -1,7 +1,5 @@
 -- The order of edges is that of their links' places in a table.
-use Rattle.std.proofs.Common.{suc, ◌<◌, arith, inl, inr}
-use Rattle.std.proofs.lemmas.Nat.{mul-le}
-use Rattle.machine_desc.specs.{declared.trees.Edge.Edge, Description.Description, EdgeOrder.IsEdgeBefore, Flags.link_place, Live.IsInside}
+use Rattle.machine_desc.proofs.Common.{Description, Edge, IsEdgeBefore, IsInside, arith, inl, inr, link_place, mul-le, suc, ◌<◌}
 use Rattle.machine_desc.proofs.{Far.inside_parts, Same.below_six}
 
 -- an edge that comes before another stands at a lesser place of the grid's links

@@ -1,10 +1,7 @@
 -- Each link leads there and back, live links are live from both ends, and the index tells the chips of the grid apart.
-use Rattle.std.proofs.Common.{◌≡◌, ℕ, ◌*◌, ◌<◌, true, false, Option, Some, None, refl, ◌∙◌, arith}
-use Rattle.std.proofs.lemmas.{Bool.ltb-true, Bool.lt-ltb, Bool.and_parts, Bool.and_from, Bool.cond-true, Bool.cond-false, Bool.cases_Bool, Bool.false≢true, Nat.same_from_place, Nat.mul-add-lt}
-use Rattle.spin_base.specs.declared.chips.{Chip.Chip, Dir.Dir, Dir.TheVariants.East, Dir.TheVariants.NorthEast, Dir.TheVariants.North, Dir.TheVariants.West, Dir.TheVariants.SouthWest}
-use Rattle.spin_base.specs.{declared.chips.Dir.TheVariants.South, Links.opposite_of, Equality.chip_eq}
-use Rattle.machine_desc.specs.{Description.Description, Live.stepped, Live.x_step, Live.y_step, Live.chip_at, Live.other_than, Live.far_of, Live.is_live_between, Live.IsInside, Live.IsLiveChip}
-use Rattle.machine_desc.specs.Live.{IsLiveLink, index_of}
+use Rattle.machine_desc.proofs.Common.{Chip, Description, Dir, East, IsInside, IsLiveChip, IsLiveLink, None, North, NorthEast, Option, Some, South, SouthWest, West, and_from, and_parts, arith}
+use Rattle.machine_desc.proofs.Common.{cases_Bool, chip_at, chip_eq, cond-false, cond-true, false, false≢true, far_of, index_of, is_live_between, lt-ltb, ltb-true, mul-add-lt, opposite_of, other_than}
+use Rattle.machine_desc.proofs.Common.{refl, same_from_place, stepped, true, x_step, y_step, ℕ, ◌*◌, ◌<◌, ◌∙◌, ◌≡◌}
 use Rattle.machine_desc.proofs.{Same.same_chip, Same.chip_eq_sym, Axis.x_step-opposite, Axis.y_step-opposite, Axis.stepped_back, Axis.stepped_inside}
 
 pub opposite_of-opposite : (d : Dir) → opposite_of (opposite_of d) ≡ d

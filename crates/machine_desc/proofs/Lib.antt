@@ -1,3 +1,4 @@
+mod Common
 mod Axis
 pub mod Branches
 pub mod EdgePlaces

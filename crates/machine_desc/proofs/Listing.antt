@@ -1,12 +1,8 @@
 -- A table that tells which things are listed, as the list is read.
-use Rattle.std.proofs.Common.{◌≡◌, ℕ, ◌+◌, ◌<◌, ◌≤◌, Bool, true, false, ◌||◌, List, length, get_or, take, set, replicate, arith, inl, inr}
-use Rattle.std.specs.List.{list_any}
-use Rattle.std.proofs.lemmas.{Bool.cases_eq, Bool.cases_lt, Bool.or_right, Bool.false_from_ne_true, Nat.same_from_place, List.get_or-set_same, List.get_or-set_other, List.get_or-replicate}
-use Rattle.std.proofs.{lemmas.List.get_or_past, lemmas.List.length-replicate, lemmas.List.Folds.list_any_more, Math.Bool.or-false}
-use Rattle.spin_base.specs.{declared.chips.Chip.Chip, declared.chips.Spot.Spot, Equality.chip_eq, Equality.spot_eq, Links.dir_number}
-use Rattle.spin_base.proofs.Equality.{chip_eq_true, chip_eq_same, spot_eq_true, spot_eq_same}
-use Rattle.machine_desc.specs.{declared.trees.Edge.Edge, declared.grids.Grid.Grid, Equality.edge_eq, Tables.TellsListed, Tables.IsOn, Tables.IsCoreOn, Tables.IsEdgeOn, Tables.chip_place}
-use Rattle.machine_desc.specs.Tables.{core_place, edge_place, TellsChips, TellsCores, TellsLinks}
+use Rattle.machine_desc.proofs.Common.{Bool, Chip, Edge, Grid, IsCoreOn, IsEdgeOn, IsOn, List, Spot, TellsChips, TellsCores, TellsLinks, TellsListed, arith, cases_eq, cases_lt, chip_eq, chip_eq_same}
+use Rattle.machine_desc.proofs.Common.{chip_eq_true, chip_place, core_place, dir_number, edge_eq, edge_place, false, false_from_ne_true, get_or, get_or-replicate, get_or-set_other, get_or-set_same}
+use Rattle.machine_desc.proofs.Common.{get_or_past, inl, inr, length, length-replicate, list_any, list_any_more, or-false, or_right, replicate, same_from_place, set, spot_eq, spot_eq_same}
+use Rattle.machine_desc.proofs.Common.{spot_eq_true, take, true, ℕ, ◌+◌, ◌<◌, ◌||◌, ◌≡◌, ◌≤◌}
 use Rattle.machine_desc.proofs.Same.{same_chip, same_spot, same_edge, same_dir, below_six, edge_eq-true, edge_eq_self}
 
 -- a clear table tells of the empty list

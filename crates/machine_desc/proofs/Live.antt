@@ -1,17 +1,8 @@
 -- The live chips, as the table counts them.
-use Rattle.std.proofs.Common.{◌≡◌, ℕ, zero, suc, ◌+◌, ◌*◌, ◌<◌, Bool, false, not, ◌&&◌, List, length, get_or, map, sym, ap, ◌∙◌, subst, arith}
-use Rattle.std.specs.List.{list_any, count_by, All}
-use Rattle.std.proofs.lemmas.List.{ext_get_or, get_or-map, length-map}
-use Rattle.std.proofs.lemmas.List.FromFn.{get_or-map-range_with_len, length-map-range_with_len}
-use Rattle.std.proofs.lemmas.List.Elements.{All-from_get_or, All-weaker}
-use Rattle.std.proofs.lemmas.Nat.{div_below, mod_below, div-add-mod'}
-use Rattle.std.proofs.Math.Bool.{true-and}
+use Rattle.machine_desc.proofs.Common.{All, All-from_get_or, All-weaker, Bool, Chip, Description, IsInside, List, ap, arith, chip_eq, chip_of, count_by, count_by-agree, div-add-mod', div_below}
+use Rattle.machine_desc.proofs.Common.{ext_get_or, false, get_or, get_or-map, get_or-map-range_with_len, grid_chips, index_of, is_live_chip, length, length-map, length-map-range_with_len, list_any}
+use Rattle.machine_desc.proofs.Common.{live_count_of, map, mod_below, not, subst, suc, sym, true-and, zero, ℕ, ◌&&◌, ◌*◌, ◌+◌, ◌<◌, ◌∙◌, ◌≡◌}
 pub use Rattle.spin_base.proofs.Counts.{count_by-map}
-use Rattle.spin_base.proofs.Counts.{count_by-agree}
-use Rattle.spin_base.specs.declared.chips.Chip.{Chip}
-use Rattle.spin_base.specs.Equality.{chip_eq}
-use Rattle.machine_desc.specs.Description.{Description}
-use Rattle.machine_desc.specs.Live.{is_live_chip, chip_of, grid_chips, live_count_of, IsInside, index_of}
 use Rattle.machine_desc.proofs.Far.{inside_from, inside_parts, same_index, index_below}
 
 -- the chip of an index below width * height is inside the grid, and has that index

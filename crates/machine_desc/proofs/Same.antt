@@ -1,13 +1,5 @@
 -- The tests of equality say what they are called for.
-use Rattle.std.proofs.Common.{arith}
-use Rattle.std.proofs.Common.{◌≡◌, true, false, refl, sym, ap, subst, ◌∙◌}
-use Rattle.std.proofs.lemmas.Bool.{and_parts, and_from}
-use Rattle.spin_base.specs.declared.chips.Chip.{Chip}
-use Rattle.spin_base.specs.declared.chips.Dir.{Dir}
-use Rattle.machine_desc.specs.declared.trees.Edge.{Edge}
-use Rattle.spin_base.specs.Equality.{chip_eq}
-use Rattle.spin_base.proofs.Equality.{chip_eq_true, chip_eq_same, dir_eq_true, dir_eq_same}
-use Rattle.machine_desc.specs.Equality.{edge_eq}
+use Rattle.machine_desc.proofs.Common.{Chip, Dir, Edge, and_from, and_parts, ap, arith, chip_eq, chip_eq_same, chip_eq_true, dir_eq_same, dir_eq_true, edge_eq, false, refl, subst, sym, true, ◌∙◌, ◌≡◌}
 pub use Rattle.spin_base.proofs.Equality.{same_chip, same_spot}
 pub use Rattle.spin_base.proofs.Outputs.{dir_number_injective as same_dir, dir_number_below as below_six}
 

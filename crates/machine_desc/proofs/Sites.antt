@@ -1,9 +1,6 @@
 -- The spots where vertices can stand.
-use Rattle.std.proofs.Common.{◌≡◌, ◌-◌, ◌<◌, ◌≤◌, true, false, arith, ◌⊎◌}
-use Rattle.std.proofs.lemmas.Bool.{and_parts, or_cases, or_left, ltb-true, leb-true, not-true}
-use Rattle.spin_base.specs.{declared.chips.Spot.Spot, declared.chips.Dir.Dir, declared.routes.Out.TheVariants.Link, Links.dir_at, Outputs.out_of}
-use Rattle.spin_base.proofs.Spots.{spot_of_link, dir_at-dir_number, same_number}
-use Rattle.machine_desc.specs.{Description.Description, Live.is_live_link, Live.is_device_place, Live.IsLiveChip, Live.IsUsable, Live.IsSite}
+use Rattle.machine_desc.proofs.Common.{Description, Dir, IsLiveChip, IsSite, IsUsable, Link, Spot, and_parts, arith, dir_at, dir_at-dir_number, false, is_device_place, is_live_link, leb-true}
+use Rattle.machine_desc.proofs.Common.{ltb-true, not-true, or_cases, or_left, out_of, same_number, spot_of_link, true, ◌-◌, ◌<◌, ◌≡◌, ◌≤◌, ◌⊎◌}
 use Rattle.machine_desc.proofs.Same.{same_spot}
 
 -- a usable core is one of 1 to 17 of a live chip

@@ -1,10 +1,6 @@
 -- The chips of a tree and the paths in it, and a tree's edges.
-use Rattle.std.proofs.Common.{arith, ◌≡◌, List, [], ◌∷◌, ◌++◌, get_or, Some, refl, sym, ◌∙◌, subst, inl, inr, ◌⊎◌}
-use Rattle.std.specs.List.{Contains}
-use Rattle.std.proofs.lemmas.{Bool.cases_order, List.get_or_default, List.Elements.All-contains, List.Elements.Contains-append_left}
-use Rattle.spin_base.specs.declared.chips.Chip.{Chip}
-use Rattle.machine_desc.specs.{declared.trees.Edge.Edge, Description.Description, Live.IsLiveChip, Live.IsLiveLink, RoutingTree.end_of, RoutingTree.IsTreeChip, RoutingTree.IsPath}
-use Rattle.machine_desc.specs.RoutingTree.{IsTreeTo}
+use Rattle.machine_desc.proofs.Common.{All-contains, Chip, Contains, Contains-append_left, Description, Edge, IsLiveChip, IsLiveLink, IsPath, IsTreeChip, IsTreeTo, List, Some, [], arith, cases_order}
+use Rattle.machine_desc.proofs.Common.{end_of, get_or, get_or_default, inl, inr, refl, subst, sym, ◌++◌, ◌∙◌, ◌∷◌, ◌≡◌, ◌⊎◌}
 use Rattle.machine_desc.proofs.Far.{live_ends}
 
 -- a chip into which an edge of the tree leads is a chip of the tree

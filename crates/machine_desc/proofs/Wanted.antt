@@ -1,11 +1,6 @@
 -- What it means that a tree wants an output at a chip: an edge leaves by it, or it leads to a target there.
-use Rattle.std.proofs.Common.{arith, ◌≡◌, true, List, refl, sym, ap, ◌∙◌, subst, inl, inr, ◌⊎◌}
-use Rattle.std.specs.List.{Contains}
-use Rattle.std.proofs.lemmas.{Bool.and_parts, Bool.and_from, Bool.or_cases, Bool.or_left, Bool.or_right, Bool.false≢true, List.Folds.Any-from_list_any, List.Folds.list_any_at}
-use Rattle.spin_base.specs.declared.{chips.Chip.Chip, chips.Dir.Dir, chips.Spot.Spot, routes.Out.Out, routes.Out.TheVariants.Link, routes.Out.TheVariants.Core}
-use Rattle.spin_base.specs.Outputs.{out_of}
-use Rattle.spin_base.proofs.Equality.{chip_eq_true, chip_eq_same, out_eq_true, out_eq_same}
-use Rattle.machine_desc.specs.{declared.trees.Edge.Edge, Equality.edge_eq, Outputs.is_edge_out, Outputs.leads_to_spot, Outputs.is_wanted}
+use Rattle.machine_desc.proofs.Common.{Any-from_list_any, Chip, Contains, Core, Dir, Edge, Link, List, Out, Spot, and_from, and_parts, ap, arith, chip_eq_same, chip_eq_true, edge_eq, false≢true, inl}
+use Rattle.machine_desc.proofs.Common.{inr, is_edge_out, is_wanted, leads_to_spot, list_any_at, or_cases, or_left, or_right, out_eq_same, out_eq_true, out_of, refl, subst, sym, true, ◌∙◌, ◌≡◌, ◌⊎◌}
 use Rattle.machine_desc.proofs.Same.{edge_eq-true, edge_eq_self}
 
 -- the edge by which an output leaves a chip

@@ -1,10 +1,6 @@
 -- Displacements along one axis: which way they lead, how far, and what a step does.
-use Rattle.std.proofs.Common.{◌≡◌, ℕ, ◌+◌, ◌-◌, ◌%◌, ◌<◌, ◌≤◌, Bool, true, false, not, cond, ltb, Some, None, refl, ap, ◌∙◌, arith, inl, inr, ◌⊎◌}
-use Rattle.std.proofs.{lemmas.Bool.cases_lt, lemmas.Bool.cases_eq, lemmas.Bool.lt-ltb, lemmas.Bool.ne_eqb, lemmas.Bool.cond-true, lemmas.Bool.cond-false, lemmas.Bool.true≢false, Math.Nat.mod-eq_of_lt}
-use Rattle.std.proofs.Math.Nat.{mod_self, add-mod_right}
-use Rattle.std.specs.Prelude.{ℤ, pos, negsuc}
-use Rattle.machine_desc.specs.{declared.steps.Step.Step, declared.steps.Step.TheVariants.Back, declared.steps.Step.TheVariants.Stay, declared.steps.Step.TheVariants.Ahead, Live.stepped}
-use Rattle.ner_trees.specs.{Geometry.forth, Geometry.back, Geometry.ahead_by, LongestFirst.is_ahead, LongestFirst.is_back}
+use Rattle.ner_trees.proofs.Common.{Ahead, Back, Bool, None, Some, Stay, Step, add-mod_right, ahead_by, ap, arith, back, cases_eq, cases_lt, cond, cond-false, cond-true, false, forth, inl, inr}
+use Rattle.ner_trees.proofs.Common.{is_ahead, is_back, lt-ltb, ltb, mod-eq_of_lt, mod_self, ne_eqb, negsuc, not, pos, refl, stepped, true, true≢false, ℕ, ℤ, ◌%◌, ◌+◌, ◌-◌, ◌<◌, ◌∙◌, ◌≡◌, ◌≤◌, ◌⊎◌}
 
 -- the number of places ahead, by cases
 pub ahead_cases : (w p q : ℕ) → p < w → q < w → ((p ≤ q) × (ahead_by w p q + p ≡ q)) ⊎ ((q < p) × (ahead_by w p q + p ≡ q + w))

@@ -1,12 +1,8 @@
 -- Walks cut at the last chip that a table has, and tables that note where links lead.
-use Rattle.std.proofs.Common.{◌≡◌, ℕ, ◌+◌, ◌*◌, ◌<◌, Bool, true, false, List, [], ◌∷◌, ◌++◌, length, get_or, take, set, Some, None, refl, sym, ap, ◌∙◌, subst, arith, inl, inr, ◌⊎◌}
-use Rattle.std.specs.List.{Contains, Any}
-use Rattle.std.proofs.lemmas.{Bool.cases_eq, List.append-nil, List.append_assoc, List.take_more, List.get_or-set_same, List.get_or-set_other, List.Elements.All-push, List.Elements.All-nil}
-use Rattle.std.proofs.lemmas.{List.Elements.Contains-append_left, List.Elements.Contains-push, List.Elements.Contains-push_cases, Option.none-some, Option.same_Some}
-use Rattle.spin_base.specs.declared.chips.{Chip.Chip, Dir.Dir}
-use Rattle.machine_desc.specs.{declared.trees.Edge.Edge, Description.Description, Live.index_of, Live.IsInside, RoutingTree.end_of}
-use Rattle.machine_desc.proofs.Far.{same_index, index_below, far_inside}
-use Rattle.ner_trees.specs.{Growth.next_of, Growth.end_of_walk, Growth.links_of, Search.is_on, Search.IsCutAt, Search.IsMarkedBy}
+use Rattle.ner_trees.proofs.Common.{All-nil, All-push, Any, Bool, Chip, Contains, Contains-append_left, Contains-push, Contains-push_cases, Description, Dir, Edge, IsCutAt, IsInside, IsMarkedBy, List}
+use Rattle.ner_trees.proofs.Common.{None, Some, [], ap, append-nil, append_assoc, arith, cases_eq, end_of, end_of_walk, false, far_inside, get_or, get_or-set_other, get_or-set_same, index_below}
+use Rattle.ner_trees.proofs.Common.{index_of, inl, inr, is_on, length, links_of, next_of, none-some, refl, same_Some, same_index, set, subst, sym, take, take_more, true, ℕ, ◌*◌, ◌++◌, ◌+◌, ◌<◌, ◌∙◌}
+use Rattle.ner_trees.proofs.Common.{◌∷◌, ◌≡◌, ◌⊎◌}
 use Rattle.ner_trees.proofs.Trees.{link, walk_end}
 
 -- one step more at the end of a walk

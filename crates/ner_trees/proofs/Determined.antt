@@ -1,12 +1,7 @@
 -- A tree has one nearest chip to a target and one branch to it, so a list of targets has one tree.
-use Rattle.std.proofs.Common.{◌≡◌, List, [], ◌∷◌, ◌++◌, map, refl, sym, ap, ◌∙◌, subst, arith, inl, inr}
-use Rattle.std.specs.List.{All, Contains}
-use Rattle.std.proofs.lemmas.List.Elements.{All-nil, All-cons, All-head, All-tail, All-append}
-use Rattle.spin_base.specs.declared.chips.{Chip.Chip, Dir.Dir}
-use Rattle.machine_desc.specs.{declared.trees.Edge.Edge, Description.Description, Live.index_of, Live.IsInside, RoutingTree.IsTreeChip, EdgeOrder.IsEdgeBefore}
-use Rattle.machine_desc.proofs.Far.{same_index}
-use Rattle.ner_trees.specs.{declared.growths.Join.Join, Geometry.displacement_of, LongestFirst.ldf_of, Growth.next_of, Growth.end_of_walk, Growth.links_of, Growth.IsNotFarther, Growth.IsNear}
-use Rattle.ner_trees.specs.Growth.{IsAdded, Grows, IsGrown}
+use Rattle.ner_trees.proofs.Common.{All, All-append, All-cons, All-head, All-nil, All-tail, Chip, Contains, Description, Dir, Edge, Grows, IsAdded, IsEdgeBefore, IsGrown, IsInside, IsNear}
+use Rattle.ner_trees.proofs.Common.{IsNotFarther, IsTreeChip, Join, List, [], ap, arith, displacement_of, end_of_walk, index_of, inl, inr, ldf_of, links_of, map, next_of, refl, same_index, subst, sym}
+use Rattle.ner_trees.proofs.Common.{◌++◌, ◌∙◌, ◌∷◌, ◌≡◌}
 use Rattle.ner_trees.proofs.{Growing.on_inside, Growing.next_inside, Ordered.same_list, Trees.link}
 
 -- the first numbers of two chips that are each not farther than the other

@@ -1,19 +1,11 @@
 -- The tree so far: what its table says, and what comes of growing when it is done.
-use Rattle.std.proofs.Common.{◌≡◌, ◌≢◌, ℕ, ◌+◌, ◌*◌, ◌<◌, ◌≤◌, Bool, true, false, List, [], ◌∷◌, ◌++◌, length, map, get_or, take, set, replicate, Option, Some, None, refl, sym, ap, ◌∙◌, subst, arith}
-use Rattle.std.proofs.Common.{inl, inr, ◌⊎◌}
-use Rattle.std.specs.{Prelude.if◌then◌else◌, List.Contains, List.All, List.AllPairs, List.Any, List.sum_by, List.Sorted.IsPermutation}
-use Rattle.std.proofs.{Math.Logic.∥∥₁_map, lemmas.Bool.cases_eq, lemmas.Bool.cases_order, lemmas.Bool.true≢false, lemmas.Bool.and_from, lemmas.Bool.eq-eqb, lemmas.List.append-nil}
-use Rattle.std.proofs.lemmas.List.{append_assoc, take_more, take_all, map_push, get_or-set_same, get_or-set_other, get_or-replicate, length-replicate, Elements.All-contains, Elements.Contains-get_or}
-use Rattle.std.proofs.lemmas.List.Elements.{Contains-append_cases, Contains-append_left, Contains-append_right, Contains-push, All-append, All-push}
-use Rattle.std.proofs.lemmas.List.Sorted.{IsPermutation-sym, Contains-permutation, length_permutation}
-use Rattle.spin_base.specs.{declared.chips.Chip.Chip, declared.chips.Dir.Dir, Links.dir_number}
-use Rattle.spin_base.proofs.{Equality.dir_eq_true, Pairs.AllPairs-permutation}
-use Rattle.machine_desc.proofs.{Same.same_edge, Same.same_chip, Far.same_index, Far.index_below, Far.far_inside, TreeLemmas.tree_end, TreeLemmas.tree_cases, TreeLemmas.more_chips}
-use Rattle.machine_desc.specs.{declared.trees.Edge.Edge, Description.Description, Description.HasSize, Live.far_of, Live.index_of, Live.IsInside, Live.IsLiveLink, RoutingTree.end_of}
-use Rattle.machine_desc.specs.{RoutingTree.IsTreeChip, RoutingTree.IsPath, RoutingTree.IsTreeTo, EdgeOrder.IsEdgeBefore}
-use Rattle.ner_trees.specs.{declared.growths.Join.Join, Geometry.displacement_of, Geometry.distance_of, LongestFirst.ldf_of, Growth.or_stay, Growth.next_of, Growth.IsNear, Growth.IsAdded}
-use Rattle.ner_trees.specs.{Growth.IsJoinedBy, Growth.Grows, Growth.IsGrown, Growth.IsWithoutDead, Growth.distance_sum, Search.AreAllOn, Search.AreOn, Search.is_on, Search.IsNearestOn, Search.IsCutAt}
-use Rattle.ner_trees.specs.Search.{IsMarkedBy, TellsTree}
+use Rattle.ner_trees.proofs.Common.{All, All-append, All-contains, All-push, AllPairs, AllPairs-permutation, Any, AreAllOn, AreOn, Bool, Chip, Contains, Contains-append_cases, Contains-append_left}
+use Rattle.ner_trees.proofs.Common.{Contains-append_right, Contains-get_or, Contains-permutation, Contains-push, Description, Dir, Edge, Grows, HasSize, IsAdded, IsCutAt, IsEdgeBefore, IsGrown}
+use Rattle.ner_trees.proofs.Common.{IsInside, IsJoinedBy, IsLiveLink, IsMarkedBy, IsNear, IsNearestOn, IsPath, IsPermutation, IsPermutation-sym, IsTreeChip, IsTreeTo, IsWithoutDead, Join, List, None}
+use Rattle.ner_trees.proofs.Common.{Option, Some, TellsTree, [], and_from, ap, append-nil, append_assoc, arith, cases_eq, cases_order, dir_eq_true, dir_number, displacement_of, distance_of}
+use Rattle.ner_trees.proofs.Common.{distance_sum, end_of, eq-eqb, false, far_inside, far_of, get_or, get_or-replicate, get_or-set_other, get_or-set_same, if◌then◌else◌, index_below, index_of, inl}
+use Rattle.ner_trees.proofs.Common.{inr, is_on, ldf_of, length, length-replicate, length_permutation, map, map_push, more_chips, next_of, or_stay, refl, replicate, same_chip, same_edge, same_index}
+use Rattle.ner_trees.proofs.Common.{set, subst, sum_by, sym, take, take_all, take_more, tree_cases, tree_end, true, true≢false, ℕ, ∥∥₁_map, ◌*◌, ◌++◌, ◌+◌, ◌<◌, ◌∙◌, ◌∷◌, ◌≡◌, ◌≢◌, ◌≤◌, ◌⊎◌}
 use Rattle.ner_trees.proofs.{Searching.IsNoneOn, Trees.spanning_root, Trees.Outcome, Trees.grown, Walking.ldf_walks}
 
 -- chips of a tree whose edges begin inside the grid are inside

@@ -1,3 +1,4 @@
+mod Common
 mod Axis
 mod Cutting
 pub mod Determined

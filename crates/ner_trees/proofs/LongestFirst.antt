@@ -1,12 +1,8 @@
 -- What the steps of a displacement add up to.
-use Rattle.std.proofs.Common.{◌≡◌, ℕ, suc, ◌+◌, ◌-◌, ◌*◌, max, min, cond, leb, List, [], ◌∷◌, length, refl, ap, ◌∙◌, arith, inl, inr, ◌⊎◌}
-use Rattle.std.proofs.lemmas.{Bool.cases_Bool, Bool.cond-true, Bool.cond-false, Int.ints, List.Folds.sum_by-replicate, List.Sums.sum_by-append, List.Sums.sum_by-cons}
-use Rattle.std.specs.{List.flat_map, List.sum_by, List.count_by, Prelude.ℤ, Prelude.pos, Prelude.negsuc, Prelude.◌-ℤ◌, Prelude.neg_ℤ}
-use Rattle.spin_base.specs.declared.chips.Dir.{Dir, TheVariants.East, TheVariants.NorthEast, TheVariants.North, TheVariants.West, TheVariants.SouthWest, TheVariants.South}
-use Rattle.spin_base.specs.Links.{opposite_of}
-use Rattle.machine_desc.specs.Live.{x_step, y_step}
-use Rattle.ner_trees.specs.{declared.displacements.Disp.Disp, declared.walks.Run.Run, Geometry.length_of, Geometry.forth, Geometry.back, LongestFirst.median, LongestFirst.link_run_of}
-use Rattle.ner_trees.specs.LongestFirst.{put_run, longest_first, run_links, ldf_of, is_ahead, is_back, sum_of}
+use Rattle.ner_trees.proofs.Common.{Dir, Disp, East, List, North, NorthEast, Run, South, SouthWest, West, [], ap, arith, back, cases_Bool, cond, cond-false, cond-true, count_by, flat_map, forth, inl}
+use Rattle.ner_trees.proofs.Common.{inr, ints, is_ahead, is_back, leb, length, length_of, link_run_of, longest_first, max, median, min, neg_ℤ, negsuc, opposite_of, pos, put_run, refl, run_links, suc}
+use Rattle.ner_trees.proofs.Common.{sum_by, sum_by-append, sum_by-cons, sum_by-replicate, sum_of, x_step, y_step, ℕ, ℤ, ◌*◌, ◌+◌, ◌-ℤ◌, ◌-◌, ◌∙◌, ◌∷◌, ◌≡◌, ◌⊎◌}
+use Rattle.ner_trees.specs.LongestFirst.{ldf_of}
 use Rattle.ner_trees.proofs.Signed.{length_is, less_median, less_median_second, minus_median}
 
 -- a run weighs the same wherever it is put

@@ -1,13 +1,8 @@
 -- The nearest chip of a tree, found by going over its chips.
-use Rattle.std.proofs.Common.{◌≡◌, ℕ, ◌+◌, ◌*◌, ◌%◌, ◌<◌, ◌≤◌, ◌⊎◌, List, [], ◌∷◌, ◌++◌, Bool, true, length, get_or, take, min, sym, ◌∙◌, subst, inl, inr, arith}
-use Rattle.std.proofs.{Math.Logic.∥∥₁_elim, Props.props, lemmas.Bool.cases_eq, lemmas.Bool.cases_lt, lemmas.List.take_more, lemmas.List.Elements.All-contains}
-use Rattle.std.proofs.lemmas.{List.Elements.Contains-append_left, List.Elements.Contains-push, List.Elements.Contains-push_cases, Nat.mul-le}
-use Rattle.std.specs.List.{All, Contains}
-use Rattle.spin_base.specs.declared.chips.Chip.{Chip}
-use Rattle.machine_desc.specs.{declared.trees.Edge.Edge, Description.Description, Description.HasSize, Live.IsInside, Live.index_of, RoutingTree.IsTreeChip}
-use Rattle.machine_desc.proofs.Far.{index_below, same_index}
-use Rattle.spin_base.proofs.Members.{Contains-none, Contains-first, Contains-later, Contains-cases}
-use Rattle.ner_trees.specs.{Geometry.distance_of, Growth.IsNear, Search.AreAllOn, Search.AreOn, Search.IsLeastNearness, Search.TellsTree, Search.is_on, Search.nearness}
+use Rattle.ner_trees.proofs.Common.{All, All-contains, AreAllOn, AreOn, Bool, Chip, Contains, Contains-append_left, Contains-cases, Contains-first, Contains-later, Contains-none, Contains-push}
+use Rattle.ner_trees.proofs.Common.{Contains-push_cases, Description, Edge, HasSize, IsInside, IsLeastNearness, IsNear, IsTreeChip, List, TellsTree, [], arith, cases_eq, cases_lt, distance_of, get_or}
+use Rattle.ner_trees.proofs.Common.{index_below, index_of, inl, inr, is_on, length, min, mul-le, nearness, props, same_index, subst, sym, take, take_more, true, ℕ, ∥∥₁_elim, ◌%◌, ◌*◌, ◌++◌, ◌+◌, ◌<◌}
+use Rattle.ner_trees.proofs.Common.{◌∙◌, ◌∷◌, ◌≡◌, ◌≤◌, ◌⊎◌}
 use Rattle.ner_trees.proofs.Growing.{on_inside}
 
 one_is : (a b n : ℕ) → n ≡ min a b → (n ≡ a) ⊎ (n ≡ b)

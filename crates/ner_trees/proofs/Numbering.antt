@@ -1,12 +1,7 @@
 -- Edges in the order of their numbers are in their order.
-use Rattle.std.proofs.Common.{◌≡◌, ℕ, ◌+◌, ◌*◌, ◌/◌, ◌%◌, ◌<◌, ◌≤◌, List, map, length, sym, ap, ◌∙◌, subst, arith, Result, Ok, Err, IfOk}
-use Rattle.std.specs.List.{All, AllPairs, slice_index_or, Sorted.IsNonDecreasing}
-use Rattle.std.proofs.{lemmas.List.get_or-map, lemmas.List.length-map, Math.ListN.get_or-eq_default, lemmas.List.Elements.All-get_or}
-use Rattle.spin_base.specs.{declared.chips.Dir.TheVariants.East, Links.all_dirs, Links.dir_at, Links.dir_number}
-use Rattle.spin_base.proofs.Spots.{dir_at-dir_number}
-use Rattle.machine_desc.specs.{declared.trees.Edge.Edge, EdgeOrder.IsEdgeBefore}
-use Rattle.machine_desc.proofs.Same.{below_six}
-use Rattle.ner_trees.specs.EdgeNumbers.{edge_number, edge_numbered, IsEdgeNumber}
+use Rattle.ner_trees.proofs.Common.{All, All-get_or, AllPairs, East, Edge, Err, IfOk, IsEdgeBefore, IsEdgeNumber, IsNonDecreasing, List, Ok, Result, all_dirs, arith, below_six, dir_at}
+use Rattle.ner_trees.proofs.Common.{dir_at-dir_number, dir_number, edge_number, edge_numbered, get_or-eq_default, get_or-map, length, length-map, map, slice_index_or, subst, sym, ℕ, ◌%◌, ◌*◌, ◌+◌}
+use Rattle.ner_trees.proofs.Common.{◌/◌, ◌<◌, ◌≡◌, ◌≤◌}
 
 pub no_link : (n : ℕ) → 6 ≤ n → dir_at n ≡ East
 no_link n more = get_or-eq_default all_dirs East more

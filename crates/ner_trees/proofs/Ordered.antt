@@ -1,8 +1,6 @@
 -- Lists in an order in which no two items are each before the other.
-use Rattle.std.proofs.Common.{arith, ◌≡◌, List, [], ◌∷◌, refl, sym, inl, inr}
-use Rattle.std.specs.List.{Contains, AllPairs}
-use Rattle.std.proofs.lemmas.List.Elements.{All-contains}
-use Rattle.spin_base.proofs.{Members.Contains-none, Members.Contains-first, Members.Contains-later, Members.Contains-cases, Pairs.AllPairs-head, Pairs.AllPairs-tail}
+use Rattle.ner_trees.proofs.Common.{All-contains, AllPairs, AllPairs-head, AllPairs-tail, Contains, Contains-cases, Contains-first, Contains-later, Contains-none, List, [], arith, inl, inr, refl, sym}
+use Rattle.ner_trees.proofs.Common.{◌∷◌, ◌≡◌}
 
 module _ {X : Type 0} (R : X → X → Type 0) (apart : (a b : X) → R a b → R b a → ⊥) where
   -- the first of a list in order is before all others

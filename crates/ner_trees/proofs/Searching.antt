@@ -1,11 +1,8 @@
 -- The search of a ring: what it has seen, and that it sees enough.
-use Rattle.std.proofs.Common.{◌≡◌, ℕ, suc, ◌+◌, ◌-◌, ◌*◌, ◌%◌, ◌<◌, ◌≤◌, max, Bool, true, false, ◌||◌, cond, ltb, List, Option, Some, None, refl, sym, ap, ◌∙◌, subst, arith, inl, inr, ◌⊎◌}
-use Rattle.std.proofs.lemmas.{Bool.cases_lt, Bool.cases_eq, Bool.cond-true, Bool.cond-false, Bool.lt-ltb, Bool.le-ltb, Bool.or_left, Bool.or_right, Nat.mod-mul-add}
-use Rattle.std.specs.{Option.IfSome, Option.IfNone, Prelude.ℤ, Prelude.pos, Prelude.negsuc}
-use Rattle.spin_base.specs.declared.chips.Chip.{Chip}
-use Rattle.machine_desc.specs.{Description.Description, Description.HasSize, Live.chip_at, Live.IsInside}
-use Rattle.ner_trees.specs.{declared.displacements.Disp.Disp, Geometry.forth, Geometry.back, Geometry.ahead_by, Geometry.displacement_of, Geometry.distance_of, Search.is_on, Search.is_there}
-use Rattle.ner_trees.specs.Search.{place_at, offset_chip, AtOffsets, AtStep, IsOnWithin, IsNearestOn, IsNoneNearer, IsBetter}
+use Rattle.ner_trees.proofs.Common.{AtOffsets, AtStep, Bool, Chip, Description, Disp, HasSize, IfNone, IfSome, IsBetter, IsInside, IsNearestOn, IsNoneNearer, IsOnWithin, List, None, Option, Some}
+use Rattle.ner_trees.proofs.Common.{ahead_by, ap, arith, back, cases_eq, cases_lt, chip_at, cond, cond-false, cond-true, displacement_of, distance_of, false, forth, inl, inr, is_on, is_there, le-ltb}
+use Rattle.ner_trees.proofs.Common.{lt-ltb, ltb, max, mod-mul-add, negsuc, or_left, or_right, place_at, pos, refl, subst, suc, sym, true, ℕ, ℤ, ◌%◌, ◌*◌, ◌+◌, ◌-◌, ◌<◌, ◌||◌, ◌∙◌, ◌≡◌, ◌≤◌, ◌⊎◌}
+use Rattle.ner_trees.specs.Search.{offset_chip}
 use Rattle.ner_trees.proofs.{Axis.ahead_cases, Axis.Reaches, LongestFirst.one_sided, Signed.length_is, Walking.reaches}
 
 offset_is : (m : Description) (t : Chip) (r column row : ℕ) (x y : Option ℕ) → x ≡ place_at m.wrap m.width t.x r column → y ≡ place_at m.wrap m.height t.y r row →

@@ -1,11 +1,7 @@
 -- Signed numbers as what is above 0 and what is below.
-use Rattle.std.proofs.Common.{◌≡◌, ℕ, ◌+◌, max, min, [], ◌∷◌, true, false, refl, sym, ap, ◌∙◌, arith}
-use Rattle.std.proofs.lemmas.{Bool.cond-true, Bool.cond-false, Int.ints}
-use Rattle.std.specs.{Prelude.ℤ, Prelude.pos, Prelude.negsuc, Prelude.◌-ℤ◌, Prelude.neg_ℤ, Prelude.unsigned_abs, Int.int_max, Int.int_min}
-use Rattle.spin_base.specs.declared.chips.{Chip.Chip, Dir.TheVariants.East, Dir.TheVariants.North, Dir.TheVariants.SouthWest}
-use Rattle.machine_desc.specs.Description.{Description}
-use Rattle.ner_trees.specs.{declared.displacements.Disp.Disp, declared.walks.Run.Run, Geometry.length_of, Geometry.forth, Geometry.back, Geometry.disp, Geometry.lesser_disp, Geometry.ahead_by}
-use Rattle.ner_trees.specs.{Geometry.on_torus, Geometry.displacement_of, Geometry.distance_of, LongestFirst.median, LongestFirst.link_run_of, LongestFirst.runs_of, LongestFirst.longest_first}
+use Rattle.ner_trees.proofs.Common.{Chip, Description, Disp, East, North, Run, SouthWest, [], ahead_by, arith, back, cond-false, cond-true, disp, distance_of, false, forth, int_max, int_min, ints}
+use Rattle.ner_trees.proofs.Common.{length_of, lesser_disp, link_run_of, longest_first, max, median, min, neg_ℤ, negsuc, pos, refl, runs_of, true, unsigned_abs, ℕ, ℤ, ◌+◌, ◌-ℤ◌, ◌∷◌, ◌≡◌}
+use Rattle.ner_trees.specs.Geometry.{displacement_of, on_torus}
 
 pub length_is : (d : Disp) → length_of d ≡ max (forth d.a) (forth d.b) + max (back d.a) (back d.b)
 length_is d = parts d.a d.b

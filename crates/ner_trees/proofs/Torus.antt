@@ -1,9 +1,7 @@
 -- The displacement on a torus never leads all the way round.
-use Rattle.std.proofs.Common.{◌≡◌, ℕ, ◌+◌, ◌-◌, ◌*◌, ◌<◌, ◌≤◌, max, min, Bool, true, false, eqb, refl, sym, ap, ◌∙◌, subst, arith, inl, inr, ◌⊎◌}
-use Rattle.std.proofs.lemmas.{Bool.cases_eq, Bool.cases_Bool, Bool.ltb-true, Bool.ltb-false, Bool.eqb-true, Bool.eqb-false, Bool.cond-true, Bool.cond-false, Int.ints}
-use Rattle.std.specs.Prelude.{ℤ, pos, negsuc, ◌-ℤ◌, unsigned_abs}
-use Rattle.ner_trees.specs.{declared.displacements.Disp.Disp, Geometry.length_of, Geometry.forth, Geometry.back, Geometry.disp, Geometry.first_differs, Geometry.is_before, Geometry.lesser_disp}
-use Rattle.ner_trees.specs.Geometry.{on_torus, IsSmall}
+use Rattle.ner_trees.proofs.Common.{Bool, Disp, IsSmall, ap, arith, back, cases_Bool, cases_eq, cond-false, cond-true, disp, eqb, eqb-false, eqb-true, false, first_differs, forth, inl, inr, ints}
+use Rattle.ner_trees.proofs.Common.{is_before, length_of, lesser_disp, ltb-false, ltb-true, max, min, negsuc, pos, refl, subst, true, unsigned_abs, ℕ, ℤ, ◌*◌, ◌+◌, ◌-ℤ◌, ◌-◌, ◌<◌, ◌∙◌, ◌≡◌, ◌≤◌, ◌⊎◌}
+use Rattle.ner_trees.specs.Geometry.{on_torus}
 use Rattle.ner_trees.proofs.Signed.{length_is, abs_is}
 
 -- the first three of the numbers by which displacements are put in order, as one

@@ -1,15 +1,9 @@
 -- Trees that grow by branches: each of their chips is reached from the root, in one way.
-use Rattle.std.proofs.Common.{◌≡◌, ◌≢◌, ℕ, suc, ◌+◌, ◌<◌, ◌≤◌, List, [], ◌∷◌, ◌++◌, length, map, Some, get_or, refl, sym, ap, ◌∙◌, subst, arith, inl, inr, ◌⊎◌}
-use Rattle.std.specs.List.{Contains, All, AllPairs, sum_by}
-use Rattle.std.proofs.lemmas.{Bool.cases_lt, List.append-nil, List.append_assoc, List.length-append, List.Elements.All-contains, List.Elements.Contains-append_left}
-use Rattle.std.proofs.lemmas.List.Elements.{Contains-append_right, Contains-append_cases, Contains-push, Contains-push_cases, Contains-get_or}
-use Rattle.std.proofs.lemmas.{List.Quantifiers.all_pairs_push, List.Sums.sum_by-cons, Option.same_Some}
-use Rattle.spin_base.specs.declared.chips.{Chip.Chip, Dir.Dir}
-use Rattle.machine_desc.specs.{declared.trees.Edge.Edge, Description.Description, Live.far_of, Live.IsInside, RoutingTree.end_of, RoutingTree.IsTreeChip, RoutingTree.IsPath}
-use Rattle.machine_desc.proofs.{Far.far_inside, TreeLemmas.tree_end, TreeLemmas.tree_cases, TreeLemmas.more_chips, TreeLemmas.more_path, TreeLemmas.path_more}
-use Rattle.spin_base.proofs.Members.{Contains-none, Contains-first, Contains-later, Contains-cases}
-use Rattle.ner_trees.specs.{declared.growths.Join.Join, Geometry.displacement_of, Geometry.distance_of, LongestFirst.ldf_of, Growth.next_of, Growth.end_of_walk, Growth.links_of, Growth.IsNear}
-use Rattle.ner_trees.specs.Growth.{IsAdded, Grows}
+use Rattle.ner_trees.proofs.Common.{All, All-contains, AllPairs, Chip, Contains, Contains-append_cases, Contains-append_left, Contains-append_right, Contains-cases, Contains-first, Contains-get_or}
+use Rattle.ner_trees.proofs.Common.{Contains-later, Contains-none, Contains-push, Contains-push_cases, Description, Dir, Edge, Grows, IsAdded, IsInside, IsNear, IsPath, IsTreeChip, Join, List, Some}
+use Rattle.ner_trees.proofs.Common.{[], all_pairs_push, ap, append-nil, append_assoc, arith, cases_lt, displacement_of, distance_of, end_of, end_of_walk, far_inside, far_of, get_or, inl, inr, ldf_of}
+use Rattle.ner_trees.proofs.Common.{length, length-append, links_of, map, more_chips, more_path, next_of, path_more, refl, same_Some, subst, suc, sum_by, sum_by-cons, sym, tree_cases, tree_end, ℕ}
+use Rattle.ner_trees.proofs.Common.{◌++◌, ◌+◌, ◌<◌, ◌∙◌, ◌∷◌, ◌≡◌, ◌≢◌, ◌≤◌, ◌⊎◌}
 use Rattle.ner_trees.proofs.LongestFirst.{ldf_length}
 
 -- the link of a step

@@ -1,15 +1,9 @@
 -- The walk between two chips goes one way along each axis, and arrives.
-use Rattle.std.proofs.Common.{◌≡◌, ℕ, ◌+◌, ◌<◌, Bool, true, false, not, cond, List, [], ◌∷◌, Some, refl, sym, ap, ◌∙◌, subst, arith, inl, inr, ◌⊎◌}
-use Rattle.std.proofs.lemmas.{Bool.cases_Bool, Bool.cond-true, Bool.cond-false, Bool.true≢false, Int.ints, List.Sums.sum_by-cons}
-use Rattle.std.specs.{List.count_by, Prelude.ℤ, Prelude.pos, Prelude.negsuc, Prelude.◌-ℤ◌}
-use Rattle.spin_base.specs.declared.chips.{Chip.Chip, Dir.Dir, Dir.TheVariants.East, Dir.TheVariants.NorthEast, Dir.TheVariants.North, Dir.TheVariants.West, Dir.TheVariants.SouthWest}
-use Rattle.spin_base.specs.{declared.chips.Dir.TheVariants.South, Equality.chip_eq}
-use Rattle.spin_base.proofs.Equality.{chip_eq_true}
-use Rattle.machine_desc.specs.{declared.steps.Step.Step, declared.steps.Step.TheVariants.Back, declared.steps.Step.TheVariants.Stay, declared.steps.Step.TheVariants.Ahead, Description.Description}
-use Rattle.machine_desc.specs.{Description.HasSize, Live.far_of, Live.x_step, Live.y_step, Live.IsInside}
-use Rattle.machine_desc.proofs.{Far.far_from, Far.inside_parts, Far.inside_from, Same.same_chip}
-use Rattle.ner_trees.specs.{declared.displacements.Disp.Disp, Geometry.forth, Geometry.back, Geometry.ahead_by, Geometry.disp, Geometry.on_torus, Geometry.displacement_of, LongestFirst.is_ahead}
-use Rattle.ner_trees.specs.{LongestFirst.is_back, LongestFirst.ldf_of, Growth.or_stay, Growth.next_of, Growth.end_of_walk}
+use Rattle.ner_trees.proofs.Common.{Ahead, Back, Bool, Chip, Description, Dir, Disp, East, HasSize, IsInside, List, North, NorthEast, Some, South, SouthWest, Stay, Step, West, [], ahead_by, ap, arith}
+use Rattle.ner_trees.proofs.Common.{back, cases_Bool, chip_eq, chip_eq_true, cond, cond-false, cond-true, count_by, disp, end_of_walk, false, far_from, far_of, forth, inl, inr, inside_from}
+use Rattle.ner_trees.proofs.Common.{inside_parts, ints, is_ahead, is_back, ldf_of, negsuc, next_of, not, on_torus, or_stay, pos, refl, same_chip, subst, sum_by-cons, sym, true, true≢false, x_step}
+use Rattle.ner_trees.proofs.Common.{y_step, ℕ, ℤ, ◌+◌, ◌-ℤ◌, ◌<◌, ◌∙◌, ◌∷◌, ◌≡◌, ◌⊎◌}
+use Rattle.ner_trees.specs.Geometry.{displacement_of}
 use Rattle.ner_trees.proofs.{Axis.ahead_cases, Axis.ahead_below, Axis.way, Axis.goes, Axis.gap, Axis.IsStraight, Axis.Reaches, Axis.gap_start, Axis.gap_same, Axis.moves_on, LongestFirst.ldf_ahead}
 use Rattle.ner_trees.proofs.{LongestFirst.ldf_behind, LongestFirst.ldf_above, LongestFirst.ldf_below, Torus.AheadOrBack, Torus.torus_ways, Trees.Rises, Trees.Walks}
 

@@ -1,16 +1,9 @@
 -- Where a net has a plan, none of its targets is cut off; and at most one net and target are the first that are.
-use Rattle.std.proofs.Common.{arith, ◌≡◌, ℕ, ◌<◌, List, [], ◌∷◌, map, length, refl, sym, ap, ◌∙◌, subst, inl, inr, Some, Result, Ok, Err, IfOk, IfErr}
-use Rattle.std.specs.List.{All, Contains, slice_get, slice_index_or}
-use Rattle.std.proofs.lemmas.{Bool.cases_order, List.Elements.All-contains, Option.slice_get_within, Option.get_or_from_slice_get, Option.slice_get-get_or}
-use Rattle.spin_base.specs.declared.chips.{Chip.Chip, Spot.Spot}
-use Rattle.machine_desc.specs.{declared.trees.Edge.Edge, Description.Description, Live.far_of, Live.IsLiveLink, RoutingTree.IsPath, RoutingTree.IsTreeChip, RoutingTree.IsRoutingTree}
-use Rattle.app_graph.specs.declared.graphs.Net.{Net}
-use Rattle.link_detours.specs.{Repair.IsWalkTo, Cause.IsRepairCause, declared.repairs.RepairErr.RepairErr}
-use Rattle.link_detours.specs.Repair.{IsFirstTargetCutOff as IsFirstOfList}
+use Rattle.net_plans.proofs.Common.{All, All-at, All-contains, AreTargetChips, AreTargets, Chip, Contains, Contains-map, Description, Edge, Err, HasNoneCutOff, IfErr, IfOk, IsBelow, IsCauseOne}
+use Rattle.net_plans.proofs.Common.{IsCutOffIn, IsFirstCutOffIn, IsFirstNetCutOff, IsFirstOfList, IsLiveLink, IsNetCause, IsPath, IsRefusedBy, IsRepairCause, IsRoutingTree, IsTreeChip, IsWalkTo, List}
+use Rattle.net_plans.proofs.Common.{Net, NetErr, Ok, RepairErr, Result, Some, Spot, [], ap, arith, cases_order, chip_key, far_of, get_or_from_slice_get, inl, inr, length, map, refl, slice_get}
+use Rattle.net_plans.proofs.Common.{slice_get-get_or, slice_get_within, slice_index_or, subst, sym, ℕ, ◌<◌, ◌∙◌, ◌∷◌, ◌≡◌}
 use Rattle.link_detours.specs.declared.repairs.RepairErr.TheVariants as repairs
-use Rattle.spin_base.proofs.{Members.Contains-map, Places.All-at}
-use Rattle.net_plans.specs.{declared.nets.NetErr.NetErr, Cause.IsNetCause, Cause.IsCauseOne, Cause.IsRefusedBy, CutOffTargets.IsCutOffIn, CutOffTargets.HasNoneCutOff, CutOffTargets.IsFirstCutOffIn}
-use Rattle.net_plans.specs.{CutOffTargets.IsFirstNetCutOff, Order.IsBelow, Targets.chip_key, Targets.AreTargets, Targets.AreTargetChips}
 use Rattle.net_plans.specs.declared.nets.NetErr.TheVariants as nets
 use Rattle.net_plans.proofs.{Determined.same_source, Ordering.same_from_neither, Ordering.not_both}
 

@@ -1,15 +1,7 @@
 -- A net has one list of targets, one of target chips, and one plan, where spots are sites.
-use Rattle.std.proofs.Common.{◌≡◌, ℕ, ◌<◌, List, [], ◌∷◌, length, get_or, refl, sym, ap, ◌∙◌, subst, Some}
-use Rattle.std.specs.List.{All, Contains, slice_get}
-use Rattle.std.proofs.lemmas.{List.ext_get_or, Option.slice_get_within, Option.slice_get-get_or}
-use Rattle.spin_base.specs.declared.{chips.Chip.Chip, chips.Spot.Spot, blocks.Block.Block}
-use Rattle.machine_desc.specs.{Description.Description, Live.IsInside, Live.IsSite, declared.nets.NetPlan.NetPlan}
-use Rattle.app_graph.specs.declared.graphs.Net.{Net}
-use Rattle.ner_trees.specs.{declared.growths.Grown.Grown, Growth.IsGrown}
-use Rattle.ner_trees.proofs.{Determined.one_tree, Ordered.same_list}
-use Rattle.link_detours.specs.Repair.{IsRepaired}
-use Rattle.spin_base.proofs.Places.{All-at, slice_get_there}
-use Rattle.net_plans.specs.{NetPlans.joined_chips, NetPlans.IsPlannedNet, NetPlans.ArePlanned, Order.IsBelow, Targets.spot_key, Targets.chip_key, Targets.AreTargets, Targets.AreTargetChips}
+use Rattle.net_plans.proofs.Common.{All, All-at, ArePlanned, AreTargetChips, AreTargets, Block, Chip, Contains, Description, Grown, IsBelow, IsGrown, IsInside, IsPlannedNet, IsRepaired, IsSite, List}
+use Rattle.net_plans.proofs.Common.{Net, NetPlan, Some, Spot, [], ap, chip_key, ext_get_or, get_or, joined_chips, length, one_tree, refl, same_list, slice_get, slice_get-get_or, slice_get_there}
+use Rattle.net_plans.proofs.Common.{slice_get_within, spot_key, subst, sym, ℕ, ◌<◌, ◌∙◌, ◌∷◌, ◌≡◌}
 use Rattle.net_plans.proofs.{Ordering.not_both, Planning.all_inside, Repairs.one_repair}
 
 pub one_targets : (spots : List Spot) (vertices : List ℕ) (xs ys : List Spot) → AreTargets spots vertices xs → AreTargets spots vertices ys → xs ≡ ys

@@ -1,3 +1,4 @@
+mod Common
 mod Boarding
 pub mod CutOffLaws
 pub mod Ordering

@@ -1,15 +1,7 @@
 -- What one net's plan gives, and what all plans give.
-use Rattle.std.proofs.Common.{◌≡◌, ℕ, ◌+◌, ◌<◌, ◌≤◌, List, [], ◌∷◌, ◌++◌, map, length, ap, ◌∙◌, subst, arith, inl, inr, Some}
-use Rattle.std.specs.List.{All, Contains, slice_get, slice_index_or}
-use Rattle.std.proofs.lemmas.{List.length-append, List.Elements.All-contains, List.Elements.All-contains_itself, Option.slice_get-get_or}
-use Rattle.spin_base.specs.declared.{chips.Chip.Chip, chips.Spot.Spot, blocks.Block.Block}
-use Rattle.machine_desc.specs.{declared.trees.Edge.Edge, declared.trees.Tree.Tree, Description.Description, Live.IsInside, Live.IsLiveChip, Live.IsSite, RoutingTree.IsTreeChip, RoutingTree.IsTreeTo}
-use Rattle.machine_desc.proofs.{Far.live_inside, Sites.site_parts}
-use Rattle.app_graph.specs.declared.graphs.Net.{Net}
-use Rattle.ner_trees.specs.{declared.growths.Grown.Grown, Growth.IsGrown, Growth.distance_sum}
-use Rattle.link_detours.specs.Repair.{IsRepaired}
-use Rattle.spin_base.proofs.{Members.Contains-map, Members.Contains-unmap, Places.All-at, Places.All-each}
-use Rattle.net_plans.specs.{Keys.nowhere, NetPlans.IsPlannedNet, Targets.AreTargets, Targets.AreTargetChips}
+use Rattle.net_plans.proofs.Common.{All, All-at, All-contains, All-contains_itself, All-each, AreTargetChips, AreTargets, Block, Chip, Contains, Contains-map, Contains-unmap, Description, Edge, Grown}
+use Rattle.net_plans.proofs.Common.{IsGrown, IsInside, IsLiveChip, IsPlannedNet, IsRepaired, IsSite, IsTreeChip, IsTreeTo, List, Net, Some, Spot, Tree, [], ap, arith, distance_sum, inl, inr, length}
+use Rattle.net_plans.proofs.Common.{length-append, live_inside, map, nowhere, site_parts, slice_get, slice_get-get_or, slice_index_or, subst, ℕ, ◌++◌, ◌+◌, ◌<◌, ◌∙◌, ◌∷◌, ◌≡◌, ◌≤◌}
 
 -- sites are on chips of the grid
 pub all_inside : (m : Description) (spots : List Spot) → All (IsSite m) spots → All (λ s. IsInside m s.chip) spots

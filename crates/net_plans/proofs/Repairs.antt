@@ -1,12 +1,7 @@
 -- A tree and a list of targets have one repaired tree.
-use Rattle.std.proofs.Common.{◌≡◌, ℕ, zero, suc, ◌≤◌, List, [], ◌∷◌, ◌++◌, Some, refl, sym, ◌∙◌, subst, arith, inl, inr}
-use Rattle.std.specs.List.{Contains}
-use Rattle.std.proofs.lemmas.{List.Elements.Contains-append_left, List.Elements.Contains-append_right, List.Elements.Contains-append_cases, Option.same_Some}
-use Rattle.spin_base.specs.{declared.chips.Chip.Chip, declared.chips.Dir.Dir, Links.dir_number, Links.opposite_of}
-use Rattle.machine_desc.specs.{declared.trees.Edge.Edge, Description.Description, Live.far_of, RoutingTree.IsTreeChip, Flags.link_place}
-use Rattle.machine_desc.proofs.{Far.far_back, Far.live_ends, Far.live_inside, Same.same_dir, Same.same_edge, TreeLemmas.tree_end, TreeLemmas.tree_cases}
-use Rattle.link_detours.specs.{Steps.Steps, Repair.EdgeStep, Repair.IsTreeLevel, Repair.IsLastLink, Repair.IsDetour, Repair.Joins, Repair.LeadsToTarget, Repair.IsRepaired}
-use Rattle.spin_base.proofs.Ascending.{same_in_order}
+use Rattle.net_plans.proofs.Common.{Chip, Contains, Contains-append_cases, Contains-append_left, Contains-append_right, Description, Dir, Edge, EdgeStep, IsDetour, IsLastLink, IsRepaired, IsTreeChip}
+use Rattle.net_plans.proofs.Common.{IsTreeLevel, Joins, LeadsToTarget, List, Some, Steps, [], arith, dir_number, far_back, far_of, inl, inr, link_place, live_ends, live_inside, opposite_of, refl}
+use Rattle.net_plans.proofs.Common.{same_Some, same_dir, same_edge, same_in_order, subst, suc, sym, tree_cases, tree_end, zero, ℕ, ◌++◌, ◌∙◌, ◌∷◌, ◌≡◌, ◌≤◌}
 
 -- all edges of the first list are in the second
 abbrev pub Has : List Edge → List Edge → Type 0

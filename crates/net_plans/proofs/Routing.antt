@@ -1,16 +1,9 @@
 -- Nets that were routed side by side, and what is found of them in order.
-use Rattle.std.proofs.Common.{◌≡◌, ℕ, zero, suc, ◌+◌, ◌<◌, ◌≤◌, List, [], ◌∷◌, ◌++◌, drop, get_or, length, refl, sym, ap, ◌∙◌, subst, arith, Some, Result, Ok, Err, IfOk, IfErr}
-use Rattle.std.specs.List.{All, AllZip, slice_get, range_with_len}
-use Rattle.std.proofs.lemmas.{List.FromFn.get_or-range_with_len, List.FromFn.length-range_with_len, Option.get_or_from_slice_get, Option.slice_get_within, Option.slice_get-get_or}
-use Rattle.spin_base.specs.declared.{chips.Chip.Chip, chips.Spot.Spot, blocks.Block.Block}
-use Rattle.machine_desc.specs.{Description.Description, RoutingTree.IsRoutingTree, declared.nets.NetPlan.NetPlan}
-use Rattle.app_graph.specs.declared.graphs.Net.{Net}
-use Rattle.link_detours.specs.declared.repairs.RepairErr.{RepairErr}
+use Rattle.net_plans.proofs.Common.{All, AllZip, AllZip-at_second, ArePlanned, AreRoutedNets, Block, Chip, CutOff, Description, Err, HasNoneCutOff, HasTreeAndPlan, HaveWays, IfErr, IfOk, IsCauseOne}
+use Rattle.net_plans.proofs.Common.{IsFirstCut, IsFirstNetCutOff, IsFirstWithout, IsNetCause, IsPlannedNet, IsRoutedNet, IsRoutingAnswer, IsRoutingTree, List, Memory, Net, NetErr, NetPlan, Ok}
+use Rattle.net_plans.proofs.Common.{RepairErr, Result, RoutedNet, Some, Spot, [], ap, arith, drop, get_or, get_or-range_with_len, get_or_from_slice_get, length, length-range_with_len, range_with_len}
+use Rattle.net_plans.proofs.Common.{refl, slice_get, slice_get-get_or, slice_get-push_cases, slice_get_there, slice_get_within, subst, suc, sym, zero, ℕ, ◌++◌, ◌+◌, ◌<◌, ◌∙◌, ◌∷◌, ◌≡◌, ◌≤◌}
 use Rattle.link_detours.specs.declared.repairs.RepairErr.TheVariants as repairs
-use Rattle.spin_base.proofs.Places.{AllZip-at_second, slice_get_there, slice_get-push_cases}
-use Rattle.net_plans.specs.{declared.nets.NetErr.NetErr, declared.nets.NetErr.TheVariants.CutOff, declared.nets.NetErr.TheVariants.Memory, declared.nets.RoutedNet.RoutedNet, Cause.IsNetCause}
-use Rattle.net_plans.specs.{Cause.IsCauseOne, CutOffTargets.HasNoneCutOff, CutOffTargets.IsFirstNetCutOff, NetPlans.ArePlanned, NetPlans.IsPlannedNet, Ways.AreRoutedNets, Ways.HaveWays}
-use Rattle.net_plans.specs.Ways.{IsFirstCut, IsFirstWithout, HasTreeAndPlan, IsRoutedNet, IsRoutingAnswer}
 use Rattle.net_plans.proofs.Planning.{long_more}
 
 -- ---- the items that are left
@@ -22,20 +15,11 @@ dropped_head [] (suc k) x rest is = cc
 dropped_head (y ∷ ys) zero x rest is = let head : y ≡ x = cc in let tail : ys ≡ rest = cc in (ap Some head, tail)
 dropped_head (y ∷ ys) (suc k) x rest is = grind (arith, dropped_head ys k x rest is)
 
--- where none is left, all places were read
-pub dropped_none : {X : Type 0} (xs : List X) (k : ℕ) → drop k xs ≡ [] → length xs ≤ k
-dropped_none [] k is = omega arith
-dropped_none (x ∷ xs) zero is = cc
-dropped_none (x ∷ xs) (suc k) is = let deeper = dropped_none xs k is in omega (arith, deeper)
-
 -- the plans of the first so many items
 pub record HaveWaysTo (items : List RoutedNet) (plans : List NetPlan) (k : ℕ) : Type 0 where
   pub within : k ≤ length items
   pub plans_long : length plans ≡ k
   pub each : (i : ℕ) (item : RoutedNet) (plan : NetPlan) → slice_get items i ≡ Some item → slice_get plans i ≡ Some plan → item.way ≡ Ok plan
-
-pub no_ways : (items : List RoutedNet) → HaveWaysTo items [] 0
-no_ways items = record { within = omega arith; plans_long = refl; each = λ i item plan at plan_at. cc }
 
 pub one_way_more : (items : List RoutedNet) (plans more : List NetPlan) (k : ℕ) (item : RoutedNet) (plan : NetPlan) → HaveWaysTo items plans k →
     slice_get items k ≡ Some item → item.way ≡ Ok plan → more ≡ plans ++ plan ∷ [] → HaveWaysTo items more (k + 1)

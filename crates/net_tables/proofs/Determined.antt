@@ -1,18 +1,10 @@
 -- Nets have one plain table at a chip, and each of its rows has an output.
-use Rattle.std.proofs.Common.{◌≡◌, ℕ, ◌+◌, ◌-◌, ◌*◌, ◌<◌, ◌==◌, true, bit_and, List, [], ◌∷◌, length, get_or, map, sym, ap, ◌∙◌, subst, arith, inl, inr}
-use Rattle.std.specs.{Int.bit_at, List.All, List.AllPairs, List.Contains, List.Sorted.IsPermutation}
-use Rattle.std.proofs.lemmas.{Bool.cases_eq, Bool.cases_lt, Bool.eqb-true, Bool.false≢true, Bool.Decides.eqb_tells, List.Elements.All-contains, List.Elements.All-head, List.Elements.All-tail}
-use Rattle.std.proofs.lemmas.{List.Sorted.IsPermutation-sym, List.Sorted.Contains-permutation, Nat.Bits.bit_at-lt, Nat.Bits.bit_at-zero, Nat.Bits.same_from_bits_below}
-use Rattle.spin_base.proofs.{Ascending.same_in_order, Members.Contains-unmap, Pairs.AllPairs-map, Pairs.AllPairs-permutation, Places.All-each, Spots.dir_number-dir_at, Spots.out_of-has_bit}
-use Rattle.spin_base.proofs.RouteBits.{same_route, zero_of}
-use Rattle.spin_base.specs.declared.{chips.Chip.Chip, chips.Port.Port, chips.Spot.Spot, routes.Out.Out, routes.Out.TheVariants.Link, routes.Out.TheVariants.Core, routes.Route.Route}
-use Rattle.spin_base.specs.{Links.dir_at, Links.opposite_of, Outputs.has, Outputs.IsOutput, Outputs.out_number, Outputs.out_of}
-use Rattle.spin_base.specs.declared.chips.Port.TheVariants.{Link as ByLink}
-use Rattle.machine_desc.specs.{declared.trees.Edge.Edge, Description.Description, RoutingTree.IsRoutingTree, declared.nets.NetPlan.NetPlan, Outputs.ComesIn, Outputs.is_wanted}
-use Rattle.machine_desc.proofs.{TreeLemmas.one_edge_into, Wanted.edge_wanted, Wanted.end_wanted}
-use Rattle.tern_word.specs.{declared.tables.Row.Row, SoundTable.Original, Ternary.Intersects, Ternary.generality}
-use Rattle.tern_word.proofs.BlockLaws.{Intersects-sym, key_small}
-use Rattle.net_tables.specs.PlainTable.{HasChip, IsOriginalOf, AreOriginals, IsRowNotAfter, IsPlainTable, AreRoutedApart, row_of}
+use Rattle.net_tables.proofs.Common.{All, All-contains, All-each, All-head, All-tail, AllPairs, AllPairs-map, AllPairs-permutation, AreOriginals, AreRoutedApart, ByLink, Chip, ComesIn, Contains}
+use Rattle.net_tables.proofs.Common.{Contains-permutation, Contains-unmap, Core, Description, Edge, HasChip, Intersects, Intersects-sym, IsOriginalOf, IsOutput, IsPermutation, IsPermutation-sym}
+use Rattle.net_tables.proofs.Common.{IsPlainTable, IsRoutingTree, IsRowNotAfter, Link, List, NetPlan, Original, Out, Port, Route, Row, Spot, [], ap, arith, bit_and, bit_at, bit_at-lt, bit_at-zero}
+use Rattle.net_tables.proofs.Common.{cases_eq, cases_lt, dir_at, dir_number-dir_at, edge_wanted, end_wanted, eqb-true, eqb_tells, false≢true, generality, get_or, has, inl, inr, is_wanted, key_small}
+use Rattle.net_tables.proofs.Common.{length, map, one_edge_into, opposite_of, out_number, out_of, out_of-has_bit, row_of, same_from_bits_below, same_in_order, same_route, subst, sym, true, zero_of, ℕ}
+use Rattle.net_tables.proofs.Common.{◌*◌, ◌+◌, ◌-◌, ◌<◌, ◌==◌, ◌∙◌, ◌∷◌, ◌≡◌}
 use Rattle.net_tables.proofs.{Trees.comes_in_tree, Whole.originals_apart, Whole.from_net}
 
 -- ---- routes

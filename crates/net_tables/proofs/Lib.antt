@@ -1,3 +1,4 @@
+mod Common
 pub mod Determined
 mod Marking
 mod Ordering

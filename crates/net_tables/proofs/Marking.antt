@@ -1,10 +1,6 @@
 -- Lists of original blocks, as they grow net by net.
-use Rattle.std.proofs.Common.{arith, ◌≡◌, ℕ, ◌+◌, ◌<◌, List, [], ◌∷◌, ◌++◌, length, get_or, take, map, refl, ap, inl, inr}
-use Rattle.std.proofs.lemmas.List.{map_push, take_more}
-use Rattle.spin_base.specs.declared.chips.Chip.{Chip}
-use Rattle.machine_desc.specs.{Description.Description, declared.nets.NetPlan.NetPlan}
-use Rattle.tern_word.specs.SoundTable.{Original}
-use Rattle.net_tables.specs.{declared.marks.Mark.Mark, PlainTable.HasChip, PlainTable.IsOriginalOf, PlainTable.AreOriginals, Marks.GainsMark, Marks.original_of}
+use Rattle.net_tables.proofs.Common.{AreOriginals, Chip, Description, GainsMark, HasChip, IsOriginalOf, List, Mark, NetPlan, Original, [], ap, arith, get_or, inl, inr, length, map, map_push}
+use Rattle.net_tables.proofs.Common.{original_of, refl, take, take_more, ℕ, ◌++◌, ◌+◌, ◌<◌, ◌∷◌, ◌≡◌}
 
 originals_push : (m : Description) (c : Chip) (nets : List NetPlan) (net : NetPlan) (os : List Original) (o : Original) → HasChip m net c → IsOriginalOf m net c o →
     AreOriginals m c nets os → AreOriginals m c (nets ++ net ∷ []) (os ++ o ∷ [])

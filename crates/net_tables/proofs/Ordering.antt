@@ -1,10 +1,6 @@
 -- Rows in the order of their blocks' generality and key.
-use Rattle.std.proofs.Common.{◌≡◌, ℕ, zero, suc, ◌+◌, ◌-◌, ◌<◌, ◌≤◌, false, List, length, get_or, map, sym, ◌∙◌, subst, arith, inl, inr, ◌⊎◌, Ordering, nat_cmp, is_lt}
-use Rattle.std.specs.{Ordering.ordering_then, List.AllPairs, List.Sorted.IsPermutation, List.Sorted.IsSortedByKey}
-use Rattle.std.proofs.lemmas.{Bool.cases_order, Bool.false≢true, Map.Keys.ge_from_not_lt}
-use Rattle.spin_base.proofs.Pairs.{AllPairs-map}
-use Rattle.tern_word.specs.declared.tables.Row.{Row}
-use Rattle.net_tables.specs.{declared.marks.Mark.Mark, PlainTable.IsRowNotAfter, Marks.row_of_mark, Marks.mark_numbers, Marks.IsTableOf}
+use Rattle.net_tables.proofs.Common.{AllPairs, AllPairs-map, IsPermutation, IsRowNotAfter, IsSortedByKey, IsTableOf, List, Mark, Ordering, Row, arith, cases_order, false, false≢true, ge_from_not_lt}
+use Rattle.net_tables.proofs.Common.{get_or, inl, inr, is_lt, length, map, mark_numbers, nat_cmp, ordering_then, row_of_mark, subst, suc, sym, zero, ℕ, ◌+◌, ◌-◌, ◌<◌, ◌∙◌, ◌≡◌, ◌≤◌, ◌⊎◌}
 
 -- of two pairs of numbers, the second is not less
 not_less : (g k h l : ℕ) → is_lt (ordering_then (nat_cmp h g) (nat_cmp l k)) ≡ false → (g < h) ⊎ ((g ≡ h) × (k ≤ l))

@@ -1,12 +1,7 @@
 -- Of original blocks those that do not go straight on, gathered some nets at a time.
-use Rattle.std.proofs.Common.{arith, ◌≡◌, ℕ, ◌*◌, ◌<◌, ◌≤◌, ◌++◌, ◌-◌, List, [], ◌∷◌, drop, length, get_or, map, take, filter, replicate, refl, sym, ap, ◌∙◌, subst, inl, inr}
-use Rattle.std.proofs.lemmas.{Bool.cases_lt, List.get_or-replicate, List.get_or_past, List.append-nil, List.append_assoc, List.drop_all, List.length-replicate, List.map-append}
-use Rattle.std.proofs.lemmas.List.{Elements.filter-append, Folds.drop_split}
-use Rattle.spin_base.specs.declared.chips.Chip.{Chip}
-use Rattle.machine_desc.specs.{Description.Description, Live.IsInside, Live.index_of, declared.nets.NetPlan.NetPlan}
-use Rattle.machine_desc.proofs.Far.{index_below}
-use Rattle.tern_word.specs.SoundTable.{Original}
-use Rattle.net_tables.specs.{declared.marks.Mark.Mark, PlainTable.AreOriginals, Marks.AreBlocksOf, Marks.original_of, Marks.turns}
+use Rattle.net_tables.proofs.Common.{AreBlocksOf, AreOriginals, Chip, Description, IsInside, List, Mark, NetPlan, Original, [], ap, append_assoc, arith, cases_lt, drop, drop_split, filter}
+use Rattle.net_tables.proofs.Common.{filter-append, get_or, get_or-replicate, get_or_past, index_below, index_of, inl, inr, length, length-replicate, map, map-append, original_of, refl, replicate}
+use Rattle.net_tables.proofs.Common.{subst, sym, take, turns, ℕ, ◌*◌, ◌++◌, ◌-◌, ◌<◌, ◌∙◌, ◌∷◌, ◌≡◌, ◌≤◌}
 
 -- the original blocks of nets and of more nets
 originals_append : (m : Description) (c : Chip) (xs ys : List NetPlan) (os ps : List Original) → AreOriginals m c xs os → AreOriginals m c ys ps →
@@ -53,6 +48,3 @@ pub record IsAddedTo (lists old kept : List (List Mark)) (n : ℕ) : Type 0 wher
 pub front_more : (nets front : List NetPlan) (done end : ℕ) → done ≤ end → front ++ drop done nets ≡ nets →
     (front ++ take (end - done) (drop done nets)) ++ drop end nets ≡ nets
 front_more nets front done end up whole = grind (arith, append_assoc front (take (end - done) (drop done nets)) (drop end nets), drop_split nets done end up)
-
-pub front_all : (nets front : List NetPlan) (done : ℕ) → length nets ≤ done → front ++ drop done nets ≡ nets → front ≡ nets
-front_all nets front done past whole = sym (append-nil front) ∙ (ap (λ l. front ++ l) (sym (drop_all done nets past)) ∙ whole)

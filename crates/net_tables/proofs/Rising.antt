@@ -1,9 +1,7 @@
 -- Original blocks that care for the same bits and have rising keys.
-use Rattle.std.proofs.Common.{◌≡◌, ℕ, ◌+◌, ◌<◌, ◌≤◌, List, length, get_or, take, sym, ap, ◌∙◌, subst, arith, inr}
-use Rattle.std.specs.{Int.count_zeros, Int.w32, List.All, List.AllPairs}
-use Rattle.std.proofs.lemmas.List.{take_more, Elements.All-more, Quantifiers.all_pairs_push}
+use Rattle.net_tables.proofs.Common.{All, All-more, AllPairs, IsRowNotAfter, List, Mark, all_pairs_push, ap, arith, count_zeros, get_or, inr, length, row_of_mark, subst, sym, take, take_more, w32, ℕ}
+use Rattle.net_tables.proofs.Common.{◌+◌, ◌<◌, ◌∙◌, ◌≡◌, ◌≤◌}
 use Rattle.tern_word.specs.Ternary.{generality}
-use Rattle.net_tables.specs.{declared.marks.Mark.Mark, PlainTable.IsRowNotAfter, Marks.row_of_mark}
 
 -- it cares for these bits, and its key is no greater than this one
 pub record IsBelow (mask key : ℕ) (a : Mark) : Type 0 where

@@ -1,12 +1,7 @@
 -- What stands on the boards is moved to the lists, place by place.
-use Rattle.std.proofs.Common.{◌≡◌, ◌≢◌, ℕ, ◌+◌, ◌*◌, ◌<◌, ◌≤◌, List, [], ◌∷◌, ◌++◌, length, get_or, take, set, Option, Some, None, refl, sym, ap, ◌∙◌, subst, inl, inr, ◌⊎◌}
-use Rattle.std.proofs.{lemmas.Bool.cases_eq, lemmas.List.get_or-set_same, lemmas.List.get_or-set_other, lemmas.List.take_all, lemmas.List.Elements.Contains-push_cases, Math.ListN.length-set}
-use Rattle.std.proofs.lemmas.Option.{none-some, same_Some}
-use Rattle.spin_base.proofs.Members.{Contains-none}
-use Rattle.spin_base.specs.{declared.chips.Chip.Chip, declared.chips.Port.Port, declared.blocks.Block.Block, declared.routes.Route.Route, Outputs.nothing}
-use Rattle.machine_desc.specs.{declared.trees.Edge.Edge, Description.Description, Live.IsInside, Live.index_of, RoutingTree.IsTreeChip, RoutingTree.end_of, declared.nets.NetPlan.NetPlan}
-use Rattle.net_tables.specs.{declared.marks.Mark.Mark, Marks.IsBlank, Marks.IsClearOff, Marks.TellsPort, Marks.TellsPorts, Marks.TellsRoutes, Marks.GainsMark, Marks.with_mark}
-use Rattle.machine_desc.proofs.TreeLemmas.{tree_cases}
+use Rattle.net_tables.proofs.Common.{Block, Chip, Contains-none, Contains-push_cases, Description, Edge, GainsMark, IsBlank, IsClearOff, IsInside, IsTreeChip, List, Mark, NetPlan, None, Option, Port}
+use Rattle.net_tables.proofs.Common.{Route, Some, TellsPort, TellsPorts, TellsRoutes, [], ap, cases_eq, end_of, get_or, get_or-set_other, get_or-set_same, index_of, inl, inr, length, length-set}
+use Rattle.net_tables.proofs.Common.{none-some, nothing, refl, same_Some, set, subst, sym, take, take_all, tree_cases, with_mark, ℕ, ◌*◌, ◌++◌, ◌+◌, ◌<◌, ◌∙◌, ◌∷◌, ◌≡◌, ◌≢◌, ◌≤◌, ◌⊎◌}
 use Rattle.net_tables.proofs.{Telling.reads, Trees.comes_in_tree, Trees.grows}
 
 -- the boards and the lists at one moment

@@ -1,19 +1,10 @@
 -- What ports and routes tell, as a tree's edges and targets are read one by one.
-use Rattle.std.proofs.Common.{arith, ◌≡◌, ◌≢◌, ℕ, ◌+◌, ◌*◌, ◌<◌, ◌≤◌, ◌==◌, Bool, true, false, ◌||◌, List, [], ◌∷◌, ◌++◌, length, get_or, take, set, Option, Some, None, refl, sym, ap, ◌∙◌, subst, inl}
-use Rattle.std.proofs.Common.{inr}
-use Rattle.std.specs.List.{list_any}
-use Rattle.std.proofs.{lemmas.Bool.cases_eq, lemmas.Bool.cases_Bool, lemmas.Bool.or_right, lemmas.Bool.false_from_ne_true, lemmas.Bool.false≢true, Math.Bool.or-false, Math.Bool.or_assoc}
-use Rattle.std.proofs.lemmas.{Nat.Bits.bit_at-zero, List.get_or-set_same, List.get_or-set_other, List.get_or_default, List.take_all, List.take_more}
-use Rattle.std.proofs.{Math.ListN.length-set, lemmas.List.Elements.Contains-append_left, lemmas.List.Elements.Contains-push, lemmas.List.Elements.Contains-push_cases, lemmas.List.Folds.list_any_more}
-use Rattle.std.proofs.lemmas.Option.{none-some, same_Some}
-use Rattle.spin_base.proofs.Members.{Contains-none}
-use Rattle.spin_base.specs.declared.{chips.Chip.Chip, chips.Spot.Spot, chips.Port.Port, chips.Port.TheVariants.Local, routes.Out.Out, routes.Out.TheVariants.Link, routes.Out.TheVariants.Core}
-use Rattle.spin_base.specs.{declared.routes.Route.Route, Links.opposite_of, Outputs.has, Outputs.IsOutput, Outputs.nothing, Outputs.WithOut, Outputs.out_number, Outputs.out_of}
-use Rattle.spin_base.specs.declared.chips.Port.TheVariants.{Link as ByLink}
-use Rattle.machine_desc.specs.{declared.trees.Edge.Edge, Description.Description, Live.IsInside, Live.index_of, RoutingTree.end_of, Equality.edge_eq, Outputs.is_wanted, Outputs.is_edge_out}
-use Rattle.machine_desc.specs.{Outputs.leads_to_spot, declared.nets.NetPlan.NetPlan}
-use Rattle.machine_desc.proofs.{Far.same_index, Far.far_inside, Same.edge_eq-true, Same.edge_eq_self, TreeLemmas.tree_cases, Wanted.spot_of_out, Wanted.leads_to_own}
-use Rattle.net_tables.specs.{PlainTable.HasChip, Marks.IsBlank, Marks.IsClearOff, Marks.TellsPort, Marks.TellsPorts, Marks.TellsRoutes}
+use Rattle.net_tables.proofs.Common.{Bool, ByLink, Chip, Contains-append_left, Contains-none, Contains-push, Contains-push_cases, Core, Description, Edge, HasChip, IsBlank, IsClearOff, IsInside}
+use Rattle.net_tables.proofs.Common.{IsOutput, Link, List, Local, NetPlan, None, Option, Out, Port, Route, Some, Spot, TellsPort, TellsPorts, TellsRoutes, WithOut, [], ap, arith, cases_Bool, cases_eq}
+use Rattle.net_tables.proofs.Common.{edge_eq, edge_eq-true, edge_eq_self, end_of, false, false_from_ne_true, false≢true, far_inside, get_or, get_or-set_other, get_or-set_same, get_or_default, has}
+use Rattle.net_tables.proofs.Common.{index_of, inl, inr, is_edge_out, is_wanted, leads_to_own, leads_to_spot, length, length-set, list_any, list_any_more, none-some, nothing, opposite_of, or-false}
+use Rattle.net_tables.proofs.Common.{or_assoc, or_right, out_of, refl, same_Some, same_index, set, spot_of_out, subst, sym, take, take_all, take_more, tree_cases, true, ℕ, ◌*◌, ◌++◌, ◌+◌, ◌<◌, ◌||◌}
+use Rattle.net_tables.proofs.Common.{◌∙◌, ◌∷◌, ◌≡◌, ◌≢◌, ◌≤◌}
 
 -- ---- ports
 
@@ -81,16 +72,6 @@ pub ports_all : (m : Description) (root : Chip) (items edges : List Edge) (i : �
 ports_all m root items edges i ports same past = grind (arith, take_all)
 
 -- ---- routes
-
-has_nothing : (o : Out) → has nothing o ≡ false
-has_nothing o = ap (λ n. n == 1) (bit_at-zero (out_number o))
-
-none_wanted : (c : Chip) (o : Out) → is_wanted [] [] c o ≡ false
-none_wanted c (Link d) = refl
-none_wanted c (Core p) = refl
-
-pub routes_start : (m : Description) (edges : List Edge) (routes : List Route) → IsBlank m nothing routes → TellsRoutes m (take 0 edges) [] routes
-routes_start m edges routes clear c o inside valid = ap (λ r. has r o) (clear.clear c inside) ∙ (has_nothing o ∙ sym (none_wanted c o))
 
 -- where the route of a chip of the tree is written, chips off the tree have none as before
 pub off_kept : (m : Description) (net : NetPlan) (k : Chip) (p : ℕ) (r : Route) (routes : List Route) → IsInside m k → ((HasChip m net k → ⊥) → ⊥) → p ≡ index_of m k →

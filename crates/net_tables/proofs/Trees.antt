@@ -1,12 +1,7 @@
 -- A routing tree is inside the grid, and what is told of its chips is what their lists get.
-use Rattle.std.proofs.Common.{arith, ◌≡◌, ℕ, ◌<◌, List, length, get_or, Option, Some, None, refl, sym, subst, inl, inr}
-use Rattle.std.specs.List.{All}
-use Rattle.std.proofs.{Math.ListN.get_or-map, Math.Logic.∥∥₁_elim, Props.props, lemmas.List.length-map, lemmas.List.Elements.All-contains}
-use Rattle.spin_base.specs.{declared.chips.Chip.Chip, declared.chips.Spot.Spot, declared.chips.Port.Port, declared.routes.Out.Out, declared.routes.Route.Route, Outputs.has, Outputs.IsOutput}
-use Rattle.machine_desc.specs.{declared.trees.Edge.Edge, Description.Description, Live.IsInside, RoutingTree.IsTreeChip, RoutingTree.IsRoutingTree, declared.nets.NetPlan.NetPlan, Outputs.is_wanted}
-use Rattle.machine_desc.specs.Outputs.{ComesIn}
-use Rattle.machine_desc.proofs.{Far.far_inside, Far.live_inside, Far.live_ends, TreeLemmas.tree_cases}
-use Rattle.net_tables.specs.{declared.marks.Mark.Mark, Marks.IsRouted, Marks.TellsPort, Marks.GainsMark, Marks.with_mark, PlainTable.HasChip}
+use Rattle.net_tables.proofs.Common.{All, All-contains, Chip, ComesIn, Description, Edge, GainsMark, HasChip, IsInside, IsOutput, IsRouted, IsRoutingTree, IsTreeChip, List, Mark, NetPlan, None}
+use Rattle.net_tables.proofs.Common.{Option, Out, Port, Route, Some, Spot, TellsPort, arith, far_inside, get_or, get_or-map, has, inl, inr, is_wanted, length, length-map, live_ends, live_inside}
+use Rattle.net_tables.proofs.Common.{props, refl, subst, sym, tree_cases, with_mark, ℕ, ∥∥₁_elim, ◌<◌, ◌≡◌}
 
 module _ (m : Description) (root : Chip) (edges : List Edge) (targets : List Spot) (tree : IsRoutingTree m root edges targets) where
   pub edges_inside : All (λ (e : Edge). IsInside m e.chip) edges

@@ -1,22 +1,13 @@
 -- What tables are, once each has a row for each original block of its chip.
-use Rattle.std.proofs.Common.{◌≡◌, ℕ, zero, suc, ◌+◌, ◌*◌, ◌<◌, ◌≤◌, true, Bool, not, cond, bit_and, List, [], ◌∷◌, ◌++◌, length, get_or, map, filter, find, Some, refl, sym, ap, ◌∙◌, subst, arith}
-use Rattle.std.proofs.Common.{inl, inr}
-use Rattle.std.specs.{Option.option_map_or, List.All, List.AllPairs, List.AllZip, List.Contains, List.slice_get}
-use Rattle.std.proofs.lemmas.{Bool.cases_Bool, Bool.cases_eq, Bool.cases_lt, Bool.eqb-true, Bool.eq-eqb, Bool.false≢true, List.append-nil, List.get_or_default, List.length-map, List.Elements.All-nil}
-use Rattle.std.proofs.lemmas.List.{Elements.All-cons, Elements.All-head, Elements.All-tail, Kept.AllPairs-cons, Kept.AllPairs-filter, Filters.length-filter_both, Sorted.IsPermutation-map}
-use Rattle.std.proofs.lemmas.List.Sorted.{length_permutation, IsPermutation-sym, Contains-permutation}
-use Rattle.spin_base.proofs.{Members.Contains-none, Members.Contains-first, Members.Contains-later, Members.Contains-cases, Members.Contains-map, Members.Contains-unmap, Pairs.AllPairs-head}
-use Rattle.spin_base.proofs.Pairs.{AllPairs-tail, AllPairs-map, AllPairs-from_map, AllPairs-permutation}
-use Rattle.spin_base.specs.declared.{chips.Chip.Chip, chips.Port.Port, routes.Out.Out, routes.Route.Route, blocks.Block.Block, blocks.Entry.Entry}
-use Rattle.spin_base.specs.{Lookup.lookup, Lookup.matches, Lookup.default_route, Outputs.has, Outputs.IsOutput}
-use Rattle.machine_desc.specs.{Description.Description, Live.IsInside, Live.chip_of, Live.index_of, declared.nets.NetPlan.NetPlan, Outputs.is_wanted, RightTables.IsKeyOf, RightTables.AreRight}
-use Rattle.machine_desc.proofs.{Far.index_below, Live.chip_of-inside, Live.index_of-chip_of}
-use Rattle.tern_word.specs.{declared.tables.Alias.Alias, declared.tables.Row.Row, declared.tables.Table.Table, Ternary.Intersects, Ternary.LiesIn, Ternary.generality, SoundTable.Original}
-use Rattle.tern_word.specs.SoundTable.{Misses, HoldsItsAliases, IsSound, served}
-use Rattle.tern_word.proofs.BlockLaws.{Intersects-sym}
-use Rattle.net_tables.specs.{declared.marks.Mark.Mark, PlainTable.HasChip, PlainTable.IsOriginalOf, PlainTable.AreOriginals, PlainTable.IsRowNotAfter, PlainTable.IsPlainTable}
-use Rattle.net_tables.specs.PlainTable.{ServesOriginals, AtEach, AreRoutedApart, ArePlainTables, row_of, entry_of, entries}
-use Rattle.net_tables.specs.Marks.{AreApart, AreBlocksOf, AreTurningBlocksOf, IsRouted, original_of, row_of_mark, turns, IsTableOf}
+use Rattle.net_tables.proofs.Common.{Alias, All, All-cons, All-head, All-nil, All-tail, AllPairs, AllPairs-cons, AllPairs-filter, AllPairs-from_map, AllPairs-head, AllPairs-map, AllPairs-permutation}
+use Rattle.net_tables.proofs.Common.{AllPairs-tail, AllZip, AreApart, AreBlocksOf, AreOriginals, ArePlainTables, AreRight, AreRoutedApart, AreTurningBlocksOf, AtEach, Block, Bool, Chip, Contains}
+use Rattle.net_tables.proofs.Common.{Contains-cases, Contains-first, Contains-later, Contains-map, Contains-none, Contains-permutation, Contains-unmap, Description, Entry, HasChip, HoldsItsAliases}
+use Rattle.net_tables.proofs.Common.{Intersects, Intersects-sym, IsInside, IsKeyOf, IsOriginalOf, IsOutput, IsPermutation-map, IsPermutation-sym, IsPlainTable, IsRouted, IsRowNotAfter, IsSound}
+use Rattle.net_tables.proofs.Common.{IsTableOf, LiesIn, List, Mark, Misses, NetPlan, Original, Out, Port, Route, Row, ServesOriginals, Some, Table, [], ap, append-nil, arith, bit_and, cases_Bool}
+use Rattle.net_tables.proofs.Common.{cases_eq, cases_lt, chip_of, chip_of-inside, cond, default_route, entries, entry_of, eq-eqb, eqb-true, false≢true, filter, find, generality, get_or}
+use Rattle.net_tables.proofs.Common.{get_or_default, has, index_below, index_of, index_of-chip_of, inl, inr, is_wanted, length, length-filter_both, length-map, length_permutation, lookup, map}
+use Rattle.net_tables.proofs.Common.{matches, not, option_map_or, original_of, refl, row_of, row_of_mark, served, slice_get, subst, suc, sym, true, turns, zero, ℕ, ◌*◌, ◌++◌, ◌+◌, ◌<◌, ◌∙◌, ◌∷◌, ◌≡◌}
+use Rattle.net_tables.proofs.Common.{◌≤◌}
 use Rattle.net_tables.proofs.Trees.{chips_inside, comes_in_tree}
 
 -- nets that are routed apart are each routed

@@ -1,10 +1,8 @@
 -- The curve of a level has each chip of its square at one place.
-use Rattle.std.proofs.Common.{◌≡◌, ◌≢◌, ℕ, ◌+◌, ◌-◌, ◌*◌, ◌^◌, ◌<◌, ◌≤◌, List, [], ◌∷◌, ◌++◌, length, map, refl, sym, ap, ap₂, ◌∙◌, subst, zero, suc, Some, slice_get, inl, inr, ◌⊎◌, arith, All}
-use Rattle.std.proofs.lemmas.{Bool.cases_lt, Bool.Decides.nat_tests, List.length-append, List.length-map, List.Elements.All-nil, List.Elements.All-cons, List.Elements.All-append}
-use Rattle.std.proofs.{lemmas.List.Elements.All-map, lemmas.List.Elements.All-weaker, lemmas.Grind.pow_more, Math.Pow.pow_mono, Math.Nat.mul-le-mul_left, Math.Nat.mul-le-mul_right, Math.Nat.le_trans}
-use Rattle.std.proofs.lemmas.Option.{slice_get_within, get_or_from_slice_get}
-use Rattle.spin_base.specs.declared.chips.Chip.{Chip}
-use Rattle.place_fit.specs.{Curve.swapped, Curve.raised, Curve.moved, Curve.turned, Curve.four_quarters, Curve.hilbert, Quarters.lowered, Quarters.moved_back, Quarters.turned_back}
+use Rattle.place_fit.proofs.Common.{All, All-append, All-cons, All-map, All-nil, All-weaker, Chip, List, Some, [], ap, ap₂, arith, cases_lt, four_quarters, get_or_from_slice_get, inl, inr, le_trans}
+use Rattle.place_fit.proofs.Common.{length, length-append, length-map, lowered, map, moved, moved_back, mul-le-mul_left, mul-le-mul_right, nat_tests, pow_mono, pow_more, raised, refl, slice_get}
+use Rattle.place_fit.proofs.Common.{slice_get_within, subst, suc, swapped, sym, turned, turned_back, zero, ℕ, ◌*◌, ◌++◌, ◌+◌, ◌-◌, ◌<◌, ◌^◌, ◌∙◌, ◌∷◌, ◌≡◌, ◌≢◌, ◌≤◌, ◌⊎◌}
+use Rattle.place_fit.specs.Curve.{hilbert}
 use Rattle.place_fit.specs.Quarters.{curve_place}
 
 -- the chip is in a square of that side

@@ -1,14 +1,8 @@
 -- Vertices have at most one placement.
-use Rattle.std.proofs.Common.{◌≡◌, ℕ, ◌≤◌, List, [], ◌∷◌, length, take, slice_get, Option, Some, None, MatchOption, sym, ap, ◌∙◌, subst, inl, inr, arith, All}
-use Rattle.std.proofs.lemmas.{Bool.cases_lt, Grind.same_number_lists, List.take_all, List.Elements.All-head, List.Elements.All-tail, Option.slice_get_cases, Option.slice_get_within}
-use Rattle.std.proofs.lemmas.Option.{get_or_from_slice_get}
-use Rattle.spin_base.proofs.{Places.slice_get_there, Determined.EachFollows, Determined.determined_begins}
-use Rattle.spin_base.specs.declared.chips.{Chip.Chip, Spot.Spot}
-use Rattle.machine_desc.specs.{declared.trees.Edge.Edge, Description.Description}
-use Rattle.machine_desc.proofs.Same.{same_spot}
-use Rattle.app_graph.specs.declared.graphs.Vertex.{Vertex}
-use Rattle.place_fit.specs.{Curve.IsChipOrder, Placement.HasRoom, Placement.IsFirstChip, Placement.choices, Placement.IsCoreFor, Placement.HasDeviceRoom, Placement.device_spot, Placement.IsSpotFor}
-use Rattle.place_fit.specs.Placement.{FindsNoRoom, AreFirstSpots, AreFirstMemories, memory_of, IsPlacement, HasNoRoom}
+use Rattle.place_fit.proofs.Common.{All, All-head, All-tail, AreFirstMemories, AreFirstSpots, Chip, Description, EachFollows, Edge, FindsNoRoom, HasDeviceRoom, HasNoRoom, HasRoom, IsChipOrder}
+use Rattle.place_fit.proofs.Common.{IsCoreFor, IsFirstChip, IsPlacement, IsSpotFor, List, MatchOption, None, Option, Some, Spot, Vertex, [], ap, arith, cases_lt, choices, determined_begins}
+use Rattle.place_fit.proofs.Common.{device_spot, get_or_from_slice_get, inl, inr, length, memory_of, same_number_lists, same_spot, slice_get, slice_get_cases, slice_get_there, slice_get_within, subst}
+use Rattle.place_fit.proofs.Common.{sym, take, take_all, ℕ, ◌∙◌, ◌∷◌, ◌≡◌, ◌≤◌}
 
 one_order : (m : Description) (xs ys : List Chip) → IsChipOrder m xs → IsChipOrder m ys → xs ≡ ys
 one_order m xs ys a b = grind arith

@@ -1,16 +1,9 @@
 -- Cores and memory given back to a board.
-use Rattle.std.proofs.Common.{◌≡◌, ◌≢◌, ℕ, zero, suc, ◌^◌, ◌<◌, ◌≤◌, ◌==◌, Bool, true, false, ◌||◌, cond, List, [], ◌∷◌, ◌++◌, length, get_or, refl, sym, ap, ap₂, ◌∙◌, Some, slice_get, inl}
-use Rattle.std.proofs.Common.{inr, arith}
-use Rattle.std.specs.{Int.bit_at, List.list_any}
-use Rattle.std.proofs.lemmas.Bool.{cases_Bool, cases_eq, cases_lt, and_left, and_right, and_from, both_ways, cond-true, cond-false, or_from, or_left, or_parts, or_right, Decides.nat_tests}
-use Rattle.std.proofs.lemmas.{List.get_or-set_same, List.get_or-set_other, List.Folds.list_any-append, Nat.Bits.bit_at_above, Option.slice_get_within}
-use Rattle.std.proofs.Math.Bool.{or-false}
-use Rattle.spin_base.proofs.{Places.slice_get_there, Equality.chip_eq_true, Equality.chip_eq_same}
-use Rattle.spin_base.specs.{declared.chips.Chip.Chip, declared.chips.Spot.Spot, Equality.chip_eq, Equality.spot_eq}
-use Rattle.machine_desc.specs.{Description.Description, Live.is_usable}
-use Rattle.place_fit.specs.{declared.boards.Board.Board, declared.boards.Placed.Placed, Curve.hilbert, Curve.IsCurveLevel, Quarters.curve_place, Boards.AreFreeOn, Boards.AreGiven}
-use Rattle.place_fit.specs.Boards.{AreOthersKept, AreSettled, HaveOneGrid, IsFilled, IsFreed, IsJoined, IsMadeWhole, IsWholeBoard, IsWith, has_spot_on, room_left}
-use Rattle.place_fit.specs.Placement.{core_spot}
+use Rattle.place_fit.proofs.Common.{AreFreeOn, AreGiven, AreOthersKept, AreSettled, Board, Bool, Chip, Description, HaveOneGrid, IsCurveLevel, IsFilled, IsFreed, IsJoined, IsMadeWhole, IsWholeBoard}
+use Rattle.place_fit.proofs.Common.{IsWith, List, Placed, Some, Spot, [], and_from, and_left, and_right, ap, ap₂, arith, bit_at, bit_at_above, both_ways, cases_Bool, cases_eq, cases_lt, chip_eq}
+use Rattle.place_fit.proofs.Common.{chip_eq_same, chip_eq_true, cond, cond-false, cond-true, core_spot, curve_place, false, get_or, get_or-set_other, get_or-set_same, has_spot_on, hilbert, inl, inr}
+use Rattle.place_fit.proofs.Common.{is_usable, length, list_any, list_any-append, nat_tests, or-false, or_from, or_left, or_parts, or_right, refl, room_left, slice_get, slice_get_there}
+use Rattle.place_fit.proofs.Common.{slice_get_within, spot_eq, suc, sym, true, zero, ℕ, ◌++◌, ◌<◌, ◌==◌, ◌^◌, ◌||◌, ◌∙◌, ◌∷◌, ◌≡◌, ◌≢◌, ◌≤◌}
 use Rattle.place_fit.proofs.{CurveLaws.place_at, Standing.usable_parts}
 
 -- ---- one spot
@@ -120,9 +113,6 @@ kept_more spots a b c place sdram r kept filled = grind (arith, slice_get b.chip
 
 pub settled_none : (b : Board) → AreSettled [] b b
 settled_none b = record { level = refl; sdram = refl; chips = refl; rooms = λ q c here. refl; cores = λ q c here none. refl }
-
-pub given_nothing : (b : Board) → AreGiven [] b b
-given_nothing b = record { settled = settled_none b; free = λ q c here p low. refl }
 
 module _ (spots : List Spot) (s : Spot) (a b c : Board) where
   both : (d : Chip) → has_spot_on d (spots ++ s ∷ []) ≡ (has_spot_on d spots || has_spot_on d (s ∷ []))

@@ -1,3 +1,4 @@
+mod Common
 mod CurveLaws
 mod RoomLaws
 mod Standing

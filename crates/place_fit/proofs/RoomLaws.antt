@@ -1,7 +1,6 @@
 -- The tree over the rooms of a row.
-use Rattle.std.proofs.Common.{◌≡◌, ◌≢◌, ℕ, ◌+◌, ◌*◌, ◌/◌, ◌<◌, ◌≤◌, max, List, length, drop, get_or, ap, zero, suc, inl, inr, arith, All}
-use Rattle.std.proofs.lemmas.{Bool.cases_lt, Bool.cases_eq, List.get_or-drop, List.length-drop, List.get_or_default}
-use Rattle.place_fit.specs.RoomTree.{IsTree}
+use Rattle.place_fit.proofs.Common.{All, IsTree, List, ap, arith, cases_eq, cases_lt, drop, get_or, get_or-drop, get_or_default, inl, inr, length, length-drop, max, suc, zero, ℕ, ◌*◌, ◌+◌, ◌/◌, ◌<◌}
+use Rattle.place_fit.proofs.Common.{◌≡◌, ◌≢◌, ◌≤◌}
 
 -- the node has the greater of its children's rooms
 abbrev pub IsGreatest : List ℕ → ℕ → Type 0

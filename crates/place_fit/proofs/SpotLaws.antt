@@ -1,19 +1,13 @@
 -- The spots that a board gives are those of the definition.
-use Rattle.std.proofs.Common.{◌≡◌, ◌≢◌, ℕ, ◌+◌, ◌-◌, ◌^◌, ◌<◌, ◌≤◌, ◌==◌, ◌&&◌, Bool, true, not, leb, ltb, cond, List, [], ◌∷◌, ◌++◌, length, take, filter, get_or, refl, sym, ap, ap₂, ◌∙◌, subst}
-use Rattle.std.proofs.Common.{zero, suc, Option, Some, None, slice_get, MatchOption, inl, inr, arith, All, AllPairs}
-use Rattle.std.proofs.lemmas.{Bool.cases_lt, Bool.cases_Bool, Bool.cond-true, Bool.cond-false, Bool.and_from, Bool.or_right, Bool.le-leb, Bool.lt-ltb, Bool.both_ways, List.length_push}
-use Rattle.std.proofs.lemmas.List.{length-take, take-append-le, take_at, take_more, get_or-take, Folds.list_any_at, Elements.All-filter, Elements.All-nil, Elements.All-cons}
-use Rattle.std.proofs.{lemmas.Option.slice_get_within, lemmas.Option.slice_get-get_or, lemmas.Option.get_or_from_slice_get, Math.Bool.and-true}
-use Rattle.std.specs.{Int.bit_at, List.AllZip, List.list_any}
-use Rattle.spin_base.proofs.{Places.All-at, Places.slice_get_there, Places.slice_get-push_cases, Places.slice_get-append_left, Places.slice_get-pushed, Equality.spot_eq_same, Spots.dir_at-dir_number}
-use Rattle.spin_base.specs.{declared.chips.Chip.Chip, declared.chips.Spot.Spot, Equality.spot_eq, declared.chips.Dir.Dir, Links.dir_number, Links.dir_at}
-use Rattle.machine_desc.specs.{declared.trees.Edge.Edge, Description.Description, Live.is_live_chip, Live.is_live_link, Live.is_usable, Live.is_device_place, Live.IsUsable, Live.IsSite}
-use Rattle.machine_desc.proofs.{Same.same_edge, Same.same_dir, Same.below_six, Sites.usable_site}
-use Rattle.app_graph.specs.{declared.graphs.Vertex.Vertex, ValidGraph.HaveDifferentDevices}
-use Rattle.place_fit.specs.{declared.boards.Board.Board, declared.boards.Placed.Placed, Curve.hilbert, Curve.IsCurveLevel, Quarters.curve_place, Boards.AreFreeOn, Boards.AreGiven, Boards.AreSettled}
-use Rattle.place_fit.specs.Boards.{IsWithout, IsWholeBoard, IsPlaceWithRoom, HasNoRoomAt, HasNoPlace, IsFilled, IsPutOnCore, IsPutAtLink, IsPut, HasNoSpot}
-use Rattle.place_fit.specs.Placement.{core_spot, need_of, used_on, HasRoom, IsFirstChip, choices, IsCoreFor, HasDeviceRoom, device_spot, IsSpotFor, FindsNoRoom, HasNoRoom, AreFirstSpots}
-use Rattle.place_fit.specs.{Placement.AreFirstMemories, Placement.memory_of, Standing.ArePlaced, Standing.IsChipTold, Standing.Stands}
+use Rattle.place_fit.proofs.Common.{All, All-at, All-cons, All-filter, All-nil, AllPairs, AllZip, AreFirstMemories, AreFirstSpots, AreFreeOn, AreGiven, ArePlaced, AreSettled, Board, Bool, Chip}
+use Rattle.place_fit.proofs.Common.{Description, Dir, Edge, FindsNoRoom, HasDeviceRoom, HasNoPlace, HasNoRoom, HasNoRoomAt, HasNoSpot, HasRoom, HaveDifferentDevices, IsChipTold, IsCoreFor}
+use Rattle.place_fit.proofs.Common.{IsCurveLevel, IsFilled, IsFirstChip, IsPlaceWithRoom, IsPut, IsPutAtLink, IsPutOnCore, IsSite, IsSpotFor, IsUsable, IsWholeBoard, IsWithout, List, MatchOption}
+use Rattle.place_fit.proofs.Common.{None, Option, Placed, Some, Spot, Stands, Vertex, [], and-true, and_from, ap, ap₂, arith, below_six, bit_at, both_ways, cases_Bool, cases_lt, choices, cond}
+use Rattle.place_fit.proofs.Common.{cond-false, cond-true, core_spot, curve_place, device_spot, dir_at, dir_at-dir_number, dir_number, filter, get_or, get_or-take, get_or_from_slice_get, hilbert, inl}
+use Rattle.place_fit.proofs.Common.{inr, is_device_place, is_live_chip, is_live_link, is_usable, le-leb, leb, length, length-take, length_push, list_any, list_any_at, lt-ltb, ltb, memory_of, need_of}
+use Rattle.place_fit.proofs.Common.{not, or_right, refl, same_dir, same_edge, slice_get, slice_get-append_left, slice_get-get_or, slice_get-push_cases, slice_get-pushed, slice_get_there}
+use Rattle.place_fit.proofs.Common.{slice_get_within, spot_eq, spot_eq_same, subst, suc, sym, take, take-append-le, take_at, take_more, true, usable_site, used_on, zero, ℕ, ◌&&◌, ◌++◌, ◌+◌, ◌-◌, ◌<◌}
+use Rattle.place_fit.proofs.Common.{◌==◌, ◌^◌, ◌∙◌, ◌∷◌, ◌≡◌, ◌≢◌, ◌≤◌}
 use Rattle.place_fit.proofs.{CurveLaws.at_place, Giving.high_bit, Giving.same_curve, UsableSpots.any_usable, Standing.live_in, Standing.free_parts, Standing.free_at, Standing.bit_of_free}
 use Rattle.place_fit.proofs.Standing.{has_room, cores_with_room, room_for, usable_parts, is_taken, need_of_core, need_of_device, stands_first, stands_device}
 use Rattle.place_fit.proofs.Standing.{stands_more as one_stands_more}

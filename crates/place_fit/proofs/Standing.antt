@@ -1,18 +1,10 @@
 -- What a board tells of the vertices that stand on it.
-use Rattle.std.proofs.Common.{◌≡◌, ◌≢◌, ℕ, ◌+◌, ◌-◌, ◌^◌, ◌<◌, ◌≤◌, ◌==◌, Bool, true, false, not, ◌&&◌, ◌||◌, cond, eqb, List, [], ◌∷◌, ◌++◌, length, set, get_or, refl, sym, ap, ◌∙◌, subst, Option}
-use Rattle.std.proofs.Common.{Some, None, is_none, slice_get, inl, inr, arith}
-use Rattle.std.specs.{Int.bit_at, Int.w32, List.list_any}
-use Rattle.std.proofs.lemmas.Bool.{cases_lt, cases_eq, cases_Bool, and_left, and_parts, and_right, and_from, or_left, or_right, not-true, cond-true, cond-false, Decides.nat_tests}
-use Rattle.std.proofs.lemmas.{List.Folds.list_any-append, Nat.Bits.bit_at-trailing_zeros, Nat.Bits.bit_at-zero, Option.slice_get_within, List.get_or-set_same, List.get_or-set_other, List.length_push}
-use Rattle.std.proofs.Math.Bool.{and-true}
-use Rattle.spin_base.proofs.{Tests.or_neither, Equality.chip_eq_true, Equality.chip_eq_same}
-use Rattle.spin_base.specs.{declared.chips.Chip.Chip, declared.chips.Spot.Spot, Equality.chip_eq, Equality.spot_eq}
-use Rattle.machine_desc.specs.{declared.trees.Edge.Edge, Description.Description, Live.is_live_chip, Live.is_usable}
-use Rattle.machine_desc.proofs.{Far.live_inside, Far.inside_parts, Same.same_spot}
-use Rattle.app_graph.specs.declared.graphs.Vertex.{Vertex}
-use Rattle.place_fit.specs.{declared.boards.Board.Board, declared.boards.Placed.Placed, Curve.hilbert, Curve.IsCurveLevel, Quarters.curve_place, Boards.AreFreeOn}
-use Rattle.place_fit.specs.{Boards.IsFilled, Boards.IsParted, Boards.IsWholeBoard, Boards.room_left, Placement.core_spot, Placement.need_of, Placement.used_on, Placement.is_free_core}
-use Rattle.place_fit.specs.{Placement.HasRoom, Standing.IsChipTold, Standing.Stands}
+use Rattle.place_fit.proofs.Common.{AreFreeOn, Board, Bool, Chip, Description, Edge, HasRoom, IsChipTold, IsCurveLevel, IsFilled, IsParted, IsWholeBoard, List, None, Option, Placed, Some, Spot}
+use Rattle.place_fit.proofs.Common.{Stands, Vertex, [], and-true, and_from, and_left, and_parts, and_right, ap, arith, bit_at, bit_at-trailing_zeros, bit_at-zero, cases_Bool, cases_eq, cases_lt}
+use Rattle.place_fit.proofs.Common.{chip_eq, chip_eq_same, chip_eq_true, cond, cond-false, cond-true, core_spot, curve_place, eqb, false, get_or, get_or-set_other, get_or-set_same, hilbert, inl, inr}
+use Rattle.place_fit.proofs.Common.{inside_parts, is_free_core, is_live_chip, is_none, is_usable, length, length_push, list_any, list_any-append, live_inside, nat_tests, need_of, not, not-true}
+use Rattle.place_fit.proofs.Common.{or_left, or_neither, or_right, refl, room_left, same_spot, set, slice_get, slice_get_within, spot_eq, subst, sym, true, used_on, w32, ℕ, ◌&&◌, ◌++◌, ◌+◌, ◌-◌, ◌<◌}
+use Rattle.place_fit.proofs.Common.{◌==◌, ◌^◌, ◌||◌, ◌∙◌, ◌∷◌, ◌≡◌, ◌≢◌, ◌≤◌}
 use Rattle.place_fit.proofs.CurveLaws.{IsIn, place_at}
 
 pub live_in : (m : Description) (c : Chip) (side : ℕ) → is_live_chip m c ≡ true → m.width ≤ side → m.height ≤ side → IsIn side c
@@ -41,9 +33,6 @@ usable_parts m s u = grind (arith, nat_tests, and_parts)
 
 pub free_parts : (m : Description) (ss : List Spot) (s : Spot) → is_free_core m ss s ≡ true → (is_usable m s ≡ true) × (is_taken ss s ≡ false)
 free_parts m ss s f = grind (arith, and_parts, not-true)
-
-pub free_from : (m : Description) (ss : List Spot) (s : Spot) → is_usable m s ≡ true → is_taken ss s ≡ false → is_free_core m ss s ≡ true
-free_from m ss s u f = and_from _ _ u (ap not f)
 
 module _ (m : Description) (vs : List Vertex) (ss : List Spot) (c : Chip) (cores room : ℕ) (told : IsChipTold m vs ss c cores room) where
   pub free_at : (p : ℕ) → p < 32 → bit_at cores p ≡ 1 → is_free_core m ss (core_spot c p) ≡ true
@@ -81,10 +70,6 @@ room_none cores left none = let t : eqb cores 0 ≡ true = grind (arith, nat_tes
 
 pub stands_first : (m : Description) (b : Board) → IsWholeBoard b → AreFreeOn m b → Stands m [] [] b
 stands_first m b whole free = grind (arith, slice_get_within, and-true, room_none, room_some, get_or)
-
--- a chip with so much left of its memory has a free core, if it has room, and no more memory than that
-pub room_fair : (cores left : ℕ) → 0 < room_left cores left → (0 < cores) × (room_left cores left ≤ left + 1)
-room_fair cores left some = grind (arith, cases_lt, room_some, room_none)
 
 -- ---- one vertex more
 

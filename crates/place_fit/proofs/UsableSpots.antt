@@ -1,10 +1,5 @@
 -- Spots of which all are usable.
-use Rattle.std.proofs.Common.{◌≡◌, true, List, ap, ◌∙◌}
-use Rattle.std.specs.List.{All, list_any}
-use Rattle.std.proofs.lemmas.List.Elements.{All-contains}
-use Rattle.spin_base.proofs.{Members.among_contains, Members.any_among, Equality.spot_eq_true}
-use Rattle.spin_base.specs.{declared.chips.Spot.Spot, Equality.spot_eq}
-use Rattle.machine_desc.specs.{Description.Description, Live.is_usable, Live.IsUsable}
+use Rattle.place_fit.proofs.Common.{All, All-contains, Description, IsUsable, List, Spot, among_contains, any_among, ap, is_usable, list_any, spot_eq, spot_eq_true, true, ◌∙◌, ◌≡◌}
 
 -- one of them is usable
 pub any_usable : (m : Description) (s : Spot) (spots : List Spot) → All (IsUsable m) spots → list_any (spot_eq s) spots ≡ true → is_usable m s ≡ true

@@ -1,6 +1,6 @@
 -- Holes as runs of free places, and what a range leaves of them.
 use Rattle.std.proofs.Common.{◌≡◌, ◌≢◌, ℕ, ◌+◌, ◌-◌, ◌%◌, ◌<◌, ◌≤◌, Bool, true, false, ◌&&◌, ◌||◌, List, [], ◌∷◌, ◌++◌, ◌∙◌, ◌*◌, ◌/◌, zero, suc, Some, min, max, not, leb, ltb, length, get_or, set}
-use Rattle.std.proofs.Common.{take, drop, refl, sym, ap, ap₂, subst, arith, slice_get, inl, inr, append_assoc}
+use Rattle.std.proofs.Common.{take, drop, refl, sym, ap, subst, arith, slice_get, inl, inr, append_assoc}
 use Rattle.std.proofs.lemmas.{Bool.cases_Bool, Bool.cases_lt, Bool.cases_eq, Bool.or_cases, Bool.or_parts, Bool.or_right, Option.get_or_from_slice_get, Option.slice_get_within, List.set_split}
 use Rattle.std.proofs.lemmas.{List.set_at, List.length-take-le, List.length_push, List.take-append-drop, List.Folds.list_any-append, Bool.Decides.nat_tests}
 use Rattle.std.proofs.Math.Nat.{mul-le-mul_left, mul-mod_right, mod_self, mod-eq_of_lt}

@@ -1,6 +1,5 @@
 -- A number that is read is the number that was written, and what was written is read again.
-use Rattle.std.proofs.Common.{◌≡◌, ℕ, ◌+◌, ◌^◌, ◌<◌, ◌≤◌, Bool, true, false, cond, ltb, List, [], ◌∷◌, ◌++◌, length, take, drop, Result, Ok, Err, refl, sym, ap, subst, ◌∙◌, append_assoc, arith, inl}
-use Rattle.std.proofs.Common.{inr}
+use Rattle.std.proofs.Common.{◌≡◌, ℕ, ◌+◌, ◌^◌, ◌<◌, ◌≤◌, Bool, true, false, cond, ltb, List, [], ◌∷◌, ◌++◌, length, take, drop, Result, Ok, Err, refl, sym, ap, subst, ◌∙◌, append_assoc, arith}
 use Rattle.std.specs.Int.{Width, w8, w16, w32, byte_len, from_le_bytes, to_le_bytes}
 use Rattle.std.proofs.{Math.Nat.mod-eq_of_lt, lemmas.Bool.cases_lt, lemmas.Bool.ltb-false, lemmas.Bool.le-ltb, lemmas.List.take_at, lemmas.List.drop_at, lemmas.List.take-append-drop}
 use Rattle.std.proofs.lemmas.{List.length-append, List.length-take, List.get_or-drop, List.get_or-take, List.get_or_past, Nat.le_bytes_2, Nat.le_bytes_4, Nat.from_le_bytes-to_le_bytes_2}

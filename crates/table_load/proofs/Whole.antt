@@ -1,6 +1,6 @@
 -- An image that is read is spelled by the bytes, and one that is spelled is read; so no spelling begins another.
-use Rattle.std.proofs.Common.{◌≡◌, ℕ, zero, suc, ◌*◌, ◌%◌, ◌^◌, ◌<◌, ◌≤◌, Bool, true, false, cond, eqb, List, [], ◌∷◌, ◌++◌, length, Some, None, Result, Ok, Err, refl, sym, ap, subst, ◌∙◌}
-use Rattle.std.proofs.Common.{append_assoc, arith}
+use Rattle.std.proofs.Common.{◌≡◌, ℕ, zero, suc, ◌*◌, ◌^◌, ◌<◌, ◌≤◌, Bool, true, false, cond, eqb, List, [], ◌∷◌, ◌++◌, length, Some, None, Result, Ok, Err, refl, sym, ap, subst, ◌∙◌, append_assoc}
+use Rattle.std.proofs.Common.{arith}
 use Rattle.std.specs.{Prelude.if◌then◌else◌, List.flat_map, List.AllByRecursion, List.AllPairs, Int.w8, Int.w16, Int.w32, Int.to_le_bytes}
 use Rattle.std.proofs.{Math.Nat.mod-eq_of_lt, Math.Nat.mul-le-mul, lemmas.Bool.eqb-true, lemmas.Bool.ne_eqb, lemmas.List.append-nil, lemmas.List.nil_from_length, lemmas.List.length-append}
 use Rattle.std.proofs.lemmas.List.Elements.{All-from_recursion, recursion_from_All}

@@ -1,9 +1,5 @@
 -- A table that is short enough is covered.
-use Rattle.std.proofs.Common.{◌≤◌, List, length, get_or, sym, subst, inl, arith}
-use Rattle.std.proofs.lemmas.List.{Elements.Contains-get_or, Sorted.IsPermutation-refl}
-use Rattle.spin_base.proofs.Members.{Contains-map}
-use Rattle.tern_word.specs.{declared.tables.Row.Row, SoundTable.served}
-use Rattle.cover_merge.specs.{declared.covering.Merge.Merge, Covering.Covers, Covering.short, Merges.sets_of}
+use Rattle.default_routes.proofs.Common.{Contains-get_or, Contains-map, Covers, IsPermutation-refl, List, Merge, Row, arith, get_or, inl, length, served, sets_of, short, subst, sym, ◌≤◌}
 use Rattle.default_routes.proofs.shortening.cover_long.Goals as goal
 
 pub returns-clause-covered : goal.returns-clause-covered

@@ -1,9 +1,5 @@
 -- What covering promises of the covered table, and stripping of its rows, together.
-use Rattle.std.proofs.Common.{refl, subst}
-use Rattle.tern_word.specs.{declared.tables.Row.Row, SoundTable.Original, SoundTable.served}
-use Rattle.default_routes.specs.KeptRows.{ArePlaces, Routes}
-use Rattle.cover_merge.specs.{Merge.rows_at, Merges.sets_of}
-use Rattle.std.specs.Prelude.{All, List}
+use Rattle.default_routes.proofs.Common.{All, ArePlaces, List, Original, Routes, Row, refl, rows_at, served, sets_of, subst}
 use Rattle.default_routes.proofs.FinalLemmas.{loaded_routes, of_kept, serves_given, shortened}
 use Rattle.default_routes.proofs.shortening.shorten.Goals as goal
 

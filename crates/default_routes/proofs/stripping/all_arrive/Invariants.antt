@@ -1,7 +1,5 @@
 -- Those passed arrive by the link.
-use Rattle.std.proofs.Common.{◌≡◌, ℕ, ◌<◌, get_or}
-use Rattle.spin_base.specs.declared.chips.Port.TheVariants.{Link}
-use Rattle.tern_word.specs.declared.tables.Alias.{Alias}
+use Rattle.default_routes.proofs.Common.{Alias, Link, get_or, ℕ, ◌<◌, ◌≡◌}
 use Rattle.default_routes.proofs.stripping.all_arrive.Given as goal
 
 abbrev pub invariant-loop-alias : goal.invariant-loop-alias

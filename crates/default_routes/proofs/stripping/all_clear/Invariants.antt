@@ -1,6 +1,5 @@
 -- The rows passed meet no alias of the row.
-use Rattle.std.proofs.Common.{ℕ, ◌<◌, get_or}
-use Rattle.tern_word.specs.{declared.tables.Row.Row, SoundTable.Misses}
+use Rattle.default_routes.proofs.Common.{Misses, Row, get_or, ℕ, ◌<◌}
 use Rattle.default_routes.proofs.stripping.all_clear.Given as goal
 
 abbrev pub invariant-loop-s : goal.invariant-loop-s

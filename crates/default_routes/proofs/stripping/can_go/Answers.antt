@@ -1,9 +1,5 @@
 -- The link, the aliases and the later rows together.
-use Rattle.std.proofs.Common.{◌≡◌, subst}
-use Rattle.std.specs.Prelude.{All}
-use Rattle.spin_base.specs.declared.chips.Port.TheVariants.{Link}
-use Rattle.tern_word.specs.declared.tables.Alias.{Alias}
-use Rattle.cover_merge.specs.Merge.{rows_at}
+use Rattle.default_routes.proofs.Common.{Alias, All, Link, rows_at, subst, ◌≡◌}
 use Rattle.default_routes.proofs.StripLemmas.{match_strip}
 use Rattle.default_routes.proofs.stripping.can_go.Goals as goal
 

@@ -1,6 +1,5 @@
 -- One entry more.
-use Rattle.std.proofs.Common.{sym, ap, ◌∙◌}
-use Rattle.tern_word.specs.Entries.{entry_of}
+use Rattle.default_routes.proofs.Common.{ap, entry_of, sym, ◌∙◌}
 use Rattle.default_routes.proofs.FinalLemmas.{entries_more}
 use Rattle.default_routes.proofs.stripping.final_at.Goals as goal
 

@@ -1,7 +1,5 @@
 -- The entries of the places that were read.
-use Rattle.std.proofs.Common.{◌≡◌, map, take}
-use Rattle.tern_word.specs.Entries.{entry_of}
-use Rattle.cover_merge.specs.Merge.{rows_at}
+use Rattle.default_routes.proofs.Common.{entry_of, map, rows_at, take, ◌≡◌}
 use Rattle.default_routes.proofs.stripping.final_at.Given as goal
 
 abbrev pub invariant-loop-place : goal.invariant-loop-place

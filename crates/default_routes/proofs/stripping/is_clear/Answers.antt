@@ -1,8 +1,5 @@
 -- Rows that are apart are clear.
-use Rattle.std.proofs.Common.{sym, subst, MatchBool}
-use Rattle.std.specs.Prelude.{All}
-use Rattle.tern_word.specs.{declared.tables.Row.Row, SoundTable.Misses}
-use Rattle.cover_merge.specs.Merge.{rows_at}
+use Rattle.default_routes.proofs.Common.{All, MatchBool, Misses, Row, rows_at, subst, sym}
 use Rattle.default_routes.proofs.stripping.is_clear.Goals as goal
 
 pub returns-then-apart : goal.returns-then-apart

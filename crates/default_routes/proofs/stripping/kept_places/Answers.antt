@@ -1,5 +1,5 @@
 -- Each turn leaves a row out, or keeps its place.
-use Rattle.std.proofs.Common.{◌≡◌, ◌-◌, length, get_or, ap, arith}
+use Rattle.default_routes.proofs.Common.{ap, arith, get_or, length, ◌-◌, ◌≡◌}
 use Rattle.default_routes.proofs.StripLemmas.{kept_goes, kept_stays, in_range_more, none_kept, in_range_none, missed}
 use Rattle.default_routes.proofs.stripping.kept_places.Goals as goal
 

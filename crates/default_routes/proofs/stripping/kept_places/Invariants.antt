@@ -1,7 +1,5 @@
 -- The kept places of the rows passed, the last first in the list.
-use Rattle.std.proofs.Common.{◌≤◌, ◌<◌, length, reverse}
-use Rattle.std.specs.Prelude.{All}
-use Rattle.default_routes.specs.KeptRows.{KeptFrom}
+use Rattle.default_routes.proofs.Common.{All, KeptFrom, length, reverse, ◌<◌, ◌≤◌}
 use Rattle.default_routes.proofs.stripping.kept_places.Given as goal
 
 abbrev pub invariant-loop-i : goal.invariant-loop-i

@@ -1,6 +1,5 @@
 -- One row more has the mask, and a key above those before.
-use Rattle.std.proofs.Common.{sym, ap, ◌∙◌}
-use Rattle.tern_word.specs.declared.tables.Row.{Row}
+use Rattle.default_routes.proofs.Common.{Row, ap, sym, ◌∙◌}
 use Rattle.default_routes.proofs.StripLemmas.{ascends_more}
 use Rattle.default_routes.proofs.stripping.keys_ascend.Goals as goal
 

@@ -1,6 +1,5 @@
 -- The rows passed have the mask, and their keys ascend, all below the least that may come.
-use Rattle.std.proofs.Common.{◌≡◌, ◌<◌, All, AllPairs, take}
-use Rattle.tern_word.specs.declared.tables.Row.{Row}
+use Rattle.default_routes.proofs.Common.{All, AllPairs, Row, take, ◌<◌, ◌≡◌}
 use Rattle.default_routes.proofs.stripping.keys_ascend.Given as goal
 
 abbrev pub invariant-loop-row : goal.invariant-loop-row

@@ -1,5 +1,5 @@
-use Rattle.std.proofs.Common.{arith, ◌≡◌, List, ℕ, length, All, sym, ap, ◌∙◌, subst}
-use Rattle.job_gen.specs.{declared.draws.DrawnNet.DrawnNet, Draws.draws, Draws.drawn_net, Draws.drawn_packet, Draws.drawn, Draws.drawn_from, Draws.seeded, Draws.NeedsKey}
+use Rattle.job_gen.proofs.Common.{All, DrawnNet, List, NeedsKey, ap, arith, drawn_from, drawn_net, drawn_packet, draws, length, subst, sym, ℕ, ◌∙◌, ◌≡◌}
+use Rattle.job_gen.specs.Draws.{drawn, seeded}
 use Rattle.job_gen.proofs.{DrawLemmas.number_drawn, DrawLemmas.job_from, DrawnLaws.all_keys, DrawnLaws.nets_drawn}
 use Rattle.job_gen.proofs.draws.draw_job.Goals as goal
 

@@ -1,6 +1,5 @@
 -- So many were drawn.
-use Rattle.std.proofs.Common.{◌≡◌}
-use Rattle.job_gen.specs.Draws.{draws, drawn_net}
+use Rattle.job_gen.proofs.Common.{drawn_net, draws, ◌≡◌}
 use Rattle.job_gen.proofs.draws.draw_nets.Given as goal
 
 abbrev pub invariant-loop-i : goal.invariant-loop-i

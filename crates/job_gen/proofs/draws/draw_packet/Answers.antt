@@ -1,4 +1,4 @@
-use Rattle.std.proofs.Common.{◌∙◌, ◌/◌, arith}
+use Rattle.job_gen.proofs.Common.{arith, ◌/◌, ◌∙◌}
 use Rattle.job_gen.proofs.DrawLemmas.{packet_from, keys_there}
 use Rattle.job_gen.proofs.draws.draw_packet.Goals as goal
 

@@ -1,4 +1,4 @@
-use Rattle.job_gen.specs.Draws.{drawn_packet}
+use Rattle.job_gen.proofs.Common.{drawn_packet}
 use Rattle.job_gen.proofs.DrawLemmas.{draws_none, draws_push}
 use Rattle.job_gen.proofs.draws.draw_packets.Goals as goal
 

@@ -1,6 +1,5 @@
 -- So many were drawn.
-use Rattle.std.proofs.Common.{◌≡◌}
-use Rattle.job_gen.specs.Draws.{draws, drawn_target}
+use Rattle.job_gen.proofs.Common.{drawn_target, draws, ◌≡◌}
 use Rattle.job_gen.proofs.draws.draw_targets.Given as goal
 
 abbrev pub invariant-loop-i : goal.invariant-loop-i

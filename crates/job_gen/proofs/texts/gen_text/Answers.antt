@@ -1,4 +1,4 @@
-use Rattle.std.proofs.Common.{arith, ◌≤◌, length, ◌∙◌, sym, subst}
+use Rattle.job_gen.proofs.Common.{arith, length, subst, sym, ◌∙◌, ◌≤◌}
 use Rattle.job_gen.proofs.{LengthLemmas.text_short, TextLemmas.value_drawn, TextLemmas.text_written, TextLemmas.text_read}
 use Rattle.job_gen.proofs.texts.gen_text.Goals as goal
 

@@ -1,7 +1,5 @@
-use Rattle.std.proofs.Common.{map, ap, refl, ◌∙◌}
-use Rattle.serde_json.specs.{Data.array, View.view}
-use Rattle.serde_json.proofs.Views.{view-Array}
-use Rattle.job_gen.specs.Values.{pair_data, dead_pairs}
+use Rattle.job_gen.proofs.Common.{ap, array, map, pair_data, refl, view, view-Array, ◌∙◌}
+use Rattle.job_gen.specs.Values.{dead_pairs}
 use Rattle.job_gen.proofs.ValueLemmas.{mapped_push, mapped_all}
 use Rattle.job_gen.proofs.values.dead_chips_value.Goals as goal
 

@@ -1,7 +1,5 @@
 -- The values of so many.
-use Rattle.std.proofs.Common.{◌≡◌, map, take}
-use Rattle.serde_json.specs.View.{view}
-use Rattle.job_gen.specs.Values.{pair_data, dead_pairs}
+use Rattle.job_gen.proofs.Common.{dead_pairs, map, pair_data, take, view, ◌≡◌}
 use Rattle.job_gen.proofs.values.dead_chips_value.Given as goal
 
 abbrev pub invariant-loop-x : goal.invariant-loop-x

@@ -1,7 +1,4 @@
-use Rattle.std.proofs.Common.{arith, ap, ◌∙◌}
-use Rattle.serde_json.specs.Data.{array}
-use Rattle.serde_json.proofs.Views.{view-Array}
-use Rattle.job_gen.specs.Values.{packet_data}
+use Rattle.job_gen.proofs.Common.{ap, arith, array, packet_data, view-Array, ◌∙◌}
 use Rattle.job_gen.proofs.ValueLemmas.{mapped_push, mapped_all}
 use Rattle.job_gen.proofs.values.packets_value.Goals as goal
 

@@ -1,7 +1,5 @@
 -- The values of so many.
-use Rattle.std.proofs.Common.{◌≡◌, map, take}
-use Rattle.serde_json.specs.View.{view}
-use Rattle.job_gen.specs.Values.{packet_data}
+use Rattle.job_gen.proofs.Common.{map, packet_data, take, view, ◌≡◌}
 use Rattle.job_gen.proofs.values.packets_value.Given as goal
 
 abbrev pub invariant-loop-packet : goal.invariant-loop-packet

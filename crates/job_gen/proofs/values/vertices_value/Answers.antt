@@ -1,7 +1,4 @@
-use Rattle.std.proofs.Common.{ap, ◌∙◌}
-use Rattle.serde_json.specs.Data.{array}
-use Rattle.serde_json.proofs.Views.{view-Array}
-use Rattle.job_gen.specs.Values.{vertex_data}
+use Rattle.job_gen.proofs.Common.{ap, array, vertex_data, view-Array, ◌∙◌}
 use Rattle.job_gen.proofs.ValueLemmas.{numbered_none, numbered_push, numbered_all}
 use Rattle.job_gen.proofs.values.vertices_value.Goals as goal
 

@@ -1,5 +1,4 @@
-use Rattle.std.proofs.Common.{◌-◌, arith}
-use Rattle.std.proofs.lemmas.Grind.{common_steps}
+use Rattle.job_readers.proofs.Common.{arith, common_steps, ◌-◌}
 use Rattle.job_readers.proofs.BlockSteps.{fixed_for}
 use Rattle.job_readers.proofs.blocks.block_for.Goals as goal
 

@@ -1,6 +1,4 @@
-use Rattle.std.proofs.Common.{length, map, arith, ap}
-use Rattle.std.proofs.lemmas.List.{length-map}
-use Rattle.serde_json.specs.View.{view}
+use Rattle.job_readers.proofs.Common.{ap, arith, length, length-map, map, view}
 use Rattle.job_readers.proofs.EntryLengths.{pair-short, pair-long}
 use Rattle.job_readers.proofs.entries.pair.Goals as goal
 

@@ -1,8 +1,5 @@
-use Rattle.std.proofs.Common.{◌≡◌, ◌∙◌, length, map, refl, ap, sym, arith}
-use Rattle.std.proofs.lemmas.List.{nil_from_length}
-use Rattle.std.proofs.{Math.Logic.∥∥₁_elim, Props.props}
-use Rattle.serde_json.specs.View.{view}
-use Rattle.job_readers.specs.{GraphPart.vertex_names_of, Items.items_faults, RunPart.events_faults, RunPart.events_value}
+use Rattle.job_readers.proofs.Common.{ap, arith, length, map, nil_from_length, props, refl, sym, vertex_names_of, view, ∥∥₁_elim, ◌∙◌, ◌≡◌}
+use Rattle.job_readers.specs.{Items.items_faults, RunPart.events_faults, RunPart.events_value}
 use Rattle.job_readers.proofs.events.events.Goals as goal
 
 pub returns-then-is_empty-clause-read : goal.returns-then-is_empty-clause-read

@@ -1,5 +1,4 @@
-use Rattle.std.proofs.Common.{arith, map}
-use Rattle.serde_json.specs.View.{view}
+use Rattle.job_readers.proofs.Common.{arith, map, view}
 use Rattle.job_readers.proofs.RunSteps.{items_read}
 use Rattle.job_readers.proofs.events.items_in.Goals as goal
 

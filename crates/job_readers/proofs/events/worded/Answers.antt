@@ -1,10 +1,6 @@
-use Rattle.std.proofs.Common.{arith, refl, ap, sym, ◌∙◌, map, Some, None}
-use Rattle.std.proofs.lemmas.Result.{err_from_is_err_and}
-use Rattle.serde_json.specs.View.{view}
+use Rattle.job_readers.proofs.Common.{Collect, Dump, Inject, None, Send, Some, Take, ap, arith, err_from_is_err_and, map, path_text, refl, sym, view, ◌∙◌}
 use Rattle.spin_base.specs.declared.copies.Event.TheVariants as events
-use Rattle.job_text.specs.Paths.{path_text}
-use Rattle.job_readers.specs.{RunPart.port_of_event, RunPart.out_of_event, declared.events.Verb.TheVariants.Inject, declared.events.Verb.TheVariants.Take, declared.events.Verb.TheVariants.Send}
-use Rattle.job_readers.specs.declared.events.Verb.TheVariants.{Dump, Collect}
+use Rattle.job_readers.specs.RunPart.{out_of_event, port_of_event}
 use Rattle.job_readers.proofs.VerbSteps.{verb_reads, verb_fails}
 use Rattle.job_readers.proofs.events.worded.Goals as goal
 

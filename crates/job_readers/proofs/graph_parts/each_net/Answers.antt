@@ -1,9 +1,5 @@
-use Rattle.std.proofs.Common.{refl, ◌≡◌, [], ◌∷◌, ◌++◌, length, map, ap, sym, subst, ◌∙◌, arith, length-append}
-use Rattle.std.proofs.lemmas.{List.Elements.All-push, Result.err_from_is_err_and}
-use Rattle.serde_json.specs.View.{view}
-use Rattle.app_graph.specs.{declared.graphs.Net.Net, ValidGraph.IsValidNet, ValidGraph.HasSendingSource}
-use Rattle.job_text.specs.{Reading.IsFirstFault, Paths.path_text, Paths.item_at}
-use Rattle.job_readers.specs.{Items.following_faults, Places.name_place_in, GraphPart.net_value, GraphPart.next_net_faults}
+use Rattle.job_readers.proofs.Common.{All-push, HasSendingSource, IsFirstFault, IsValidNet, Net, [], ap, arith, err_from_is_err_and, following_faults, item_at, length, length-append, map}
+use Rattle.job_readers.proofs.Common.{name_place_in, net_value, next_net_faults, path_text, refl, subst, sym, view, ◌++◌, ◌∙◌, ◌∷◌, ◌≡◌}
 use Rattle.job_readers.proofs.{Named.net_is_new, ItemSteps.values-more, ItemSteps.values-all, FollowingSteps.following-more, FollowingSteps.following-fail, FollowingSteps.following-none}
 use Rattle.job_readers.proofs.GraphSteps.{next_net, net_name, net_names_more, blocks_more, apart_more}
 use Rattle.job_readers.proofs.graph_parts.each_net.Goals as goal

@@ -1,9 +1,5 @@
-use Rattle.std.proofs.Common.{◌≡◌, [], length, map, take, drop}
-use Rattle.std.specs.Prelude.{All, AllPairs}
-use Rattle.serde_json.specs.View.{view}
-use Rattle.app_graph.specs.ValidGraph.{IsValidNet, AreFixedApart, HasSendingSource}
-use Rattle.job_text.specs.Paths.{path_text}
-use Rattle.job_readers.specs.{Items.following_faults, GraphPart.net_value, GraphPart.next_net_faults, GraphPart.net_names, GraphPart.fixed_blocks_of}
+use Rattle.job_readers.proofs.Common.{All, AllPairs, AreFixedApart, HasSendingSource, IsValidNet, [], drop, fixed_blocks_of, following_faults, length, map, net_names, net_value, next_net_faults}
+use Rattle.job_readers.proofs.Common.{path_text, take, view, ◌≡◌}
 use Rattle.job_readers.proofs.graph_parts.each_net.Given as goal
 
 abbrev pub invariant-loop-i : goal.invariant-loop-i

@@ -1,9 +1,5 @@
-use Rattle.std.proofs.Common.{refl, ◌≡◌, [], ◌∷◌, ◌++◌, map, ap, sym, subst, ◌∙◌, arith, length-append}
-use Rattle.std.proofs.lemmas.{List.Elements.All-push, Result.err_from_is_err_and}
-use Rattle.serde_json.specs.View.{view}
-use Rattle.app_graph.specs.{declared.graphs.Vertex.Vertex, ValidGraph.IsValidVertex}
-use Rattle.job_text.specs.{Reading.IsFirstFault, Paths.path_text, Paths.item_at}
-use Rattle.job_readers.specs.{Items.following_faults, Places.name_place_in, GraphPart.vertex_value, GraphPart.next_vertex_faults}
+use Rattle.job_readers.proofs.Common.{All-push, IsFirstFault, IsValidVertex, Vertex, [], ap, arith, err_from_is_err_and, following_faults, item_at, length-append, map, name_place_in}
+use Rattle.job_readers.proofs.Common.{next_vertex_faults, path_text, refl, subst, sym, vertex_value, view, ◌++◌, ◌∙◌, ◌∷◌, ◌≡◌}
 use Rattle.job_readers.proofs.{Named.vertex_is_new, ItemSteps.values-more, ItemSteps.values-all, FollowingSteps.following-more, FollowingSteps.following-fail, FollowingSteps.following-none}
 use Rattle.job_readers.proofs.GraphSteps.{next_vertex, vertex_name, names_more, devices_more, different_more}
 use Rattle.job_readers.proofs.graph_parts.each_vertex.Goals as goal

@@ -1,9 +1,5 @@
-use Rattle.std.proofs.Common.{◌≡◌, [], length, map, take, drop}
-use Rattle.std.specs.Prelude.{All, AllPairs}
-use Rattle.serde_json.specs.View.{view}
-use Rattle.app_graph.specs.ValidGraph.{IsValidVertex, HaveDifferentDevices}
-use Rattle.job_text.specs.Paths.{path_text}
-use Rattle.job_readers.specs.{Items.following_faults, GraphPart.vertex_value, GraphPart.next_vertex_faults, GraphPart.vertex_names_of, GraphPart.devices_of}
+use Rattle.job_readers.proofs.Common.{All, AllPairs, HaveDifferentDevices, IsValidVertex, [], devices_of, drop, following_faults, length, map, next_vertex_faults, path_text, take, vertex_names_of}
+use Rattle.job_readers.proofs.Common.{vertex_value, view, ◌≡◌}
 use Rattle.job_readers.proofs.graph_parts.each_vertex.Given as goal
 
 abbrev pub invariant-loop-i : goal.invariant-loop-i

@@ -1,6 +1,4 @@
-use Rattle.std.proofs.Common.{arith}
-use Rattle.job_text.specs.Paths.{path_text}
-use Rattle.serde_json.specs.View.{view}
+use Rattle.job_readers.proofs.Common.{arith, path_text, view}
 use Rattle.job_readers.proofs.KnownNames.{vertices_known}
 use Rattle.job_readers.proofs.graph_parts.graph_members.Goals as goal
 

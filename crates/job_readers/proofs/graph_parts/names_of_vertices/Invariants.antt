@@ -1,5 +1,4 @@
-use Rattle.std.proofs.Common.{◌≡◌, map, take}
-use Rattle.app_graph.specs.declared.graphs.Vertex.{Vertex}
+use Rattle.job_readers.proofs.Common.{Vertex, map, take, ◌≡◌}
 use Rattle.job_readers.proofs.graph_parts.names_of_vertices.Given as goal
 
 abbrev pub invariant-loop-vertex : goal.invariant-loop-vertex

@@ -1,6 +1,4 @@
-use Rattle.std.proofs.Common.{◌≡◌, ℕ, List, length, ap, ◌∙◌, arith}
-use Rattle.std.proofs.lemmas.List.{length-map}
-use Rattle.app_graph.specs.declared.graphs.Vertex.{Vertex}
+use Rattle.job_readers.proofs.Common.{List, Vertex, ap, arith, length, length-map, ℕ, ◌∙◌, ◌≡◌}
 use Rattle.job_readers.specs.GraphPart.{vertex_names_of}
 use Rattle.job_readers.proofs.graph_parts.net.Goals as goal
 

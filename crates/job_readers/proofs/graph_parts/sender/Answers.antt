@@ -1,7 +1,5 @@
-use Rattle.std.proofs.Common.{arith, ◌≡◌, ℕ, ◌<◌, List, length, Some, sym}
-use Rattle.std.proofs.lemmas.List.{length-map}
-use Rattle.app_graph.specs.declared.graphs.Vertex.{Vertex}
-use Rattle.job_readers.specs.{Places.name_place_in, GraphPart.vertex_names_of}
+use Rattle.job_readers.proofs.Common.{List, Some, Vertex, arith, length, length-map, name_place_in, sym, ℕ, ◌<◌, ◌≡◌}
+use Rattle.job_readers.specs.GraphPart.{vertex_names_of}
 use Rattle.job_readers.proofs.PlaceSteps.{place_in-below}
 use Rattle.job_readers.proofs.graph_parts.sender.Goals as goal
 

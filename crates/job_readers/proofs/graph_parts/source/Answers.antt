@@ -1,4 +1,4 @@
-use Rattle.std.proofs.Common.{arith, option_map}
+use Rattle.job_readers.proofs.Common.{arith, option_map}
 use Rattle.job_readers.specs.GraphPart.{net_source_faults, source_value}
 use Rattle.job_readers.proofs.KnownNames.{found_faults, found_value, sender_is_name}
 use Rattle.job_readers.proofs.graph_parts.source.Goals as goal

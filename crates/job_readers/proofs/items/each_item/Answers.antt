@@ -1,8 +1,4 @@
-use Rattle.std.proofs.Common.{refl, ◌∙◌, ap, length, map, arith}
-use Rattle.std.proofs.lemmas.{List.length-map, List.Elements.All-push, Result.err_from_is_err_and}
-use Rattle.serde_json.specs.View.{view}
-use Rattle.job_text.specs.Paths.{path_text, item_at}
-use Rattle.job_readers.specs.Items.{items_faults}
+use Rattle.job_readers.proofs.Common.{All-push, ap, arith, err_from_is_err_and, item_at, items_faults, length, length-map, map, path_text, refl, view, ◌∙◌}
 use Rattle.job_readers.proofs.ItemSteps.{items-more, items-fail, values-more, items-none, values-all}
 use Rattle.job_readers.proofs.items.each_item.Goals as goal
 

@@ -1,8 +1,4 @@
-use Rattle.std.proofs.Common.{◌≡◌, map, take, drop}
-use Rattle.std.specs.Prelude.{All}
-use Rattle.serde_json.specs.View.{view}
-use Rattle.job_text.specs.Paths.{path_text}
-use Rattle.job_readers.specs.Items.{items_faults}
+use Rattle.job_readers.proofs.Common.{All, drop, items_faults, map, path_text, take, view, ◌≡◌}
 use Rattle.job_readers.proofs.items.each_item.Given as goal
 
 abbrev pub invariant-loop-i : goal.invariant-loop-i

@@ -1,5 +1,4 @@
-use Rattle.std.proofs.Common.{arith}
-use Rattle.std.proofs.lemmas.Result.{err_from_is_err_and}
+use Rattle.job_readers.proofs.Common.{arith, err_from_is_err_and}
 use Rattle.job_readers.specs.MachinePart.{machine_members_faults}
 use Rattle.job_readers.proofs.Firsts.{fails_before, fails_later}
 use Rattle.job_readers.proofs.machine_parts.machine_members.Goals as goal

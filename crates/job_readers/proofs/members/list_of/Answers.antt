@@ -1,6 +1,5 @@
-use Rattle.std.proofs.Common.{arith}
-use Rattle.std.proofs.lemmas.{List.length-map, Result.err_from_is_err_and}
-use Rattle.job_readers.specs.Members.{list_member_faults, list_member}
+use Rattle.job_readers.proofs.Common.{arith, err_from_is_err_and, length-map}
+use Rattle.job_readers.specs.Members.{list_member, list_member_faults}
 use Rattle.job_readers.proofs.Firsts.{fails_before, fails_later}
 use Rattle.job_readers.proofs.members.list_of.Goals as goal
 

@@ -1,10 +1,6 @@
-use Rattle.std.proofs.Common.{◌≡◌, Some, option_map, ap, sym, ◌∙◌}
-use Rattle.std.specs.Prelude.{option_and_then}
-use Rattle.serde_json.specs.{View.view, Find.as_str}
-use Rattle.job_text.specs.Paths.{path_text}
-use Rattle.job_readers.specs.Places.{name_place_in, reference_faults, reference_value}
-use Rattle.job_readers.proofs.PlaceSteps.{place_in-below}
-use Rattle.job_readers.proofs.KnownNames.{found_faults, found_value, placed_is_name}
+use Rattle.job_readers.proofs.Common.{Some, ap, as_str, name_place_in, option_and_then, option_map, path_text, sym, view, ◌∙◌, ◌≡◌}
+use Rattle.job_readers.specs.Places.{reference_faults, reference_value}
+use Rattle.job_readers.proofs.{PlaceSteps.place_in-below, KnownNames.found_faults, KnownNames.found_value, KnownNames.placed_is_name}
 use Rattle.job_readers.proofs.named_vertices.known_reference.Goals as goal
 
 pub returns-in-Some-place-clause-read : goal.returns-in-Some-place-clause-read

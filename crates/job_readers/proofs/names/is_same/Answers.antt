@@ -1,4 +1,4 @@
-use Rattle.std.proofs.Common.{arith}
+use Rattle.job_readers.proofs.Common.{arith}
 use Rattle.job_readers.proofs.NameWords.{same_word}
 use Rattle.job_readers.proofs.names.is_same.Goals as goal
 

@@ -1,4 +1,4 @@
-use Rattle.std.proofs.Common.{arith, sym}
+use Rattle.job_readers.proofs.Common.{arith, sym}
 use Rattle.job_readers.proofs.PlaceSteps.{place_in-below}
 use Rattle.job_readers.proofs.names.reference.Goals as goal
 

@@ -1,4 +1,4 @@
-use Rattle.std.proofs.Common.{arith, sym, ◌∙◌}
+use Rattle.job_readers.proofs.Common.{arith, sym, ◌∙◌}
 use Rattle.job_readers.specs.Indexed.{slot_for}
 use Rattle.job_readers.proofs.NameWords.{short_hash, long_hash}
 use Rattle.job_readers.proofs.names.slot_of.Goals as goal

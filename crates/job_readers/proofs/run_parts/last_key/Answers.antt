@@ -1,9 +1,4 @@
-use Rattle.std.proofs.Common.{◌≡◌, ℕ, ◌-◌, ◌<◌, ◌≤◌, Some, length, slice_get, arith, ap}
-use Rattle.std.proofs.{Math.Logic.∥∥₁_elim, Props.props}
-use Rattle.app_graph.specs.declared.graphs.Graph.{Graph}
-use Rattle.app_graph.specs.declared.graphs.Net.{Net}
-use Rattle.app_graph.specs.ValidGraph.{IsValidGraph, IsValidNet}
-use Rattle.app_graph.proofs.Keys.{keys_of-at}
+use Rattle.job_readers.proofs.Common.{Graph, IsValidGraph, IsValidNet, Net, Some, ap, arith, keys_of-at, length, props, slice_get, ℕ, ∥∥₁_elim, ◌-◌, ◌<◌, ◌≡◌, ◌≤◌}
 use Rattle.job_readers.proofs.RunSteps.{holds_at}
 use Rattle.job_readers.proofs.run_parts.last_key.Goals as goal
 

@@ -1,5 +1,4 @@
-use Rattle.std.proofs.Common.{◌≡◌, map, take}
-use Rattle.app_graph.specs.declared.graphs.Net.{Net}
+use Rattle.job_readers.proofs.Common.{Net, map, take, ◌≡◌}
 use Rattle.job_readers.proofs.run_parts.names_of_nets.Given as goal
 
 abbrev pub invariant-loop-net : goal.invariant-loop-net

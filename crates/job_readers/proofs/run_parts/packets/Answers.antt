@@ -1,9 +1,5 @@
-use Rattle.std.proofs.Common.{length, map, refl, ap, sym, ◌∙◌, arith}
-use Rattle.std.proofs.lemmas.List.{nil_from_length}
-use Rattle.std.proofs.{Math.Logic.∥∥₁_elim, Props.props}
-use Rattle.serde_json.specs.View.{view}
-use Rattle.job_readers.specs.Items.{items_faults}
-use Rattle.job_readers.specs.RunPart.{packets_faults, packets_value}
+use Rattle.job_readers.proofs.Common.{ap, arith, length, map, nil_from_length, props, refl, sym, view, ∥∥₁_elim, ◌∙◌}
+use Rattle.job_readers.specs.{Items.items_faults, RunPart.packets_faults, RunPart.packets_value}
 use Rattle.job_readers.proofs.run_parts.packets.Goals as goal
 
 pub returns-then-is_empty-clause-read : goal.returns-then-is_empty-clause-read

@@ -1,6 +1,4 @@
-use Rattle.std.proofs.Common.{arith}
-use Rattle.std.proofs.{Math.Logic.∥∥₁_elim, Props.props}
-use Rattle.std.proofs.lemmas.Result.{err_from_is_err_and}
+use Rattle.job_readers.proofs.Common.{arith, err_from_is_err_and, props, ∥∥₁_elim}
 use Rattle.job_readers.specs.RunPart.{run_members_faults}
 use Rattle.job_readers.proofs.Firsts.{fails_before, fails_later}
 use Rattle.job_readers.proofs.run_parts.run_members.Goals as goal

@@ -1,7 +1,4 @@
-use Rattle.std.proofs.Common.{arith, ◌≡◌, ◌*◌, Some, None, length, get_or, sym, subst, ◌∙◌}
-use Rattle.std.proofs.lemmas.List.{take_all}
-use Rattle.machine_desc.specs.{Description.Description, RoutingTree.end_of}
-use Rattle.machine_desc.proofs.Far.{far_inside}
+use Rattle.ner_trees.proofs.Common.{Description, None, Some, arith, end_of, far_inside, get_or, length, subst, sym, take_all, ◌*◌, ◌∙◌, ◌≡◌}
 use Rattle.ner_trees.proofs.{Cutting.marked_more, Cutting.marked_past, cuts.mark.Goals.in-Some+in_ok-set, cuts.mark.Goals.in_default}
 use Rattle.ner_trees.proofs.cuts.mark.Goals as goal
 

@@ -1,5 +1,4 @@
-use Rattle.std.proofs.Common.{◌≡◌, take}
-use Rattle.ner_trees.specs.Search.{IsMarkedBy}
+use Rattle.ner_trees.proofs.Common.{IsMarkedBy, take, ◌≡◌}
 use Rattle.ner_trees.proofs.cuts.mark.Given as goal
 
 -- the table has the chips where the links so far lead

@@ -1,6 +1,4 @@
-use Rattle.std.proofs.Common.{arith}
-use Rattle.std.proofs.Common.{false, take_all, sym, subst, ◌∙◌}
-use Rattle.ner_trees.specs.Search.{IsCutAt}
+use Rattle.ner_trees.proofs.Common.{arith, false, sym, take_all, ◌∙◌}
 use Rattle.ner_trees.proofs.{Cutting.at_more, Cutting.cut_again_at, Cutting.cut_more_at, cuts.new_branch.Goals.then-at, cuts.new_branch.Goals.else-at}
 use Rattle.ner_trees.proofs.cuts.new_branch.Goals as goal
 

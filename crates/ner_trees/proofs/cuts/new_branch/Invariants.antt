@@ -1,6 +1,4 @@
-use Rattle.std.proofs.Common.{◌≡◌, take}
-use Rattle.machine_desc.specs.Live.{IsInside}
-use Rattle.ner_trees.specs.{Growth.end_of_walk, Search.IsCutAt}
+use Rattle.ner_trees.proofs.Common.{IsCutAt, IsInside, end_of_walk, take, ◌≡◌}
 use Rattle.ner_trees.proofs.cuts.new_branch.Given as goal
 
 -- the walk so far is cut at its last chip that is in the tree

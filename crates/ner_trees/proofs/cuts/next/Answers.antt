@@ -1,6 +1,4 @@
-use Rattle.std.proofs.Common.{arith, sym, ap}
-use Rattle.machine_desc.proofs.Far.{far_inside}
-use Rattle.ner_trees.specs.Growth.{or_stay}
+use Rattle.ner_trees.proofs.Common.{ap, arith, far_inside, or_stay, sym}
 use Rattle.ner_trees.proofs.cuts.next.Goals as goal
 
 pub returns-in-Some : goal.returns-in-Some

@@ -1,6 +1,4 @@
-use Rattle.std.proofs.Common.{◌≡◌, to_z, of_z, w32, pos, ◌-ℤ◌, sym, ap, ◌∙◌, arith}
-use Rattle.std.proofs.lemmas.Int.{ints}
-use Rattle.ner_trees.specs.Geometry.{ahead_by}
+use Rattle.ner_trees.proofs.Common.{arith, ints, of_z, to_z}
 use Rattle.ner_trees.proofs.Signed.{displaced_on_torus, displaced_on_grid}
 use Rattle.ner_trees.proofs.displacements.displacement.Goals as goal
 

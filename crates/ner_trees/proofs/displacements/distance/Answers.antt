@@ -1,6 +1,4 @@
-use Rattle.std.proofs.Common.{arith}
-use Rattle.std.proofs.Common.{sym, ap, ◌∙◌}
-use Rattle.ner_trees.specs.Geometry.{ahead_by}
+use Rattle.ner_trees.proofs.Common.{arith}
 use Rattle.ner_trees.proofs.Signed.{distant_on_torus}
 use Rattle.ner_trees.proofs.displacements.distance.Goals as goal
 

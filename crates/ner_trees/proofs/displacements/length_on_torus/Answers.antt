@@ -1,4 +1,4 @@
-use Rattle.std.proofs.Common.{arith}
+use Rattle.ner_trees.proofs.Common.{arith}
 use Rattle.ner_trees.proofs.Torus.{torus_length}
 use Rattle.ner_trees.proofs.displacements.length_on_torus.Goals as goal
 

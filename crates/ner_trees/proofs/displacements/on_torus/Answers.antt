@@ -1,5 +1,4 @@
-use Rattle.std.proofs.Common.{◌≡◌, ◌≤◌, unsigned_abs, to_z, of_z, w32, pos, ◌-ℤ◌, arith}
-use Rattle.std.proofs.lemmas.Int.{ints}
+use Rattle.ner_trees.proofs.Common.{arith, ints, of_z, pos, to_z, unsigned_abs, w32, ◌-ℤ◌, ◌≡◌, ◌≤◌}
 use Rattle.ner_trees.proofs.Signed.{torus_steps}
 use Rattle.ner_trees.proofs.displacements.on_torus.Goals as goal
 

@@ -1,9 +1,4 @@
-use Rattle.std.proofs.Common.{arith}
-use Rattle.std.proofs.Common.{◌≡◌, ◌++◌, List, true, sym, ap, refl, subst, ◌∙◌}
-use Rattle.std.specs.{Prelude.is_ok, List.All}
-use Rattle.spin_base.specs.declared.chips.Dir.{Dir}
-use Rattle.machine_desc.specs.{Description.Description, declared.trees.Edge.Edge, Live.IsInside}
-use Rattle.ner_trees.specs.{Geometry.displacement_of, LongestFirst.ldf_of, Search.IsCutAt, Search.IsMarkedBy, Search.is_on}
+use Rattle.ner_trees.proofs.Common.{Description, Dir, Edge, IsCutAt, IsInside, IsMarkedBy, List, ap, arith, displacement_of, is_on, ldf_of, refl, subst, true, ◌++◌, ◌∙◌, ◌≡◌}
 use Rattle.ner_trees.proofs.{Growing.extended_inside, Growing.near_on_table, Growing.added_is, Growing.tells_more, growths.add_target.Goals.After-near_chip-near}
 use Rattle.ner_trees.proofs.growths.add_target.Goals as goal
 

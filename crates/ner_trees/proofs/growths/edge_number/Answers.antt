@@ -1,5 +1,4 @@
-use Rattle.std.proofs.Common.{◌≡◌, ◌+◌, ◌*◌, ◌<◌, arith}
-use Rattle.spin_base.specs.Links.{dir_number}
+use Rattle.ner_trees.proofs.Common.{arith}
 use Rattle.ner_trees.proofs.Numbering.{edge_back}
 use Rattle.ner_trees.proofs.growths.edge_number.Goals as goal
 

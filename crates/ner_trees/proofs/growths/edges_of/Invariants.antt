@@ -1,5 +1,4 @@
-use Rattle.std.proofs.Common.{◌≡◌, map, take}
-use Rattle.ner_trees.specs.EdgeNumbers.{edge_numbered}
+use Rattle.ner_trees.proofs.Common.{edge_numbered, map, take, ◌≡◌}
 use Rattle.ner_trees.proofs.growths.edges_of.Given as goal
 
 abbrev pub invariant-loop-number : goal.invariant-loop-number

@@ -1,8 +1,5 @@
-use Rattle.std.proofs.Common.{◌≡◌, ℕ, List, Vec, Global, map, sym, subst, ◌∙◌, ap}
-use Rattle.std.specs.List.{AllPairs, Sorted.IsPermutation}
-use Rattle.std.proofs.lemmas.List.Sorted.{All-permutation, IsNonDecreasingBy-from_sort, IsPermutation-map}
-use Rattle.machine_desc.specs.{EdgeOrder.IsEdgeBefore, declared.trees.Edge.Edge}
-use Rattle.ner_trees.specs.EdgeNumbers.{edge_numbered, IsEdgeNumber}
+use Rattle.ner_trees.proofs.Common.{All-permutation, AllPairs, Edge, Global, IsEdgeBefore, IsEdgeNumber, IsNonDecreasingBy-from_sort, IsPermutation, IsPermutation-map, List, Vec, ap, edge_numbered}
+use Rattle.ner_trees.proofs.Common.{map, subst, sym, ℕ, ◌∙◌, ◌≡◌}
 use Rattle.ner_trees.proofs.Numbering.{in_order_edges, ok_items}
 use Rattle.ner_trees.proofs.growths.in_order.Goals as goal
 

@@ -1,6 +1,4 @@
-use Rattle.std.proofs.Common.{refl, sym, ap, ◌∙◌, arith}
-use Rattle.spin_base.specs.Links.{dir_at}
-use Rattle.spin_base.proofs.Spots.{dir_at-dir_number}
+use Rattle.ner_trees.proofs.Common.{ap, arith, dir_at, dir_at-dir_number, refl, sym, ◌∙◌}
 use Rattle.ner_trees.proofs.Numbering.{no_link}
 use Rattle.ner_trees.proofs.growths.link_numbered.Goals as goal
 

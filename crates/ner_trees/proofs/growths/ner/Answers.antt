@@ -1,9 +1,4 @@
-use Rattle.std.proofs.Common.{arith}
-use Rattle.std.proofs.Common.{◌+◌, List, take, refl, sym, ◌∙◌, subst}
-use Rattle.std.specs.List.{All}
-use Rattle.spin_base.specs.declared.chips.Chip.{Chip}
-use Rattle.machine_desc.specs.{Description.Description, Description.HasSize, Live.IsInside}
-use Rattle.ner_trees.specs.{Growth.IsJoinedBy, Search.TellsTree}
+use Rattle.ner_trees.proofs.Common.{Chip, Description, HasSize, IsJoinedBy, List, TellsTree, arith, refl, subst, sym, take, ◌+◌, ◌∙◌}
 use Rattle.ner_trees.proofs.Growing.{GrownSoFar, Finished, so_far_start, so_far_more, finished_at}
 use Rattle.ner_trees.proofs.growths.ner.Goals as goal
 

@@ -1,4 +1,4 @@
-use Rattle.std.proofs.Common.{◌≡◌, take}
+use Rattle.ner_trees.proofs.Common.{take, ◌≡◌}
 use Rattle.ner_trees.proofs.Growing.{GrownSoFar}
 use Rattle.ner_trees.proofs.growths.ner.Given as goal
 

@@ -1,6 +1,4 @@
-use Rattle.std.proofs.Common.{◌≡◌, map, take}
-use Rattle.std.specs.List.{All}
-use Rattle.ner_trees.specs.EdgeNumbers.{edge_numbered, IsEdgeNumber}
+use Rattle.ner_trees.proofs.Common.{All, IsEdgeNumber, edge_numbered, map, take, ◌≡◌}
 use Rattle.ner_trees.proofs.growths.numbers_of.Given as goal
 
 -- the numbers of the edges so far

@@ -1,8 +1,4 @@
-use Rattle.std.proofs.Common.{arith}
-use Rattle.std.proofs.Common.{◌∷◌, List, ap, min, subst, take_all, ◌∙◌}
-use Rattle.spin_base.specs.declared.chips.Chip.{Chip}
-use Rattle.machine_desc.specs.Description.{Description}
-use Rattle.ner_trees.specs.Search.{AreOn}
+use Rattle.ner_trees.proofs.Common.{Chip, Description, List, arith, subst, take_all, ◌∙◌, ◌∷◌}
 use Rattle.ner_trees.proofs.Nearest.{IsLeastOf, least_start, least_more, least_of_tree}
 use Rattle.ner_trees.proofs.searches.least_nearness.Goals as goal
 

@@ -1,4 +1,4 @@
-use Rattle.std.proofs.Common.{◌∷◌, take}
+use Rattle.ner_trees.proofs.Common.{take, ◌∷◌}
 use Rattle.ner_trees.proofs.Nearest.{IsLeastOf}
 use Rattle.ner_trees.proofs.searches.least_nearness.Given as goal
 

@@ -1,4 +1,4 @@
-use Rattle.std.proofs.Common.{inl, inr, refl}
+use Rattle.ner_trees.proofs.Common.{inl, inr, refl}
 use Rattle.ner_trees.proofs.{Growing.near_is, Searching.none_nearer_none, Searching.none_at_start}
 use Rattle.ner_trees.proofs.searches.near_chip.Goals as goal
 

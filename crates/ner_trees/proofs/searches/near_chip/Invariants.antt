@@ -1,4 +1,4 @@
-use Rattle.ner_trees.specs.Search.{IsNoneNearer}
+use Rattle.ner_trees.proofs.Common.{IsNoneNearer}
 use Rattle.ner_trees.proofs.searches.near_chip.Given as goal
 
 -- no chip of the tree is on the rings so far

@@ -1,5 +1,4 @@
-use Rattle.std.proofs.Common.{◌≡◌, ◌%◌, subst}
-use Rattle.machine_desc.specs.{Description.Description, Live.IsInside, Live.index_of}
+use Rattle.ner_trees.proofs.Common.{Description, IsInside, index_of, subst, ◌%◌, ◌≡◌}
 use Rattle.ner_trees.proofs.Nearest.{index_owed, near_chip_is, near_root_is}
 use Rattle.ner_trees.proofs.searches.nearest_of_all.Goals as goal
 

@@ -1,5 +1,4 @@
-use Rattle.std.proofs.Common.{arith}
-use Rattle.std.proofs.lemmas.Bool.{true≢false}
+use Rattle.ner_trees.proofs.Common.{arith, true≢false}
 use Rattle.ner_trees.proofs.{Searching.better_past, Searching.steps_more, Searching.ring_found, Searching.ring_none, searches.nearest_on_ring.Goals.then-is_any_at_step}
 use Rattle.ner_trees.proofs.searches.nearest_on_ring.Goals.{else-is_any_at_step}
 use Rattle.ner_trees.proofs.searches.nearest_on_ring.Goals as goal

@@ -1,6 +1,4 @@
-use Rattle.std.proofs.Common.{None}
-use Rattle.std.specs.Option.{IfSome}
-use Rattle.ner_trees.specs.Search.{IsBetter, IsOnWithin}
+use Rattle.ner_trees.proofs.Common.{IfSome, IsBetter, IsOnWithin, None}
 use Rattle.ner_trees.proofs.Searching.{Stepped}
 use Rattle.ner_trees.proofs.searches.nearest_on_ring.Given as goal
 

@@ -1,4 +1,4 @@
-use Rattle.std.proofs.Common.{arith}
+use Rattle.ner_trees.proofs.Common.{arith}
 use Rattle.ner_trees.proofs.searches.six_places.Goals as goal
 
 pub returns : goal.returns

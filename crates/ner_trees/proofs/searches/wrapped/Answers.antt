@@ -1,4 +1,4 @@
-use Rattle.std.proofs.Common.{◌+◌, ◌-◌, ◌*◌, sym, arith}
+use Rattle.ner_trees.proofs.Common.{arith, sym, ◌*◌, ◌+◌, ◌-◌}
 use Rattle.ner_trees.proofs.Searching.{round_is}
 use Rattle.ner_trees.proofs.searches.wrapped.Goals as goal
 

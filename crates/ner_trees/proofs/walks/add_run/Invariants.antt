@@ -1,4 +1,4 @@
-use Rattle.std.proofs.Common.{◌≡◌, ◌++◌, replicate}
+use Rattle.ner_trees.proofs.Common.{replicate, ◌++◌, ◌≡◌}
 use Rattle.ner_trees.proofs.walks.add_run.Given as goal
 
 -- so many steps as were counted are added

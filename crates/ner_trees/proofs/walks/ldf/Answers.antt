@@ -1,5 +1,4 @@
-use Rattle.std.proofs.Common.{length, ap, ◌∙◌}
-use Rattle.ner_trees.specs.LongestFirst.{sum_of}
+use Rattle.ner_trees.proofs.Common.{ap, length, sum_of, ◌∙◌}
 use Rattle.ner_trees.proofs.LongestFirst.{ldf_length, ldf_sum}
 use Rattle.ner_trees.proofs.walks.ldf.Goals as goal
 

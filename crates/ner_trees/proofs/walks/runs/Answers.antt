@@ -1,5 +1,4 @@
-use Rattle.std.proofs.Common.{◌≡◌, to_z, of_z, w32, ◌∙◌, arith}
-use Rattle.std.proofs.lemmas.Int.{ints}
+use Rattle.ner_trees.proofs.Common.{arith, ints, of_z, to_z, w32, ◌∙◌, ◌≡◌}
 use Rattle.ner_trees.proofs.Signed.{runs_steps}
 use Rattle.ner_trees.proofs.walks.runs.Goals as goal
 

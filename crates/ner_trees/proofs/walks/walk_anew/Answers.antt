@@ -1,8 +1,5 @@
-use Rattle.std.proofs.Common.{◌≡◌, ℕ, ◌≤◌, List, take, arith}
-use Rattle.std.specs.List.{flat_map}
-use Rattle.std.proofs.lemmas.List.{take_all}
-use Rattle.spin_base.specs.declared.chips.Dir.{Dir}
-use Rattle.ner_trees.specs.{declared.displacements.Disp.Disp, declared.walks.Run.Run, LongestFirst.run_links, LongestFirst.longest_first, LongestFirst.runs_of, LongestFirst.ldf_of}
+use Rattle.ner_trees.proofs.Common.{Dir, Disp, List, Run, arith, flat_map, longest_first, run_links, runs_of, take, take_all, ℕ, ◌≡◌, ◌≤◌}
+use Rattle.ner_trees.specs.LongestFirst.{ldf_of}
 use Rattle.ner_trees.proofs.LongestFirst.{length-longest_first}
 use Rattle.ner_trees.proofs.walks.walk_anew.Goals as goal
 

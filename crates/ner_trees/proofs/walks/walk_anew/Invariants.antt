@@ -1,6 +1,4 @@
-use Rattle.std.proofs.Common.{◌≡◌, take}
-use Rattle.std.specs.List.{flat_map}
-use Rattle.ner_trees.specs.LongestFirst.{run_links, longest_first, runs_of}
+use Rattle.ner_trees.proofs.Common.{flat_map, longest_first, run_links, runs_of, take, ◌≡◌}
 use Rattle.ner_trees.proofs.walks.walk_anew.Given as goal
 
 -- the steps of the runs so far

@@ -1,5 +1,4 @@
-use Rattle.std.proofs.Common.{◌≡◌, ◌+◌, ◌∷◌, drop, length, refl, sym, ap, ◌∙◌, subst, Err, rules}
-use Rattle.std.specs.Vec.Iter.{into_iter_items}
+use Rattle.net_plans.proofs.Common.{Err, ap, drop, into_iter_items, length, refl, rules, subst, sym, ◌+◌, ◌∙◌, ◌∷◌, ◌≡◌}
 use Rattle.link_detours.specs.declared.repairs.RepairErr.TheVariants.{CutOff}
 use Rattle.net_plans.proofs.{Planning.long_more, Routing.HaveWaysTo, Routing.dropped_head, Routing.one_way_more, Routing.ways_before}
 use Rattle.net_plans.proofs.nets.looked_through.Goals as goal

@@ -1,5 +1,4 @@
-use Rattle.std.proofs.Common.{◌≡◌, drop, length}
-use Rattle.std.specs.Vec.Iter.{into_iter_items}
+use Rattle.net_plans.proofs.Common.{drop, into_iter_items, length, ◌≡◌}
 use Rattle.net_plans.proofs.Routing.{HaveWaysTo}
 use Rattle.net_plans.proofs.nets.looked_through.Given as goal
 

@@ -1,14 +1,7 @@
-use Rattle.std.proofs.Common.{◌≢◌, ◌<◌, length, get_or, Some, sym, subst, IfOk, IfErr, rules, arith}
-use Rattle.std.specs.List.{All}
-use Rattle.spin_base.specs.declared.chips.Chip.{Chip}
-use Rattle.std.proofs.lemmas.Result.{IfErr-weaker}
-use Rattle.machine_desc.specs.{Live.IsInside, Live.IsLiveChip, RoutingTree.end_of, RoutingTree.IsTreeTo}
-use Rattle.machine_desc.proofs.EdgePlaces.{before_place}
-use Rattle.link_detours.specs.Cause.{IsRepairCause}
-use Rattle.net_plans.specs.{Cause.IsCauseOne, CutOffTargets.HasNoneCutOff}
+use Rattle.net_plans.proofs.Common.{All, All-at, Chip, HasNoneCutOff, IfErr, IfErr-weaker, IfOk, IsCauseOne, IsInside, IsLiveChip, IsRepairCause, IsTreeTo, Some, arith, before_place, end_of, get_or}
+use Rattle.net_plans.proofs.Common.{length, rules, subst, sym, ◌<◌, ◌≢◌}
 use Rattle.net_plans.proofs.{CutOffLaws.none_cut_off, CutOffLaws.cause_one, CutOffLaws.refused_one, Planning.all_inside, Planning.source_lives, Planning.of_targets, Planning.of_chips}
 use Rattle.net_plans.proofs.Planning.{routes_targets, some_chip, plan_is}
-use Rattle.spin_base.proofs.Places.{All-at}
 use Rattle.net_plans.proofs.nets.net_plan.Goals as goal
 
 pub invariant_of-ends : goal.invariant_of-ends

@@ -1,7 +1,4 @@
-use Rattle.std.specs.List.{All}
-use Rattle.std.proofs.lemmas.Result.{IfOk-weaker, IfErr-weaker}
-use Rattle.machine_desc.specs.{RoutingTree.IsRoutingTree, declared.nets.NetPlan.NetPlan}
-use Rattle.net_plans.specs.{Cause.IsNetCause, CutOffTargets.HasNoneCutOff, NetPlans.ArePlanned, Ways.HaveWays, Ways.IsFirstWithout}
+use Rattle.net_plans.proofs.Common.{All, ArePlanned, HasNoneCutOff, HaveWays, IfErr-weaker, IfOk-weaker, IsFirstWithout, IsNetCause, IsRoutingTree, NetPlan}
 use Rattle.net_plans.proofs.{CutOffLaws.refused_first, Routing.planned_of, Routing.routing_of, Routing.reached_of, Routing.cause_of}
 use Rattle.net_plans.proofs.nets.net_plans.Goals as goal
 

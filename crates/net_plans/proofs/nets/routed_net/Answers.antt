@@ -1,4 +1,4 @@
-use Rattle.std.proofs.Common.{refl}
+use Rattle.net_plans.proofs.Common.{refl}
 use Rattle.net_plans.proofs.Routing.{way_of}
 use Rattle.net_plans.proofs.nets.routed_net.Goals as goal
 

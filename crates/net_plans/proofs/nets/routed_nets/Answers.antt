@@ -1,8 +1,4 @@
-use Rattle.std.proofs.Common.{◌≡◌, ◌-◌, ◌∙◌, List, length, ap, sym, subst, arith}
-use Rattle.std.specs.List.{range_with_len}
-use Rattle.rayon.specs.Numbers.{nat_range}
-use Rattle.rayon.proofs.{ListFacts.IfOk-then, ToStd.nat_range-All}
-use Rattle.net_plans.specs.{declared.nets.RoutedNet.RoutedNet, Ways.AreRoutedNets, Ways.CanRouteAt}
+use Rattle.net_plans.proofs.Common.{AreRoutedNets, CanRouteAt, IfOk-then, List, RoutedNet, ap, arith, length, nat_range, nat_range-All, range_with_len, subst, sym, ◌-◌, ◌∙◌, ◌≡◌}
 use Rattle.net_plans.proofs.Routing.{routed_all}
 use Rattle.net_plans.proofs.nets.routed_nets.Goals as goal
 

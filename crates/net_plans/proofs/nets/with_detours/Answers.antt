@@ -1,4 +1,4 @@
-use Rattle.link_detours.proofs.Unchanged.{whole_repaired}
+use Rattle.net_plans.proofs.Common.{whole_repaired}
 use Rattle.net_plans.proofs.nets.with_detours.Goals as goal
 
 pub returns-then-carry-clause-repaired : goal.returns-then-carry-clause-repaired

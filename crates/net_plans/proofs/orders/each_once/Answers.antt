@@ -1,5 +1,4 @@
-use Rattle.std.proofs.Common.{sym, ◌∙◌}
-use Rattle.std.proofs.lemmas.List.{Filters.dedup_is, Kept.Any-dedup, Kept.Contains-from_dedup, Kept.IsStrictlySortedBy-dedup, Sorted.Contains-permutation, Sorted.IsPermutation-sym}
+use Rattle.net_plans.proofs.Common.{Any-dedup, Contains-from_dedup, Contains-permutation, IsPermutation-sym, IsStrictlySortedBy-dedup, dedup_is, sym, ◌∙◌}
 use Rattle.net_plans.proofs.Ordering.{equal_from_is_eq}
 use Rattle.net_plans.proofs.orders.each_once.Goals as goal
 

@@ -1,8 +1,4 @@
-use Rattle.std.proofs.Common.{take_all, ap, ◌∙◌, subst, arith}
-use Rattle.spin_base.specs.declared.chips.Spot.{Spot}
-use Rattle.spin_base.proofs.Places.{All-at}
-use Rattle.machine_desc.specs.Live.{IsInside}
-use Rattle.net_plans.specs.Keys.{AreChipKeys, IsChipOfOne}
+use Rattle.net_plans.proofs.Common.{All-at, AreChipKeys, IsChipOfOne, IsInside, Spot, ap, arith, subst, take_all, ◌∙◌}
 use Rattle.net_plans.proofs.{TargetLaws.key_pushed, TargetLaws.key_there, TargetLaws.no_keys, targets.chip_keys.Goals.then-not-ends_at+in_ok-push, targets.chip_keys.Goals.else-not-ends_at}
 use Rattle.net_plans.proofs.targets.chip_keys.Goals as goal
 

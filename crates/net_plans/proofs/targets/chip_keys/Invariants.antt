@@ -1,5 +1,4 @@
-use Rattle.std.proofs.Common.{take}
-use Rattle.net_plans.specs.Keys.{AreChipKeys}
+use Rattle.net_plans.proofs.Common.{AreChipKeys, take}
 use Rattle.net_plans.proofs.targets.chip_keys.Given as goal
 
 abbrev pub invariant-loop-i : goal.invariant-loop-i

@@ -1,5 +1,4 @@
-use Rattle.std.proofs.Common.{◌≡◌, map, take}
-use Rattle.net_plans.specs.Keys.{chip_of_key}
+use Rattle.net_plans.proofs.Common.{chip_of_key, map, take, ◌≡◌}
 use Rattle.net_plans.proofs.targets.chips_at.Given as goal
 
 abbrev pub invariant-loop-key : goal.invariant-loop-key

@@ -1,8 +1,4 @@
-use Rattle.std.proofs.Common.{◌≡◌, ◌∙◌, ◌-◌, ◌==◌, ◌&&◌, length, true, Some, ap, sym}
-use Rattle.std.specs.{Option.option_copied, Prelude.slice_get}
-use Rattle.std.proofs.lemmas.Bool.{and_parts, eqb-true}
-use Rattle.spin_base.proofs.{Equality.same_chip, Members.Contains-at}
-use Rattle.net_plans.specs.Keys.{chip_of_key}
+use Rattle.net_plans.proofs.Common.{Contains-at, Some, and_parts, ap, chip_of_key, eqb-true, length, option_copied, same_chip, slice_get, sym, true, ◌&&◌, ◌-◌, ◌==◌, ◌∙◌, ◌≡◌}
 use Rattle.net_plans.proofs.targets.ends_at.Goals as goal
 
 pub returns-in-Some : goal.returns-in-Some

@@ -1,5 +1,4 @@
-use Rattle.std.proofs.Common.{map, nat_cmp, sym, subst}
-use Rattle.net_plans.specs.{Keys.spot_numbered, Targets.AreTargets}
+use Rattle.net_plans.proofs.Common.{AreTargets, map, nat_cmp, spot_numbered, subst, sym}
 use Rattle.net_plans.proofs.TargetLaws.{AreOnce, are_targets, ok_is}
 use Rattle.net_plans.proofs.targets.sorted_targets.Goals as goal
 

@@ -1,5 +1,4 @@
-use Rattle.std.proofs.Common.{◌≡◌, ◌∙◌, ℕ, ◌+◌, ◌*◌, ◌/◌, ◌%◌, ◌<◌, ap, arith}
-use Rattle.ner_trees.proofs.Numbering.{low_digit}
+use Rattle.net_plans.proofs.Common.{ap, arith, low_digit, ℕ, ◌%◌, ◌*◌, ◌+◌, ◌/◌, ◌<◌, ◌∙◌, ◌≡◌}
 use Rattle.net_plans.proofs.targets.spot_number.Goals as goal
 
 -- the higher digits of a number

@@ -1,9 +1,5 @@
-use Rattle.std.proofs.Common.{ℕ, ◌<◌, [], ◌∷◌, ◌++◌, length, List, take, take_all, sym, ap, ◌∙◌, subst, arith}
-use Rattle.std.specs.List.{slice_index_or}
-use Rattle.std.proofs.lemmas.Option.{get_or_from_slice_get}
-use Rattle.spin_base.specs.declared.chips.Spot.{Spot}
-use Rattle.spin_base.proofs.{Equality.same_chip, Equality.same_spot, Places.All-at, Places.map_more_at}
-use Rattle.net_plans.specs.Keys.{nowhere, spot_numbered, AreNumbersOf}
+use Rattle.net_plans.proofs.Common.{All-at, AreNumbersOf, List, Spot, [], ap, arith, get_or_from_slice_get, length, map_more_at, nowhere, same_chip, same_spot, slice_index_or, spot_numbered, subst}
+use Rattle.net_plans.proofs.Common.{sym, take, take_all, ℕ, ◌++◌, ◌<◌, ◌∙◌, ◌∷◌}
 use Rattle.net_plans.proofs.TargetLaws.{cores_of, numbers_more, numbers_none}
 use Rattle.net_plans.proofs.targets.spot_numbers.Goals as goal
 

@@ -1,5 +1,4 @@
-use Rattle.std.proofs.Common.{take}
-use Rattle.net_plans.specs.Keys.{AreNumbersOf}
+use Rattle.net_plans.proofs.Common.{AreNumbersOf, take}
 use Rattle.net_plans.proofs.TargetLaws.{cores_of}
 use Rattle.net_plans.proofs.targets.spot_numbers.Given as goal
 

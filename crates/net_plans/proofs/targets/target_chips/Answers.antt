@@ -1,5 +1,4 @@
-use Rattle.std.proofs.Common.{map, sym, subst}
-use Rattle.net_plans.specs.{Keys.chip_of_key, Targets.AreTargetChips}
+use Rattle.net_plans.proofs.Common.{AreTargetChips, chip_of_key, map, subst, sym}
 use Rattle.net_plans.proofs.{TargetLaws.AreOnce, TargetLaws.are_target_chips, TargetLaws.ok_is, Ordering.compared}
 use Rattle.net_plans.proofs.targets.target_chips.Goals as goal
 

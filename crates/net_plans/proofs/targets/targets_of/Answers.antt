@@ -1,7 +1,4 @@
-use Rattle.std.proofs.Common.{ℕ, ◌*◌, List, length, sym, subst}
-use Rattle.net_plans.specs.Boards.{AreOnBefore, HasCoresOf}
-use Rattle.net_plans.specs.Targets.{AreTargets}
-use Rattle.std.proofs.lemmas.Result.{IfOk-weaker}
+use Rattle.net_plans.proofs.Common.{AreOnBefore, AreTargets, HasCoresOf, IfOk-weaker, List, length, subst, sym, ℕ, ◌*◌}
 use Rattle.net_plans.proofs.Boarding.{are_targets_on}
 use Rattle.net_plans.proofs.targets.targets_of.Goals as goal
 

@@ -1,6 +1,4 @@
-use Rattle.std.proofs.Common.{sym, subst, arith}
-use Rattle.std.proofs.Math.Logic.{∥∥₁_map}
-use Rattle.net_tables.specs.Marks.{IsRouted}
+use Rattle.net_tables.proofs.Common.{IsRouted, arith, subst, sym, ∥∥₁_map}
 use Rattle.net_tables.proofs.Marking.{originals_more}
 use Rattle.net_tables.proofs.gather.add_nets.Goals as goal
 

@@ -1,8 +1,4 @@
-use Rattle.std.proofs.Common.{◌≡◌, ◌*◌, [], None, length, take, map}
-use Rattle.std.specs.List.{slice_index_or}
-use Rattle.spin_base.specs.{declared.chips.Chip.Chip, Outputs.nothing}
-use Rattle.machine_desc.specs.Live.{IsInside, index_of}
-use Rattle.net_tables.specs.{PlainTable.AreOriginals, Marks.IsBlank, Marks.original_of}
+use Rattle.net_tables.proofs.Common.{AreOriginals, Chip, IsBlank, IsInside, None, [], index_of, length, map, nothing, original_of, slice_index_or, take, ◌*◌, ◌≡◌}
 use Rattle.net_tables.proofs.gather.add_nets.Given as goal
 
 -- the boards are clear, and the lists have the original blocks of the nets that were read

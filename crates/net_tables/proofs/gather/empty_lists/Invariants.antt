@@ -1,5 +1,4 @@
-use Rattle.std.proofs.Common.{◌≡◌, []}
-use Rattle.std.specs.Prelude.{replicate}
+use Rattle.net_tables.proofs.Common.{[], replicate, ◌≡◌}
 use Rattle.net_tables.proofs.gather.empty_lists.Given as goal
 
 -- so far there are as many empty lists as were made

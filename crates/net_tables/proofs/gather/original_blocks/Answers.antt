@@ -1,4 +1,4 @@
-use Rattle.std.proofs.Common.{arith}
+use Rattle.net_tables.proofs.Common.{arith}
 use Rattle.net_tables.proofs.Whole.{all_few_marks, all_apart, all_routed}
 use Rattle.net_tables.proofs.gather.original_blocks.Goals as goal
 

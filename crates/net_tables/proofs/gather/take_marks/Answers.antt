@@ -1,5 +1,4 @@
-use Rattle.std.proofs.Common.{◌<◌, ◌∙◌, sym, subst}
-use Rattle.machine_desc.proofs.Far.{far_inside}
+use Rattle.net_tables.proofs.Common.{far_inside, subst, sym, ◌<◌, ◌∙◌}
 use Rattle.net_tables.proofs.{Trees.edge_in, Trees.root_in, Taking.taken_first, Taking.taken_more, Taking.taken_same, Taking.taken_all, Taking.ports_clear, Taking.routes_clear, Taking.all_grown}
 use Rattle.net_tables.proofs.gather.take_marks.Goals.{in-Some+in_ok-take_mark-2, in_default}
 use Rattle.net_tables.proofs.gather.take_marks.Goals as goal

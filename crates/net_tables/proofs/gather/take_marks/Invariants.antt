@@ -1,4 +1,4 @@
-use Rattle.std.proofs.Common.{take}
+use Rattle.net_tables.proofs.Common.{take}
 use Rattle.net_tables.proofs.Taking.{IsTaken}
 use Rattle.net_tables.proofs.gather.take_marks.Given as goal
 

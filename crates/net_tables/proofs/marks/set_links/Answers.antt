@@ -1,5 +1,4 @@
-use Rattle.std.proofs.Common.{◌<◌, ◌∙◌, sym, subst}
-use Rattle.std.proofs.Math.ListN.{length-set}
+use Rattle.net_tables.proofs.Common.{length-set, subst, sym, ◌<◌, ◌∙◌}
 use Rattle.net_tables.proofs.{Telling.links_more, Telling.off_kept, Trees.edge_in, Trees.edge_not_off}
 use Rattle.net_tables.proofs.marks.set_links.Goals as goal
 

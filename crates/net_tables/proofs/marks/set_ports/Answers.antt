@@ -1,7 +1,6 @@
-use Rattle.std.proofs.Common.{◌<◌, ◌∙◌, sym, subst}
-use Rattle.std.proofs.Math.ListN.{length-set}
-use Rattle.machine_desc.proofs.Far.{far_inside}
-use Rattle.net_tables.proofs.{Telling.ports_first, Telling.ports_more, Telling.ports_same, Telling.ports_all, Trees.edge_in, Trees.root_in, marks.set_ports.Goals.in-Some, marks.set_ports.Goals.in_default}
+use Rattle.net_tables.proofs.Common.{far_inside, length-set, subst, sym, ◌<◌, ◌∙◌}
+use Rattle.net_tables.proofs.{Telling.ports_first, Telling.ports_more, Telling.ports_same, Telling.ports_all, Trees.edge_in, Trees.root_in, marks.set_ports.Goals.in-Some}
+use Rattle.net_tables.proofs.marks.set_ports.Goals.{in_default}
 use Rattle.net_tables.proofs.marks.set_ports.Goals as goal
 
 pub loop-edge-init : goal.loop-edge-init

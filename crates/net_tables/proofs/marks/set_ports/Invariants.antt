@@ -1,5 +1,4 @@
-use Rattle.std.proofs.Common.{◌≡◌, ◌*◌, length, take}
-use Rattle.net_tables.specs.Marks.{TellsPorts}
+use Rattle.net_tables.proofs.Common.{TellsPorts, length, take, ◌*◌, ◌≡◌}
 use Rattle.net_tables.proofs.marks.set_ports.Given as goal
 
 -- the ports tell of the edges that were read

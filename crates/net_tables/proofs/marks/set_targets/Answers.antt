@@ -1,5 +1,4 @@
-use Rattle.std.proofs.Common.{◌<◌, ◌∙◌, sym, subst}
-use Rattle.std.proofs.Math.ListN.{length-set}
+use Rattle.net_tables.proofs.Common.{length-set, subst, sym, ◌<◌, ◌∙◌}
 use Rattle.net_tables.proofs.{Telling.ends_more, Telling.off_kept, Trees.core_in, Trees.target_in, Trees.target_not_off}
 use Rattle.net_tables.proofs.marks.set_targets.Goals as goal
 

@@ -1,5 +1,4 @@
-use Rattle.std.proofs.Common.{◌≡◌, ◌*◌, [], length, take}
-use Rattle.net_tables.specs.Marks.{TellsRoutes, IsClearOff}
+use Rattle.net_tables.proofs.Common.{IsClearOff, TellsRoutes, [], length, take, ◌*◌, ◌≡◌}
 use Rattle.net_tables.proofs.marks.set_targets.Given as goal
 
 -- the routes tell of all edges, and of the targets that were read

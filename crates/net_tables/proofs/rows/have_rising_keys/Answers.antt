@@ -1,6 +1,4 @@
-use Rattle.std.proofs.Common.{◌+◌, ◌≤◌, take, take_all, sym, ap, ◌∙◌, subst}
-use Rattle.std.specs.List.{All}
-use Rattle.net_tables.specs.declared.marks.Mark.{Mark}
+use Rattle.net_tables.proofs.Common.{All, Mark, ap, subst, sym, take, take_all, ◌+◌, ◌∙◌, ◌≤◌}
 use Rattle.net_tables.proofs.Rising.{IsBelow, rising_more}
 use Rattle.net_tables.proofs.rows.have_rising_keys.Goals as goal
 

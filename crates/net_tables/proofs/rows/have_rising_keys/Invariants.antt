@@ -1,6 +1,4 @@
-use Rattle.std.proofs.Common.{take}
-use Rattle.std.specs.List.{All, AllPairs}
-use Rattle.net_tables.specs.{Marks.row_of_mark, PlainTable.IsRowNotAfter}
+use Rattle.net_tables.proofs.Common.{All, AllPairs, IsRowNotAfter, row_of_mark, take}
 use Rattle.net_tables.proofs.Rising.{IsBelow}
 use Rattle.net_tables.proofs.rows.have_rising_keys.Given as goal
 

@@ -1,4 +1,4 @@
-use Rattle.std.proofs.Common.{refl}
+use Rattle.net_tables.proofs.Common.{refl}
 use Rattle.net_tables.proofs.Ordering.{table_sorted}
 use Rattle.net_tables.proofs.rows.in_row_order.Goals as goal
 

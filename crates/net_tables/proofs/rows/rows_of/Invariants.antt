@@ -1,5 +1,4 @@
-use Rattle.std.proofs.Common.{◌≡◌, map, take}
-use Rattle.net_tables.specs.Marks.{row_of_mark}
+use Rattle.net_tables.proofs.Common.{map, row_of_mark, take, ◌≡◌}
 use Rattle.net_tables.proofs.rows.rows_of.Given as goal
 
 abbrev pub invariant-loop-mark : goal.invariant-loop-mark

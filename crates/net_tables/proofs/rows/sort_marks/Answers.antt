@@ -1,6 +1,4 @@
-use Rattle.std.proofs.Common.{rules}
-use Rattle.std.proofs.lemmas.List.Sorted.{answers_always}
-use Rattle.net_tables.specs.Marks.{mark_numbers}
+use Rattle.net_tables.proofs.Common.{answers_always, mark_numbers, rules}
 use Rattle.net_tables.proofs.Ordering.{sorted_marks}
 use Rattle.net_tables.proofs.rows.sort_marks.Goals as goal
 

@@ -1,5 +1,4 @@
-use Rattle.net_tables.specs.Marks.{IsTableOf}
-use Rattle.spin_base.proofs.Places.{AllZip-more}
+use Rattle.net_tables.proofs.Common.{AllZip-more, IsTableOf}
 use Rattle.net_tables.proofs.rows.tables_of.Goals as goal
 
 pub loop-list-preserved : goal.loop-list-preserved

@@ -1,6 +1,4 @@
-use Rattle.std.proofs.Common.{take}
-use Rattle.std.specs.List.{AllZip}
-use Rattle.net_tables.specs.Marks.{IsTableOf}
+use Rattle.net_tables.proofs.Common.{AllZip, IsTableOf, take}
 use Rattle.net_tables.proofs.rows.tables_of.Given as goal
 
 abbrev pub invariant-loop-list : goal.invariant-loop-list

@@ -1,5 +1,4 @@
-use Rattle.std.proofs.Common.{◌≡◌, ◌++◌, filter, take}
-use Rattle.net_tables.specs.Marks.{turns}
+use Rattle.net_tables.proofs.Common.{filter, take, turns, ◌++◌, ◌≡◌}
 use Rattle.net_tables.proofs.turning.add_turns.Given as goal
 
 -- those of the original blocks that were read were added

@@ -1,4 +1,4 @@
-use Rattle.std.proofs.Common.{arith}
+use Rattle.net_tables.proofs.Common.{arith}
 use Rattle.net_tables.proofs.Whole.{few_turning, turning_apart}
 use Rattle.net_tables.proofs.turning.turning_blocks.Goals as goal
 

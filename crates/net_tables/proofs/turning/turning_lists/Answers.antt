@@ -1,6 +1,4 @@
-use Rattle.std.proofs.Common.{◌-◌, ◌≤◌, ◌++◌, [], ap, drop, length, refl, take, ◌∙◌, arith}
-use Rattle.std.proofs.lemmas.List.{length-replicate, Elements.All-drop, Elements.All-take}
-use Rattle.net_tables.specs.Marks.{IsRouted}
+use Rattle.net_tables.proofs.Common.{All-drop, All-take, IsRouted, [], ap, arith, drop, length, length-replicate, refl, take, ◌++◌, ◌-◌, ◌∙◌, ◌≤◌}
 use Rattle.net_tables.proofs.{Parting.front_more, Parting.turning_more, Parting.turning_none, Whole.all_routed}
 use Rattle.net_tables.proofs.turning.turning_lists.Goals as goal
 

@@ -1,5 +1,4 @@
-use Rattle.std.proofs.Common.{◌≡◌, ◌*◌, ◌-◌, ◌≤◌, ◌++◌, List, drop, length}
-use Rattle.machine_desc.specs.declared.nets.NetPlan.{NetPlan}
+use Rattle.net_tables.proofs.Common.{List, NetPlan, drop, length, ◌*◌, ◌++◌, ◌-◌, ◌≡◌, ◌≤◌}
 use Rattle.net_tables.proofs.Parting.{HaveTurning}
 use Rattle.net_tables.proofs.turning.turning_lists.Given as goal
 

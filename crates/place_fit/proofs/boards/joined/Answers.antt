@@ -1,6 +1,4 @@
-use Rattle.std.proofs.Common.{◌*◌, ◌%◌, ◌^◌, ◌<◌, arith}
-use Rattle.std.specs.Int.{w32}
-use Rattle.std.proofs.lemmas.Nat.{one_shl, or_lt, pow_below, Bits.bit_at_set_same, Bits.bit_at_set_other}
+use Rattle.place_fit.proofs.Common.{arith, bit_at_set_other, bit_at_set_same, one_shl, or_lt, pow_below, w32, ◌%◌, ◌*◌, ◌<◌, ◌^◌}
 use Rattle.place_fit.proofs.boards.joined.Goals as goal
 
 pub returns : goal.returns

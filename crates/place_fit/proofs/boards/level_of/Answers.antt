@@ -1,5 +1,4 @@
-use Rattle.std.proofs.Common.{arith}
-use Rattle.std.proofs.lemmas.Bool.{cases_lt}
+use Rattle.place_fit.proofs.Common.{arith, cases_lt}
 use Rattle.place_fit.proofs.boards.level_of.Goals as goal
 
 pub returns-clause-level : goal.returns-clause-level

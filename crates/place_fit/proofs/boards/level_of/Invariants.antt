@@ -1,4 +1,4 @@
-use Rattle.std.proofs.Common.{◌≡◌, ℕ, ◌^◌, ◌<◌, ◌≤◌}
+use Rattle.place_fit.proofs.Common.{ℕ, ◌<◌, ◌^◌, ◌≡◌, ◌≤◌}
 use Rattle.place_fit.proofs.boards.level_of.Given as goal
 
 -- the side of the level's square, and no square of a level before holds the grid

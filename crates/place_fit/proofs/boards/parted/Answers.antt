@@ -1,6 +1,4 @@
-use Rattle.std.proofs.Common.{◌*◌, ◌%◌, ◌^◌, arith, inl, inr}
-use Rattle.std.specs.Int.{bit_not, trailing_zeros, w32}
-use Rattle.std.proofs.lemmas.{Bool.cases_lt, Nat.and_le_l, Nat.Bits.bit_at-trailing_zeros, Nat.Bits.bit_at_above, Nat.Bits.bit_at_clear_same, Nat.Bits.bit_at_clear_other}
+use Rattle.place_fit.proofs.Common.{and_le_l, arith, bit_at-trailing_zeros, bit_at_above, bit_at_clear_other, bit_at_clear_same, bit_not, cases_lt, inl, inr, trailing_zeros, w32, ◌%◌, ◌*◌, ◌^◌}
 use Rattle.place_fit.proofs.boards.parted.Goals as goal
 
 pub returns : goal.returns

@@ -1,7 +1,4 @@
-use Rattle.std.proofs.Common.{◌≡◌, ℕ, ◌^◌, ◌<◌, ◌≤◌, cond}
-use Rattle.std.specs.Int.{bit_at}
-use Rattle.machine_desc.specs.Live.{is_usable}
-use Rattle.place_fit.specs.Placement.{core_spot}
+use Rattle.place_fit.proofs.Common.{bit_at, cond, core_spot, is_usable, ℕ, ◌<◌, ◌^◌, ◌≡◌, ◌≤◌}
 use Rattle.place_fit.proofs.boards.usable_cores.Given as goal
 
 -- the bits of the cores so far

@@ -1,6 +1,5 @@
-use Rattle.std.proofs.Common.{◌≡◌, ◌*◌, ◌+◌, ◌<◌, ℕ, sym, ap, ap₂, ◌∙◌, subst, arith}
+use Rattle.place_fit.proofs.Common.{ap, ap₂, arith, curve_place, subst, sym, ℕ, ◌*◌, ◌+◌, ◌<◌, ◌∙◌, ◌≡◌}
 use Rattle.place_fit.proofs.CurveLaws.{place-zero, told_lower_left, told_upper_left, told_upper_right, told_lower_right}
-use Rattle.place_fit.specs.Quarters.{curve_place}
 use Rattle.place_fit.proofs.curves.+place_on_curve.Goals as goal
 
 pub returns-then-level-eq0-clause-place : goal.returns-then-level-eq0-clause-place

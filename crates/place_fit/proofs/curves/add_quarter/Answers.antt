@@ -1,4 +1,4 @@
-use Rattle.std.proofs.Common.{arith, take_all}
+use Rattle.place_fit.proofs.Common.{arith, take_all}
 use Rattle.place_fit.proofs.curves.add_quarter.Goals as goal
 
 pub returns : goal.returns

@@ -1,5 +1,4 @@
-use Rattle.std.proofs.Common.{◌≡◌, ◌++◌, map, take}
-use Rattle.place_fit.specs.Quarters.{in_quarter}
+use Rattle.place_fit.proofs.Common.{in_quarter, map, take, ◌++◌, ◌≡◌}
 use Rattle.place_fit.proofs.curves.add_quarter.Given as goal
 
 -- what there was, and the chips so far

@@ -1,5 +1,4 @@
-use Rattle.std.proofs.Common.{◌^◌, ◌≤◌, All, sym, ◌∙◌, subst, arith}
-use Rattle.std.proofs.{Math.Pow.pow_mono, lemmas.Grind.pow_more}
+use Rattle.place_fit.proofs.Common.{All, arith, pow_mono, pow_more, subst, sym, ◌^◌, ◌∙◌, ◌≤◌}
 use Rattle.place_fit.proofs.CurveLaws.{IsIn, hilbert-zero, hilbert-next, hilbert_inside}
 use Rattle.place_fit.proofs.curves.curve.Goals as goal
 

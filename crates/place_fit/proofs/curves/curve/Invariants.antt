@@ -1,5 +1,4 @@
-use Rattle.std.proofs.Common.{◌≡◌, ◌^◌}
-use Rattle.place_fit.specs.Curve.{hilbert}
+use Rattle.place_fit.proofs.Common.{hilbert, ◌^◌, ◌≡◌}
 use Rattle.place_fit.proofs.curves.curve.Given as goal
 
 -- the curve of the level so far, and its side

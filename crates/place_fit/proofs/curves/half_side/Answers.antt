@@ -1,5 +1,4 @@
-use Rattle.std.proofs.Common.{◌≡◌, ◌+◌, ◌*◌, ◌-◌, ◌%◌, ◌^◌, ◌≤◌, ℕ, ap, ◌∙◌, arith}
-use Rattle.std.proofs.{Math.Pow.pow_mono, lemmas.Grind.pow_more, lemmas.Nat.one_shl}
+use Rattle.place_fit.proofs.Common.{ap, arith, one_shl, pow_mono, pow_more, ℕ, ◌%◌, ◌*◌, ◌+◌, ◌-◌, ◌^◌, ◌∙◌, ◌≡◌, ◌≤◌}
 use Rattle.place_fit.proofs.curves.half_side.Goals as goal
 
 twice : (n : ℕ) → 1 ≤ n → 2 ^ n ≡ 2 ^ (n - 1) * 2

@@ -1,8 +1,4 @@
-use Rattle.std.proofs.Common.{◌≡◌, ◌+◌, ◌++◌, ◌∷◌, [], length, None, Some, slice_get, refl, sym, ap, ◌∙◌, subst, arith}
-use Rattle.std.proofs.lemmas.{List.length_push, Option.slice_get_read}
-use Rattle.spin_base.proofs.Places.{All-at}
-use Rattle.app_graph.specs.declared.graphs.Vertex.{Vertex}
-use Rattle.place_fit.specs.Boards.{AreOthersKept}
+use Rattle.place_fit.proofs.Common.{All-at, AreOthersKept, None, Some, Vertex, [], ap, arith, length, length_push, refl, slice_get, slice_get_read, subst, sym, ◌++◌, ◌+◌, ◌∙◌, ◌∷◌, ◌≡◌}
 use Rattle.place_fit.proofs.{Giving.kept_more, Giving.kept_same, SpotLaws.none_for_core, SpotLaws.placed_more, SpotLaws.placed_none, SpotLaws.has_no_room, SpotLaws.stands_here, SpotLaws.stood_on_core}
 use Rattle.place_fit.proofs.free_cores.put_all.Goals as goal
 

@@ -1,6 +1,4 @@
-use Rattle.std.proofs.Common.{◌≡◌, length}
-use Rattle.machine_desc.specs.Description.{Description}
-use Rattle.place_fit.specs.{Boards.AreFreeOn, Boards.AreOthersKept, Standing.ArePlaced}
+use Rattle.place_fit.proofs.Common.{AreFreeOn, AreOthersKept, ArePlaced, Description, length, ◌≡◌}
 use Rattle.place_fit.proofs.free_cores.put_all.Given as goal
 
 -- the vertices so far stand on the board

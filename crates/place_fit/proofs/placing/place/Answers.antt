@@ -1,5 +1,4 @@
-use Rattle.std.proofs.Common.{◌≡◌, ◌+◌, ◌++◌, ◌∷◌, [], length, Some, slice_get, refl, sym, ap, ◌∙◌, arith}
-use Rattle.std.proofs.lemmas.{List.length_push, Option.slice_get_read}
+use Rattle.place_fit.proofs.Common.{Some, [], ap, arith, length, length_push, refl, slice_get, slice_get_read, sym, ◌++◌, ◌+◌, ◌∙◌, ◌∷◌, ◌≡◌}
 use Rattle.place_fit.proofs.SpotLaws.{finds_none, has_no_room, placed_more, placed_none, stands_here, stood, all_sites, all_on_cores, all_differ}
 use Rattle.place_fit.proofs.placing.place.Goals as goal
 

@@ -1,5 +1,4 @@
-use Rattle.std.proofs.Common.{◌≡◌, length}
-use Rattle.place_fit.specs.Standing.{ArePlaced}
+use Rattle.place_fit.proofs.Common.{ArePlaced, length, ◌≡◌}
 use Rattle.place_fit.proofs.placing.place.Given as goal
 
 -- the vertices so far stand on the board, at their spots

@@ -1,5 +1,4 @@
-use Rattle.std.proofs.Common.{arith}
-use Rattle.std.proofs.Common.{None}
+use Rattle.std.proofs.Common.{arith, None}
 use Rattle.std.proofs.lemmas.Result.{err_from_is_err_and}
 use Rattle.table_load.specs.Reading.{read_tables}
 use Rattle.table_load.proofs.TableReads.{goes_on, ends, is_done}

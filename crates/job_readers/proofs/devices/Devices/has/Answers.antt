@@ -1,6 +1,5 @@
-use Rattle.std.proofs.Common.{ap, ◌∙◌}
-use Rattle.std.specs.List.{list_any}
-use Rattle.job_readers.specs.{Hung.is_among, Listed.anchor_of, Listed.anchor_eq}
+use Rattle.job_readers.proofs.Common.{anchor_eq, anchor_of, ap, list_any, ◌∙◌}
+use Rattle.job_readers.specs.Hung.{is_among}
 use Rattle.job_readers.proofs.devices.Devices.has.Goals as goal
 
 pub returns : goal.returns

@@ -1,5 +1,4 @@
-use Rattle.std.proofs.Common.{arith, ◌≡◌, Bool, true, false, cond, ◌||◌, refl}
-use Rattle.std.proofs.lemmas.List.Folds.{list_any-append}
+use Rattle.job_readers.proofs.Common.{Bool, arith, cond, false, list_any-append, refl, true, ◌||◌, ◌≡◌}
 use Rattle.job_readers.proofs.devices.Devices.with.Goals as goal
 
 either : (a b : Bool) → cond a true b ≡ (b || (a || false))

@@ -1,10 +1,4 @@
-use Rattle.std.proofs.Common.{◌≡◌, false, ap, sym, subst, ◌∙◌}
-use Rattle.std.specs.Prelude.{IfSome}
-use Rattle.std.specs.List.{list_any}
-use Rattle.std.specs.Ordering.{nat_cmp}
-use Rattle.std.specs.BTreeMap.{get}
-use Rattle.job_readers.specs.Blocks.{IsRange, shares_key}
-use Rattle.job_readers.specs.FixedRanges.{AreRanges}
+use Rattle.job_readers.proofs.Common.{AreRanges, IfSome, IsRange, ap, false, get, list_any, nat_cmp, shares_key, subst, sym, ◌∙◌, ◌≡◌}
 use Rattle.job_readers.proofs.RangeSteps.{is_other, one_more}
 use Rattle.job_readers.proofs.fixed_blocks.FixedBlocks.and.Goals as goal
 

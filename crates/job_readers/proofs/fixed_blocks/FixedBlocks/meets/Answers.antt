@@ -1,8 +1,4 @@
-use Rattle.std.proofs.Common.{refl, ap, sym, subst, ◌∙◌}
-use Rattle.std.specs.{Prelude.nat_le, List.list_any, Option.IsSome, Ordering.nat_cmp, declared.ops.Bound.TheVariants.Included, declared.ops.Bound.TheVariants.Unbounded, BTreeMap.get}
-use Rattle.std.specs.BTreeMap.Range.{IsRangeOf}
-use Rattle.std.proofs.lemmas.Map.Keys.{le_from_not_gt}
-use Rattle.job_readers.specs.Blocks.{shares_key}
+use Rattle.job_readers.proofs.Common.{Included, IsRangeOf, IsSome, Unbounded, ap, get, le_from_not_gt, list_any, nat_cmp, nat_le, refl, shares_key, subst, sym, ◌∙◌}
 use Rattle.job_readers.proofs.RangeSteps.{is_not_above, next_tells, all_before}
 use Rattle.job_readers.proofs.fixed_blocks.FixedBlocks.meets.Goals as goal
 

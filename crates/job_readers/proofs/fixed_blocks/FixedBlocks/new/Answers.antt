@@ -1,4 +1,4 @@
-use Rattle.std.proofs.Common.{arith}
+use Rattle.job_readers.proofs.Common.{arith}
 use Rattle.job_readers.proofs.RangeSteps.{no_ranges}
 use Rattle.job_readers.proofs.fixed_blocks.FixedBlocks.new.Goals as goal
 

@@ -1,9 +1,4 @@
-use Rattle.std.proofs.Common.{◌≡◌, map, ap, sym, subst, ◌∙◌, arith, rules, replicate}
-use Rattle.std.specs.Ordering.{nat_cmp}
-use Rattle.std.specs.Cmp.Lexicographic.{slice_cmp}
-use Rattle.std.specs.Map.{lookup}
-use Rattle.std.specs.BTreeMap.{is_at}
-use Rattle.job_readers.specs.Indexed.{AreSlots, told_later, word_for}
+use Rattle.job_readers.proofs.Common.{AreSlots, ap, arith, is_at, lookup, map, nat_cmp, replicate, rules, slice_cmp, subst, sym, told_later, word_for, ◌∙◌, ◌≡◌}
 use Rattle.job_readers.proofs.SlotSteps.{none_in}
 use Rattle.job_readers.proofs.names.Names.new.Goals as goal
 

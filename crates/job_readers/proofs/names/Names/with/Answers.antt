@@ -1,6 +1,4 @@
-use Rattle.std.proofs.Common.{◌≡◌, [], ◌∷◌, ◌++◌, map, sym, subst, ◌∙◌}
-use Rattle.std.proofs.lemmas.List.{map_push}
-use Rattle.job_readers.specs.{Places.name_place_in, Indexed.AreSlots, Indexed.said_of, Indexed.told_later}
+use Rattle.job_readers.proofs.Common.{AreSlots, [], map, map_push, name_place_in, said_of, subst, sym, told_later, ◌++◌, ◌∙◌, ◌∷◌, ◌≡◌}
 use Rattle.job_readers.proofs.{PlaceSteps.known_stays, PlaceSteps.none_is, NameWords.words_more, SlotSteps.known_in}
 use Rattle.job_readers.proofs.names.Names.with.Goals as goal
 

@@ -1,6 +1,5 @@
-use Rattle.std.proofs.Common.{◌≡◌, ◌≢◌, [], ◌∷◌, ◌++◌, None, length, map, get_or, sym, ap, ◌∙◌, arith}
-use Rattle.std.proofs.lemmas.{List.map_push, List.length-map, List.get_or_read, Map.Text.btree_map_updates_str}
-use Rattle.job_readers.specs.{Places.name_place_in, Indexed.in_slot, Indexed.slot_for, Indexed.said_of, Indexed.told_later}
+use Rattle.job_readers.proofs.Common.{None, [], ap, arith, btree_map_updates_str, get_or, get_or_read, in_slot, length, length-map, map, map_push, name_place_in, said_of, slot_for, sym, told_later}
+use Rattle.job_readers.proofs.Common.{◌++◌, ◌∙◌, ◌∷◌, ◌≡◌, ◌≢◌}
 use Rattle.job_readers.proofs.{NameWords.words_more, SlotSteps.first_in, SlotSteps.later_in}
 use Rattle.job_readers.proofs.names.Names.with_new.Goals as goal
 

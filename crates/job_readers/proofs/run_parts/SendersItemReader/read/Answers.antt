@@ -1,7 +1,5 @@
-use Rattle.std.proofs.Common.{◌≡◌, ◌<◌, ℕ, List, length, arith, ap, subst, ◌∙◌}
-use Rattle.std.proofs.lemmas.List.{length-map}
+use Rattle.job_readers.proofs.Common.{List, Net, ap, arith, length, length-map, subst, ℕ, ◌<◌, ◌∙◌, ◌≡◌}
 use Rattle.job_readers.specs.GraphPart.{net_names}
-use Rattle.app_graph.specs.declared.graphs.Net.{Net}
 use Rattle.job_readers.proofs.run_parts.SendersItemReader.read.Goals as goal
 
 -- a place among the names of nets is one of a net

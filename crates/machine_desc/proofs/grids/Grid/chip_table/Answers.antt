@@ -1,5 +1,4 @@
-use Rattle.std.proofs.Common.{arith}
-use Rattle.std.proofs.Math.ListN.{length-set}
+use Rattle.machine_desc.proofs.Common.{arith, length-set}
 use Rattle.machine_desc.proofs.Listing.{TellsChips-more}
 use Rattle.machine_desc.proofs.grids.Grid.chip_table.Goals as goal
 

@@ -1,5 +1,4 @@
-use Rattle.std.proofs.Common.{◌≡◌, length, take}
-use Rattle.machine_desc.specs.Tables.{chip_total, TellsChips}
+use Rattle.machine_desc.proofs.Common.{TellsChips, chip_total, length, take, ◌≡◌}
 use Rattle.machine_desc.proofs.grids.Grid.chip_table.Given as goal
 
 -- the table tells of what was read

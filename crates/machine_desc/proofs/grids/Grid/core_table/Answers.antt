@@ -1,5 +1,4 @@
-use Rattle.std.proofs.Common.{arith}
-use Rattle.std.proofs.Math.ListN.{length-set}
+use Rattle.machine_desc.proofs.Common.{arith, length-set}
 use Rattle.machine_desc.proofs.{Listing.TellsCores-more, Listing.TellsCores-skip, grids.Grid.core_table.Goals.then-spot-lt-CORES, grids.Grid.core_table.Goals.else-spot-lt-CORES}
 use Rattle.machine_desc.proofs.grids.Grid.core_table.Goals as goal
 

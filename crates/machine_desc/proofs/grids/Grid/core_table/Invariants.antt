@@ -1,5 +1,4 @@
-use Rattle.std.proofs.Common.{◌≡◌, ◌*◌, length, take}
-use Rattle.machine_desc.specs.Tables.{chip_total, TellsCores}
+use Rattle.machine_desc.proofs.Common.{TellsCores, chip_total, length, take, ◌*◌, ◌≡◌}
 use Rattle.machine_desc.proofs.grids.Grid.core_table.Given as goal
 
 -- the table tells of what was read

@@ -1,5 +1,4 @@
-use Rattle.std.proofs.Common.{◌≡◌, ◌*◌, length, take}
-use Rattle.machine_desc.specs.Tables.{chip_total, TellsLinks}
+use Rattle.machine_desc.proofs.Common.{TellsLinks, chip_total, length, take, ◌*◌, ◌≡◌}
 use Rattle.machine_desc.proofs.grids.Grid.link_table.Given as goal
 
 -- the table tells of what was read

@@ -1,5 +1,4 @@
-use Rattle.std.proofs.Common.{arith}
-use Rattle.machine_desc.specs.Described.{described}
+use Rattle.machine_desc.proofs.Common.{arith, described}
 use Rattle.machine_desc.proofs.Far.{index_below}
 use Rattle.machine_desc.proofs.machines.Machine.index.Goals as goal
 

@@ -1,5 +1,4 @@
-use Rattle.std.proofs.Common.{arith, count_by}
-use Rattle.machine_desc.specs.{Description.Description, Tables.TellsChips}
+use Rattle.machine_desc.proofs.Common.{Description, TellsChips, arith, count_by}
 use Rattle.machine_desc.proofs.Live.{live_counted}
 use Rattle.machine_desc.proofs.machines.Machine.new.Goals as goal
 

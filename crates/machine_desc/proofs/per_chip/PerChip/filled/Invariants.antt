@@ -1,6 +1,5 @@
 -- So far the item stands as often as it was put in.
-use Rattle.std.proofs.Common.{◌≡◌}
-use Rattle.std.specs.Prelude.{replicate}
+use Rattle.machine_desc.proofs.Common.{replicate, ◌≡◌}
 use Rattle.machine_desc.proofs.per_chip.PerChip.filled.Given as goal
 
 abbrev pub invariant-loop : goal.invariant-loop

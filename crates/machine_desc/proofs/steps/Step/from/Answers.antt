@@ -1,5 +1,4 @@
-use Rattle.std.proofs.Common.{◌-◌, sym, Some, None, arith}
-use Rattle.std.proofs.lemmas.Bool.{cond-true}
+use Rattle.machine_desc.proofs.Common.{None, Some, arith, cond-true, sym, ◌-◌}
 use Rattle.machine_desc.proofs.Axis.{stepped_ahead_inside, stepped_back_first}
 use Rattle.machine_desc.proofs.steps.Step.from.Goals as goal
 

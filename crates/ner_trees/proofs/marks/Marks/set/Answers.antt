@@ -1,6 +1,4 @@
-use Rattle.std.proofs.Common.{ℕ, [], ◌∷◌, ◌++◌, ◌∙◌, true, set, sym, subst}
-use Rattle.std.proofs.lemmas.List.{length-set}
-use Rattle.ner_trees.specs.Search.{AreAllOn, AreOn}
+use Rattle.ner_trees.proofs.Common.{AreAllOn, AreOn, [], length-set, set, subst, sym, true, ℕ, ◌++◌, ◌∙◌, ◌∷◌}
 use Rattle.ner_trees.proofs.Growing.{one_all_listed, one_listed}
 use Rattle.ner_trees.proofs.marks.Marks.set.Goals as goal
 

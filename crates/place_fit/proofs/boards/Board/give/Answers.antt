@@ -1,6 +1,4 @@
-use Rattle.std.proofs.Common.{take, sym, subst}
-use Rattle.std.proofs.lemmas.List.{take_more}
-use Rattle.place_fit.specs.Boards.{AreGiven}
+use Rattle.place_fit.proofs.Common.{AreGiven, subst, sym, take, take_more}
 use Rattle.place_fit.proofs.Giving.{given_more}
 use Rattle.place_fit.proofs.boards.Board.give.Goals as goal
 

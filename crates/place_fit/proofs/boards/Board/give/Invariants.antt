@@ -1,5 +1,4 @@
-use Rattle.std.proofs.Common.{take}
-use Rattle.place_fit.specs.Boards.{AreGiven}
+use Rattle.place_fit.proofs.Common.{AreGiven, take}
 use Rattle.place_fit.proofs.boards.Board.give.Given as goal
 
 -- the spots so far are free

@@ -1,4 +1,4 @@
-use Rattle.std.proofs.Common.{◌≡◌, ℕ, slice_get, get_or, sym, ap, ◌∙◌, arith}
+use Rattle.place_fit.proofs.Common.{ap, arith, get_or, slice_get, sym, ℕ, ◌∙◌, ◌≡◌}
 use Rattle.place_fit.proofs.CurveLaws.{place_at}
 use Rattle.place_fit.proofs.boards.Board.named.Goals as goal
 

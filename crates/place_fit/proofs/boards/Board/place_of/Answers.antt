@@ -1,5 +1,4 @@
-use Rattle.std.proofs.Common.{◌≡◌, ◌*◌, ◌%◌, ◌^◌, ◌≤◌, ℕ, slice_get, ap₂, ◌∙◌, arith}
-use Rattle.std.proofs.lemmas.{Nat.one_shl, Option.slice_get_within}
+use Rattle.place_fit.proofs.Common.{ap₂, arith, one_shl, slice_get, slice_get_within, ℕ, ◌%◌, ◌*◌, ◌^◌, ◌∙◌, ◌≡◌, ◌≤◌}
 use Rattle.place_fit.proofs.{CurveLaws.at_place, CurveLaws.inside_at, boards.Board.place_of.Goals.else-chip-side-via-then-chip-side+else-chip-side-2}
 use Rattle.place_fit.proofs.boards.Board.place_of.Goals.{else-chip-side-via-else-chip-side}
 use Rattle.place_fit.proofs.boards.Board.place_of.Goals as goal

@@ -1,6 +1,4 @@
-use Rattle.std.proofs.Common.{take, sym, ◌∙◌, subst}
-use Rattle.std.proofs.lemmas.List.{take_more}
-use Rattle.place_fit.specs.Boards.{AreSettled}
+use Rattle.place_fit.proofs.Common.{AreSettled, subst, sym, take, take_more, ◌∙◌}
 use Rattle.place_fit.proofs.Giving.{settled_more}
 use Rattle.place_fit.proofs.boards.Board.settle.Goals as goal
 

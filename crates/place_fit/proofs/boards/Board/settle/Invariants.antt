@@ -1,5 +1,4 @@
-use Rattle.std.proofs.Common.{◌≡◌, take}
-use Rattle.place_fit.specs.Boards.{AreSettled}
+use Rattle.place_fit.proofs.Common.{AreSettled, take, ◌≡◌}
 use Rattle.place_fit.proofs.boards.Board.settle.Given as goal
 
 -- the chips of the spots so far have all their memory

@@ -1,4 +1,4 @@
-use Rattle.std.proofs.Common.{refl}
+use Rattle.place_fit.proofs.Common.{refl}
 use Rattle.place_fit.proofs.Giving.{settled_one}
 use Rattle.place_fit.proofs.boards.Board.settle_one.Goals as goal
 

@@ -1,9 +1,6 @@
-use Rattle.std.proofs.Common.{◌≡◌, ◌+◌, ◌*◌, ◌^◌, ◌<◌, ℕ, List, ◌++◌, ◌∷◌, [], set, get_or, length, Some, slice_get, inl, inr, sym, ap, ◌∙◌, subst, arith}
-use Rattle.std.proofs.lemmas.{Bool.cases_lt, List.length-replicate, List.length_push, List.length-set, List.get_or_append_left, List.get_or_push, List.get_or-set_same, List.get_or-set_other}
-use Rattle.std.proofs.lemmas.{Nat.pow-add, Option.slice_get_within, Option.get_or_from_slice_get}
-use Rattle.machine_desc.specs.{Description.Description, Live.is_usable}
-use Rattle.spin_base.specs.declared.chips.Chip.{Chip}
-use Rattle.place_fit.specs.Boards.{AreCores, room_left}
+use Rattle.place_fit.proofs.Common.{AreCores, Chip, Description, List, Some, [], ap, arith, cases_lt, get_or, get_or-set_other, get_or-set_same, get_or_append_left, get_or_from_slice_get, get_or_push}
+use Rattle.place_fit.proofs.Common.{inl, inr, is_usable, length, length-replicate, length-set, length_push, pow-add, room_left, set, slice_get, slice_get_within, subst, sym, ℕ, ◌*◌, ◌++◌, ◌+◌, ◌<◌}
+use Rattle.place_fit.proofs.Common.{◌^◌, ◌∙◌, ◌∷◌, ◌≡◌}
 use Rattle.place_fit.proofs.{CurveLaws.hilbert_length, Giving.few_push}
 use Rattle.place_fit.proofs.boards.Board.whole.Goals as goal
 

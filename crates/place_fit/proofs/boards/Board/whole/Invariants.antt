@@ -1,7 +1,4 @@
-use Rattle.std.proofs.Common.{◌≡◌, ℕ, ◌^◌, ◌<◌, length, Some, slice_get, slice_index}
-use Rattle.spin_base.specs.declared.chips.Chip.{Chip}
-use Rattle.machine_desc.specs.Live.{is_usable}
-use Rattle.place_fit.specs.Boards.{AreCores, room_left}
+use Rattle.place_fit.proofs.Common.{AreCores, Chip, Some, is_usable, length, room_left, slice_get, slice_index, ℕ, ◌<◌, ◌^◌, ◌≡◌}
 use Rattle.place_fit.proofs.boards.Board.whole.Given as goal
 
 -- the chips so far have their cores and their room

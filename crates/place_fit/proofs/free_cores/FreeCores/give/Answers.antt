@@ -1,5 +1,4 @@
-use Rattle.std.proofs.Common.{subst, sym}
-use Rattle.place_fit.specs.Boards.{AreFreeOn}
+use Rattle.place_fit.proofs.Common.{AreFreeOn, subst, sym}
 use Rattle.place_fit.proofs.Giving.{free_with, kept_same, whole_again}
 use Rattle.place_fit.proofs.free_cores.FreeCores.give.Goals as goal
 

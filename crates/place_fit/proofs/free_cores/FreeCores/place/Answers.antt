@@ -1,7 +1,4 @@
-use Rattle.std.proofs.Common.{◌≡◌, ◌≢◌, List, All, AllPairs, None, sym, subst}
-use Rattle.spin_base.specs.declared.chips.Spot.{Spot}
-use Rattle.app_graph.specs.{declared.graphs.Vertex.Vertex, ValidGraph.HaveDifferentDevices}
-use Rattle.place_fit.specs.Boards.{AreFreeOn, AreGiven, AreSettled, IsWithout}
+use Rattle.place_fit.proofs.Common.{All, AllPairs, AreFreeOn, AreGiven, AreSettled, HaveDifferentDevices, IsWithout, List, None, Spot, Vertex, subst, sym, ◌≡◌, ◌≢◌}
 use Rattle.place_fit.proofs.{Giving.whole_again, SpotLaws.all_differ, SpotLaws.free_back, SpotLaws.free_without}
 use Rattle.place_fit.proofs.free_cores.FreeCores.place.Goals as goal
 

@@ -1,5 +1,4 @@
-use Rattle.std.proofs.Common.{◌≡◌, ◌+◌, ◌*◌, ◌^◌, ◌<◌, ◌≤◌, All, get_or, subst, ap, ◌∙◌, arith}
-use Rattle.std.proofs.{Math.Pow.pow_mono, lemmas.Nat.pow_pos, lemmas.Grind.pow_more, lemmas.List.get_or_default}
+use Rattle.place_fit.proofs.Common.{All, ap, arith, get_or, get_or_default, pow_mono, pow_more, pow_pos, subst, ◌*◌, ◌+◌, ◌<◌, ◌^◌, ◌∙◌, ◌≡◌, ◌≤◌}
 use Rattle.place_fit.proofs.{RoomLaws.IsFound, RoomLaws.none_above, RoomLaws.found_left, RoomLaws.found_right, rooms.Rooms.first_above.Goals.then-index-need-2}
 use Rattle.place_fit.proofs.rooms.Rooms.first_above.Goals.{else-index-need-2}
 use Rattle.place_fit.proofs.rooms.Rooms.first_above.Goals as goal

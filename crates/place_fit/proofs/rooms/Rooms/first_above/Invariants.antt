@@ -1,4 +1,4 @@
-use Rattle.std.proofs.Common.{◌^◌}
+use Rattle.place_fit.proofs.Common.{◌^◌}
 use Rattle.place_fit.proofs.RoomLaws.{IsFound}
 use Rattle.place_fit.proofs.rooms.Rooms.first_above.Given as goal
 

@@ -1,5 +1,4 @@
-use Rattle.std.proofs.Common.{◌≡◌, ◌*◌, ◌%◌, ◌^◌, ℕ, drop, replicate, rules, ap, ◌∙◌, arith}
-use Rattle.std.proofs.lemmas.{Nat.one_shl, List.drop-replicate}
+use Rattle.place_fit.proofs.Common.{ap, arith, drop, drop-replicate, one_shl, replicate, rules, ℕ, ◌%◌, ◌*◌, ◌^◌, ◌∙◌, ◌≡◌}
 use Rattle.place_fit.proofs.rooms.Rooms.new.Goals as goal
 
 pub returns : goal.returns

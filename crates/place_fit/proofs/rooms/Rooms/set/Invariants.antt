@@ -1,4 +1,4 @@
-use Rattle.std.proofs.Common.{◌≡◌, ◌*◌, ◌/◌, ◌^◌, ◌<◌, ◌≤◌, drop, slice_set}
+use Rattle.place_fit.proofs.Common.{drop, slice_set, ◌*◌, ◌/◌, ◌<◌, ◌^◌, ◌≡◌, ◌≤◌}
 use Rattle.place_fit.proofs.RoomLaws.{IsTreeBut}
 use Rattle.place_fit.proofs.rooms.Rooms.set.Given as goal
 

@@ -1,5 +1,4 @@
-use Rattle.std.proofs.Common.{arith, ap, subst, sym, ◌∙◌, ◌||◌}
-use Rattle.range_store.specs.{Regions.is_free, Regions.in_range, Views.CanGive}
+use Rattle.std.proofs.Common.{arith}
 use Rattle.range_store.proofs.RunLemmas.{widen}
 use Rattle.range_store.proofs.ranges.Ranges.give.Goals as goal
 

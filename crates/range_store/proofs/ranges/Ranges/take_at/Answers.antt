@@ -1,6 +1,5 @@
-use Rattle.std.proofs.Common.{arith}
-use Rattle.std.proofs.Common.{subst, ap, sym, ◌∙◌, ◌&&◌, not}
-use Rattle.range_store.specs.{Fits.FitsAt, Regions.AreRuns, Regions.holes_without, Regions.is_free, Regions.in_range, Regions.is_hole_range}
+use Rattle.std.proofs.Common.{arith, ap, ◌∙◌, ◌&&◌, not}
+use Rattle.range_store.specs.Regions.{holes_without, is_free, in_range}
 use Rattle.range_store.proofs.RunLemmas.{widen, cut_is, fits_any}
 use Rattle.range_store.proofs.ranges.Ranges.take_at.Goals as goal
 

@@ -1,5 +1,4 @@
-use Rattle.std.proofs.Common.{arith, subst, sym}
-use Rattle.range_store.specs.Regions.{AreRuns}
+use Rattle.std.proofs.Common.{arith}
 use Rattle.range_store.proofs.RunLemmas.{widen, cut_is}
 use Rattle.range_store.proofs.ranges.Ranges.take_from.Goals as goal
 
