@@ -14,7 +14,7 @@ use crate::knowing::Known;
 use crate::merged_block;
 use crate::merging::{LegalMerge, RowBefore};
 use crate::places::RowPlaces;
-use crate::rivaled::{HoldingRow, NumberedRow, OrderedRows};
+use crate::rivaled::{HoldingRow, NumberedPlaces, NumberedRow, OrderedRows};
 use crate::rivals::{Rival, Rivals, is_at_one, is_missed, place_in, rivals_behind};
 use crate::spans::spans_of;
 use crate::times::{Times, changed};
@@ -109,8 +109,12 @@ fn loses(row: RowBefore, rivals: &Rivals) -> bool
     let places = row.merge.gaps.places;
     let serial = rivals.serials[row.s];
     let list = rivals.of[serial].as_slice();
+    let numbered = NumberedPlaces {
+        serials: &rivals.serials,
+        places,
+    };
     for k in 0..list.len() {
-        if is_at_one(&rivals.serials, places, list[k].serial) {
+        if is_at_one(numbered, list[k].serial) {
             return true;
         }
     }
@@ -222,7 +226,11 @@ fn renew(
 {
     let serial = rivals.serials[s];
     let mut list = mem::replace(&mut rivals.of[serial], Seq::new(alloc)).into_vec();
-    list.retain(|v| !is_at_one(&rivals.serials, places, v.serial));
+    let numbered = NumberedPlaces {
+        serials: &rivals.serials,
+        places,
+    };
+    list.retain(|v| !is_at_one(numbered, v.serial));
     let done = put_rival(&mut list, merged);
     rivals.of[serial] = Seq::from_vec(list);
     done

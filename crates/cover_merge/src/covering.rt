@@ -3,8 +3,7 @@ ghost use Rattle.std.specs.Prelude.{◌≡◌, ◌<◌, ◌≤◌, ◌^◌, ◌�
 ghost use Rattle.tern_word.specs.SoundTable.{IsSound, served};
 ghost use Rattle.std.specs.List.Sorted.{IsPermutation};
 ghost use Rattle.cover_merge.specs.Merge.{IsLegal, IsMergeSet, after};
-ghost use Rattle.cover_merge.specs.Known.{AreStillKept, IsApart, IsCarried, IsKnown, IsKnownAt};
-ghost use Rattle.cover_merge.specs.Rivals.{AreMet};
+ghost use Rattle.cover_merge.specs.Known.{AreStillKept, IsApart, IsKnown, IsKnownAt};
 ghost use Rattle.cover_merge.specs.Covering.{Covers, HasNoChosen, HasNoLegalPair, HasRoutesOf, IsChosen};
 ghost use Rattle.cover_merge.specs.Merges.{sets_of};
 
@@ -89,7 +88,7 @@ fn merge_next(
     }
 }
 
-// Merges the rows at the places, and finds what is known of the table after it.
+// Merges the rows at the places, and carries over what is known to the table after it, the rivals of rows last.
 fn merge_at(
     alloc: Global,
     table: &mut Table,
@@ -116,21 +115,11 @@ fn merge_at(
     };
     let merge = LegalMerge { rows, gaps, block };
     let met = met_places(alloc, merge)?;
-    carry_over(merge, known, &met, now);
-    merge_rows(alloc, table, &mut known.rivals, places, &met)
-}
-
-// Carries over what is known to the table after the merge, but for the rivals of rows.
-fn carry_over(merge: LegalMerge, known: &mut Known, met: &[u32], now: usize)
-    requires known { IsKnownAt now merge.rows.now known.old }
-    requires met { AreMet merge.block merge.rows.now met.now }
-    ensures carried { IsCarried now (after merge.entry.rows.now merge.entry.gaps.places.now) known.new }
-    ensures rivals { known.new.rivals ≡ known.old.rivals }
-{
-    touch(merge, known, met, now);
+    touch(merge, known, &met, now);
     forget(merge, known);
     carry_numbers(merge, &mut known.numbers);
     carry_times(merge, &mut known.times, now);
+    merge_rows(alloc, table, &mut known.rivals, places, &met)
 }
 
 // Forgets what is kept of the route of the rows that are merged, and of routes for which a block was down-checked that the

@@ -40,6 +40,14 @@ pub(crate) struct NumberedRow<'a, 'b> {
     pub ghost inside: { s < length rows.now },
 }
 
+/// Numbers of rows, and places of such rows.
+#[derive(Clone, Copy)]
+pub(crate) struct NumberedPlaces<'a, 'b> {
+    pub(crate) serials: &'a [usize],
+    pub(crate) places: &'b [u32],
+    pub ghost inside: { All (λ s. s < length serials.now) places.now },
+}
+
 /// The rows of a sound table, fewer than 2^32, with the rivals of each.
 #[derive(Clone, Copy)]
 pub(crate) struct RivaledRows<'a> {

@@ -8,7 +8,9 @@ ghost use Rattle.cover_merge.specs.Rivals.{AreJoined, AreRivalsAt, IsOriginal, I
 use crate::meeting::{LastMet, passes_behind};
 use crate::merged_block;
 use crate::places::RowPlaces;
-use crate::rivaled::{AlikeBehind, HoldingRow, NumberedRow, OrderedRows, RowPair, SoundRows};
+use crate::rivaled::{
+    AlikeBehind, HoldingRow, NumberedPlaces, NumberedRow, OrderedRows, RowPair, SoundRows,
+};
 use crate::spans::spans_of_all;
 use spin_base::{Block, Memory, Seq};
 use std::alloc::Global;
@@ -152,7 +154,11 @@ pub(crate) fn passes(row: AlikeBehind, general: u32) -> bool
         if rival.general > general {
             return true;
         }
-        if rival.bits != bits || !is_at_one(&rivals.serials, places, rival.serial) {
+        let numbered = NumberedPlaces {
+            serials: &rivals.serials,
+            places,
+        };
+        if rival.bits != bits || !is_at_one(numbered, rival.serial) {
             return false;
         }
     }
@@ -160,10 +166,11 @@ pub(crate) fn passes(row: AlikeBehind, general: u32) -> bool
 }
 
 /// Whether the row of this number stands at one of the places.
-pub(crate) fn is_at_one(serials: &[usize], places: &[u32], serial: usize) -> bool
-    requires { All (λ s. s < length serials.now) places.now }
-    ensures { result ≡ is_at_one serials.now places.now serial }
+pub(crate) fn is_at_one(numbered: NumberedPlaces, serial: usize) -> bool
+    ensures { result ≡ is_at_one numbered.entry.serials.now numbered.entry.places.now serial }
 {
+    let serials = numbered.serials;
+    let places = numbered.places;
     for s in places {
         if serials[*s as usize] == serial {
             return true;

@@ -4,4 +4,4 @@ use Rattle.cover_merge.specs.{declared.rivals.Rival.Rival, Rivals.is_at_one}
 use Rattle.cover_merge.proofs.carrying.loses.Given as goal
 
 abbrev pub invariant-loop-k : goal.invariant-loop-k
-invariant-loop-k l = (n : ℕ) (e : Rival) → n < l.k → is_at_one l.rivals.serials.items l.places (get_or l.list n e).serial ≡ false
+invariant-loop-k l = (n : ℕ) (e : Rival) → n < l.k → is_at_one l.rivals.serials.items l.row.merge.gaps.places.now (get_or l.list n e).serial ≡ false

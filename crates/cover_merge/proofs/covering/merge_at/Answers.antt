@@ -1,10 +1,11 @@
--- What was carried over is known of the table after the merge, whose rivals are those that were renewed.
-use Rattle.std.proofs.Common.{◌≡◌, ◌∙◌, ◌<◌, ◌^◌, ℕ, List, refl, ap, sym, subst, length, arith}
+-- What is known is carried over to the table after the merge, and its rivals are those that were renewed.
+use Rattle.std.proofs.Common.{◌≡◌, ◌∙◌, ◌<◌, ◌^◌, ℕ, List, refl, ap, sym, subst, length, get_or, arith}
 use Rattle.std.specs.Prelude.{All, AllPairs}
 use Rattle.tern_word.specs.{declared.tables.Row.Row, Ternary.generality, SoundTable.IsSound}
-use Rattle.cover_merge.specs.{declared.knowing.Known.Known, Merge.IsLegal, Merge.IsMergeSet, Merge.after, Merge.insert_place, Merge.merged_block, Merge.place_for, Known.IsCarried, Rivals.AreMet}
-use Rattle.cover_merge.specs.Rivals.{IsRivaled}
-use Rattle.cover_merge.proofs.ApplyLemmas.{both_ok, members_before}
+use Rattle.cover_merge.specs.{declared.knowing.Known.Known, Merge.IsLegal, Merge.IsMergeSet, Merge.after, Merge.insert_place, Merge.merged_block, Merge.place_for, Known.IsCarried, Known.IsKnown, Rivals.AreMet}
+use Rattle.cover_merge.specs.{Known.AreRoutesKept, Known.AreStillKept, Known.IsApart, Links.AreNumbers, Links.IsEachOnce, Links.place_of_route, Rivals.IsRivaled, Tried.AreNoLater, Tried.AreTouched}
+use Rattle.cover_merge.specs.Tried.{AreTriedUpTo}
+use Rattle.cover_merge.proofs.{ApplyLemmas.both_ok, ApplyLemmas.members_before, KeepLemmas.kept_over, covering.merge_at.Goals.After-carry_times}
 use Rattle.cover_merge.proofs.covering.merge_at.Goals as goal
 
 pub invariant_of-gaps : goal.invariant_of-gaps
@@ -39,10 +40,46 @@ carried : (now : ℕ) (rows read table : List Row) (places members : List ℕ) (
 carried now rows read table places members known is_read is_members is_table =
     subst (λ l. IsCarried now l known) (ap (λ l. after l members) is_read ∙ ap (after rows) is_members ∙ sym is_table)
 
+-- all that is known is carried over, but for the rivals of rows
+carried_over : (c : After-carry_times) → let f = c.forget.new.known in
+    IsCarried c.args.now (after c.as_slice-rows.result.now c.as_slice-members.result.now)
+    (record { rivals = f.rivals; times = c.carry_times.new.times; numbers = c.carry_numbers.new.numbers; routes = f.routes; kept = f.kept; latest = f.latest })
+carried_over c =
+    let rows = c.as_slice-rows.result.now in
+    let places = c.as_slice-members.result.now in
+    let first = c.args.known.now in
+    let start : IsKnown rows first = subst (λ l. IsKnown l first) (sym c.as_slice-rows.ensures) c.requires.known.told in
+    let merge = subst (λ l. (IsMergeSet l places) × (IsLegal l places)) (sym c.as_slice-rows.ensures)
+    (subst (λ l. (IsMergeSet c.args.table.now.rows l) × (IsLegal c.args.table.now.rows l)) (sym c.as_slice-members.ensures) c.requires.merge) in
+    let t = c.touch.new.known in
+    let old = c.touch.ensures.known.told in
+    let f = c.forget.new.known in
+    let same = c.forget.ensures in
+    let times : AreNoLater f.routes.items f.latest.items rows f.times.items =
+    subst (λ g. AreNoLater f.routes.items f.latest.items rows g) (sym same.times)
+    (subst (λ l. AreNoLater f.routes.items l rows t.times.items) (sym same.latest) (subst (λ r. AreNoLater r t.latest.items rows t.times.items) (sym same.routes) old.latest)) in
+    let numbers : AreNumbers f.routes.items rows f.numbers.items =
+    subst (λ n. AreNumbers f.routes.items rows n) (sym same.numbers) (subst (λ r. AreNumbers r rows t.numbers.items) (sym same.routes) old.numbers) in record {
+      one_each = c.carry_times.ensures.one_each;
+      one_time = ap length same.latest ∙ old.one_time ∙ sym (ap length same.routes);
+      latest = c.carry_times.ensures.latest f.routes.items f.latest.items times
+          (λ d. ap (λ r. get_or f.latest.items (place_of_route r (get_or rows (get_or places 0 0) d).route.bits) 0) same.routes
+          ∙ ap (λ l. get_or l (place_of_route t.routes.items (get_or rows (get_or places 0 0) d).route.bits) 0) same.latest ∙ c.touch.ensures.own d);
+      once = subst IsEachOnce (sym same.routes) old.once;
+      numbers = c.carry_numbers.ensures f.routes.items numbers;
+      one_route = same.left.one_each ∙ old.one_route ∙ sym (ap length same.routes);
+      kept = subst (λ r. AreRoutesKept r (after rows places) f.kept.items) (sym (same.routes ∙ c.touch.ensures.same.routes))
+          (kept_over first.routes.items rows first.numbers.items first.kept.items t.kept.items f.kept.items places c.merged_block-block.result start.once start.numbers start.rivaled.sound
+          (record { set = merge.0; legal = merge.1; block = c.merged_block-block.ensures }) start.kept c.touch.ensures.left
+          (subst (λ n. AreStillKept (λ k it. (k ≡ get_or n (get_or places 0 0) 0 → ⊥) × (IsApart c.merged_block-block.result it)) t.kept.items f.kept.items) c.touch.ensures.same.numbers same.left));
+      marks = c.carry_times.ensures.marks (subst (AreTriedUpTo c.args.now rows) (sym same.times) c.touch.ensures.known.marks)
+          (subst (AreTouched places c.args.now rows) (sym same.times) c.touch.ensures.touched);
+    }
+
 pub merge_rows-requires : goal.merge_rows-requires
 merge_rows-requires c =
     let rows = c.args.table.now.rows in record {
-      rivaled = subst (IsRivaled rows) (sym c.carry_over.ensures.rivals) c.requires.known.told.rivaled;
+      rivaled = subst (IsRivaled rows) (sym (c.forget.ensures.rivals ∙ c.touch.ensures.rivals)) c.requires.known.told.rivaled;
       merge = record { set = c.requires.merge.0; legal = c.requires.merge.1; block = refl };
       met = subst (AreMet (merged_block rows c.args.places.now) rows) (sym c.deref-2.ensures.value)
           (subst (λ b. AreMet b rows c.in_ok-met.met.items) (c.merged_block-block.ensures ∙ ap (λ l. merged_block l c.as_slice-members.result.now) c.as_slice-rows.ensures ∙ ap (merged_block rows) c.as_slice-members.ensures)
@@ -53,7 +90,7 @@ pub returns-clause-known : goal.returns-clause-known
 returns-clause-known c =
     both_ok c.merge_rows.result _ _ _
     (λ table rivaled.
-    let old = carried c.args.now c.args.table.now.rows c.as_slice-rows.result.now c.merge_rows.new.table.rows c.args.places.now c.as_slice-members.result.now c.carry_over.new.known c.as_slice-rows.ensures c.as_slice-members.ensures table c.carry_over.ensures.carried in record {
+    let old = carried c.args.now c.args.table.now.rows c.as_slice-rows.result.now c.merge_rows.new.table.rows c.args.places.now c.as_slice-members.result.now _ c.as_slice-rows.ensures c.as_slice-members.ensures table (carried_over (goal.at.returns-clause-known c).After-carry_times) in record {
       told = record {
         rivaled = rivaled;
         one_each = old.one_each;

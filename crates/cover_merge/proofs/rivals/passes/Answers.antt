@@ -36,7 +36,7 @@ returns-then-rival-bits c =
           c.index-rows-s.result w.if-rival-bits.true
       | then-rival-bits-via-else-rival-bits+then-not-is_at_one w ↦
           away_refuses _ _ rivaled _ c.args.row.are.in_range _ list are c.args.general c.args.row.are.one_route c.loop-k.k none c.loop-k-test.true c.if-rival-general.false
-          (sym (w.is_at_one.ensures ∙ ap (λ l. is_at_one l c.args.row.places.now (get_or list c.loop-k.k none).serial) w.deref.ensures.value) ∙ w.if-not-is_at_one.true)
+          (sym (w.is_at_one.ensures ∙ ap (λ l. is_at_one l c.args.row.places.now (get_or list c.loop-k.k none).serial) c.deref.ensures.value) ∙ w.if-not-is_at_one.true)
     ]))
 
 pub loop-k-preserved : goal.loop-k-preserved
