@@ -1,6 +1,5 @@
 -- A mesh and regions that an application leaves.
-use Rattle.std.proofs.Common.{◌≡◌, ◌++◌, List, length, sym, ap, ◌∙◌, subst, refl}
-use Rattle.std.proofs.lemmas.List.{length-map}
+use Rattle.std.proofs.{Common.◌≡◌, Common.◌++◌, Common.List, Common.length, Common.sym, Common.ap, Common.◌∙◌, Common.subst, Common.refl, lemmas.List.length-map}
 use Rattle.std.specs.List.{All}
 use Rattle.spin_base.specs.declared.{blocks.Entry.Entry, copies.Delivery.Delivery, copies.DumpRec.DumpRec}
 use Rattle.machine_desc.specs.Description.{Description}

@@ -1,5 +1,4 @@
-use Rattle.std.proofs.Common.{arith}
-use Rattle.std.proofs.lemmas.{List.take_all, Option.slice_get-get_or}
+use Rattle.std.proofs.{Common.arith, lemmas.List.take_all, lemmas.Option.slice_get-get_or}
 use Rattle.machine_desc.specs.Live.{index_of}
 use Rattle.app_loads.specs.Counting.{end_places}
 use Rattle.app_loads.proofs.RowClaims.{ends_more}

@@ -1,5 +1,4 @@
-use Rattle.std.proofs.Common.{arith, ◌≡◌, ◌∙◌, List, [], ap, length, not, sym}
-use Rattle.std.proofs.lemmas.List.{append-nil}
+use Rattle.std.proofs.{Common.arith, Common.◌≡◌, Common.◌∙◌, Common.List, Common.[], Common.ap, Common.length, Common.not, Common.sym, lemmas.List.append-nil}
 use Rattle.std.specs.List.{filter}
 use Rattle.spin_base.specs.declared.copies.Delivery.{Delivery}
 use Rattle.app_loads.specs.{Grouping.all_grouped, Leaving.is_delivery_of}

@@ -1,5 +1,4 @@
-use Rattle.std.proofs.Common.{arith, ◌&&◌, Bool, false, leb, not}
-use Rattle.std.proofs.lemmas.Bool.{and_from, le-leb, le-ltb}
+use Rattle.std.proofs.{Common.arith, Common.◌&&◌, Common.Bool, Common.false, Common.leb, Common.not, lemmas.Bool.and_from, lemmas.Bool.le-leb, lemmas.Bool.le-ltb}
 use Rattle.app_loads.specs.{declared.group.Group.TheInside.Inside, declared.loaded.LoadedApp.LoadedApp, Leaving.is_packet_of}
 use Rattle.app_loads.proofs.GroupLaws.{others_all}
 use Rattle.app_loads.proofs.group.Group.is_others.Goals as goal

@@ -1,5 +1,4 @@
-use Rattle.std.proofs.Common.{arith}
-use Rattle.std.proofs.lemmas.Bool.{and_from}
+use Rattle.std.proofs.{Common.arith, lemmas.Bool.and_from}
 use Rattle.app_loads.proofs.GroupLaws.{own_all}
 use Rattle.app_loads.proofs.group.Group.is_own.Goals as goal
 
