@@ -1,8 +1,8 @@
 -- What holds of a host without an application.
-use Rattle.std.proofs.Common.{◌≡◌, ℕ, ◌+◌, ◌-◌, ◌*◌, ◌/◌, ◌%◌, ◌<◌, ◌≤◌, zero, suc, ◌∙◌, List, [], ◌∷◌, ◌++◌, Option, Some, None, Bool, true, false, ◌&&◌, if◌then◌else◌, ◌==◌, refl, sym, ap, subst}
-use Rattle.std.proofs.{Common.arith, Common.length, Common.replicate, Common.not, Common.get_or, Common.leb, Common.ltb, lemmas.Option.same_Some}
-use Rattle.std.proofs.lemmas.{Bool.cases_lt, Bool.leb-false, Bool.leb-true, Bool.Decides.nat_tests, List.get_or-replicate, List.length-replicate, List.length-append, List.get_or_append_left}
-use Rattle.std.proofs.lemmas.{List.get_or-append_right, List.Elements.All-nil, List.Elements.All-replicate, Option.slice_get-get_or, Option.slice_get_within, Option.get_or_from_slice_get}
+use Rattle.std.proofs.Common.{arith, ◌≡◌, ℕ, ◌+◌, ◌-◌, ◌*◌, ◌/◌, ◌%◌, ◌<◌, ◌≤◌, zero, suc, ◌∙◌, List, [], ◌∷◌, ◌++◌, Option, Some, None, Bool, true, false, ◌&&◌, if◌then◌else◌, ◌==◌, refl, sym, ap}
+use Rattle.std.proofs.Common.{subst, length, replicate, not, get_or, leb, ltb}
+use Rattle.std.proofs.lemmas.{Option.same_Some, Option.slice_get-get_or, Option.slice_get_within, Option.get_or_from_slice_get, Bool.cases_lt, Bool.leb-false, Bool.leb-true, Bool.Decides.nat_tests}
+use Rattle.std.proofs.lemmas.List.{get_or-replicate, length-replicate, length-append, get_or_append_left, get_or-append_right, Elements.All-nil, Elements.All-replicate}
 use Rattle.std.specs.List.{slice_get, Contains}
 use Rattle.spin_base.proofs.{Members.Contains-none, Gathering.gathered_nothing}
 use Rattle.spin_base.specs.declared.{blocks.Entry.Entry, chips.Chip.Chip, chips.Spot.Spot, copies.McCopy.McCopy}

@@ -3,8 +3,8 @@ use Rattle.std.proofs.Common.{◌≡◌, ℕ, ◌+◌, ◌^◌, ◌<◌, ◌≤�
 use Rattle.std.proofs.lemmas.{Bool.cases_lt, Option.slice_get-get_or, Option.slice_get_within, Option.same_Some}
 use Rattle.std.specs.List.{slice_get, slice_set}
 use Rattle.spin_base.specs.declared.blocks.Block.{Block}
-use Rattle.app_loads.specs.{declared.answers.LoadRefusal.TheVariants.KeysOut, declared.loaded.Claim.Claim, declared.loaded.Range.Range}
-use Rattle.app_loads.specs.{declared.plans.AppNet.AppNet, Claims.AreBlocks, Claims.IsBlockOf, Joining.AreKeyed, Joining.IsKeyRange}
+use Rattle.app_loads.specs.{declared.answers.LoadRefusal.TheVariants.KeysOut, declared.loaded.Claim.Claim, declared.loaded.Range.Range, declared.plans.AppNet.AppNet, Claims.AreBlocks}
+use Rattle.app_loads.specs.{Claims.IsBlockOf, Joining.AreKeyed, Joining.IsKeyRange}
 use Rattle.app_loads.proofs.{Serving.set_cases, ClaimCases.same_net}
 
 -- the nets of the claims up to a place have their blocks

@@ -1,7 +1,7 @@
 -- What the claims of a plan are, and that each net and chip has its own.
-use Rattle.std.proofs.Common.{◌≡◌, ◌≢◌, ℕ, zero, suc, ◌+◌, ◌-◌, ◌%◌, ◌^◌, ◌<◌, ◌≤◌, ◌==◌, Bool, true, false, List, [], ◌∷◌, ◌++◌, ◌∙◌, Option, None, Some, if◌then◌else◌, leb, get_or, length, map}
-use Rattle.std.proofs.{Common.refl, Common.sym, Common.ap, Common.subst, Common.inl, Common.inr, Common.arith, Common.IfSome, Common.count_by, lemmas.Option.slice_get-get_or}
-use Rattle.std.proofs.lemmas.{Bool.cases_eq, Bool.cases_lt, Bool.le-leb, Bool.leb-true, Bool.both_ways, Bool.eq-eqb, Bool.ne_eqb, List.FromFn.get_or-map-range_with_len}
+use Rattle.std.proofs.Common.{arith, ◌≡◌, ◌≢◌, ℕ, zero, suc, ◌+◌, ◌-◌, ◌%◌, ◌^◌, ◌<◌, ◌≤◌, ◌==◌, Bool, true, false, List, [], ◌∷◌, ◌++◌, ◌∙◌, Option, None, Some, if◌then◌else◌, leb, get_or, length}
+use Rattle.std.proofs.Common.{map, refl, sym, ap, subst, inl, inr, IfSome, count_by}
+use Rattle.std.proofs.lemmas.{Option.slice_get-get_or, Bool.cases_eq, Bool.cases_lt, Bool.le-leb, Bool.leb-true, Bool.both_ways, Bool.eq-eqb, Bool.ne_eqb, List.FromFn.get_or-map-range_with_len}
 use Rattle.std.proofs.lemmas.{List.FromFn.length-map-range_with_len, List.Folds.find_at, List.Sums.fails_before_first, List.Sums.passes_at_first, List.Sums.position_or_len_is, Nat.pow_pos}
 use Rattle.std.specs.{Prelude.find, Prelude.unwrap_or, Prelude.zip, List.slice_get, List.Contains, List.flat_map, List.position_or_len, List.range_with_len}
 use Rattle.spin_base.specs.{Gathered.gathered, declared.blocks.Block.Block}

@@ -1,9 +1,9 @@
 -- Rows put into ranges of entries.
-use Rattle.std.proofs.Common.{◌≡◌, ◌≢◌, ℕ, zero, suc, ◌+◌, ◌<◌, ◌≤◌, true, false, ◌||◌, ◌&&◌, ◌==◌, List, [], ◌∷◌, ◌++◌, take, drop, get_or, length, map, set, refl, sym, ap, ◌∙◌, subst, inl, inr, ◌⊎◌}
-use Rattle.std.proofs.{Common.arith, Common.Some, Common.append_assoc, lemmas.Option.slice_get-get_or, lemmas.Option.get_or_from_slice_get, lemmas.Option.same_Some}
-use Rattle.std.proofs.{Math.Seq.drop-cons, lemmas.Bool.cases_eq, lemmas.Bool.cases_lt, lemmas.Bool.eq-eqb, lemmas.Bool.and_from, lemmas.Bool.false_from_ne_true, lemmas.Bool.or_parts}
-use Rattle.std.proofs.{Math.ListN.get_or-map, lemmas.List.length-set, lemmas.List.length-append, lemmas.List.length-take-le, lemmas.List.length-map, lemmas.List.length-drop, lemmas.List.map-append}
-use Rattle.std.proofs.lemmas.{List.set_at, List.get_or-take, List.take_all, List.take_at, List.drop_at, List.Elements.Contains-push_cases, List.Folds.list_any-append, Option.slice_get_within}
+use Rattle.std.proofs.Common.{arith, ◌≡◌, ◌≢◌, ℕ, zero, suc, ◌+◌, ◌<◌, ◌≤◌, true, false, ◌||◌, ◌&&◌, ◌==◌, List, [], ◌∷◌, ◌++◌, take, drop, get_or, length, map, set, refl, sym, ap, ◌∙◌, subst, inl}
+use Rattle.std.proofs.{Common.inr, Common.◌⊎◌, Common.Some, Common.append_assoc, lemmas.List.Folds.list_any-append}
+use Rattle.std.proofs.{lemmas.Option.slice_get-get_or, lemmas.Option.get_or_from_slice_get, lemmas.Option.same_Some, lemmas.Option.slice_get_within, Math.Seq.drop-cons, lemmas.Bool.cases_eq}
+use Rattle.std.proofs.{lemmas.Bool.cases_lt, lemmas.Bool.eq-eqb, lemmas.Bool.and_from, lemmas.Bool.false_from_ne_true, lemmas.Bool.or_parts, Math.ListN.get_or-map, lemmas.List.length-set}
+use Rattle.std.proofs.lemmas.List.{length-append, length-take-le, length-map, length-drop, map-append, set_at, get_or-take, take_all, take_at, drop_at, Elements.Contains-push_cases}
 use Rattle.std.specs.List.{AllZip, slice_get, slice_set, Contains}
 use Rattle.key_alloc.proofs.Ranges.{in_from}
 use Rattle.spin_base.proofs.{Members.Contains-at, Places.AllZip-more, Places.slice_get-set_same, Places.slice_get-set_other, Places.take_more_at, Places.map_more_at}

@@ -1,12 +1,12 @@
 -- A mesh whose earlier deliveries are held apart, seen as one mesh.
 use Rattle.std.proofs.Common.{◌≡◌, ◌≢◌, Bool, ℕ, ◌+◌, ◌^◌, ◌<◌, List, [], ◌++◌, ◌∷◌, drop, get_or, length, refl, sym, ap, ◌∙◌, subst, inl, inr, arith, Option, Result, Ok, Err, OnOk, Some, map}
-use Rattle.mesh_core.specs.{Ledger.dumped_marks, State.Setup, State.State, State.IsMesh, Trail.Mark, Trail.IsUnderWayAt, Trail.delivered}
+use Rattle.mesh_core.specs.{Ledger.dumped_marks, Ledger.all_hand_marks, Ledger.core_marks, Ledger.delivered_marks, Ledger.input_marks, Ledger.marks_of, Ledger.unsent_marks, State.Setup, State.State}
+use Rattle.mesh_core.specs.{State.IsMesh, Trail.Mark, Trail.IsUnderWayAt, Trail.delivered, Expected.NothingWaits, Queues.drop_front}
 use Rattle.std.proofs.lemmas.{Bool.cases_Bool, Bool.eq-eqb, Option.none-some, Option.same_Some, List.append-nil, List.drop_at, List.map-append, List.Sums.count_by-le-length, List.Sums.length-filter}
 use Rattle.std.specs.{BTreeMap.BTreeMap, BTreeMap.Updates, BTreeMap.is_at, Map.lookup, List.Contains, List.filter, List.slice_get, List.slice_set, Ordering.nat_cmp}
 use Rattle.spin_base.proofs.Members.{Among, among_contains, among_either, among_left, among_map, among_right, contains_among}
 use Rattle.spin_base.specs.declared.{blocks.Block.Block, copies.Delivery.Delivery, copies.McCopy.McCopy}
 use Rattle.machine_desc.specs.RightTables.{IsKeyOf}
-use Rattle.mesh_core.specs.{Expected.NothingWaits, Ledger.all_hand_marks, Ledger.core_marks, Ledger.delivered_marks, Ledger.input_marks, Ledger.marks_of, Ledger.unsent_marks, Queues.drop_front}
 use Rattle.mesh_drain.specs.Draining.{AreRoutedAlike, HasBrought, IsMoved, IsReachedDropless, MaySend, SendAlone, of_packet}
 use Rattle.mesh_drain.proofs.Frame.{dumped_reached, kept_reached, setup_reached}
 use Rattle.app_loads.specs.declared.answers.UnloadErr.{UnloadErr, TheVariants.NotLoaded, TheVariants.Waiting, TheVariants.Memory}

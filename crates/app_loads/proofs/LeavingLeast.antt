@@ -1,7 +1,7 @@
 -- The least packet of an application that is under way, from the lists of the mesh.
 use Rattle.std.proofs.Common.{◌≡◌, ℕ, ◌+◌, ◌/◌, ◌%◌, ◌<◌, ◌≤◌, min, Bool, true, false, if◌then◌else◌, List, [], ◌∷◌, ◌++◌, take, length, get_or, refl, sym, ap, ◌∙◌, subst, inl, inr, arith, Option}
-use Rattle.std.proofs.{Common.None, Common.Some, Common.append-nil, lemmas.List.Elements.All-contains}
-use Rattle.std.proofs.lemmas.{Bool.cases_lt, List.get_or_default, List.take_more, List.take_all, List.Concat.flat_map-append, Option.get_or_from_slice_get, Option.slice_get-get_or}
+use Rattle.std.proofs.{Common.None, Common.Some, Common.append-nil, lemmas.Option.slice_get-get_or}
+use Rattle.std.proofs.lemmas.{List.Elements.All-contains, Bool.cases_lt, List.get_or_default, List.take_more, List.take_all, List.Concat.flat_map-append, Option.get_or_from_slice_get}
 use Rattle.std.specs.{List.slice_get, List.flat_map, List.All, List.Contains, Prelude.IfSome, Prelude.IfNone}
 use Rattle.spin_base.specs.{Gathered.gathered, declared.chips.Chip.Chip, declared.copies.McCopy.McCopy, declared.routes.Out.Out}
 use Rattle.spin_base.proofs.Members.{Among, among_contains, contains_among, among_left, among_right, among_either, among_map, map_among, among_at}

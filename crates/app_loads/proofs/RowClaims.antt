@@ -10,8 +10,8 @@ use Rattle.spin_base.proofs.{Members.among_contains, Places.All-at, Places.slice
 use Rattle.spin_base.specs.{declared.chips.Chip.Chip, Equality.chip_eq, declared.wants.Memory.Memory}
 use Rattle.machine_desc.specs.{declared.trees.Edge.Edge, Description.Description, Live.index_of, Live.chip_of, Live.IsInside, RoutingTree.end_of}
 use Rattle.machine_desc.proofs.{Far.far_inside, Far.index_below, Far.same_index, Far.live_ends, Far.live_inside, Live.index_of-chip_of, Live.chip_of-inside, Same.chip_eq-from_same}
-use Rattle.app_loads.specs.{declared.loaded.Claim.Claim, declared.plans.AppNet.AppNet, Regions.chip_count, Claims.has_chip, Claims.entries_claim, Claims.row_claim}
-use Rattle.app_loads.specs.Counting.{HasTree, HasTreeInside, IsRunEnd, chip_places, end_places, tree_places, run_claim}
+use Rattle.app_loads.specs.{declared.loaded.Claim.Claim, declared.plans.AppNet.AppNet, Regions.chip_count, Claims.has_chip, Claims.entries_claim, Claims.row_claim, Counting.HasTree}
+use Rattle.app_loads.specs.Counting.{HasTreeInside, IsRunEnd, chip_places, end_places, tree_places, run_claim}
 use Rattle.app_loads.proofs.LeavingLists.{one_if}
 
 -- of two tests at most one of which holds

@@ -1,8 +1,8 @@
 -- An application's rows and packets on a mesh.
-use Rattle.std.proofs.Common.{◌≡◌, ℕ, zero, suc, ◌+◌, ◌-◌, ◌*◌, ◌/◌, ◌%◌, ◌^◌, ◌<◌, ◌≤◌, ◌==◌, true, false, List, [], ◌∷◌, ◌++◌, ◌∙◌, Some, if◌then◌else◌, leb, length, drop, take, map, refl, sym, ap}
-use Rattle.std.proofs.{Common.subst, Common.inl, Common.inr, Common.arith, Common.count_by, lemmas.Option.same_Some}
-use Rattle.std.proofs.lemmas.{Bool.false_from_ne_true, Bool.or_left, Bool.or_right, Bool.or_cases, Bool.Decides.nat_tests, List.length-map, List.length-set, List.Elements.All-contains}
-use Rattle.std.proofs.lemmas.{List.Elements.All-head, List.Elements.All-set, List.Elements.All-push, List.Sorted.IsPermutation-refl, List.Sorted.length_permutation, Option.slice_get_within}
+use Rattle.std.proofs.Common.{arith, ◌≡◌, ℕ, zero, suc, ◌+◌, ◌-◌, ◌*◌, ◌/◌, ◌%◌, ◌^◌, ◌<◌, ◌≤◌, ◌==◌, true, false, List, [], ◌∷◌, ◌++◌, ◌∙◌, Some, if◌then◌else◌, leb, length, drop, take, map, refl}
+use Rattle.std.proofs.Common.{sym, ap, subst, inl, inr, count_by}
+use Rattle.std.proofs.lemmas.{Option.same_Some, Option.slice_get_within, Bool.false_from_ne_true, Bool.or_left, Bool.or_right, Bool.or_cases, Bool.Decides.nat_tests, List.length-map, List.length-set}
+use Rattle.std.proofs.lemmas.List.{Elements.All-contains, Elements.All-head, Elements.All-set, Elements.All-push, Sorted.IsPermutation-refl, Sorted.length_permutation}
 use Rattle.std.specs.{Option.option_map_or, List.list_any, List.slice_get, List.All, List.Contains}
 use Rattle.mesh_core.proofs.{Moves.chip_of-index_of, Ways.vertex_there}
 use Rattle.mesh_core.specs.State.{Setup, State, IsMesh}

@@ -1,14 +1,13 @@
 -- Packets put to the vertices of their nets' sources, and queues emptied.
-use Rattle.std.proofs.Common.{◌≡◌, ◌≢◌, ℕ, zero, suc, ◌+◌, ◌^◌, ◌<◌, ◌≤◌, ◌==◌, List, [], ◌∷◌, ◌++◌, take, get_or, length, map, refl, sym, ap, ◌∙◌, subst, inl, inr, arith, Option, Some}
-use Rattle.std.proofs.lemmas.{Bool.cases_Bool, Bool.cases_eq, Bool.eqb-true, Bool.eq-eqb, Bool.false≢true, List.length-map, List.length-set, List.take_all}
-use Rattle.std.proofs.lemmas.{List.same_lists, List.Elements.Contains-push_cases, Option.slice_get_within, Option.slice_get-get_or, Option.same_Some, Option.unwrap_or-slice_get}
+use Rattle.std.proofs.Common.{◌≡◌, ◌≢◌, ℕ, zero, suc, ◌+◌, ◌^◌, ◌<◌, ◌≤◌, ◌==◌, List, [], ◌∷◌, ◌++◌, take, get_or, length, map, refl, sym, ap, ◌∙◌, subst, inl, inr, arith, Some}
+use Rattle.std.proofs.lemmas.{Bool.cases_Bool, Bool.cases_eq, Bool.eqb-true, Bool.eq-eqb, Bool.false≢true, List.length-map, List.length-set, List.take_all, List.same_lists}
+use Rattle.std.proofs.lemmas.{List.Elements.Contains-push_cases, Option.slice_get_within, Option.slice_get-get_or, Option.same_Some, Option.unwrap_or-slice_get}
 use Rattle.std.specs.{Prelude.unwrap_or, List.list_any, List.slice_get, List.slice_set, List.All, List.Contains}
 use Rattle.mesh_core.proofs.ServingLaws.{vertex_at-below}
 use Rattle.mesh_core.specs.State.{Setup}
 use Rattle.spin_base.proofs.{Members.Contains-at, Members.any_among, Members.among_any, Members.among_contains, Members.contains_among, Places.All-at, Places.slice_get_there}
 use Rattle.spin_base.proofs.Places.{slice_get-set_same, slice_get-mapped, slice_get-set_other, take_more_at}
 use Rattle.spin_base.specs.declared.{blocks.Block.Block, chips.Spot.Spot, copies.McCopy.McCopy, copies.Packet.Packet}
-use Rattle.machine_desc.specs.NetsOn.{vertex_at}
 use Rattle.app_loads.specs.{declared.loaded.LoadedApp.LoadedApp, declared.plans.AppNet.AppNet, Host.net_with, Host.nets_with, Joining.AreSent, Joining.NoneUnsent, Sending.AreCleared}
 use Rattle.app_loads.specs.Sending.{AreSources, CanAdd, IsPacketOn, IsSameBeside, IsSendingFrom, source_at}
 

@@ -62,6 +62,14 @@ struct NetInside<'a> {
     ghost inside: { HasTreeInside machine.now net.now },
 }
 
+// An edge that begins inside a machine's grid.
+#[derive(Clone, Copy)]
+struct EdgeInside<'a> {
+    machine: &'a Machine,
+    edge: Edge,
+    ghost inside: { IsInside machine.now edge.chip },
+}
+
 // Indices of chips of a machine, in order.
 #[derive(Clone, Copy)]
 struct ChipIndices<'a> {
@@ -69,6 +77,14 @@ struct ChipIndices<'a> {
     list: &'a [u32],
     ghost sorted: { AllPairs (λ a b. a ≤ b) list.now },
     ghost inside: { All (λ i. i < chip_count machine.now) list.now },
+}
+
+// Where a run of equal indices begins.
+#[derive(Clone, Copy)]
+struct RunStart<'a> {
+    list: &'a [u32],
+    at: usize,
+    ghost within: { at < length list.now },
 }
 
 // Some rows of the chip of an index.
@@ -234,7 +250,11 @@ fn claim_runs(claims: &mut Vec<Claim>, indices: ChipIndices) -> Result<(), Memor
 {
     let mut at = 0;
     'runs: while at < indices.list.len() {
-        let end = run_end(indices.list, at);
+        let start = RunStart {
+            list: indices.list,
+            at,
+        };
+        let end = run_end(start);
         let rows = ChipRows {
             machine: indices.machine,
             index: indices.list[at],
@@ -262,11 +282,12 @@ fn push_rows(claims: &mut Vec<Claim>, rows: ChipRows) -> Result<(), Memory>
     Ok(())
 }
 
-// The place after the last of the items from a place on that are equal to the one there.
-fn run_end(items: &[u32], at: usize) -> usize
-    requires { at < length items.now }
-    ensures { IsRunEnd items.now at result }
+// The place after the last of the run's items, which are equal.
+fn run_end(start: RunStart) -> usize
+    ensures { IsRunEnd start.entry.list.now start.entry.at result }
 {
+    let items = start.list;
+    let at = start.at;
     let mut end = at + 1;
     'items: while end < items.len() && items[end] == items[at] {
         end += 1;
@@ -301,16 +322,22 @@ fn push_tree(chips: &mut Vec<u32>, one: NetInside) -> Result<(), Memory>
     let net = one.net;
     chips.push(machine.index(net.tree.root))?;
     for edge in net.tree.edges.as_slice() {
-        push_end(machine, *edge, chips)?;
+        let leaving = EdgeInside {
+            machine,
+            edge: *edge,
+        };
+        push_end(chips, leaving)?;
     }
     Ok(())
 }
 
 // The index of the chip into which an edge leads, if there is one.
-fn push_end(machine: &Machine, edge: Edge, chips: &mut Vec<u32>) -> Result<(), Memory>
-    requires { IsInside machine.now edge.chip }
-    ensures { OnOk result (chips.new.items ≡ chips.old.items ++ end_places machine.now edge) }
+fn push_end(chips: &mut Vec<u32>, leaving: EdgeInside) -> Result<(), Memory>
+    ensures { OnOk result (chips.new.items ≡ chips.old.items
+        ++ end_places leaving.entry.machine.now leaving.entry.edge) }
 {
+    let machine = leaving.machine;
+    let edge = leaving.edge;
     if let Some(chip) = machine.far(edge.chip, edge.dir) {
         chips.push(machine.index(chip))?;
     }

@@ -19,6 +19,13 @@ use tcam_find::Tcam;
 // How many cores of a chip can be usable: 1 to 17.
 const CORES: u32 = 17;
 
+// How many places a region has: no more than there are keys.
+#[derive(Clone, Copy)]
+struct Places {
+    count: u64,
+    ghost few: { count ≤ 4294967296 },
+}
+
 // The mesh with a vertex on each usable core, without a copy.
 pub(crate) fn bare_mesh(alloc: Global, machine: &Machine, queue: u32) -> Result<Mesh, Memory>
     requires { 1 ≤ queue }
@@ -77,14 +84,12 @@ pub(crate) fn open_regions(alloc: Global, machine: &Machine) -> Result<Vec<Range
     ensures { IfOk result (λ regions. map free_places_in regions.items ≡ open_regions machine.now) }
 {
     let mut regions = Vec::new(alloc);
-    push_regions(alloc, &mut regions, 1, ALL_KEYS)?;
-    push_regions(
-        alloc,
-        &mut regions,
-        machine.chips(),
-        u64::from(machine.sdram()),
-    )?;
-    push_regions(alloc, &mut regions, machine.chips(), ROUTER_ENTRIES as u64)?;
+    let keys = Places { count: ALL_KEYS };
+    push_regions(alloc, &mut regions, 1, keys)?;
+    let count = u64::from(machine.sdram());
+    push_regions(alloc, &mut regions, machine.chips(), Places { count })?;
+    let count = ROUTER_ENTRIES as u64;
+    push_regions(alloc, &mut regions, machine.chips(), Places { count })?;
     Ok(regions)
 }
 
@@ -93,15 +98,14 @@ fn push_regions(
     alloc: Global,
     regions: &mut Vec<Ranges>,
     count: usize,
-    size: u64,
+    size: Places,
 ) -> Result<(), Memory>
-    requires { size ≤ 4294967296 }
     ensures { OnOk result (map free_places_in regions.new.items
         ≡ map free_places_in regions.old.items
-        ++ replicate count (all_free size)) }
+        ++ replicate count (all_free size.count)) }
 {
     for _ in 0..count {
-        regions.push(Ranges::new(alloc, size)?)?;
+        regions.push(Ranges::new(alloc, size.count)?)?;
     }
     Ok(())
 }

@@ -4,8 +4,8 @@ use Rattle.app_loads.specs.Counting.{end_places}
 use Rattle.app_loads.proofs.RowClaims.{ends_more}
 use Rattle.app_loads.proofs.claims.push_tree.Goals as goal
 
-pub push_end-requires : goal.push_end-requires
-push_end-requires c = grind (arith, c.args.one.inside.edges)
+pub invariant_of-leaving : goal.invariant_of-leaving
+invariant_of-leaving c = grind (arith, c.args.one.inside.edges)
 
 pub loop-edge-preserved : goal.loop-edge-preserved
 loop-edge-preserved c =

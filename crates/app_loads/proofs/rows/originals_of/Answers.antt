@@ -1,4 +1,4 @@
-use Rattle.std.proofs.{Common.◌≡◌, Common.◌∙◌, Common.List, Common.ap, Common.arith, Common.length, Common.subst, Common.sym, lemmas.Option.slice_get_read, lemmas.List.take_all}
+use Rattle.std.proofs.{Common.arith, Common.◌≡◌, Common.◌∙◌, Common.List, Common.ap, Common.length, Common.subst, Common.sym, lemmas.Option.slice_get_read, lemmas.List.take_all}
 use Rattle.machine_desc.specs.declared.nets.NetPlan.{NetPlan}
 use Rattle.net_tables.specs.{Marks.AreBlocksOf, PlainTable.AreRoutedApart}
 use Rattle.net_tables.proofs.Whole.{all_plain_tables}

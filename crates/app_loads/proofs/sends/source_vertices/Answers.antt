@@ -1,4 +1,4 @@
-use Rattle.std.proofs.{Common.◌∙◌, Common.ap, Common.arith, Common.sym, Common.Some, lemmas.List.take_all, lemmas.Option.slice_get-get_or}
+use Rattle.std.proofs.{Common.arith, Common.◌∙◌, Common.ap, Common.sym, Common.Some, lemmas.List.take_all, lemmas.Option.slice_get-get_or}
 use Rattle.spin_base.proofs.Places.{map_more_at}
 use Rattle.app_loads.specs.Sending.{source_at}
 use Rattle.app_loads.proofs.sends.source_vertices.Goals as goal

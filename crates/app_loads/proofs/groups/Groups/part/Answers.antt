@@ -1,4 +1,4 @@
-use Rattle.std.proofs.{Common.◌≡◌, Common.◌∙◌, Common.List, Common.[], Common.ap, Common.arith, Common.length, Common.not, lemmas.Bool.or_parts, lemmas.Grind.common_steps}
+use Rattle.std.proofs.{Common.arith, Common.◌≡◌, Common.◌∙◌, Common.List, Common.[], Common.ap, Common.length, Common.not, lemmas.Bool.or_parts, lemmas.Grind.common_steps}
 use Rattle.std.specs.{Prelude.vec_capacity, Prelude.vec_len, Vec.Iter.into_iter_items}
 use Rattle.spin_base.proofs.Places.{none_within}
 use Rattle.app_loads.specs.{Grouping.Grouped, Grouping.all_grouped, Grouping.is_mixed_group, Leaving.is_delivery_of}
