@@ -1,5 +1,5 @@
 -- The final tables of chips: the entries that are loaded of each chip's plain table (this project's own).
-use Rattle.std.specs.Prelude.{◌≡◌, ℕ, ◌*◌, ◌<◌, ◌≤◌, ◌^◌, Bool, List, [], All, None, Some, length, map, nat_lt, position, slice_get, slice_index_or, true}
+use Rattle.std.specs.Prelude.{◌≡◌, ℕ, ◌*◌, ◌<◌, ◌^◌, Bool, List, [], All, None, Some, length, map, nat_lt, position, slice_get, slice_index_or, true}
 use Rattle.spin_base.specs.declared.blocks.Entry.{Entry}
 use Rattle.spin_base.specs.declared.chips.Chip.{Chip}
 use Rattle.spin_base.specs.declared.sizes.TheConstants.{ROUTER_ENTRIES}
@@ -34,11 +34,6 @@ pub record StandsFor (target : ℕ) (rows : List Row) (f : Final) : Type 0 where
 pub record AreCoverable (marks : List Mark) : Type 0 where
   pub few : length marks < 2 ^ 32
   pub apart : AreApart marks
-
--- such blocks that are no more than the target, so that their table is not covered
-pub record AreFewCoverable (marks : List Mark) (target : ℕ) : Type 0 where
-  pub few : length marks ≤ target
-  pub coverable : AreCoverable marks
 
 -- the original blocks of chips, of which each has a number of 32 bits
 pub record CanBeCovered (blocks : List (List Mark)) : Type 0 where
@@ -76,15 +71,10 @@ AreAllUnlessLong count finals = position is_long finals ≡ None → length fina
 -- ---- what workers find and leave
 
 -- a chip's original blocks, which wait for its table to be made and covered
-abbrev pub IsPlainWork : Work → Type 0
-IsPlainWork (Plain marks) = AreCoverable marks
-IsPlainWork (Done f) = ⊥
-IsPlainWork Refused = ⊥
-
--- the work of chips, none of it done, of which each has a number of 32 bits
-pub record AreAllPlain (works : List Work) : Type 0 where
-  pub few : length works < 2 ^ 32
-  pub ready : All IsPlainWork works
+abbrev pub IsWaiting : List Mark → Work → Type 0
+IsWaiting marks (Plain blocks) = blocks.marks ≡ marks
+IsWaiting marks (Done f) = ⊥
+IsWaiting marks Refused = ⊥
 
 -- the final table of the plain table of original blocks
 pub record IsFinalFor (target : ℕ) (marks : List Mark) (f : Final) : Type 0 where
@@ -99,29 +89,23 @@ pub record AreBlocksFor (m : Description) (nets : List NetPlan) (target : ℕ) (
   pub blocks : (c : Chip) → IsInside m c → (marks : List Mark) × AreOriginals m c nets (map original_of marks)
       × ((f : Final) → IsFinalFor target (slice_index_or lists (index_of m c) []) f → IsFinalFor target marks f)
 
--- In its place stands its final table, or a refusal where there was not enough memory, or the original blocks, where their table
--- is not yet covered.
+-- In the place of original blocks stands their final table, or a refusal where there was not enough memory, or they themselves,
+-- where their table is not yet covered.
 abbrev pub IsWorked : ℕ → Work → Work → Type 0
-IsWorked target (Plain marks) (Done f) = IsFinalFor target marks f
-IsWorked target (Plain marks) (Plain others) = marks ≡ others
-IsWorked target (Plain marks) Refused = Unit {0}
-IsWorked target (Done f) w = ⊥
-IsWorked target Refused w = ⊥
-
--- the table of original blocks that are left can be covered
-abbrev pub IsLeft : Work → Type 0
-IsLeft (Plain marks) = AreCoverable marks
-IsLeft (Done f) = Unit {0}
-IsLeft Refused = Unit {0}
+IsWorked target (Plain blocks) (Done f) = IsFinalFor target blocks.marks f
+IsWorked target (Plain blocks) (Plain others) = others.marks ≡ blocks.marks
+IsWorked target (Plain blocks) Refused = Unit {0}
+IsWorked target (Done f) w = Unit {0}
+IsWorked target Refused w = Unit {0}
 
 -- the final table that work gives: that of the original blocks that are left, or the one that stands there
 abbrev pub GivesFinal : ℕ → Work → Final → Type 0
-GivesFinal target (Plain marks) f = IsFinalFor target marks f
+GivesFinal target (Plain blocks) f = IsFinalFor target blocks.marks f
 GivesFinal target (Done g) f = g ≡ f
 GivesFinal target Refused f = ⊥
 
 -- a long final table stands there
 abbrev pub HasLong : Work → Type 0
-HasLong (Plain marks) = ⊥
+HasLong (Plain blocks) = ⊥
 HasLong (Done f) = is_long f ≡ true
 HasLong Refused = ⊥

@@ -1,8 +1,9 @@
 // Final tables of chips with few nets, without a row of the plain table.
-ghost use Rattle.std.specs.Prelude.{◌≡◌, ◌++◌, IfOk, OnOk};
-ghost use Rattle.par_compile.specs.Finals.{AreFewCoverable, IsFinalFor};
+ghost use Rattle.std.specs.Prelude.{◌≡◌, ◌++◌, ◌≤◌, IfOk, OnOk, length};
+ghost use Rattle.par_compile.specs.Finals.{IsFinalFor};
 ghost use Rattle.par_compile.specs.ShortTables.{kept_entries, kept_entry};
 
+use crate::requests::Coverable;
 use default_routes::Final;
 use net_tables::marks::Mark;
 use net_tables::{goes_straight, in_row_order};
@@ -12,10 +13,10 @@ use std::alloc::Global;
 /// The final table of original blocks that are no more than the target, so that their plain table is not covered. It has the
 /// entry of each block that does not go straight on, in the order of the rows. That is all that default routing asks, since no
 /// key is in two of the blocks. So no row is made, and none has a list of aliases.
-pub(crate) fn short_table(alloc: Global, marks: Seq<Mark>, target: u32) -> Result<Final, Memory>
-    requires { AreFewCoverable marks target }
-    ensures { IfOk result (IsFinalFor target marks) }
+pub(crate) fn short_table(alloc: Global, blocks: Coverable, target: u32) -> Result<Final, Memory>
+    ensures { length blocks.marks ≤ target → IfOk result (IsFinalFor target blocks.marks) }
 {
+    let Coverable { marks } = blocks;
     let sorted = in_row_order(marks)?;
     let entries = kept_entries(alloc, sorted.as_slice())?;
     Ok(Final { entries })

@@ -1,11 +1,10 @@
 // The final tables of all chips, by workers.
-ghost use Rattle.std.specs.Prelude.{◌≡◌, ℕ, ◌<◌, ◌≤◌, ◌^◌, ◌↔◌, All, IfOk, IsTrue, length, map, slice_index_or, take};
+ghost use Rattle.std.specs.Prelude.{◌≡◌, ℕ, ◌<◌, ◌≤◌, ◌^◌, ◌↔◌, All, IfOk, IsTrue, length, slice_index_or, take};
 ghost use Rattle.std.specs.List.{AllZip};
 ghost use Rattle.par_compile.specs.declared.workers.Work.{Work};
-ghost use Rattle.par_compile.specs.declared.workers.Work.TheVariants.{Plain, Done};
-ghost use Rattle.par_compile.specs.Finals.{AreAllPlain, AreAllUnlessLong, AreCoverable, CanBeCovered, GivesFinal, IsFinalFor, IsLeft, HasLong, IsPlainWork, IsWorked, is_long};
+ghost use Rattle.par_compile.specs.Finals.{AreAllUnlessLong, AreCoverable, CanBeCovered, GivesFinal, IsFinalFor, HasLong, IsWaiting, IsWorked, is_long};
 
-use crate::requests::CompileRequest;
+use crate::requests::{CompileRequest, Coverable};
 use crate::short_tables::short_table;
 use default_routes::{Final, shorten};
 use net_tables::marks::Mark;
@@ -19,7 +18,7 @@ use std::{mem, thread};
 // there. So of plain tables there are no more at a time than workers.
 #[derive(Drop)]
 enum Work {
-    Plain(Seq<Mark>),
+    Plain(Coverable),
     Done(Final),
     Refused,
 }
@@ -48,18 +47,19 @@ pub(crate) fn finals<R: Threads + Sync, G: Gate>(
 
 // The original blocks of each chip, as work to be done.
 fn works_of(alloc: Global, blocks: Seq<Seq<Mark>>) -> Result<Vec<Work>, Memory>
-    ensures { IfOk result (λ v. v.items ≡ map Plain blocks) }
+    requires { All AreCoverable blocks }
+    ensures { IfOk result (λ v. AllZip IsWaiting blocks v.items) }
 {
     let mut works = Vec::new(alloc);
     for marks in blocks.into_vec() {
-        works.push(Work::Plain(marks))?;
+        let ready = Coverable { marks };
+        works.push(Work::Plain(ready))?;
     }
     Ok(works)
 }
 
 // The final tables, up to the first that is long, where memory was refused at none of them.
 fn finals_of(alloc: Global, works: Vec<Work>, target: u32) -> Result<Seq<Final>, Memory>
-    requires { All IsLeft works.items }
     ensures finals { IfOk result (λ finals. AllZip (GivesFinal target)
         (take (length finals) works.items) finals) }
     ensures all { IfOk result (AreAllUnlessLong (length works.items)) }
@@ -78,11 +78,10 @@ fn finals_of(alloc: Global, works: Vec<Work>, target: u32) -> Result<Seq<Final>,
 
 // The final table that work gives. What a worker left is covered here: there is none before the first long one.
 fn done_of(alloc: Global, work: Work, target: u32) -> Result<Final, Memory>
-    requires { IsLeft work }
     ensures { IfOk result (GivesFinal target work) }
 {
     match work {
-        Work::Plain(marks) => final_of(alloc, marks, target),
+        Work::Plain(blocks) => final_of(alloc, blocks, target),
         Work::Done(done) => Ok(done),
         Work::Refused => Err(Memory),
     }
@@ -103,7 +102,7 @@ fn cover_all<R: Threads + Sync, G: Gate>(
     request: &CompileRequest<'_>,
     gate: &G,
 )
-    requires { AreAllPlain works.old.items }
+    requires { length works.old.items < 2 ^ 32 }
     ensures long { length works.new.items ≡ length works.old.items }
     ensures worked { (i : ℕ) (d : Work) → i < length works.old.items → IsWorked request.now.target
         (slice_index_or works.old.items i d) (slice_index_or works.new.items i d) }
@@ -115,7 +114,7 @@ fn cover_all<R: Threads + Sync, G: Gate>(
         works.as_mut_slice(),
         size,
         &|start: usize, part: &mut [Work]|
-            requires { (start < 2 ^ 32) × (0 < size) × All IsPlainWork part.now }
+            requires { (start < 2 ^ 32) × (0 < size) }
             ensures { (k : ℕ) (d : Work) → k < length part.entry.now → IsWorked target
                 (slice_index_or part.entry.now k d) (slice_index_or part.exit.now k d) }
         { cover_run(alloc, part, target, (start / size) as u32, gate) },
@@ -124,7 +123,6 @@ fn cover_all<R: Threads + Sync, G: Gate>(
 
 // One worker's run. It ends with the first long table: what stands behind it is not asked for.
 fn cover_run<G: Gate>(alloc: Global, part: &mut [Work], target: u32, worker: u32, gate: &G)
-    requires { All IsPlainWork part.old }
     ensures { (k : ℕ) (d : Work) → k < length part.old → IsWorked target
         (slice_index_or part.old k d) (slice_index_or part.new k d) }
 {
@@ -138,14 +136,13 @@ fn cover_run<G: Gate>(alloc: Global, part: &mut [Work], target: u32, worker: u32
 
 // Makes the final table at one place, and says whether it is long.
 fn cover_at(alloc: Global, work: &mut Work, target: u32) -> bool
-    requires { IsPlainWork work.old }
     ensures worked { IsWorked target work.old work.new }
     ensures long { IsTrue result ↔ HasLong work.new }
 {
-    let Work::Plain(marks) = mem::replace(work, Work::Refused) else {
+    let Work::Plain(blocks) = mem::replace(work, Work::Refused) else {
         return false;
     };
-    let Ok(done) = final_of(alloc, marks, target) else {
+    let Ok(done) = final_of(alloc, blocks, target) else {
         return false;
     };
     let long = is_long(&done);
@@ -154,23 +151,21 @@ fn cover_at(alloc: Global, work: &mut Work, target: u32) -> bool
 }
 
 // The final table of the plain table of original blocks. That is made only where it has more rows than the target.
-fn final_of(alloc: Global, marks: Seq<Mark>, target: u32) -> Result<Final, Memory>
-    requires { AreCoverable marks }
-    ensures { IfOk result (IsFinalFor target marks) }
+fn final_of(alloc: Global, blocks: Coverable, target: u32) -> Result<Final, Memory>
+    ensures { IfOk result (IsFinalFor target blocks.marks) }
 {
-    if marks.len() <= target as usize {
-        short_table(alloc, marks, target)
+    if blocks.marks.len() <= target as usize {
+        short_table(alloc, blocks, target)
     } else {
-        covered_table(alloc, marks, target)
+        covered_table(alloc, blocks, target)
     }
 }
 
 // The same by the plain table itself, which is gone at the end.
-fn covered_table(alloc: Global, marks: Seq<Mark>, target: u32) -> Result<Final, Memory>
-    requires { AreCoverable marks }
-    ensures { IfOk result (IsFinalFor target marks) }
+fn covered_table(alloc: Global, blocks: Coverable, target: u32) -> Result<Final, Memory>
+    ensures { IfOk result (IsFinalFor target blocks.marks) }
 {
-    let table = plain_table(alloc, marks.as_slice())?;
+    let table = plain_table(alloc, blocks.marks.as_slice())?;
     let done = shorten(alloc, table, target)?;
     Ok(done)
 }

@@ -17,6 +17,7 @@ use crate::boards::{set_ports, set_routes};
 use crate::flaws::{Flaw, Rows, flaw_in};
 use crate::places::{PlacedTables, rows_of, set_places};
 use machine_desc::{Machine, NetPlan};
+use net_tables::marks::RoutedPlan;
 use spin_base::{Block, Chip, Entry, Port, Route, Seq};
 use table_load::Image;
 
@@ -90,9 +91,9 @@ fn place_board() -> [u16; MOST_CHIPS]
 }
 
 // The verdict, by boards of which two are written anew for each net.
-fn verdict_of(
-    tables: &PlacedTables<'_>,
-    nets: &[NetPlan],
+fn verdict_of<'x>(
+    tables: &PlacedTables<'x>,
+    nets: &'x [NetPlan],
     ports: &mut [Option<Port>],
     routes: &mut [Route],
 ) -> Verdict
@@ -106,8 +107,12 @@ fn verdict_of(
 {
     for at in 0..nets.len() {
         let net = &nets[at];
-        set_ports(tables.machine, net, ports);
-        set_routes(tables.machine, net, routes);
+        let plan = RoutedPlan {
+            machine: tables.machine,
+            net,
+        };
+        set_ports(plan, ports);
+        set_routes(plan, routes);
         if let Some((chip, flaw)) = first_flaw(tables, net, ports, routes) {
             return verdict_from(at as u32, chip, net.block.key, flaw);
         }

@@ -4,7 +4,7 @@ use Rattle.net_tables.specs.{declared.marks.Mark.Mark, Marks.AreApart, Marks.IsT
 use Rattle.par_compile.proofs.workers.covered_table.Goals as goal
 
 pub shorten-requires-clause-sound : goal.shorten-requires-clause-sound
-shorten-requires-clause-sound c = c.in_ok-table.ensures.sound (subst AreApart (sym c.as_slice.ensures) c.requires.apart)
+shorten-requires-clause-sound c = c.in_ok-table.ensures.sound (subst AreApart (sym c.as_slice.ensures) c.args.blocks.apart)
 
 pub returns : goal.returns
 returns c = record {

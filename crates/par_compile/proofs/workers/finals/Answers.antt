@@ -1,21 +1,16 @@
-use Rattle.std.proofs.Common.{◌∙◌, List, length, take, ap, arith}
-use Rattle.std.proofs.lemmas.{List.length-map, Result.IfOk-weaker}
+use Rattle.std.proofs.Common.{◌∙◌, List, length, take, arith}
+use Rattle.std.proofs.lemmas.{Result.IfOk-weaker, Slice.Zip.AllZip-long}
 use Rattle.std.specs.List.{AllZip}
 use Rattle.default_routes.specs.declared.stripping.Final.{Final}
-use Rattle.par_compile.specs.{declared.workers.Work.TheVariants.Plain, Finals.AreAllUnlessLong, Finals.GivesFinal, Finals.IsFinalFor}
-use Rattle.par_compile.proofs.Working.{all_beside, all_left, all_ready}
+use Rattle.par_compile.specs.Finals.{AreAllUnlessLong, GivesFinal, IsFinalFor, IsWaiting}
+use Rattle.par_compile.proofs.Working.{all_beside}
 use Rattle.par_compile.proofs.workers.finals.Goals as goal
 
 pub cover_all-requires-after_bounds : goal.cover_all-requires-after_bounds
-cover_all-requires-after_bounds g c κs within = record {
-  ready = all_ready c.args.blocks c.in_ok-works.works.items c.in_ok-works.ensures c.requires.coverable;
-  few = let same = ap length c.in_ok-works.ensures in let long = length-map c.args.blocks Plain in let few = c.requires.few in omega (arith, same, long, few);
-}
-
-pub finals_of-requires : goal.finals_of-requires
-finals_of-requires g c κs within =
-    all_left c.args.request.now.target c.in_ok-works.works.items c.cover_all.new.works.items c.cover_all.ensures.long
-    (all_ready c.args.blocks c.in_ok-works.works.items c.in_ok-works.ensures c.requires.coverable) c.cover_all.ensures.worked κs within
+cover_all-requires-after_bounds g c κs within =
+    let long = AllZip-long IsWaiting c.args.blocks c.in_ok-works.works.items c.in_ok-works.ensures in
+    let few = c.requires.few in
+    omega (arith, long, few)
 
 pub returns-clause-finals : goal.returns-clause-finals
 returns-clause-finals g c =
@@ -27,4 +22,4 @@ returns-clause-finals g c =
 pub returns-clause-all : goal.returns-clause-all
 returns-clause-all g c =
     IfOk-weaker c.finals_of.result (AreAllUnlessLong (length c.cover_all.new.works.items)) (AreAllUnlessLong (length c.args.blocks))
-    (λ fs all none. all none ∙ (c.cover_all.ensures.long ∙ (ap length c.in_ok-works.ensures ∙ length-map c.args.blocks Plain))) c.finals_of.ensures.all
+    (λ fs all none. all none ∙ (c.cover_all.ensures.long ∙ AllZip-long IsWaiting c.args.blocks c.in_ok-works.works.items c.in_ok-works.ensures)) c.finals_of.ensures.all

@@ -2,30 +2,25 @@ use Rattle.std.proofs.Common.{◌≡◌, ◌∙◌, List, None, arith, subst, sy
 use Rattle.std.proofs.lemmas.Grind.{common_steps}
 use Rattle.std.specs.{List.position, Vec.Iter.into_iter_items}
 use Rattle.default_routes.specs.declared.stripping.Final.{Final}
-use Rattle.par_compile.specs.{declared.workers.Work.Work, Finals.is_long}
-use Rattle.par_compile.proofs.Working.{AreGiven, all_given, given_at_end, given_more, last_is_long, next_left}
+use Rattle.par_compile.specs.{declared.workers.Work.Work, Finals.GivesFinal, Finals.is_long}
+use Rattle.par_compile.proofs.Working.{AreGiven, all_given, given_at_end, given_more, last_is_long}
 use Rattle.par_compile.proofs.workers.finals_of.Goals as goal
-
-pub done_of-requires : goal.done_of-requires
-done_of-requires c =
-    next_left c.args.target c.args.works.items (into_iter_items c.next.new.self) c.loop-work.finals c.in-Some.work
-    (subst (λ (rest : List Work). AreGiven c.args.target c.args.works.items rest c.loop-work.finals) c.in-Some.ensures.steps.0 c.loop-work.invariant.2)
 
 pub loop-work-preserved : goal.loop-work-preserved
 loop-work-preserved c = (
   tt,
   tt,
-  subst (AreGiven c.args.target c.args.works.items (into_iter_items c.next.new.self)) (sym c.in_ok-push.ensures.ok)
-      (given_more c.args.target c.args.works.items (into_iter_items c.next.new.self) c.loop-work.finals c.in-Some.work c.in_ok-done.done
-      (subst (λ (rest : List Work). AreGiven c.args.target c.args.works.items rest c.loop-work.finals) c.in-Some.ensures.steps.0 c.loop-work.invariant.2) c.in_ok-done.ensures),
+  subst (AreGiven (GivesFinal c.args.target) c.args.works.items (into_iter_items c.next.new.self)) (sym c.in_ok-push.ensures.ok)
+      (given_more (GivesFinal c.args.target) c.args.works.items (into_iter_items c.next.new.self) c.loop-work.finals c.in-Some.work c.in_ok-done.done
+      (subst (λ (rest : List Work). AreGiven (GivesFinal c.args.target) c.args.works.items rest c.loop-work.finals) c.in-Some.ensures.steps.0 c.loop-work.invariant.2) c.in_ok-done.ensures),
 )
 
 pub returns-then-long-clause-finals : goal.returns-then-long-clause-finals
 returns-then-long-clause-finals c =
-    all_given c.args.target c.args.works.items (into_iter_items c.next.new.self) c.push.new.self
-    (subst (AreGiven c.args.target c.args.works.items (into_iter_items c.next.new.self)) (sym c.in_ok-push.ensures.ok)
-    (given_more c.args.target c.args.works.items (into_iter_items c.next.new.self) c.loop-work.finals c.in-Some.work c.in_ok-done.done
-    (subst (λ (rest : List Work). AreGiven c.args.target c.args.works.items rest c.loop-work.finals) c.in-Some.ensures.steps.0 c.loop-work.invariant.2) c.in_ok-done.ensures))
+    all_given (GivesFinal c.args.target) c.args.works.items (into_iter_items c.next.new.self) c.push.new.self
+    (subst (AreGiven (GivesFinal c.args.target) c.args.works.items (into_iter_items c.next.new.self)) (sym c.in_ok-push.ensures.ok)
+    (given_more (GivesFinal c.args.target) c.args.works.items (into_iter_items c.next.new.self) c.loop-work.finals c.in-Some.work c.in_ok-done.done
+    (subst (λ (rest : List Work). AreGiven (GivesFinal c.args.target) c.args.works.items rest c.loop-work.finals) c.in-Some.ensures.steps.0 c.loop-work.invariant.2) c.in_ok-done.ensures))
 
 pub returns-then-long-clause-all : goal.returns-then-long-clause-all
 returns-then-long-clause-all c = λ none.
@@ -33,8 +28,8 @@ returns-then-long-clause-all c = λ none.
     (subst (λ (fs : List Final). position is_long fs ≡ None) c.in_ok-push.ensures.ok none))
 
 pub returns-clause-finals : goal.returns-clause-finals
-returns-clause-finals c = all_given c.args.target c.args.works.items (into_iter_items c.loop-work.work-iterator) c.loop-work.finals c.loop-work.invariant.2
+returns-clause-finals c = all_given (GivesFinal c.args.target) c.args.works.items (into_iter_items c.loop-work.work-iterator) c.loop-work.finals c.loop-work.invariant.2
 
 pub returns-clause-all : goal.returns-clause-all
 returns-clause-all c = λ none.
-    given_at_end c.args.target c.args.works.items (into_iter_items c.loop-work.work-iterator) c.loop-work.finals (grind (arith, common_steps, c.in-None.ensures.steps.0)) c.loop-work.invariant.2
+    given_at_end (GivesFinal c.args.target) c.args.works.items (into_iter_items c.loop-work.work-iterator) c.loop-work.finals (grind (arith, common_steps, c.in-None.ensures.steps.0)) c.loop-work.invariant.2

@@ -1,4 +1,5 @@
 use Rattle.std.specs.Vec.Iter.{into_iter_items}
+use Rattle.par_compile.specs.Finals.{GivesFinal}
 use Rattle.par_compile.proofs.Working.{AreGiven}
 use Rattle.par_compile.proofs.workers.finals_of.Given as goal
 
@@ -7,4 +8,4 @@ abbrev pub invariant-loop-work : goal.invariant-loop-work
 invariant-loop-work l =
     goal.iterator-loop-work.can_next l.work-iterator
     × goal.iterator-loop-work.is_finite l.work-iterator
-    × AreGiven l.target l.fn.works.items (into_iter_items l.work-iterator) l.finals
+    × AreGiven (GivesFinal l.target) l.fn.works.items (into_iter_items l.work-iterator) l.finals

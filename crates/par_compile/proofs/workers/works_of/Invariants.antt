@@ -1,11 +1,13 @@
-use Rattle.std.proofs.Common.{◌≡◌, ◌++◌, map}
+use Rattle.std.proofs.Common.{All}
 use Rattle.std.specs.Vec.Iter.{into_iter_items}
-use Rattle.par_compile.specs.declared.workers.Work.TheVariants.{Plain}
+use Rattle.par_compile.specs.Finals.{AreCoverable, IsWaiting}
+use Rattle.par_compile.proofs.Working.{AreGiven}
 use Rattle.par_compile.proofs.workers.works_of.Given as goal
 
--- the work so far, and the original blocks that are left, are those of all chips
+-- the work so far is of the first chips, and the tables of the others can be covered too
 abbrev pub invariant-loop-marks : goal.invariant-loop-marks
 invariant-loop-marks l =
     goal.iterator-loop-marks.can_next l.marks-iterator
     × goal.iterator-loop-marks.is_finite l.marks-iterator
-    × (l.works.items ++ map Plain (into_iter_items l.marks-iterator) ≡ map Plain l.fn.blocks)
+    × AreGiven IsWaiting l.fn.blocks (into_iter_items l.marks-iterator) l.works.items
+    × All AreCoverable (into_iter_items l.marks-iterator)

@@ -19,6 +19,10 @@ loop-at-preserved c = (
 pub returns : goal.returns
 returns c = all_fine c.args.tables.now.machine.now c.args.tables.now.image.now c.args.nets.now c.loop-at.at c.loop-at-test.false c.loop-at.invariant.0
 
+pub invariant_of-plan : goal.invariant_of-plan
+invariant_of-plan c =
+    record { routed = ∣ subst (IsRouted c.args.tables.now.machine.now) (sym c.index-nets-at.is) (c.requires.routed c.loop-at.at c.index-nets-at.result c.loop-at-test.true) ∣₁ }
+
 pub first_flaw-requires : goal.first_flaw-requires
 first_flaw-requires c = record {
   routed = subst (IsRouted c.args.tables.now.machine.now) (sym c.index-nets-at.is) (c.requires.routed c.loop-at.at c.index-nets-at.result c.loop-at-test.true);
