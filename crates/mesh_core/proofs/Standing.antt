@@ -5,8 +5,7 @@ use Rattle.spin_base.proofs.{Members.Among, Members.among_left, Members.among_ri
 use Rattle.spin_base.proofs.Gathering.{gathered_among_from, gathered_among}
 use Rattle.spin_base.specs.declared.{chips.Chip.Chip, chips.Port.Port, routes.Out.Out, copies.McCopy.McCopy, copies.Delivery.Delivery, copies.DumpRec.DumpRec}
 use Rattle.spin_base.specs.Links.{port_number}
-use Rattle.machine_desc.specs.{Description.Description, Live.chip_of, Live.index_of, Live.IsInside}
-use Rattle.machine_desc.proofs.Live.{index_of-chip_of}
+use Rattle.machine_desc.specs.Live.{chip_of, index_of, IsInside}
 use Rattle.mesh_core.specs.{State.State, State.Hand, State.queue_at, Trail.Station, Trail.unsent, Trail.in_queue, Trail.in_hand, Trail.at_core, Trail.delivered, Trail.dumped, Trail.Mark}
 use Rattle.mesh_core.specs.Ledger.{marks_of, marks_at, hand_marks, port_of, unsent_marks, input_marks, all_hand_marks, core_marks, delivered_marks, dumped_marks}
 use Rattle.mesh_core.proofs.Moves.{behind_hands, behind_inputs, behind_unsent, mark, chip_of-index_of, station_of_queue}
@@ -23,11 +22,6 @@ port_number-port_of (suc (suc (suc (suc zero)))) low = refl
 port_number-port_of (suc (suc (suc (suc (suc zero))))) low = refl
 port_number-port_of (suc (suc (suc (suc (suc (suc zero)))))) low = refl
 port_number-port_of (suc (suc (suc (suc (suc (suc (suc n))))))) low = absurd (omega arith)
-
--- the place of the queues of a chip and port is one
-pub place_of_queue : (m : Description) (c : Chip) (port : Port) (i : ℕ) → IsInside m c → chip_of m (i / 7) ≡ c → port_of (i % 7) ≡ port →
-    i ≡ queue_at m c port
-place_of_queue m c port i inside is_chip is_port = grind (arith, index_of-chip_of m (i / 7), port_number-port_of (i % 7) (omega arith))
 
 -- ---- marks by their stations
 

@@ -13,11 +13,10 @@ mod queues;
 mod setups;
 mod steps;
 mod tables;
-mod whereabouts;
 
 pub use hands::Hand;
 pub use meshes::Mesh;
 pub use parts::MeshParts;
-pub use places::{Did, Place, Where};
+pub use places::{Did, Place};
 pub use queues::Queue;
 pub use setups::MeshSetup;

@@ -40,9 +40,9 @@ fn add_packets(
     sources: &[usize],
     packets: &[Packet],
 ) -> Result<(), Memory>
-    requires none_yet { mesh.old ≡ opened_mesh mesh.old.setup nets.now [] }
     requires listed { AreListed mesh.old.setup nets.now packets.now sources.now }
-    ensures { OnOk result (mesh.new ≡ opened_mesh mesh.old.setup nets.now packets.now) }
+    ensures { mesh.old ≡ opened_mesh mesh.old.setup nets.now []
+        → OnOk result (mesh.new ≡ opened_mesh mesh.old.setup nets.now packets.now) }
 {
     every_mesh_is_one(mesh);
     for (number, packet) in packets.iter().enumerate() {

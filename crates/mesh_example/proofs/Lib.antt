@@ -1,3 +1,2 @@
 mod Stands
 mod Right
-pub mod Tracked

@@ -63,8 +63,8 @@ pub(crate) fn collect(shares: &mut Vec<Share>, standing: &mut Standing, cuts: &[
         let into = put_end(shares, cut.receiver as usize, queue, End::Away);
         let tx = sender_of(out);
         let rx = receiver_of(into);
-        standing.txs[number] = Some(tx);
-        standing.rxs[number] = Some(rx);
+        standing.txs[number] = tx;
+        standing.rxs[number] = rx;
     }
 }
 
@@ -77,24 +77,22 @@ pub(crate) fn put_end(shares: &mut Vec<Share>, share: usize, queue: usize, end: 
     mem::replace(&mut shares[share].hold.ends[queue], end)
 }
 
-// The sending end of a link.
-fn sender_of(end: End) -> Tx
-    requires { (e : OutEnd) × (end ≡ Sends e) }
-    ensures { (e : OutEnd) → end ≡ Sends e → result ≡ e.tx }
+// The sending end of a link, where it is one.
+fn sender_of(end: End) -> Option<Tx>
+    ensures { (e : OutEnd) → end ≡ Sends e → result ≡ Some e.tx }
 {
     match end {
-        End::Sends(end) => end.tx,
-        _ => unreachable!(),
+        End::Sends(end) => Some(end.tx),
+        _ => None,
     }
 }
 
-// The receiving end of a link.
-fn receiver_of(end: End) -> Rx
-    requires { (e : InEnd) × (end ≡ Takes e) }
-    ensures { (e : InEnd) → end ≡ Takes e → result ≡ e.rx }
+// The receiving end of a link, where it is one.
+fn receiver_of(end: End) -> Option<Rx>
+    ensures { (e : InEnd) → end ≡ Takes e → result ≡ Some e.rx }
 {
     match end {
-        End::Takes(end) => end.rx,
-        _ => unreachable!(),
+        End::Takes(end) => Some(end.rx),
+        _ => None,
     }
 }

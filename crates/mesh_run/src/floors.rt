@@ -1,8 +1,8 @@
 // What actors stand on, made once for a run: who is behind each output, and which vertices are on each chip.
-ghost use Rattle.std.specs.Prelude.{◌≡◌, ◌+◌, ◌*◌, ◌<◌, ◌≤◌, ◌++◌, IfOk, OnOk, length, option_to_list};
+ghost use Rattle.std.specs.Prelude.{◌≡◌, ℕ, ◌+◌, ◌*◌, ◌<◌, ◌≤◌, ◌++◌, IfOk, OnOk, length, option_to_list};
 ghost use Rattle.spin_base.specs.declared.routes.Out.{Out as AnOut};
 ghost use Rattle.spin_base.specs.Outputs.{IsOutput, out_number};
-ghost use Rattle.machine_desc.specs.Live.{chip_of, is_live_chip, IsInside};
+ghost use Rattle.machine_desc.specs.Live.{chip_of, is_live_chip};
 ghost use Rattle.machine_desc.specs.NetsOn.{vertex_at};
 ghost use Rattle.mesh_core.specs.State.{Setup};
 ghost use Rattle.mesh_run.specs.Floors.{AddsBehind, AreVerticesOf, IsFloorOf, IsFloorSoFar, grid_size, live_if, place_of_slot};
@@ -30,8 +30,7 @@ impl Shared for Floor {}
 impl Floor {
     /// The floor of a mesh.
     pub fn of(alloc: Global, setup: &MeshSetup) -> Result<Floor, Memory>
-        requires { length setup.now.tables ≡ grid_size setup.now }
-        ensures { IfOk result (IsFloorOf setup.now) }
+        ensures { length setup.now.tables ≡ grid_size setup.now → IfOk result (IsFloorOf setup.now) }
     {
         let count = setup.machine().chips();
         let mut floor = Floor {
@@ -56,7 +55,7 @@ impl Floor {
     {
         let chip = setup.machine().chip_at(index);
         let cores = Port::COUNT * setup.machine().chips() as u32;
-        let vertices = vertices_on(alloc, setup, index)?;
+        let vertices = vertices_on(alloc, setup, chip)?;
         push_behind(&mut self.behind, setup, chip)?;
         self.chips.push(live_chip(setup, chip))?;
         self.banks.push(CoreBank {
@@ -101,12 +100,11 @@ fn live_chip(setup: &MeshSetup, chip: Chip) -> Option<Chip>
     }
 }
 
-// The vertices on the chip of an index.
-fn vertices_on(alloc: Global, setup: &MeshSetup, index: u32) -> Result<Vec<u32>, Memory>
-    requires { index < grid_size setup.now }
-    ensures { IfOk result (λ vertices. AreVerticesOf setup.now index vertices.items) }
+// The vertices on a chip.
+fn vertices_on(alloc: Global, setup: &MeshSetup, chip: Chip) -> Result<Vec<u32>, Memory>
+    ensures { (index : ℕ) → chip ≡ chip_of setup.now.machine index
+        → IfOk result (λ vertices. AreVerticesOf setup.now index vertices.items) }
 {
-    let chip = setup.machine().chip_at(index);
     every_setup_has_sites(setup);
     let mut vertices = Vec::new(alloc);
     for core in 0..OUT_COUNT as u8 {
@@ -117,8 +115,6 @@ fn vertices_on(alloc: Global, setup: &MeshSetup, index: u32) -> Result<Vec<u32>,
 
 // The number of the vertex on a spot.
 fn number_at(setup: &MeshSetup, spot: Spot) -> Option<u32>
-    requires inside { IsInside setup.now.machine spot.chip }
-    requires numbered { spot.core < 24 }
     ensures { result ≡ vertex_at setup.now.spots spot }
 {
     few_vertices(setup);

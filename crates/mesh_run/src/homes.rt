@@ -79,8 +79,11 @@ pub(crate) fn homes_of(alloc: Global, footing: Footing, table: &[u32]) -> Result
     for index in 0..chips {
         push_ports(&mut homes, table[2 * index], table[2 * index + 1])?;
     }
-    for vertex in 0..setup.spots().len() {
-        let index = home_index(setup, vertex);
+    every_setup_has_sites(setup);
+    let spots = setup.spots();
+    for vertex in 0..spots.len() {
+        let home = setup.machine().index(spots[vertex].chip);
+        let index = home as usize;
         homes.push(Home {
             sender: table[2 * index],
             receiver: table[2 * index + 1],
@@ -98,16 +101,6 @@ fn chips_of(setup: &MeshSetup) -> usize
     ensures few { result ≤ 4096 }
 {
     setup.machine().chips()
-}
-
-// The index of a vertex's chip.
-fn home_index(setup: &MeshSetup, vertex: usize) -> usize
-    requires { vertex < length setup.now.spots }
-    ensures { result < grid_size setup.now }
-{
-    every_setup_has_sites(setup);
-    let home = setup.machine().index(setup.spots()[vertex].chip);
-    home as usize
 }
 
 // The homes of the queues of a chip's ports, by the shares of its router and of its bank.

@@ -5,7 +5,7 @@
 ghost use Rattle.std.specs.Prelude.{◌≡◌, ℕ, ◌+◌, ◌<◌, ◌≤◌, List, All, OnErr, OnOk, IfOk, Some, length, map, slice_get};
 ghost use Rattle.link_queue.specs.declared.links.LinkEnds.{LinkEnds};
 ghost use Rattle.mesh_run.specs.Standing.{HoldsAll};
-ghost use Rattle.mesh_run.specs.Queues.{AreUp, AreEnds, DownTo, IsDown, IsUp, RestAll, RestsAt, StayUp, UpAt, WasUp, free_places_of, places_for, queue_of_link};
+ghost use Rattle.mesh_run.specs.Queues.{AreUp, AreEnds, DownTo, IsUp, RestAll, RestsAt, StayUp, UpAt, WasUp, free_places_of, places_for, queue_of_link};
 
 use crate::standing::{Rising, Standing};
 use link_queue::{AtRest, FirstList, LentLink, LinkEnds, WholeLink, link_down, link_up, rest};
@@ -53,28 +53,15 @@ pub(crate) fn bring_up<R: Wait>(
 {
     let mut rising = Rising::over(alloc, queues.len())?;
     for place in 0..queues.len() {
-        let ends = link_for(rt, alloc, queues[place].as_slice(), places)?;
-        rising.put(ends);
+        let list = copied(alloc, queues[place].as_slice())?;
+        let cap = places.for_held(list.len());
+        let first = FirstList { list, cap };
+        match link_up(rt, alloc, first) {
+            Ok(ends) => rising.put(ends),
+            Err(_) => return Err(Memory),
+        }
     }
     Ok(rising.into_standing())
-}
-
-// A link for a queue.
-fn link_for<R: Wait>(
-    rt: &R,
-    alloc: Global,
-    queue: &[McCopy],
-    places: Places,
-) -> Result<LinkEnds, Memory>
-    requires { length queue.now ≤ places.cap }
-    ensures { IfOk result (IsUp places.cap (places.turns + 1) queue.now) }
-{
-    let list = copied(alloc, queue)?;
-    let cap = places.for_held(list.len());
-    match link_up(rt, alloc, FirstList { list, cap }) {
-        Ok(ends) => Ok(ends),
-        Err(_) => Err(Memory),
-    }
 }
 
 // A copy of a list.
@@ -202,16 +189,8 @@ pub(crate) fn bring_down<R: Wait>(rt: &R, standing: Standing, queues: &mut Vec<F
     let mut standing = standing;
     let count = standing.links.len();
     for gone in 0..count {
-        queues[count - gone - 1] = down(rt, standing.pop());
+        let LinkEnds { link, tx, rx, room } = standing.pop();
+        let whole = WholeLink { link, tx, rx, room };
+        queues[count - gone - 1] = Fifo::from_seq(link_down(rt, whole));
     }
-}
-
-// The queue of a link, after it is down.
-fn down<R: Wait>(rt: &R, ends: LinkEnds) -> Fifo<McCopy>
-    requires { AreEnds ends }
-    ensures { IsDown ends result }
-{
-    let LinkEnds { link, tx, rx, room } = ends;
-    let whole = WholeLink { link, tx, rx, room };
-    Fifo::from_seq(link_down(rt, whole))
 }

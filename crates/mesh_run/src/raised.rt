@@ -1,5 +1,5 @@
 // A mesh split into shares, from round to round.
-ghost use Rattle.std.specs.Prelude.{◌≡◌, ◌+◌, ◌<◌, IfErr, IfOk, OnErr, OnOk};
+ghost use Rattle.std.specs.Prelude.{◌≡◌, ◌+◌, IfErr, IfOk, OnErr, OnOk};
 ghost use Rattle.mesh_core.specs.State.{IsMesh, State};
 ghost use Rattle.mesh_run.specs.Layouts.{IsLayoutOf};
 ghost use Rattle.mesh_run.specs.Raised.{IsRaisedFrom, IsRoomyFrom, PlaysTo};
@@ -16,6 +16,7 @@ use crate::splitting::{SplitPlan, move_in, move_out, swap_queue};
 use crate::standing::Standing;
 use chip_node::{Around, Log};
 use mesh_core::MeshParts;
+use mesh_core::laws::every_setup_has_sites;
 use spin_base::{Fifo, Gate, McCopy, Memory, Seq};
 use std::alloc::Global;
 use std::mem;
@@ -101,7 +102,14 @@ impl<'l> RaisedMesh<'l> {
             → IsRaisedFrom m 0 self.new) }
         ensures pace { self.new.pace ≡ self.old.pace }
     {
-        self.make_room(rt, alloc, round.thorough)?;
+        let places = places_of(&self.parts, self.pace.turns);
+        widen_all(rt, alloc, &mut self.standing, places)?;
+        let size = RoundSize {
+            capacity: places.cap,
+            turns: places.turns,
+        };
+        make_room_in_all(&mut self.shares, &self.layout.floor, size, round.thorough)?;
+        self.logs.make_room(&self.shares)?;
         Ok(self.play_roomy(rt, round))
     }
 
@@ -134,25 +142,6 @@ impl<'l> RaisedMesh<'l> {
         self.logs.gather(&mut self.shares)
     }
 
-    // Room for a round.
-    fn make_room<R: Wait>(&mut self, rt: &R, alloc: Global, all: bool) -> Result<(), Memory>
-        requires { (m : State) × IsMesh m × IsRaisedFrom m 0 self.old }
-        ensures room { OnOk result ((m : State) → IsMesh m → IsRaisedFrom m 0 self.old
-            → IsRoomyFrom m (self.new.pace.turns + 1) self.new) }
-        ensures back { OnErr result ((m : State) → IsMesh m → IsRaisedFrom m 0 self.old
-            → IsRaisedFrom m 0 self.new) }
-        ensures pace { self.new.pace ≡ self.old.pace }
-    {
-        let places = places_of(&self.parts, self.pace.turns);
-        widen_all(rt, alloc, &mut self.standing, places)?;
-        let size = RoundSize {
-            capacity: places.cap,
-            turns: places.turns,
-        };
-        make_room_in_all(&mut self.shares, &self.layout.floor, size, all)?;
-        self.logs.make_room(&self.shares)
-    }
-
     /// The mesh with its queues. It takes no memory.
     pub fn lower<R: Wait>(self, rt: &R, alloc: Global) -> MeshParts
         requires { (m : State) × IsMesh m × IsRaisedFrom m 0 self }
@@ -182,10 +171,10 @@ impl<'l> RaisedMesh<'l> {
 
 // For what the links of a mesh have places, in rounds of so many turns.
 fn places_of(parts: &MeshParts, turns: u32) -> Places
-    requires { 0 < parts.now.setup.capacity }
     ensures cap { result.cap ≡ parts.now.setup.capacity }
     ensures turns { result.turns ≡ turns }
 {
+    every_setup_has_sites(&parts.setup);
     Places {
         cap: parts.setup.capacity(),
         turns,

@@ -8,7 +8,7 @@ use Rattle.mesh_drain.proofs.{Opened.known, Opened.listed_source, Opened.grows, 
 use Rattle.mesh_drain.proofs.opening.add_packets.Goals as goal
 
 pub loop-number-init : goal.loop-number-init
-loop-number-init c = record { opened = c.requires.none_yet }
+loop-number-init c = record { opened = λ none_yet. none_yet }
 
 pub bounds-nets-net : goal.bounds-nets-net
 bounds-nets-net c =
@@ -46,9 +46,9 @@ loop-number-preserved c =
     let n : NetPlan = slice_index_or c.args.nets.now p.net c.index-nets-net.result in
     let k = known c.args.mesh.now.setup.spots c.args.nets.now c.args.packets.now c.requires.listed.can.of_nets c.requires.listed.can.sources c.loop-number.number d c.loop-number-test.true in
     record {
-      opened = grows c.args.mesh.now.setup c.args.nets.now c.args.packets.now c.loop-number.number d c.index-nets-net.result
+      opened = λ none_yet. grows c.args.mesh.now.setup c.args.nets.now c.args.packets.now c.loop-number.number d c.index-nets-net.result
           (slice_index_or c.args.sources.now p.net 0) (first_copy c.loop-number.number n p) c.loop-number.mesh c.add.new.self
-          k c.loop-number-test.true c.loop-number.invariant.opened refl
+          k c.loop-number-test.true (c.loop-number.invariant.opened none_yet) refl
           (listed_source c.args.mesh.now.setup.spots c.args.nets.now c.args.sources.now p 0 c.requires.listed.vertices k).1
           c.in_ok-add.ensures.ok;
     }

@@ -1,8 +1,8 @@
-use Rattle.std.proofs.Common.{◌≡◌, take}
+use Rattle.std.proofs.Common.{◌≡◌, [], take}
 use Rattle.mesh_core.specs.Opened.{opened_mesh}
 use Rattle.mesh_drain.proofs.opening.add_packets.Given as goal
 
 abbrev pub invariant-loop-number : goal.invariant-loop-number
 invariant-loop-number l = record {
-  opened : l.mesh ≡ opened_mesh l.fn.mesh.setup l.nets (take l.number l.packets);
+  opened : l.fn.mesh ≡ opened_mesh l.fn.mesh.setup l.nets [] → l.mesh ≡ opened_mesh l.fn.mesh.setup l.nets (take l.number l.packets);
 }

@@ -1,13 +1,17 @@
-use Rattle.std.proofs.Common.{arith, sym, ap, subst, ◌∙◌}
-use Rattle.mesh_core.specs.State.{State, Setup}
+use Rattle.std.proofs.Common.{◌≡◌, [], sym, ap, subst, ◌∙◌}
+use Rattle.mesh_core.specs.{State.State, State.Setup, Opened.opened_mesh}
 use Rattle.mesh_drain.specs.Opening.{AreListed}
 use Rattle.mesh_drain.proofs.Opened.{opens}
 use Rattle.mesh_drain.proofs.opening.open_mesh.Goals as goal
 
-pub add_packets-requires-clause-none_yet : goal.add_packets-requires-clause-none_yet
-add_packets-requires-clause-none_yet c = grind (arith, opens c.args.setup c.args.nets.now)
+pub add_packets-requires : goal.add_packets-requires
+add_packets-requires c =
+    let listed = subst (λ (u : Setup). AreListed u c.args.nets.now c.args.packets.now c.as_slice.result.now) (sym (ap (λ (s : State). s.setup) c.in_ok-mesh.ensures))
+    (record { can = c.requires; vertices = c.as_slice.ensures.value ∙ c.in_ok-sources.ensures }) in
+    record { listed = listed }
 
-pub add_packets-requires-clause-listed : goal.add_packets-requires-clause-listed
-add_packets-requires-clause-listed c =
-    subst (λ (u : Setup). AreListed u c.args.nets.now c.args.packets.now c.as_slice.result.now) (sym (ap (λ (s : State). s.setup) c.in_ok-mesh.ensures))
-    (record { can = c.requires; vertices = c.as_slice.ensures.value ∙ c.in_ok-sources.ensures })
+pub returns-clause-opened : goal.returns-clause-opened
+returns-clause-opened c =
+    c.in_ok-add_packets.ensures
+    (subst (λ (s : State). s ≡ opened_mesh s.setup c.args.nets.now []) (sym c.in_ok-mesh.ensures) (opens c.args.setup c.args.nets.now))
+    ∙ ap (λ (s : State). opened_mesh s.setup c.args.nets.now c.args.packets.now) c.in_ok-mesh.ensures

@@ -1,6 +1,5 @@
 use Rattle.std.proofs.Common.{◌≡◌, get_or, set, Some, refl, sym, ap, ◌∙◌, arith}
 use Rattle.std.proofs.lemmas.Option.{same_Some, slice_get-get_or}
-use Rattle.link_queue.specs.declared.links.{Tx.Tx, Rx.Rx}
 use Rattle.chip_node.specs.declared.ends.End.{End, TheVariants.Sends, TheVariants.Takes}
 use Rattle.mesh_run.specs.declared.homes.Cut.{Cut}
 use Rattle.mesh_run.proofs.CrossingLaws.{collected_all, collected_more, collected_none, next_laid}
@@ -29,27 +28,6 @@ put_end-into-requires c =
     let end : End = Takes (record { link = c.loop-number.number; rx = laid.0.rx }) in
     (end, c.put_end-out.ensures.put.others cut.receiver cut.queue (λ same. c.requires.cuts.two c.loop-number.number cut at (sym same.0)) ∙ laid.2)
 
-pub sender_of-tx-requires : goal.sender_of-tx-requires
-sender_of-tx-requires c =
-    let nothing : Cut = record { queue = 0; sender = 0; receiver = 0 } in
-    let at = slice_get-get_or c.args.cuts.now c.loop-number.number nothing c.loop-number-test.true in
-    let cut : Cut = get_or c.args.cuts.now c.loop-number.number nothing in
-    let laid = next_laid c.args.cuts.now c.args.standing.now c.loop-number.standing c.args.shares.now.items c.loop-number.shares.items c.loop-number.number cut c.loop-number.invariant
-    c.requires.cuts c.requires.laid at in
-    let end : End = Sends (record { link = c.loop-number.number; tx = laid.0.tx }) in
-    (record { link = c.loop-number.number; tx = laid.0.tx }, same_Some c.put_end-out.result end (sym c.put_end-out.ensures.stood ∙ laid.1))
-
-pub receiver_of-rx-requires : goal.receiver_of-rx-requires
-receiver_of-rx-requires c =
-    let nothing : Cut = record { queue = 0; sender = 0; receiver = 0 } in
-    let at = slice_get-get_or c.args.cuts.now c.loop-number.number nothing c.loop-number-test.true in
-    let cut : Cut = get_or c.args.cuts.now c.loop-number.number nothing in
-    let laid = next_laid c.args.cuts.now c.args.standing.now c.loop-number.standing c.args.shares.now.items c.loop-number.shares.items c.loop-number.number cut c.loop-number.invariant
-    c.requires.cuts c.requires.laid at in
-    let end : End = Takes (record { link = c.loop-number.number; rx = laid.0.rx }) in
-    let stands = c.put_end-out.ensures.put.others cut.receiver cut.queue (λ same. c.requires.cuts.two c.loop-number.number cut at (sym same.0)) ∙ laid.2 in
-    (record { link = c.loop-number.number; rx = laid.0.rx }, same_Some c.put_end-into.result end (sym c.put_end-into.ensures.stood ∙ stands))
-
 pub loop-number-preserved : goal.loop-number-preserved
 loop-number-preserved c =
     let nothing : Cut = record { queue = 0; sender = 0; receiver = 0 } in
@@ -60,13 +38,13 @@ loop-number-preserved c =
     let out : End = Sends (record { link = c.loop-number.number; tx = laid.0.tx }) in
     let into : End = Takes (record { link = c.loop-number.number; rx = laid.0.rx }) in
     let stands = c.put_end-out.ensures.put.others cut.receiver cut.queue (λ same. c.requires.cuts.two c.loop-number.number cut at (sym same.0)) ∙ laid.2 in
-    let tx : c.sender_of-tx.result ≡ laid.0.tx = c.sender_of-tx.ensures (record { link = c.loop-number.number; tx = laid.0.tx })
+    let tx : c.sender_of-tx.result ≡ Some laid.0.tx = c.sender_of-tx.ensures (record { link = c.loop-number.number; tx = laid.0.tx })
     (same_Some c.put_end-out.result out (sym c.put_end-out.ensures.stood ∙ laid.1)) in
-    let rx : c.receiver_of-rx.result ≡ laid.0.rx = c.receiver_of-rx.ensures (record { link = c.loop-number.number; rx = laid.0.rx })
+    let rx : c.receiver_of-rx.result ≡ Some laid.0.rx = c.receiver_of-rx.ensures (record { link = c.loop-number.number; rx = laid.0.rx })
     (same_Some c.put_end-into.result into (sym c.put_end-into.ensures.stood ∙ stands)) in
     collected_more c.args.cuts.now c.args.standing.now c.loop-number.standing _ c.args.shares.now.items c.loop-number.shares.items c.put_end-out.new.shares.items
     c.put_end-into.new.shares.items c.loop-number.number cut laid.0.tx laid.0.rx c.requires.cuts c.loop-number.invariant at laid.0.sends laid.0.takes refl refl
-    (ap (λ (t : Tx). set c.loop-number.standing.txs.items c.loop-number.number (Some t)) tx) (ap (λ (t : Rx). set c.loop-number.standing.rxs.items c.loop-number.number (Some t)) rx)
+    (ap (set c.loop-number.standing.txs.items c.loop-number.number) tx) (ap (set c.loop-number.standing.rxs.items c.loop-number.number) rx)
     c.put_end-out.ensures.put c.put_end-into.ensures.put
 
 pub returns : goal.returns

@@ -1,6 +1,8 @@
+use Rattle.std.proofs.Common.{◌≡◌, ℕ}
+use Rattle.machine_desc.specs.Live.{chip_of}
 use Rattle.mesh_run.specs.Floors.{AreVerticesOn}
 use Rattle.mesh_run.proofs.floors.vertices_on.Given as goal
 
--- the vertices so far
+-- the vertices so far, of the chip of any index
 abbrev pub invariant-loop-core : goal.invariant-loop-core
-invariant-loop-core l = AreVerticesOn l.setup l.index l.core l.vertices.items
+invariant-loop-core l = (index : ℕ) → l.chip ≡ chip_of l.setup.machine index → AreVerticesOn l.setup index l.core l.vertices.items

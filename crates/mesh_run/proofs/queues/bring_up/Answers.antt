@@ -1,16 +1,18 @@
-use Rattle.std.proofs.Common.{◌≡◌, ◌+◌, ◌-◌, ◌≤◌, List, length, refl, sym, ◌∙◌, subst, arith}
+use Rattle.std.proofs.Common.{◌≡◌, ◌+◌, ◌-◌, ◌≤◌, List, length, refl, sym, ap, ◌∙◌, subst, arith}
 use Rattle.spin_base.specs.declared.copies.McCopy.{McCopy}
-use Rattle.mesh_run.proofs.BringingUp.{up_none, may_rise, up_more, all_up}
-use Rattle.mesh_run.specs.Queues.{IsUp}
+use Rattle.mesh_run.proofs.BringingUp.{made_with, up_none, may_rise, up_more, all_up}
+use Rattle.mesh_run.specs.Queues.{IsUp, places_for}
 use Rattle.mesh_run.proofs.queues.bring_up.Goals as goal
 
 pub loop-place-init : goal.loop-place-init
 loop-place-init g c = up_none c.args.places.cap (c.args.places.turns + 1) (length c.args.queues.now) c.args.queues.now c.in_ok-rising.rising refl c.in_ok-rising.ensures
 
-pub link_for-requires : goal.link_for-requires
-link_for-requires g c =
+pub invariant_of-first : goal.invariant_of-first
+invariant_of-first g c =
     let q = c.index-queues-place.result in
-    subst (λ (p : List McCopy). length p ≤ c.args.places.cap) (sym (c.as_slice.ensures ∙ c.index-queues-place.is)) (c.requires c.loop-place.place q c.loop-place-test.true)
+    let fits = subst (λ (p : List McCopy). length p ≤ c.args.places.cap) (sym (c.in_ok-list.ensures ∙ (c.as_slice.ensures ∙ c.index-queues-place.is)))
+    (c.requires c.loop-place.place q c.loop-place-test.true) in
+    record { some = omega (arith, c.for_held-cap.ensures, c.args.places.some); fits = omega (arith, c.for_held-cap.ensures, c.len.ensures, fits) }
 
 pub put-requires : goal.put-requires
 put-requires g c =
@@ -23,11 +25,23 @@ loop-place-preserved g c =
     let u = c.loop-place.invariant in
     let qs = c.args.queues.now in
     let k = c.loop-place.place in
-    let more = c.args.places.turns + 1 in
-    let e = c.in_ok-ends.ends in
-    up_more c.args.places.cap more qs k c.loop-place.rising c.put.new.self c.index-queues-place.result e u c.loop-place-test.true c.index-queues-place.is
-    (subst (λ (p : List McCopy). IsUp c.args.places.cap more p e) c.as_slice.ensures c.in_ok-ends.ensures)
-    (c.put.ensures u.ends (length qs - (k + 1)) (may_rise c.args.places.cap more qs k c.loop-place.rising u c.loop-place-test.true))
+    let cap = c.args.places.cap in
+    let turns = c.args.places.turns in
+    let q = c.index-queues-place.result in
+    let list = c.in_ok-list.list in
+    let e = c.in-Ok.ends in
+    let made = c.in-Ok.ensures in
+    let is = c.in_ok-list.ensures ∙ c.as_slice.ensures in
+    let fits = subst (λ (p : List McCopy). length p ≤ cap) (sym (is ∙ c.index-queues-place.is)) (c.requires k q c.loop-place-test.true) in
+    let places = c.for_held-cap.ensures ∙ ap (places_for cap turns) c.len.ensures in
+    up_more cap (turns + 1) qs k c.loop-place.rising c.put.new.self q e u c.loop-place-test.true c.index-queues-place.is
+    (subst (λ (p : List McCopy). IsUp cap (turns + 1) p e) is (record {
+      ends = record { tx = made.sending.0; rx = made.taking.0; empty = made.room.0; spare = subst (λ n. n ≤ e.room.spare) (sym made.cap) made.room.1 };
+      holds = made_with cap turns (length list) _ fits (made.cap ∙ places);
+      tx_new = made.sending.1;
+      rx_new = made.taking.1;
+    }))
+    (c.put.ensures u.ends (length qs - (k + 1)) (may_rise cap (turns + 1) qs k c.loop-place.rising u c.loop-place-test.true))
 
 pub returns : goal.returns
 returns g c =

@@ -9,7 +9,7 @@ loop-index-init c =
     (c.in_ok-reserve_exact-3.ensures.items ∙ c.new-3.ensures.items)
 
 pub returns : goal.returns
-returns c =
+returns c = λ tables.
     let all : c.loop-index.index ≡ c.chips-count.result = omega arith in
-    floor_all c.args.setup.now c.loop-index.index c.loop-index.floor c.requires (all ∙ (c.chips-count.ensures.total ∙ ap (λ (m : Description). m.width * m.height) c.machine.ensures))
+    floor_all c.args.setup.now c.loop-index.index c.loop-index.floor tables (all ∙ (c.chips-count.ensures.total ∙ ap (λ (m : Description). m.width * m.height) c.machine.ensures))
     c.loop-index.invariant

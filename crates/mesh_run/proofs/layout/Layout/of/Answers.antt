@@ -4,11 +4,8 @@ use Rattle.mesh_run.specs.{declared.homes.Home.Home, Floors.IsFloorOf, Floors.gr
 use Rattle.mesh_run.proofs.PlanLaws.{few_homes}
 use Rattle.mesh_run.proofs.layout.Layout.of.Goals as goal
 
-pub of-requires : goal.of-requires
-of-requires c = subst (λ (s : State). length s.setup.tables ≡ grid_size s.setup) (sym c.parts.view_is) c.requires.table_list
-
 pub invariant_of-footing : goal.invariant_of-footing
-invariant_of-footing c = record { stands = c.in_ok-floor.ensures }
+invariant_of-footing c = record { stands = c.in_ok-floor.ensures (subst (λ (s : State). length s.setup.tables ≡ grid_size s.setup) (sym c.parts.view_is) c.requires.table_list) }
 
 pub share_table-requires : goal.share_table-requires
 share_table-requires c = subst (λ n. AreShareRuns n c.deref.result.now) (sym c.actors.ensures)
@@ -32,7 +29,7 @@ returns c =
     let table = c.in_ok-table.table.items in
     let numbers = subst (λ (n : ℕ). IsShareTable n runs table) c.actors.ensures (subst (λ (r : List ℕ). IsShareTable c.actors.result r table) c.deref.ensures.value c.in_ok-table.ensures) in
     record {
-      floor = subst (λ (s : State). IsFloorOf s.setup c.in_ok-floor.floor) is c.in_ok-floor.ensures;
+      floor = subst (λ (s : State). length s.setup.tables ≡ grid_size s.setup → IsFloorOf s.setup c.in_ok-floor.floor) is c.in_ok-floor.ensures c.requires.table_list;
       table = table;
       runs = subst (λ (s : State). AreShareRuns (2 * grid_size s.setup) runs) is c.in_ok-runs.ensures;
       numbers = subst (λ (s : State). IsShareTable (2 * grid_size s.setup) runs table) is numbers;
