@@ -9,7 +9,7 @@ ghost use Rattle.link_detours.specs.Waves.{IsIn, IsSetOfTree, AreWaves, IsStepFr
 ghost use Rattle.spin_base.specs.declared.chips.Chip.{Chip};
 ghost use Rattle.machine_desc.specs.declared.trees.Edge.{Edge};
 
-use crate::grounds::{Aim, Edges, Flagged, Front, FrontAt, Ring, Search};
+use crate::grounds::{Aim, Edges, Flagged, Front, FrontAt, Ring, RootedEdges, Search};
 use crate::searches::reached_chips;
 use crate::sets::{has, near_columns, put, spread};
 use crate::tables::link_table;
@@ -17,21 +17,26 @@ use machine_desc::Edge;
 use spin_base::{Chip, Dir, Memory};
 use std::alloc::Global;
 
-// A table that marks the chips that the edges join to the root.
-pub(crate) fn tree_reach(alloc: Global, root: Chip, links: Edges) -> Result<Vec<bool>, Memory>
-    requires { IsInside links.machine.now root }
-    ensures long { IfOk result (λ t. length t.items ≡ links.entry.machine.now.width *
-        links.entry.machine.now.height) }
-    ensures reach { IfOk result (λ t. (c : Chip) → IsInside links.entry.machine.now c →
-        (is_marked links.entry.machine.now t.items c ≡ true)
-        ↔ ((n : ℕ) × Steps (EdgeStep links.entry.machine.now links.entry.list.now) n root c)) }
+// A table that marks the chips that the edges join to their root.
+pub(crate) fn tree_reach(alloc: Global, tree: RootedEdges) -> Result<Vec<bool>, Memory>
+    ensures long { IfOk result (λ t. length t.items ≡ tree.entry.ground.machine.now.width *
+        tree.entry.ground.machine.now.height) }
+    ensures reach { IfOk result (λ t. (c : Chip) → IsInside tree.entry.ground.machine.now c →
+        (is_marked tree.entry.ground.machine.now t.items c ≡ true)
+        ↔ ((n : ℕ) × Steps (EdgeStep tree.entry.ground.machine.now tree.entry.list.now) n
+        tree.entry.root c)) }
 {
+    let machine = tree.ground.machine;
+    let links = Edges {
+        machine,
+        list: tree.list,
+    };
     let table = link_table(alloc, links)?;
     let flagged = Flagged {
-        machine: links.machine,
+        machine,
         flags: &table,
     };
-    let seeds = [root];
+    let seeds = [tree.root];
     let search = Search {
         table: flagged,
         seeds: &seeds,

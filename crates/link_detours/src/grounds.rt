@@ -136,12 +136,30 @@ pub struct MarkedEdges<'a> {
     pub ghost long: { length marks.now ≡ edges.machine.now.width * edges.machine.now.height },
 }
 
+// An edge, and a mark for each chip of its machine.
+#[derive(Clone, Copy)]
+pub struct MarkedEdge<'a> {
+    pub machine: &'a Machine,
+    pub marks: &'a [bool],
+    pub edge: Edge,
+    pub ghost long: { length marks.now ≡ machine.now.width * machine.now.height },
+    pub ghost inside: { IsInside machine.now edge.chip },
+}
+
 // A flag for each link of a machine.
 #[derive(Clone, Copy)]
 pub struct Flagged<'a> {
     pub machine: &'a Machine,
     pub flags: &'a [bool],
     pub ghost long: { length flags.now ≡ machine.now.width * machine.now.height * 6 },
+}
+
+// A chip of a machine whose links have flags.
+#[derive(Clone, Copy)]
+pub struct FlaggedChip<'a> {
+    pub table: Flagged<'a>,
+    pub chip: Chip,
+    pub ghost inside: { IsInside table.machine.now chip },
 }
 
 // A search over flagged links, from these chips on.

@@ -81,7 +81,12 @@ fn kept_edges(alloc: Global, broken: BrokenTree) -> Result<Vec<Edge>, Memory>
         machine: broken.ground.machine,
         list: &live,
     };
-    let reach = tree_reach(alloc, broken.root, links)?;
+    let tree = RootedEdges {
+        ground: broken.ground,
+        root: broken.root,
+        list: links.list,
+    };
+    let reach = tree_reach(alloc, tree)?;
     let marked = MarkedEdges {
         edges: links,
         marks: &reach,

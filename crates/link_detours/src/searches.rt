@@ -6,19 +6,19 @@ ghost use Rattle.machine_desc.specs.Flags.{is_flagged};
 ghost use Rattle.link_detours.specs.Usable.{FlaggedStep, is_marked};
 ghost use Rattle.spin_base.specs.declared.chips.Chip.{Chip};
 
-use crate::grounds::{Chips, Flagged, Search};
+use crate::grounds::{Chips, FlaggedChip, Search};
 use crate::tables::link_place;
 use spin_base::{Chip, Dir, Memory};
 use std::alloc::Global;
 
 // The chip to which the link leads, where the table flags the link.
-fn flagged_far(table: Flagged, c: Chip, d: Dir) -> Option<Chip>
-    requires { IsInside table.machine.now c }
-    ensures { result ≡ (if is_flagged table.entry.machine.now table.entry.flags.now c d
-        then far_of table.entry.machine.now c d else None) }
+fn flagged_far(from: FlaggedChip, d: Dir) -> Option<Chip>
+    ensures { result ≡ (if is_flagged from.entry.table.machine.now from.entry.table.flags.now
+        from.entry.chip d then far_of from.entry.table.machine.now from.entry.chip d else None) }
 {
-    if table.flags[link_place(table.machine, c, d)] {
-        table.machine.far(c, d)
+    let FlaggedChip { table, chip } = from;
+    if table.flags[link_place(table.machine, chip, d)] {
+        table.machine.far(chip, d)
     } else {
         None
     }
@@ -59,7 +59,11 @@ pub(crate) fn reached_chips(alloc: Global, search: Search) -> Result<Vec<bool>, 
     while next < queue.len() {
         let from = queue[next];
         for link in Dir::ALL {
-            if let Some(to) = flagged_far(search.table, from, link) {
+            let here = FlaggedChip {
+                table: search.table,
+                chip: from,
+            };
+            if let Some(to) = flagged_far(here, link) {
                 if !marks[machine.index(to) as usize] {
                     queue.push(to)?;
                     marks[machine.index(to) as usize] = true;

@@ -84,13 +84,22 @@ fn turned(ring: Ring, word: u64, d: Dir) -> u64
     }
 }
 
+// A column of so many.
+#[derive(Clone, Copy)]
+struct ColumnPlace {
+    width: usize,
+    x: usize,
+    ghost within: { x < width },
+}
+
 // The column to which the link leads.
 #[inline(always)]
-fn column_beyond(width: usize, x: usize, d: Dir) -> usize
-    requires { x < width }
-    ensures below { result < width }
-    ensures column { (wrap : Bool) (k : ℕ) → stepped wrap width (x_step d) x ≡ Some k → result ≡ k }
+fn column_beyond(at: ColumnPlace, d: Dir) -> usize
+    ensures below { result < at.width }
+    ensures column { (wrap : Bool) (k : ℕ)
+        → stepped wrap at.width (x_step d) at.x ≡ Some k → result ≡ k }
 {
+    let ColumnPlace { width, x } = at;
     match d {
         Dir::East | Dir::NorthEast => if x + 1 < width { x + 1 } else { 0 },
         Dir::North | Dir::South => x,
@@ -111,7 +120,11 @@ fn leading(column: Column, d: Dir) -> u64
     let rows = Ring {
         size: front.ground.machine.height(),
     };
-    turned(rows, set[column_beyond(set.len(), x, d)], d) & front.ground.roads.word(x, d)
+    let at = ColumnPlace {
+        width: set.len(),
+        x,
+    };
+    turned(rows, set[column_beyond(at, d)], d) & front.ground.roads.word(x, d)
 }
 
 // Of a column's chips those of the set, and those from which a live link leads to one of the set.
@@ -135,13 +148,16 @@ fn spread_word(column: Column) -> u64
 }
 
 // The word with the column named, where it is to be.
-fn with_column(columns: u64, x: u32, named: bool) -> u64
-    requires { x < 64 }
+fn with_column(columns: u64, column: Column, named: bool) -> u64
     ensures same { (k : ℕ) → bit_at columns k ≡ 1 → bit_at result k ≡ 1 }
-    ensures named { named ≡ true → bit_at result x ≡ 1 }
+    ensures named { named ≡ true → bit_at result column.entry.x ≡ 1 }
     ensures unnamed { named ≡ false → result ≡ columns }
 {
-    if named { columns | 1 << x } else { columns }
+    if named {
+        columns | 1 << column.x
+    } else {
+        columns
+    }
 }
 
 // Puts a column of a set into `next` as it is when it has spread. Answers the columns that have grown, with it if it has.
@@ -154,7 +170,7 @@ fn spread_column(column: Column, grown: u64, next: &mut [u64]) -> u64
     let word = spread_word(column);
     let named = word != column.front.set[place];
     next[place] = word;
-    with_column(grown, column.x, named)
+    with_column(grown, column, named)
 }
 
 // Puts the chips from which a live link leads to one of a set into `next`, which has those of the set. Answers a word that

@@ -1,6 +1,5 @@
 // Trees of which nothing has to be taken off: seen from their edges, without a search.
 ghost use Rattle.std.specs.Prelude.{◌≡◌, ◌↔◌, ◌++◌, true, Some, map, All, IfOk, Contains};
-ghost use Rattle.machine_desc.specs.Live.{IsInside};
 ghost use Rattle.machine_desc.specs.RoutingTree.{end_of, IsTreeChip};
 ghost use Rattle.link_detours.specs.Usable.{is_marked};
 ghost use Rattle.link_detours.specs.Repair.{LeadsToTarget, AreInPlaceOrder};
@@ -8,7 +7,7 @@ ghost use Rattle.link_detours.specs.Whole.{IsWholeTree, GoesOnFrom};
 ghost use Rattle.spin_base.specs.declared.chips.Chip.{Chip};
 ghost use Rattle.machine_desc.specs.declared.trees.Edge.{Edge};
 
-use crate::grounds::{BrokenTree, Chips, Edges, MarkedEdges, TargetedEdges};
+use crate::grounds::{BrokenTree, Chips, Edges, MarkedEdge, MarkedEdges, TargetedEdges};
 use crate::prunes::pruned;
 use crate::searches::seed_table;
 use crate::tables::{in_place_order, link_place};
@@ -104,7 +103,12 @@ fn ends_are_marked(marked: MarkedEdges) -> bool
         marked.entry.edges.list.now }
 {
     for edge in marked.edges.list {
-        if !end_is_marked(marked, *edge) {
+        let end = MarkedEdge {
+            machine: marked.edges.machine,
+            marks: marked.marks,
+            edge: *edge,
+        };
+        if !end_is_marked(end) {
             return false;
         }
     }
@@ -112,14 +116,17 @@ fn ends_are_marked(marked: MarkedEdges) -> bool
 }
 
 // Whether the chip at which the edge ends is marked.
-fn end_is_marked(marked: MarkedEdges, edge: Edge) -> bool
-    requires { IsInside marked.edges.machine.now edge.chip }
-    ensures { result ≡ true → (c : Chip) → end_of marked.entry.edges.machine.now edge ≡ Some c
-        → is_marked marked.entry.edges.machine.now marked.entry.marks.now c ≡ true }
+fn end_is_marked(end: MarkedEdge) -> bool
+    ensures { result ≡ true → (c : Chip) → end_of end.entry.machine.now end.entry.edge ≡ Some c
+        → is_marked end.entry.machine.now end.entry.marks.now c ≡ true }
 {
-    let machine = marked.edges.machine;
+    let MarkedEdge {
+        machine,
+        marks,
+        edge,
+    } = end;
     match machine.far(edge.chip, edge.dir) {
-        Some(far) => marked.marks[machine.index(far) as usize],
+        Some(far) => marks[machine.index(far) as usize],
         None => true,
     }
 }

@@ -5,7 +5,6 @@
 //! Entries, lookup and default routes are those of the SpiNNaker datasheet; the order of the verdict is this project's own.
 #![tactic(auto)]
 
-mod boards;
 mod flaws;
 mod laws;
 mod places;
@@ -13,5 +12,6 @@ mod trees;
 mod verdicts;
 
 pub use laws::made_images_are_right;
+pub use places::GridImage;
 pub use trees::good;
 pub use verdicts::{Verdict, check};

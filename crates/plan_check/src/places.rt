@@ -10,27 +10,33 @@ use machine_desc::Machine;
 use spin_base::{ChipTable, Entry};
 use table_load::Image;
 
-// A valid image of a machine's grid, with the place of each chip's table in it, by the chip's index.
-#[derive(Drop)]
-pub struct PlacedTables<'a> {
+/// A valid image of a machine's grid.
+#[derive(Clone, Copy)]
+pub struct GridImage<'a> {
     pub machine: &'a Machine,
     pub image: &'a Image,
-    pub places: &'a [u16],
     pub ghost valid: { IsValid image.now } by { Prim.hlevel (props, IsChipBefore-prop) },
     pub ghost width: { image.now.width ≡ machine.now.width },
     pub ghost height: { image.now.height ≡ machine.now.height },
-    pub ghost long: { length places.now ≡ machine.now.width * machine.now.height },
-    pub ghost told: { TellsTables image.now.height image.now.chips
+}
+
+// A valid image of a machine's grid, with the place of each chip's table in it, by the chip's index.
+#[derive(Drop)]
+pub struct PlacedTables<'a> {
+    pub grid: GridImage<'a>,
+    pub places: &'a [u16],
+    pub ghost long: { length places.now ≡ grid.machine.now.width * grid.machine.now.height },
+    pub ghost told: { TellsTables grid.image.now.height grid.image.now.chips
         places.now } by { Prim.hlevel props },
 }
 
 // Writes, for each chip by its index, the place of the chip's table in the image, and the number of tables where it has none.
-pub(crate) fn set_places(image: &Image, places: &mut [u16])
-    requires valid { IsValid image.now }
-    requires long { length places.old ≡ image.now.width * image.now.height }
+pub(crate) fn set_places(grid: GridImage, places: &mut [u16])
+    requires { length places.old ≡ grid.image.now.width * grid.image.now.height }
     ensures long { length places.new ≡ length places.old }
-    ensures told { TellsTables image.now.height image.now.chips places.new }
+    ensures told { TellsTables grid.entry.image.now.height grid.entry.image.now.chips places.new }
 {
+    let image = grid.image;
     let tables = image.chips.as_slice();
     let mut at = tables.len() as u16;
     places.fill(at);
@@ -46,10 +52,10 @@ pub(crate) fn set_places(image: &Image, places: &mut [u16])
 pub(crate) fn rows_of<'a>(tables: &PlacedTables<'a>, index: usize) -> &'a [Entry]
     requires { index < length tables.now.places.now }
     ensures { result.now ≡
-        rows_of_index tables.now.image.now.height tables.now.image.now.chips index }
+        rows_of_index tables.now.grid.image.now.height tables.now.grid.image.now.chips index }
 {
     let place = tables.places[index];
-    match tables.image.chips.as_slice().get(usize::from(place)) {
+    match tables.grid.image.chips.as_slice().get(usize::from(place)) {
         Some(table) => table.entries.as_slice(),
         None => &[],
     }

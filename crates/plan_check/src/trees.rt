@@ -156,12 +156,21 @@ fn flags_of<'m>(
     Ok(flags)
 }
 
+// A chip of the machine whose links have flags.
+#[derive(Clone, Copy)]
+struct FlaggedChip<'a, 'm> {
+    flags: &'a LinkFlags<'m>,
+    chip: Chip,
+    ghost inside: { IsInside flags.now.machine.now chip } by { Prim.hlevel props },
+}
+
 // The chip to which the link leads, where it is flagged.
-fn flagged_far(flags: &LinkFlags, chip: Chip, link: Dir) -> Option<Chip>
-    requires { IsInside flags.now.machine.now chip }
-    ensures { result ≡ (if is_flagged flags.now.machine.now flags.now.flags.items chip link
-        then far_of flags.now.machine.now chip link else None) }
+fn flagged_far(from: FlaggedChip, link: Dir) -> Option<Chip>
+    ensures { result ≡ (if is_flagged from.entry.flags.now.machine.now
+        from.entry.flags.now.flags.items from.entry.chip link
+        then far_of from.entry.flags.now.machine.now from.entry.chip link else None) }
 {
+    let FlaggedChip { flags, chip } = from;
     if flags.has(chip, link) {
         flags.machine().far(chip, link)
     } else {
@@ -196,7 +205,8 @@ fn reached_from<'m>(
     while next < queue.len() * 6 {
         let from = queue[next / 6];
         let link = link_at(next);
-        if let Some(to) = flagged_far(flags, from, link) {
+        let here = FlaggedChip { flags, chip: from };
+        if let Some(to) = flagged_far(here, link) {
             if !marks.at(to) {
                 queue.push(to)?;
                 marks.set(to, true);

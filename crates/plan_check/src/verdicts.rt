@@ -7,19 +7,16 @@ ghost use Rattle.machine_desc.specs.Live.{chip_of};
 ghost use Rattle.machine_desc.specs.declared.nets.NetPlan.{NetPlan};
 ghost use Rattle.machine_desc.specs.RightTables.{AreRight};
 ghost use Rattle.net_tables.specs.Marks.{IsRouted};
-ghost use Rattle.table_load.specs.Images.{IsValid};
 ghost use Rattle.table_load.specs.Memories.{IsLoaded};
 ghost use Rattle.plan_check.specs.declared.verdicts.Verdict.TheVariants.{Right, Wrong};
 ghost use Rattle.plan_check.specs.Boards.{AreBoardsOf, IsFirstFlaw, IsAmissAt, verdict_on};
 ghost use Rattle.plan_check.specs.Verdicts.{IsVerdict, IsMisrouted};
 
-use crate::boards::{set_ports, set_routes};
 use crate::flaws::{Flaw, Rows, flaw_in};
-use crate::places::{PlacedTables, rows_of, set_places};
-use machine_desc::{Machine, NetPlan};
-use net_tables::marks::RoutedPlan;
+use crate::places::{GridImage, PlacedTables, rows_of, set_places};
+use machine_desc::NetPlan;
+use net_tables::marks::{RoutedPlan, set_links, set_ports, set_targets};
 use spin_base::{Block, Chip, Entry, Port, Route, Seq};
-use table_load::Image;
 
 // The most chips that a machine has.
 const MOST_CHIPS: usize = 4096;
@@ -40,32 +37,27 @@ pub enum Verdict {
 /// all get the outputs that the tree wants there, it says what is amiss. `Right` means that the tables are right for the
 /// nets, as they are loaded. The rows of a chip are gone over once for each net whose tree has the chip, at worst. It takes
 /// no memory.
-pub fn check(machine: &Machine, nets: &Seq<NetPlan>, image: &Image) -> Verdict
+pub fn check(nets: &Seq<NetPlan>, grid: GridImage) -> Verdict
     requires few { length nets.now < 2 ^ 32 }
-    requires routed { All (IsRouted machine.now) nets.now }
-    requires valid { IsValid image.now }
-    requires size { (image.now.width ≡ machine.now.width) × (image.now.height ≡ machine.now.height) }
-    ensures verdict { IsVerdict machine.now nets.now image.now result }
-    ensures right { result ≡ Right → (memories : List (List Entry)) → IsLoaded image.now memories
-        → AreRight machine.now memories nets.now }
+    requires routed { All (IsRouted grid.machine.now) nets.now }
+    ensures verdict { IsVerdict grid.entry.machine.now nets.now grid.entry.image.now result }
+    ensures right { result ≡ Right → (memories : List (List Entry))
+        → IsLoaded grid.entry.image.now memories
+        → AreRight grid.entry.machine.now memories nets.now }
     ensures wrong { (i : ℕ) (c : Chip) (key : ℕ) → result ≡ Wrong i c key
-        → (memories : List (List Entry)) → IsLoaded image.now memories
+        → (memories : List (List Entry)) → IsLoaded grid.entry.image.now memories
         → (net : NetPlan) × (slice_get nets.now i ≡ Some net)
-        × IsMisrouted machine.now memories net c key }
+        × IsMisrouted grid.entry.machine.now memories net c key }
 {
     let mut ports = port_board();
     let mut routes = route_board();
     let mut places = place_board();
-    let count = machine.chips();
+    let count = grid.machine.chips();
     let ports: &mut [Option<Port>] = &mut ports[..count];
     let routes: &mut [Route] = &mut routes[..count];
     let places: &mut [u16] = &mut places[..count];
-    set_places(image, places);
-    let tables = PlacedTables {
-        machine,
-        image,
-        places,
-    };
+    set_places(grid, places);
+    let tables = PlacedTables { grid, places };
     verdict_of(&tables, nets.as_slice(), ports, routes)
 }
 
@@ -90,7 +82,7 @@ fn place_board() -> [u16; MOST_CHIPS]
     [0; MOST_CHIPS]
 }
 
-// The verdict, by boards of which two are written anew for each net.
+// The verdict, by boards of which two are written anew for each net: by what ports its packets come in, and what its tree wants.
 fn verdict_of<'x>(
     tables: &PlacedTables<'x>,
     nets: &'x [NetPlan],
@@ -98,21 +90,22 @@ fn verdict_of<'x>(
     routes: &mut [Route],
 ) -> Verdict
     requires few { length nets.now < 2 ^ 32 }
-    requires routed { All (IsRouted tables.now.machine.now) nets.now }
+    requires routed { All (IsRouted tables.now.grid.machine.now) nets.now }
     requires ports_long { length ports.old
-        ≡ tables.now.machine.now.width * tables.now.machine.now.height }
+        ≡ tables.now.grid.machine.now.width * tables.now.grid.machine.now.height }
     requires routes_long { length routes.old
-        ≡ tables.now.machine.now.width * tables.now.machine.now.height }
-    ensures { IsVerdict tables.now.machine.now nets.now tables.now.image.now result }
+        ≡ tables.now.grid.machine.now.width * tables.now.grid.machine.now.height }
+    ensures { IsVerdict tables.now.grid.machine.now nets.now tables.now.grid.image.now result }
 {
+    let machine = tables.grid.machine;
     for at in 0..nets.len() {
         let net = &nets[at];
-        let plan = RoutedPlan {
-            machine: tables.machine,
-            net,
-        };
+        let plan = RoutedPlan { machine, net };
+        ports.fill(None);
         set_ports(plan, ports);
-        set_routes(plan, routes);
+        routes.fill(Route::nothing());
+        set_links(plan, routes);
+        set_targets(plan, routes);
         if let Some((chip, flaw)) = first_flaw(tables, net, ports, routes) {
             return verdict_from(at as u32, chip, net.block.key, flaw);
         }
@@ -137,15 +130,16 @@ fn first_flaw(
     ports: &[Option<Port>],
     routes: &[Route],
 ) -> Option<(Chip, Flaw)>
-    requires { AreBoardsOf tables.now.machine.now net.now ports.now routes.now }
-    ensures { IsFirstFlaw tables.now.machine.now tables.now.image.now net.now result }
+    requires { AreBoardsOf tables.now.grid.machine.now net.now ports.now routes.now }
+    ensures { IsFirstFlaw tables.now.grid.machine.now tables.now.grid.image.now net.now result }
 {
-    for index in 0..tables.machine.chips() {
+    let machine = tables.grid.machine;
+    for index in 0..machine.chips() {
         let rows = Rows {
             entries: rows_of(tables, index),
         };
         if let Some(flaw) = flaw_at(rows, net.block, ports[index], routes[index]) {
-            return Some((tables.machine.chip_at(index as u32), flaw));
+            return Some((machine.chip_at(index as u32), flaw));
         }
     }
     None

@@ -5,7 +5,7 @@ ghost use Rattle.run_report.specs.ReportText.{plan_text};
 
 use crate::lists::{keys_of, placed_of};
 use crate::planned::PlannedGraph;
-use crate::texts::listed_text;
+use crate::texts::{CountedTables, listed_text};
 use spin_base::{Memory, Seq};
 use std::alloc::Global;
 use table_load::Image;
@@ -25,8 +25,9 @@ pub fn plan_text(
     ensures { IfOk result (λ text. text ≡ plan_text planned.now.graph.now planned.now.spots.now
         planned.now.nets.now image.now.chips) }
 {
-    let placed = placed_of(alloc, &planned.graph.vertices, planned.spots)?;
-    let keys = keys_of(alloc, &planned.graph.nets, planned.nets)?;
-    let tables = image.chips.as_slice();
+    let placed = placed_of(alloc, planned)?;
+    let keys = keys_of(alloc, planned)?;
+    let chips = image.chips.as_slice();
+    let tables = CountedTables { tables: chips };
     listed_text(alloc, placed.as_slice(), keys.as_slice(), tables)
 }

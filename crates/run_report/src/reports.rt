@@ -6,7 +6,7 @@ ghost use Rattle.run_report.specs.RunReport.{IsReportOf};
 use crate::lists::{keys_of, placed_of};
 use crate::named::NamedDeliveries;
 use crate::orders::dumped_of;
-use crate::planned::PlannedGraph;
+use crate::planned::{NumberedMesh, PlannedGraph};
 use crate::unsents::unsent_of;
 use crate::waits::waiting_of;
 use mesh_core::{Did, Mesh, Place};
@@ -53,14 +53,15 @@ pub fn report_of(
     ensures { IfOk result (λ report. IsReportOf planned.now.graph.now planned.now.spots.now
         planned.now.nets.now tables mesh.now did report) }
 {
-    let placed = placed_of(alloc, &planned.graph.vertices, planned.spots)?;
-    let keys = keys_of(alloc, &planned.graph.nets, planned.nets)?;
-    let named = placed_of(alloc, &planned.graph.vertices, planned.spots)?;
+    let placed = placed_of(alloc, planned)?;
+    let keys = keys_of(alloc, planned)?;
+    let named = placed_of(alloc, planned)?;
     let mut sorted = Vec::from_slice(alloc, mesh.delivered())?;
     sorted.sort_by_key(|delivery| (delivery.copy.packet, delivery.vertex))?;
     let dumped = dumped_of(alloc, mesh)?;
-    let waiting = waiting_of(alloc, mesh)?;
-    let unsent = unsent_of(mesh);
+    let numbered = NumberedMesh { mesh };
+    let waiting = waiting_of(alloc, numbered)?;
+    let unsent = unsent_of(numbered);
     Ok(Report {
         placed,
         keys,

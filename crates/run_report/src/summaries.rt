@@ -4,7 +4,7 @@ ghost use Rattle.machine_desc.specs.Live.{live_count_of};
 ghost use Rattle.run_report.specs.ReportText.{number_line, parts_line, rows_line, counts_line, row_total, summary_text};
 
 use crate::reports::Report;
-use crate::texts::{put, put_number, row_total};
+use crate::texts::{CountedTables, put, put_number, row_total};
 use app_graph::{Graph, RunPart};
 use machine_desc::Machine;
 use spin_base::{Memory, Seq};
@@ -32,7 +32,9 @@ pub fn summary_text(
     let mut text = Vec::new(alloc);
     put_job(&mut text, number)?;
     put_parts(&mut text, machine, graph, run)?;
-    put_rows(&mut text, row_total(report.tables.as_slice()))?;
+    let tables = report.tables.as_slice();
+    let counted = CountedTables { tables };
+    put_rows(&mut text, row_total(counted))?;
     put_counts(&mut text, report)?;
     Ok(Seq::from_vec(text))
 }

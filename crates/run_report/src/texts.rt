@@ -72,25 +72,31 @@ pub(crate) fn listed_text(
     alloc: Global,
     placed: &[(Name, Spot)],
     keys: &[(Name, Block)],
-    tables: &[ChipTable],
+    counted: CountedTables,
 ) -> Result<Seq<u8>, Memory>
-    requires { row_total tables.now < 2 ^ 64 }
-    ensures { IfOk result (λ text. text ≡ listed_text placed.now keys.now tables.now) }
+    ensures { IfOk result (λ text. text
+        ≡ listed_text placed.now keys.now counted.entry.tables.now) }
 {
     let mut text = Vec::new(alloc);
-    put_listed(&mut text, placed, keys, tables)?;
+    put_listed(&mut text, placed, keys, counted.tables)?;
     put(&mut text, "end rows ")?;
-    put_number(&mut text, row_total(tables), b'\n')?;
+    put_number(&mut text, row_total(counted), b'\n')?;
     Ok(Seq::from_vec(text))
 }
 
+// Tables whose rows are no more than a number of 64 bits tells.
+#[derive(Clone, Copy)]
+pub(crate) struct CountedTables<'a> {
+    pub(crate) tables: &'a [ChipTable],
+    pub(crate) ghost few: { row_total tables.now < 2 ^ 64 },
+}
+
 // The number of rows of all tables.
-pub(crate) fn row_total(tables: &[ChipTable]) -> u64
-    requires { row_total tables.now < 2 ^ 64 }
-    ensures { result ≡ row_total tables.now }
+pub(crate) fn row_total(counted: CountedTables) -> u64
+    ensures { result ≡ row_total counted.entry.tables.now }
 {
     let mut rows = 0;
-    for table in tables {
+    for table in counted.tables {
         rows += table.entries.len() as u64;
     }
     rows

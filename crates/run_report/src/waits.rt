@@ -1,5 +1,6 @@
 // The copies that wait in a mesh.
-ghost use Rattle.std.specs.Prelude.{◌≡◌, ◌≤◌, ◌++◌, length, OnOk, IfOk, Some};
+ghost use Rattle.std.specs.Prelude.{◌≡◌, ◌++◌, OnOk, IfOk, Some};
+ghost use Rattle.std.proofs.Props.{props};
 ghost use Rattle.std.specs.Option.{option_copied};
 ghost use Rattle.std.specs.List.{flat_map};
 ghost use Rattle.spin_base.specs.Links.{port_number};
@@ -9,18 +10,19 @@ ghost use Rattle.run_report.specs.Orders.{IsSortedStably};
 ghost use Rattle.run_report.specs.Keys.{wait_numbers};
 ghost use Rattle.run_report.specs.RunReport.{waits_of, wait_key, waits_at, queue_waits, held_waits, chip_waits, core_waits};
 
+use crate::planned::NumberedMesh;
 use mesh_core::{Hand, Mesh, Place};
 use spin_base::{Chip, McCopy, Memory, Port, Seq};
 use std::alloc::Global;
 
-/// The waiting copies of a mesh, by packet and place.
-pub fn waiting_of(alloc: Global, mesh: &Mesh) -> Result<Seq<(u32, Place)>, Memory>
-    requires { length mesh.now.setup.spots ≤ 4294967295 }
-    ensures { IfOk result (λ waiting. IsSortedStably wait_key (waits_of mesh.now) waiting) }
+// The waiting copies of a mesh, by packet and place.
+pub(crate) fn waiting_of(alloc: Global, numbered: NumberedMesh) -> Result<Seq<(u32, Place)>, Memory>
+    ensures { IfOk result
+        (λ waiting. IsSortedStably wait_key (waits_of numbered.entry.mesh.now) waiting) }
 {
     let mut waiting = Vec::new(alloc);
-    put_chips(&mut waiting, mesh)?;
-    put_cores(&mut waiting, mesh)?;
+    put_chips(&mut waiting, numbered.mesh)?;
+    put_cores(&mut waiting, numbered)?;
     sort_waits(&mut waiting)?;
     Ok(Seq::from_vec(waiting))
 }
@@ -32,48 +34,49 @@ fn put_chips(waiting: &mut Vec<(u32, Place)>, mesh: &Mesh) -> Result<(), Memory>
 {
     let machine = mesh.machine();
     for index in 0..machine.chips() as u32 {
-        put_chip(waiting, machine.chip_at(index), mesh)?;
+        let here = MeshChip {
+            mesh,
+            chip: machine.chip_at(index),
+        };
+        put_chip(waiting, here)?;
     }
     Ok(())
 }
 
+// A chip of a mesh.
+#[derive(Clone, Copy)]
+struct MeshChip<'a> {
+    mesh: &'a Mesh,
+    chip: Chip,
+    ghost inside: { IsInside mesh.now.setup.machine chip } by { Prim.hlevel props },
+}
+
 // Puts what waits on one chip at the end.
-fn put_chip(waiting: &mut Vec<(u32, Place)>, chip: Chip, mesh: &Mesh) -> Result<(), Memory>
-    requires { IsInside mesh.now.setup.machine chip }
-    ensures { OnOk result (waiting.new.items ≡ waiting.old.items ++ chip_waits mesh.now chip) }
+fn put_chip(waiting: &mut Vec<(u32, Place)>, here: MeshChip) -> Result<(), Memory>
+    ensures { OnOk result (waiting.new.items
+        ≡ waiting.old.items ++ chip_waits here.entry.mesh.now here.entry.chip) }
 {
-    put_queues(waiting, chip, &Port::ALL, mesh)?;
-    put_hand(waiting, chip, mesh.hand(chip))
+    put_queues(waiting, here, &Port::ALL)?;
+    put_hand(waiting, here.chip, here.mesh.hand(here.chip))
 }
 
 // Puts the copies of a chip's input queues at the end, port by port.
-fn put_queues(
-    waiting: &mut Vec<(u32, Place)>,
-    chip: Chip,
-    ports: &[Port],
-    mesh: &Mesh,
-) -> Result<(), Memory>
-    requires { IsInside mesh.now.setup.machine chip }
-    ensures { OnOk result (waiting.new.items
-        ≡ waiting.old.items ++ flat_map (queue_waits mesh.now chip) ports.now) }
+fn put_queues(waiting: &mut Vec<(u32, Place)>, here: MeshChip, ports: &[Port]) -> Result<(), Memory>
+    ensures { OnOk result (waiting.new.items ≡ waiting.old.items
+        ++ flat_map (queue_waits here.entry.mesh.now here.entry.chip) ports.now) }
 {
     for port in ports {
-        put_queue(waiting, chip, *port, mesh)?;
+        put_queue(waiting, here, *port)?;
     }
     Ok(())
 }
 
 // Puts the copies of one input queue at the end.
-fn put_queue(
-    waiting: &mut Vec<(u32, Place)>,
-    chip: Chip,
-    port: Port,
-    mesh: &Mesh,
-) -> Result<(), Memory>
-    requires { IsInside mesh.now.setup.machine chip }
-    ensures { OnOk result (waiting.new.items
-        ≡ waiting.old.items ++ queue_waits mesh.now chip port) }
+fn put_queue(waiting: &mut Vec<(u32, Place)>, here: MeshChip, port: Port) -> Result<(), Memory>
+    ensures { OnOk result (waiting.new.items ≡ waiting.old.items
+        ++ queue_waits here.entry.mesh.now here.entry.chip port) }
 {
+    let MeshChip { mesh, chip } = here;
     put_copies(waiting, Place::InQueue(chip, port), mesh.queue(chip, port))
 }
 
@@ -113,11 +116,12 @@ fn put_copies(
 }
 
 // Puts the copies in the queues of the vertices at the end.
-fn put_cores(waiting: &mut Vec<(u32, Place)>, mesh: &Mesh) -> Result<(), Memory>
-    requires { length mesh.now.setup.spots ≤ 4294967295 }
-    ensures { OnOk result (waiting.new.items
-        ≡ waiting.old.items ++ gathered (core_waits mesh.now) 0 mesh.now.setup.spots) }
+fn put_cores(waiting: &mut Vec<(u32, Place)>, numbered: NumberedMesh) -> Result<(), Memory>
+    ensures { OnOk result (waiting.new.items ≡ waiting.old.items
+        ++ gathered (core_waits numbered.entry.mesh.now) 0
+        numbered.entry.mesh.now.setup.spots) }
 {
+    let mesh = numbered.mesh;
     for (vertex, spot) in mesh.spots().iter().enumerate() {
         put_copies(
             waiting,

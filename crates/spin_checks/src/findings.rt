@@ -14,7 +14,7 @@ ghost use Rattle.spin_checks.specs.Findings.{HasGoodTree, IsFinding, IsFirstBad,
 ghost use Rattle.spin_checks.specs.Nets.{StandsOnSites};
 
 use machine_desc::{Machine, NetPlan};
-use plan_check::{Verdict, check, good};
+use plan_check::{GridImage, Verdict, check, good};
 use spin_base::{Memory, Seq};
 use std::alloc::Global;
 use table_load::{Image, ImageErr, decode};
@@ -73,7 +73,11 @@ pub(crate) fn finding_on(
     if !is_of_grid(machine, &image) {
         return Ok(Finding::OtherMachine);
     }
-    Ok(Finding::Judged(check(machine, nets, &image)))
+    let grid = GridImage {
+        machine,
+        image: &image,
+    };
+    Ok(Finding::Judged(check(nets, grid)))
 }
 
 // The first net whose tree is not good.

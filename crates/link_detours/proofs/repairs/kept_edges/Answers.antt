@@ -5,6 +5,12 @@ use Rattle.link_detours.proofs.repairs.kept_edges.Goals as goal
 pub invariant_of-links : goal.invariant_of-links
 invariant_of-links c = record { inside = rw (c.deref.ensures.value, c.in_ok-live.ensures) (live_edges_inside c.args.broken.ground.machine.now c.args.broken.edges.now) }
 
+pub invariant_of-tree : goal.invariant_of-tree
+invariant_of-tree c = record {
+  root_inside = live_inside c.args.broken.ground.machine.now c.args.broken.root c.args.broken.is_tree.root_lives;
+  inside = rw (c.deref.ensures.value, c.in_ok-live.ensures) (live_edges_inside c.args.broken.ground.machine.now c.args.broken.edges.now);
+}
+
 pub returns-clause-kept : goal.returns-clause-kept
 returns-clause-kept c =
     rw (c.in_ok-kept.ensures, c.deref-2.ensures.value, c.deref.ensures.value, c.in_ok-live.ensures)

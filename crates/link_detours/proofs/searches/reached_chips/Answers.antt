@@ -89,5 +89,5 @@ returns-clause-reached c =
 pub index-requires-in-Some : goal.index-requires-in-Some
 index-requires-in-Some c = omega (arith, c.index.ensures.below, c.loop-link.invariant.0.ongoing.long)
 
-pub flagged_far-requires : goal.flagged_far-requires
-flagged_far-requires c = c.loop-link.invariant.0.at_inside
+pub invariant_of-here : goal.invariant_of-here
+invariant_of-here c = record { inside = c.loop-link.invariant.0.at_inside }

@@ -7,4 +7,4 @@ pub returns-then-named-clause-same : goal.returns-then-named-clause-same
 returns-then-named-clause-same c = λ k bit. or_left c.args.columns _ k bit
 
 pub returns-then-named-clause-named : goal.returns-then-named-clause-named
-returns-then-named-clause-named c = λ _. bit_at_set_same w64 c.args.columns c.args.x c.requires
+returns-then-named-clause-named c = λ _. bit_at_set_same w64 c.args.columns c.args.column.x c.args.column.few

@@ -4,7 +4,7 @@ use Rattle.plan_check.proofs.TablePlaces.{TellsFrom}
 use Rattle.plan_check.proofs.places.set_places.Given as goal
 
 abbrev pub invariant-loop-at : goal.invariant-loop-at
-invariant-loop-at l = TellsFrom l.image.height l.image.chips l.places (l.image.width * l.image.height) l.at
+invariant-loop-at l = TellsFrom l.grid.image.now.height l.grid.image.now.chips l.places (l.grid.image.now.width * l.grid.image.now.height) l.at
 
 abbrev pub decreases-loop-at : goal.decreases-loop-at
 decreases-loop-at l = l.at

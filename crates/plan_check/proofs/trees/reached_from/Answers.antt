@@ -75,8 +75,9 @@ returns-clause-marks c =
     search_ended c.args.flags.now.machine.now c.args.flags.now.flags.items c.args.root c.loop-next.marks.items.items c.loop-next.queue.items c.loop-next.next
     (omega (arith, c.loop-next-test.false, c.len.ensures, c.loop-next.queue.ok)) c.requires c.loop-next.invariant.1
 
-pub flagged_far-requires : goal.flagged_far-requires
-flagged_far-requires c =
+pub invariant_of-here : goal.invariant_of-here
+invariant_of-here c =
     let within : c.loop-next.next < length c.loop-next.queue.items * 6 = omega (arith, c.loop-next-test.true, c.len.ensures, c.loop-next.queue.ok) in
-    from_inside c.args.flags.now.machine.now c.args.flags.now.flags.items c.args.root c.loop-next.marks.items.items c.loop-next.queue.items c.loop-next.next c.index-from.result.now c.link_at-link.result within
-    c.index-from.ensures c.link_at-link.ensures c.loop-next.invariant.1
+    let inside = from_inside c.args.flags.now.machine.now c.args.flags.now.flags.items c.args.root c.loop-next.marks.items.items c.loop-next.queue.items c.loop-next.next c.index-from.result.now c.link_at-link.result within
+    c.index-from.ensures c.link_at-link.ensures c.loop-next.invariant.1 in
+    record { inside = inside }

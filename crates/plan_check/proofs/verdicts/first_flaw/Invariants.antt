@@ -3,4 +3,4 @@ use Rattle.plan_check.specs.Boards.{IsFineBelow}
 use Rattle.plan_check.proofs.verdicts.first_flaw.Given as goal
 
 abbrev pub invariant-loop-index : goal.invariant-loop-index
-invariant-loop-index l = IsFineBelow l.tables.machine.now l.tables.image.now l.net l.index
+invariant-loop-index l = IsFineBelow l.tables.grid.machine.now l.tables.grid.image.now l.net l.index

@@ -5,29 +5,29 @@ use Rattle.plan_check.proofs.verdicts.verdict_of.Goals as goal
 
 pub returns-in-Some : goal.returns-in-Some
 returns-in-Some c =
-    verdict_found c.args.tables.now.machine.now c.args.tables.now.image.now c.args.nets.now c.loop-at.at c.index-nets-at.result c.loop-at-test.true c.index-nets-at.is
+    verdict_found c.args.tables.now.grid.machine.now c.args.tables.now.grid.image.now c.args.nets.now c.loop-at.at c.index-nets-at.result c.loop-at-test.true c.index-nets-at.is
     c.first_flaw.result c.in-Some.chip c.in-Some.flaw c.verdict_from.result c.in-Some.is c.first_flaw.ensures c.loop-at.invariant.0 c.verdict_from.ensures
 
 pub loop-at-preserved : goal.loop-at-preserved
 loop-at-preserved c = (
-  nets_more c.args.tables.now.machine.now c.args.tables.now.image.now c.args.nets.now c.loop-at.at c.index-nets-at.result c.loop-at-test.true c.index-nets-at.is
+  nets_more c.args.tables.now.grid.machine.now c.args.tables.now.grid.image.now c.args.nets.now c.loop-at.at c.index-nets-at.result c.loop-at-test.true c.index-nets-at.is
       c.first_flaw.result c.in_default.is c.first_flaw.ensures c.loop-at.invariant.0,
   c.set_ports.ensures.long,
-  c.set_routes.ensures.long,
+  c.set_targets.ensures.long,
 )
 
 pub returns : goal.returns
-returns c = all_fine c.args.tables.now.machine.now c.args.tables.now.image.now c.args.nets.now c.loop-at.at c.loop-at-test.false c.loop-at.invariant.0
+returns c = all_fine c.args.tables.now.grid.machine.now c.args.tables.now.grid.image.now c.args.nets.now c.loop-at.at c.loop-at-test.false c.loop-at.invariant.0
 
 pub invariant_of-plan : goal.invariant_of-plan
 invariant_of-plan c =
-    record { routed = ∣ subst (IsRouted c.args.tables.now.machine.now) (sym c.index-nets-at.is) (c.requires.routed c.loop-at.at c.index-nets-at.result c.loop-at-test.true) ∣₁ }
+    record { routed = ∣ subst (IsRouted c.args.tables.now.grid.machine.now) (sym c.index-nets-at.is) (c.requires.routed c.loop-at.at c.index-nets-at.result c.loop-at-test.true) ∣₁ }
 
 pub first_flaw-requires : goal.first_flaw-requires
 first_flaw-requires c = record {
-  routed = subst (IsRouted c.args.tables.now.machine.now) (sym c.index-nets-at.is) (c.requires.routed c.loop-at.at c.index-nets-at.result c.loop-at-test.true);
+  routed = subst (IsRouted c.args.tables.now.grid.machine.now) (sym c.index-nets-at.is) (c.requires.routed c.loop-at.at c.index-nets-at.result c.loop-at-test.true);
   ports_long = c.set_ports.ensures.long;
-  routes_long = c.set_routes.ensures.long;
+  routes_long = c.set_targets.ensures.long;
   comes_in = c.set_ports.ensures.told;
-  outputs = c.set_routes.ensures.told;
+  outputs = c.set_targets.ensures.told;
 }

@@ -5,6 +5,6 @@ use Rattle.plan_check.proofs.verdicts.verdict_of.Given as goal
 
 abbrev pub invariant-loop-at : goal.invariant-loop-at
 invariant-loop-at l =
-    AreFine l.tables.machine.now l.tables.image.now l.nets l.at
-    × (length l.ports ≡ l.tables.machine.now.width * l.tables.machine.now.height)
-    × (length l.routes ≡ l.tables.machine.now.width * l.tables.machine.now.height)
+    AreFine l.tables.grid.machine.now l.tables.grid.image.now l.nets l.at
+    × (length l.ports ≡ l.tables.grid.machine.now.width * l.tables.grid.machine.now.height)
+    × (length l.routes ≡ l.tables.grid.machine.now.width * l.tables.grid.machine.now.height)

@@ -5,4 +5,4 @@ use Rattle.app_graph.specs.declared.graphs.Net.{Net}
 use Rattle.run_report.proofs.lists.keys_of.Given as goal
 
 abbrev pub invariant-loop-i : goal.invariant-loop-i
-invariant-loop-i l = l.keys ≡ zip (take l.i (map (λ (net : Net). net.name) l.given)) (take l.i (map (λ (net : NetPlan). net.block) l.nets))
+invariant-loop-i l = l.keys ≡ zip (take l.i (map (λ (net : Net). net.name) l.planned.graph.now.nets)) (take l.i (map (λ (net : NetPlan). net.block) l.planned.nets.now))

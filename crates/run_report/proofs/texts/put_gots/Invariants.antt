@@ -1,7 +1,6 @@
 use Rattle.std.proofs.Common.{◌≡◌, ◌++◌, take}
 use Rattle.std.specs.List.{flat_map}
-use Rattle.run_report.specs.Named.{named_delivery}
-use Rattle.run_report.specs.ReportText.{got_line}
+use Rattle.run_report.specs.{Named.named_delivery, ReportText.got_line}
 use Rattle.run_report.proofs.texts.put_gots.Given as goal
 
 -- the lines so far are written

@@ -6,7 +6,7 @@ use Rattle.run_report.proofs.unsents.unsent_of.Goals as goal
 
 pub loop-vertex-preserved : goal.loop-vertex-preserved
 loop-vertex-preserved c =
-    let s = c.args.mesh.now in
+    let s = c.args.numbered.mesh.now in
     let v = c.loop-vertex.vertex in
     let g = unsent_by s in
     let more : unsent_by s v ≡ length c.unsent.result.now = ap (λ o. length (copies_at o)) c.unsent.ensures in
