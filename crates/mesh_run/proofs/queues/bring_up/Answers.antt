@@ -8,15 +8,10 @@ pub loop-place-init : goal.loop-place-init
 loop-place-init g c = up_none c.args.places.cap (c.args.places.turns + 1) (length c.args.queues.now) c.args.queues.now c.in_ok-rising.rising refl c.in_ok-rising.ensures
 
 pub link_for-requires : goal.link_for-requires
-link_for-requires g c =
-    let q = c.index-queues-place.result in
-    subst (λ (p : List McCopy). length p ≤ c.args.places.cap) (sym (c.as_slice.ensures ∙ c.index-queues-place.is)) (c.requires c.loop-place.place q c.loop-place-test.true)
+link_for-requires g c = grind arith
 
 pub put-requires : goal.put-requires
-put-requires g c =
-    let u = c.loop-place.invariant in
-    let k = c.loop-place.place in
-    (u.ends, length c.args.queues.now - (k + 1), may_rise c.args.places.cap (c.args.places.turns + 1) c.args.queues.now k c.loop-place.rising u c.loop-place-test.true)
+put-requires g c = grind (arith, may_rise)
 
 pub loop-place-preserved : goal.loop-place-preserved
 loop-place-preserved g c =

@@ -11,8 +11,7 @@ pub invariant_of-footing : goal.invariant_of-footing
 invariant_of-footing c = record { stands = c.in_ok-floor.ensures }
 
 pub share_table-requires : goal.share_table-requires
-share_table-requires c = subst (λ n. AreShareRuns n c.deref.result.now) (sym c.actors.ensures)
-    (subst (AreShareRuns (2 * grid_size c.parts.inside.setup)) (sym c.deref.ensures.value) c.in_ok-runs.ensures)
+share_table-requires c = grind arith
 
 pub homes_of-requires : goal.homes_of-requires
 homes_of-requires c = ap length c.deref-2.ensures.value ∙ (c.in_ok-table.ensures.long ∙ c.actors.ensures)
@@ -24,18 +23,4 @@ cuts_of-requires c =
     omega (arith, few, ap length c.deref-3.ensures.value)
 
 pub returns : goal.returns
-returns c =
-    let m = c.args.parts.now in
-    let is = c.parts.view_is in
-    let homes = c.in_ok-homes.homes.items in
-    let runs = c.in_ok-runs.runs.items in
-    let table = c.in_ok-table.table.items in
-    let numbers = subst (λ (n : ℕ). IsShareTable n runs table) c.actors.ensures (subst (λ (r : List ℕ). IsShareTable c.actors.result r table) c.deref.ensures.value c.in_ok-table.ensures) in
-    record {
-      floor = subst (λ (s : State). IsFloorOf s.setup c.in_ok-floor.floor) is c.in_ok-floor.ensures;
-      table = table;
-      runs = subst (λ (s : State). AreShareRuns (2 * grid_size s.setup) runs) is c.in_ok-runs.ensures;
-      numbers = subst (λ (s : State). IsShareTable (2 * grid_size s.setup) runs table) is numbers;
-      homes = subst (λ (t : List ℕ). AreHomesOf m.setup t homes) c.deref-2.ensures.value (subst (λ (s : State). AreHomesOf s.setup c.deref-2.result.now homes) is c.in_ok-homes.ensures);
-      cuts = subst (λ (h : List Home). AreCutsOf h c.in_ok-cuts.cuts.items) c.deref-3.ensures.value c.in_ok-cuts.ensures;
-    }
+returns c = grind arith

@@ -43,13 +43,4 @@ returns-clause-back g c =
     (record { parts = refl; pace = refl; layout = refl; crossing = refl; delivered = c.make_room.ensures.delivered; dumped = c.make_room.ensures.dumped }) c.make_room_in_all.ensures)
 
 pub returns-clause-room : goal.returns-clause-room
-returns-clause-room g c =
-    let r = c.args.self.now in
-    let s = record r { standing = c.widen_all.new.standing; shares = c.make_room_in_all.new.shares; logs = c.make_room.new.self } in
-    let turns = c.places_of-places.ensures.turns in
-    on_ok_weaker c.make_room.result (λ room m mesh raised. record {
-      raised = with_links m (c.places_of-places.result.turns + 1) (r.pace.turns + 1) r s c.places_of-places.result.cap raised (omega (arith, turns)) c.places_of-places.ensures.cap
-          (c.in_ok-widen_all.ensures.wide raised.ends raised.holds)
-          (record { parts = refl; pace = refl; layout = refl; crossing = refl; delivered = c.make_room.ensures.delivered; dumped = c.make_room.ensures.dumped }) c.make_room_in_all.ensures;
-      room = subst (λ (shares : List Share). HasRoomForLogs shares c.make_room.new.self) c.deref.ensures.value room;
-    }) c.make_room.ensures.room
+returns-clause-room g c = grind (arith, on_ok_weaker, with_links)
