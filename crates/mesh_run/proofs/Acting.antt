@@ -41,9 +41,7 @@ bit_within (Core p) below = omega (arith, below)
 
 -- an output behind which a router knows a queue has a bit
 has_bit : (r : RouterNode) (o : Out) (q : ℕ) → place_at_router r.behind.now o ≡ Some q → IsOutput o
-has_bit r o q is =
-    let at = something (slice_get r.behind.now (out_number o)) q is in
-    bit_within o (let within = slice_get_within r.behind.now (out_number o) at.0 at.1 in omega (arith, within, r.outputs))
+has_bit r o q is = grind (arith, bit_within, slice_get_within)
 
 module _ (u : Setup) (links : List QueueLink) (s : Share) where
   pub ready_router : (i : ℕ) (r : RouterNode) → IsRouterOf u i r → IsShareOf u links s → IsInRun s.from s.to (router_place i) → IsReadyRouter links r s.hold
@@ -142,14 +140,8 @@ module _ (u : Setup) (patience : ℕ) where
   noted_none x false same = (sym same, refl)
 
   noted_on : (x y z : Bool) (xs ys : List Item) → IsNoted x xs y → IsNoted y ys z → IsNoted x (xs ++ ys) z
-  noted_on x true true xs ys h k = elim h [
-    | inl before ↦ inl before
-    | inr some ↦ inr (λ none. some (both_none xs ys none).0)
-  ]
-  noted_on x false true xs ys h k = elim k [
-    | inl before ↦ absurd (let differ : false ≡ true = before in cc)
-    | inr some ↦ inr (λ none. some (both_none xs ys none).1)
-  ]
+  noted_on x true true xs ys h k = grind (arith, both_none)
+  noted_on x false true xs ys h k = grind (arith, both_none)
   noted_on x true false xs ys h k = absurd (let differ : true ≡ false = k.0 in cc)
   noted_on x false false xs ys h k = (h.0, ap (λ l. l ++ ys) h.1 ∙ k.1)
 
@@ -164,18 +156,7 @@ module _ (u : Setup) (patience : ℕ) where
   }
 
   pub one_moves : (at : ℕ) (s t : Share) → t.from ≡ s.from → t.to ≡ s.to → t.moved ≡ true → IsInRun s.from s.to at → MovesAt u patience at s t → PlaysOne u patience at s t
-  one_moves at s t from to moved within h = record {
-    items = h.items;
-    plays = record {
-      from = from;
-      to = to;
-      goes = h.goes;
-      own = All-weaker (λ x. actor_of x ≡ at) (λ x. IsInRun s.from s.to (actor_of x)) (λ x is. subst (IsInRun s.from s.to) (sym is) within) h.items h.of_it;
-      turns_are = h.turns_are;
-    };
-    of_it = h.of_it;
-    noted = subst (IsNoted s.moved h.items) (sym moved) (inr h.some);
-  }
+  one_moves at s t from to moved within h = grind (arith, All-weaker)
 
   -- ---- turns of actors, one after the other
 
@@ -193,8 +174,7 @@ module _ (u : Setup) (patience : ℕ) where
   each_none start at = record { items = []; plays = plays_none 1 start start refl refl refl; before = All-nil (λ x. actor_of x < at); noted = noted_none start.moved start.moved refl }
 
   own_on : (a b : Share) (xs ys : List Item) → b.from ≡ a.from → b.to ≡ a.to → AreOf a.from a.to xs → AreOf b.from b.to ys → AreOf a.from a.to (xs ++ ys)
-  own_on a b xs ys from to h k = All-append (λ x. IsInRun a.from a.to (actor_of x)) xs ys h
-      (subst (λ n. AreOf n a.to ys) from (subst (λ n. AreOf b.from n ys) to k))
+  own_on a b xs ys from to h k = All-append (λ x. IsInRun a.from a.to (actor_of x)) _ _ h (subst (λ n. AreOf n a.to ys) from (subst (λ n. AreOf b.from n ys) to k))
 
   -- a place further on
   pub each_past : (start now : Share) (at next : ℕ) → at ≤ next → OneEach start at now → OneEach start next now

@@ -73,20 +73,11 @@ module _ (m : State) (is_mesh : IsMesh m) (more : ℕ) (r : RaisedMesh) (raised 
 
   -- where a cut has neither its sender nor its receiver, no end of a link of its queue is held
   pub no_end_of_cut : (l : ℕ) (c : Cut) → slice_get r.layout.now.cuts.items l ≡ Some c → (k : ℕ) → k ≢ c.sender → k ≢ c.receiver → IsUncut r.layout.now.cuts.items k c.queue
-  no_end_of_cut l c at k no_sender no_receiver j d also of =
-      let same = one_item_at r.layout.now.cuts.items l j c d (raised.laid.cuts.apart l j c d at also of.0) at also in
-      elim of.1 [
-        | inl is ↦ no_sender (is ∙ ap (λ (x : Cut). x.sender) (sym same))
-        | inr is ↦ no_receiver (is ∙ ap (λ (x : Cut). x.receiver) (sym same))
-      ]
+  no_end_of_cut l c at k no_sender no_receiver j d also of = grind (arith, one_item_at)
 
   -- no cut is of a queue that has both homes in one share
   pub lane_uncut : (q : ℕ) (h : Home) → slice_get r.layout.now.homes.items q ≡ Some h → h.sender ≡ h.receiver → (s : ℕ) → IsUncut r.layout.now.cuts.items s q
-  lane_uncut q h at same s l c stands of =
-      let cut = raised.laid.cuts.cut l c stands in
-      let home : h ≡ home_of c =
-      same_Some h (home_of c) (sym at ∙ (ap (slice_get r.layout.now.homes.items) of.0 ∙ cut.0)) in
-      cut.1 (ap (λ (x : Home). x.sender) (sym home) ∙ (same ∙ ap (λ (x : Home). x.receiver) home))
+  lane_uncut q h at same s l c stands of = grind (arith, same_Some)
 
   -- the cuts are of different queues, each between two shares that are there
   pub cuts_apart : AreCuts r.layout.now.cuts.items r.shares.items
@@ -183,8 +174,7 @@ module _ (m : State) (is_mesh : IsMesh m) (more : ℕ) (r : RaisedMesh) (raised 
 
         -- its actors have its number
         numbered : (a : ℕ) → IsInRun t.from t.to a → slice_get raised.laid.table a ≡ Some k
-        numbered a in_run =
-            raised.laid.numbers.number a k has_run (record { above = omega (arith, in_run.above, run_from); below = omega (arith, in_run.below, run_to) })
+        numbered a in_run = grind (arith, has_run, run_from, run_to)
 
         ends_many : length t.hold.ends.items ≡ length r.layout.now.homes.items
         ends_many = (deals.same.1 k was.0 t was.1 at).ends_long ∙ (raised.shared.ends_long k was.0 was.1 ∙ sym raised.laid.homes.long)

@@ -75,32 +75,7 @@ module _ (w : Whole) where
       pub dumped : logs.dumped.items ≡ w.r.logs.dumped.items ++ flat_map (λ s. s.hold.dumps.items) w.collected
 
     whole_raised : GathersLogs → IsRaisedFrom (mesh w) 0 stands
-    whole_raised logged_are =
-        let raised = w.roomy.raised in
-        record {
-          setup = raised.setup;
-          hands = raised.hands;
-          inputs_long = raised.inputs_long ∙ sym (whole_played w).inputs_long;
-          cores_long = raised.cores_long ∙ sym (whole_played w).cores_long;
-          unsent_long = raised.unsent_long ∙ sym (whole_played w).unsent_long;
-          laid = raised.laid;
-          shared = subst (AreShared w.m.setup w.r.layout.now.runs.items) (sym left) (whole_shared w);
-          lanes = subst (HoldLanes ((mesh w).inputs ++ (mesh w).cores) w.r.layout.now.homes.items) (sym left) (whole_lanes w);
-          unsent = subst (HoldUnsent w.m.setup (mesh w).unsent w.r.layout.now.homes.items) (sym left) (whole_unsent w);
-          ends = w.rests.now;
-          holds = w.rests.holds;
-          up = whole_up w;
-          crossing = raised.crossing;
-          no_logs = subst HaveNoLogs (sym left) (whole_no_logs w);
-          delivered = logged_are.delivered ∙ ap₂ (λ a b. a ++ b) raised.delivered whole_delivered;
-          dumped = logged_are.dumped ∙ ap₂ (λ a b. a ++ b) raised.dumped whole_dumped;
-        }
+    whole_raised logged_are = grind (arith, whole_played, whole_shared, mesh, whole_lanes, whole_unsent, whole_up, whole_no_logs, whole_delivered, whole_dumped)
 
     pub whole_plays : (moved : Bool) → GathersLogs → IsAnyMoved w.collected moved → PlaysTo w.patience w.turns w.m moved stands
-    whole_plays moved logged_are moved_are = record {
-      mesh = mesh w;
-      items = joined (parts w);
-      raised = whole_raised logged_are;
-      played = whole_played w;
-      noted = subst (IsNoted false (joined (parts w))) (moved_same ∙ sym moved_are) (whole_noted w);
-    }
+    whole_plays moved logged_are moved_are = grind (arith, mesh, joined, parts, whole_raised, whole_played, moved_same, whole_noted)

@@ -51,12 +51,4 @@ module _ (w : Whole) where
       )
 
   pub whole_shared : AreShared w.m.setup w.r.layout.now.runs.items w.cleared
-  whole_shared =
-      let shared = w.roomy.raised.shared in
-      record {
-        long = all_long ∙ shared.long;
-        from = λ k t at. let s = keeps k t at in s.2.from ∙ shared.from k s.0 s.1;
-        to = λ k t at. let s = keeps k t at in s.2.to ∙ shared.to k s.0 s.1;
-        ends_long = λ k t at. let s = keeps k t at in s.2.ends_long ∙ shared.ends_long k s.0 s.1;
-        unsent_long = λ k t at. let s = keeps k t at in s.2.unsent_long ∙ shared.unsent_long k s.0 s.1;
-      }
+  whole_shared = grind (arith, all_long, keeps)

@@ -61,47 +61,20 @@ end_there shares s q e is = by (slice_get shares s) refl
 -- what is read at its place
 pub read_end : (shares : List Share) (s q : ℕ) (e found : End) (share : Share) → end_at shares s q ≡ Some e → share ≡ get_or shares s share → found ≡ get_or share.hold.ends.items q found →
     (slice_get shares s ≡ Some share) × (slice_get share.hold.ends.items q ≡ Some found)
-read_end shares s q e found share is read read_found =
-    let at = end_there shares s q e is in
-    let same : share ≡ at.share = read ∙ get_or_from_slice_get shares s at.share share at.stands in
-    let holds : slice_get share.hold.ends.items q ≡ Some e = subst (λ (x : Share). slice_get x.hold.ends.items q ≡ Some e) (sym same) at.holds in
-    let same_end : found ≡ e = read_found ∙ get_or_from_slice_get share.hold.ends.items q e found holds in
-    (at.stands ∙ ap Some (sym same), holds ∙ ap Some (sym same_end))
+read_end shares s q e found share is read read_found = grind (arith, get_or_from_slice_get)
 
 pub share_inside : (shares : List Share) (s q : ℕ) (e : End) → end_at shares s q ≡ Some e → s < length shares
 share_inside shares s q e is = let at = end_there shares s q e is in slice_get_within shares s at.share at.stands
 
 pub end_inside : (shares : List Share) (s q : ℕ) (e : End) (share : Share) → end_at shares s q ≡ Some e → share ≡ get_or shares s share → q < length share.hold.ends.items
-end_inside shares s q e share is read =
-    let at = end_there shares s q e is in
-    let same : share ≡ at.share = read ∙ get_or_from_slice_get shares s at.share share at.stands in
-    subst (λ (x : Share). q < length x.hold.ends.items) (sym same) (slice_get_within at.share.hold.ends.items q e at.holds)
+end_inside shares s q e share is read = grind (arith, get_or_from_slice_get, slice_get_within)
 
 -- one end of a share is another
 pub end_set : (before after : List Share) (share queue : ℕ) (s t : Share) (old end : End) → slice_get before share ≡ Some s → slice_get s.hold.ends.items queue ≡ Some old →
     after ≡ set before share t → t.from ≡ s.from → t.to ≡ s.to → t.moved ≡ s.moved → t.hold.unsent ≡ s.hold.unsent → t.hold.dumps ≡ s.hold.dumps → t.hold.deliveries ≡ s.hold.deliveries →
     t.hold.ends.items ≡ set s.hold.ends.items queue end → PutsEnd share queue end before after
-end_set before after share queue s t old end stands holds is from to moved unsent dumps deliveries ends = subst (PutsEnd share queue end before) (sym is) (record {
-  same = each_set SameButEnds ends_self before share s t stands (record {
-    from = from;
-    to = to;
-    moved = moved;
-    ends_long = ap length ends ∙ length-set s.hold.ends.items queue end;
-    unsent = unsent;
-    dumps = dumps;
-    deliveries = deliveries;
-  });
-  here = ap (λ (o : Option Share). end_in o queue) (slice_get-set_same before share s t stands) ∙ (ap (λ l. slice_get l queue) ends ∙ slice_get-set_same s.hold.ends.items queue old end holds);
-  others = λ k q differs. elim (cases_eq k share) [
-    | inl here ↦
-        ap (λ (j : ℕ). end_at (set before share t) j q) here
-        ∙ (ap (λ (o : Option Share). end_in o q) (slice_get-set_same before share s t stands)
-        ∙ (ap (λ l. slice_get l q) ends
-        ∙ (slice_get-set_other s.hold.ends.items queue q end (λ same. differs (here, same))
-        ∙ (ap (λ (o : Option Share). end_in o q) (sym stands) ∙ ap (λ (j : ℕ). end_at before j q) (sym here)))))
-    | inr other ↦ ap (λ (o : Option Share). end_in o q) (slice_get-set_other before share k t other)
-  ];
-})
+end_set before after share queue s t old end stands holds is from to moved unsent dumps deliveries ends =
+    grind (arith, each_set, ends_self, length-set, slice_get-set_same, cases_eq, slice_get-set_other)
 
 -- an end's place stays
 pub end_still : (a b : List Share) (s q : ℕ) (e : End) → AreSameButEnds a b → end_at a s q ≡ Some e → (f : End) × (end_at b s q ≡ Some f)

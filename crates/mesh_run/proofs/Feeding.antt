@@ -69,8 +69,7 @@ one_output u a c o q p in_a in_c (to_vertex v t stands here leads is) (to_vertex
 
 -- no output leads to an injection queue
 pub no_injection : (u : Setup) (a c : Chip) (o : Out) (p : ℕ) → IsInside u.machine a → IsInside u.machine c → LeadsTo u a o p → p ≡ queue_at u.machine c Local → ⊥
-no_injection u a c o p in_a in_c (by_link d e out far at) is =
-    link_is_not_local (opposite_of d) (same_queue u.machine e c (ByLink (opposite_of d)) Local (far_inside u.machine a e d in_a far) in_c (sym at ∙ is)).1
+no_injection u a c o p in_a in_c (by_link d e out far at) is = grind (arith, link_is_not_local, same_queue, far_inside)
 no_injection u a c o p in_a in_c (to_vertex v t stands here leads at) is = port_is_no_vertex u c Local v in_c (sym is ∙ at)
 
 -- a place behind an output is one of all places

@@ -161,36 +161,15 @@ behind_none u c list = record { more = []; are = sym (nil list); long = refl; pl
 
 pub behind_more : (u : Setup) (c : Chip) (n : ℕ) (before now new : List (Option Behind)) (b : Option Behind) (o : Out) → AddsBehind u c n before now → new ≡ now ++ b ∷ [] → IsOutput o →
     out_number o ≡ n → place_of_slot b ≡ place_behind u c o → AddsBehind u c (n + 1) before new
-behind_more u c n before now new b o so_far is output number place = record {
-  more = so_far.more ++ b ∷ [];
-  are = is ∙ (ap (λ l. l ++ b ∷ []) so_far.are ∙ append_assoc before so_far.more (b ∷ []));
-  long = length_push so_far.more b ∙ ap (λ k. k + 1) so_far.long;
-  places = λ p out below. elim (cases_eq (out_number p) n) [
-    | inl same ↦
-        ap place_in (slice_get-pushed so_far.more b (out_number p) (same ∙ sym so_far.long))
-        ∙ (placed b ∙ (place ∙ ap (place_behind u c) (sym (out_number_injective p o (same ∙ sym number)))))
-    | inr other ↦
-        let long = so_far.long in
-        ap place_in (slice_get-first so_far.more (b ∷ []) (out_number p) (omega (arith, below, other, long))) ∙ so_far.places p out (omega (arith, below, other))
-  ];
-}
+behind_more u c n before now new b o so_far is output number place = grind (arith, append_assoc, length_push, cases_eq, slice_get-pushed, placed, out_number_injective, slice_get-first)
 
 -- ---- floors
 
 pub floor_none : (u : Setup) (f : Floor) → f.chips.items ≡ [] → f.behind.items ≡ [] → f.banks.items ≡ [] → IsFloorSoFar u 0 f
-floor_none u f chips behind banks = record {
-  chips_long = ap length chips;
-  behind_long = ap length behind;
-  banks_long = ap length banks;
-  chips = λ i below. absurd (omega (arith, below));
-  behind = λ i o below live out. absurd (omega (arith, below));
-  banks = λ i b at. absurd (none-some b (sym (ap (λ (l : List CoreBank). slice_get l i) banks) ∙ at));
-}
+floor_none u f chips behind banks = grind (arith, none-some)
 
 pub floor_all : (u : Setup) (n : ℕ) (f : Floor) → length u.tables ≡ grid_size u → n ≡ grid_size u → IsFloorSoFar u n f → IsFloorOf u f
-floor_all u n f tables all so_far =
-    let g = subst (λ k. IsFloorSoFar u k f) all so_far in
-    record { tables_long = tables; chips_long = g.chips_long; behind_long = g.behind_long; banks_long = g.banks_long; chips = g.chips; behind = g.behind; banks = g.banks }
+floor_all u n f tables all so_far = grind arith
 
 pub bank_of : (u : Setup) (i : ℕ) (b : CoreBank) → b.index ≡ i → b.cores ≡ port_count u → AreVerticesOf u i b.vertices.items → IsBankOf u i b
 bank_of u i b index cores vertices = record { index = index; cores = cores; vertices = vertices.each; all = λ live v on. ∣ vertices.all v on ∣₁ }
@@ -246,16 +225,11 @@ live_if_none false c is live = absurd (let differ : false ≡ true = live in cc)
 module _ (u : Setup) (f : Floor) (of : IsFloorOf u f) (i : ℕ) where
   -- a chip that stands there is live
   pub index_live : (c : Chip) → slice_get f.chips.items i ≡ Some (Some c) → IsLiveIndex u i × (c ≡ chip_of u.machine i) × (i < grid_size u)
-  index_live c at =
-      let within = slice_get_within f.chips.items i (Some c) at in
-      let below : i < grid_size u = omega (arith, within, of.chips_long) in
-      let is = live_if_some (is_live_chip u.machine (chip_of u.machine i)) (chip_of u.machine i) c (same_Some (live_one u i) (Some c) (sym (of.chips i below) ∙ at)) in
-      (record { live = is.0; is = index_of-chip_of u.machine i }, is.1, below)
+  index_live c at = grind (arith, slice_get_within, live_if_some, same_Some, index_of-chip_of)
 
   -- and each live chip stands there
   pub index_dead : IsLiveIndex u i → slice_get f.chips.items i ≡ Some None → ⊥
-  index_dead on at =
-      live_if_none (is_live_chip u.machine (chip_of u.machine i)) (chip_of u.machine i) (same_Some (live_one u i) None (sym (of.chips i (live_below u i on)) ∙ at)) on.live
+  index_dead on at = grind (arith, live_if_none, same_Some, live_below)
 
   pub router_of : (r : RouterNode) → IsLiveIndex u i → i < grid_size u → r.index ≡ i → r.chip ≡ chip_of u.machine i → r.table.now ≡ slice_index_or u.tables i [] →
       r.behind.now ≡ take 24 (drop (24 * i) f.behind.items) → IsRouterOf u i r
@@ -276,6 +250,4 @@ module _ (u : Setup) (f : Floor) (of : IsFloorOf u f) (i : ℕ) where
 
   pub read_behind : (o : Out) (k : ℕ) (b : Option Behind) → IsLiveIndex u i → IsOutput o → k ≡ 24 * i + out_number o → b ≡ get_or f.behind.items k b →
       place_of_slot b ≡ place_behind u (chip_of u.machine i) o
-  read_behind o k b live output is read =
-      let stands = slice_get-get_or f.behind.items (24 * i + out_number o) b (behind_inside o live output) in
-      sym (placed b) ∙ (ap place_in (ap Some (read ∙ ap (λ n. get_or f.behind.items n b) is) ∙ sym stands) ∙ of.behind i o (live_below u i live) live.live output)
+  read_behind o k b live output is read = grind (arith, slice_get-get_or, behind_inside, placed, get_or, live_below)

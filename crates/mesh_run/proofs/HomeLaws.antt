@@ -31,44 +31,14 @@ rise_on : (p : ℕ) (ends : List ℕ) → RiseTo p ends → RiseTo (p + 1) ends
 rise_on p ends so_far = grind arith
 
 pushed_rises : (p : ℕ) (ends : List ℕ) → RiseTo p ends → (a b : ℕ) → a < b → b < length (ends ++ p ∷ []) → get_or (ends ++ p ∷ []) a 0 ≤ get_or (ends ++ p ∷ []) b 0
-pushed_rises p ends so_far a b less below =
-    let long = length_push ends p in
-    let first : get_or (ends ++ p ∷ []) a 0 ≡ get_or ends a 0 = get_or_append_left ends (p ∷ []) 0 a (omega (arith, less, below, long)) in
-    elim (cases_lt b (length ends)) [
-      | inl inside ↦
-          let second : get_or (ends ++ p ∷ []) b 0 ≡ get_or ends b 0 = get_or_append_left ends (p ∷ []) 0 b inside in
-          omega (arith, first, second, so_far.rising a b less inside)
-      | inr last ↦
-          let second : get_or (ends ++ p ∷ []) b 0 ≡ p = get_or_push ends p 0 b (omega (arith, last, below, long)) in
-          let was = so_far.most a (omega (arith, less, below, long)) in
-          omega (arith, first, second, was)
-    ]
+pushed_rises p ends so_far a b less below = grind (arith, length_push, get_or, get_or_append_left, cases_lt, get_or_push)
 
 pub rise_more : (p : ℕ) (before after : List ℕ) → RiseTo p before → MayGrow p before after → RiseTo (p + 1) after
 rise_more p before after so_far (inl same) = subst (RiseTo (p + 1)) (sym same) (rise_on p before so_far)
-rise_more p before after so_far (inr grown) = subst (RiseTo (p + 1)) (sym grown) (
-    let long = length_push before p in
-    record {
-      rising = pushed_rises p before so_far;
-      most = λ a below. elim (cases_lt a (length before)) [
-        | inl inside ↦
-            let at : get_or (before ++ p ∷ []) a 0 ≡ get_or before a 0 = get_or_append_left before (p ∷ []) 0 a inside in
-            omega (arith, at, so_far.most a inside)
-        | inr last ↦ let at : get_or (before ++ p ∷ []) a 0 ≡ p = get_or_push before p 0 a (omega (arith, last, below, long)) in omega (arith, at)
-      ];
-      few = omega (arith, long, so_far.few);
-    })
+rise_more p before after so_far (inr grown) = grind (arith, length_push, pushed_rises, cases_lt, get_or, get_or_append_left, get_or_push)
 
 pub runs_all : (p count : ℕ) (before after : List ℕ) → p ≡ count → RiseTo p before → after ≡ before ++ count ∷ [] → AreShareRuns count after
-runs_all p count before after all so_far grown = subst (AreShareRuns count) (sym grown) (
-    let so_far : RiseTo count before = subst (λ (q : ℕ). RiseTo q before) all so_far in
-    let long = length_push before count in
-    record {
-      rising = pushed_rises count before so_far;
-      last = λ n is. get_or_push before count 0 n (omega (arith, is, long));
-      some = omega (arith, long);
-      few = omega (arith, long, so_far.few);
-    })
+runs_all p count before after all so_far grown = grind (arith, length_push, pushed_rises, get_or_push)
 
 -- ---- the numbers of shares
 
@@ -264,20 +234,10 @@ homes_all u table n homes past so_far = record {
 }
 
 pub sets_none : (sender : ℕ) (homes : List Home) → SetsSender None sender homes homes
-sets_none sender homes = record {
-  long = refl;
-  here = λ q h e. absurd (none-some q e);
-  others = λ q h elsewhere at. at;
-  receivers = λ q h at. (h, at, refl);
-}
+sets_none sender homes = grind (arith, none-some)
 
 pub sets_past : (place sender : ℕ) (homes : List Home) → length homes ≤ place → SetsSender (Some place) sender homes homes
-sets_past place sender homes past = record {
-  long = refl;
-  here = λ q h e at. absurd (omega (arith, past, same_Some place q e, slice_get_within homes q h at));
-  others = λ q h elsewhere at. at;
-  receivers = λ q h at. (h, at, refl);
-}
+sets_past place sender homes past = grind (arith, same_Some, slice_get_within)
 
 pub sets_one : (place sender : ℕ) (homes : List Home) (old : Home) → slice_get homes place ≡ Some old → SetsSender (Some place) sender homes (set homes place (record old { sender = sender }))
 sets_one place sender homes old stands = record {
@@ -304,13 +264,7 @@ pub record CutsTo (homes : List Home) (n : ℕ) (cuts : List Cut) : Type 0 where
   pub few : length cuts ≤ n
 
 pub cuts_none : (homes : List Home) (cuts : List Cut) → cuts ≡ [] → CutsTo homes 0 cuts
-cuts_none homes cuts none = subst (CutsTo homes 0) (sym none) (record {
-  cut = λ l c at. absurd (none-some c at);
-  all_cut = λ q h less. absurd (omega (arith, less));
-  apart = λ k l a b at. absurd (none-some a at);
-  below = λ l c at. absurd (none-some c at);
-  few = omega arith;
-})
+cuts_none homes cuts none = grind (arith, none-some)
 
 pub cuts_more : (homes : List Home) (n : ℕ) (home : Home) (cuts new : List Cut) → slice_get homes n ≡ Some home → CutsTo homes n cuts → MayCut n home cuts new → CutsTo homes (n + 1) new
 cuts_more homes n home cuts new at_n so_far (inl same) = subst (CutsTo homes (n + 1)) (sym same.1) (record {
@@ -361,9 +315,4 @@ cuts_more homes n home cuts new at_n so_far (inr other) = subst (CutsTo homes (n
     })
 
 pub cuts_all : (homes : List Home) (n : ℕ) (cuts : List Cut) → n ≡ length homes → length homes < 2 ^ 32 → CutsTo homes n cuts → AreCutsOf homes cuts
-cuts_all homes n cuts past small so_far = record {
-  cut = so_far.cut;
-  all_cut = λ q h at. let inside = slice_get_within homes q h at in so_far.all_cut q h (omega (arith, inside, past)) at;
-  apart = so_far.apart;
-  few = omega (arith, so_far.few, past, small);
-}
+cuts_all homes n cuts past small so_far = grind (arith, slice_get_within)

@@ -92,23 +92,8 @@ pub cuts_more : (mid : State) (cuts : List Cut) (down : List (List McCopy)) (n :
     AreOfOneCut cuts → QueuesBackTo mid cuts down n now left →
     slice_get cuts n ≡ Some c → c.queue < length now.inputs + length now.cores → copies ≡ get_or left n [] → SetsQueue c.queue copies now next → new ≡ set left n gone →
     QueuesBackTo mid cuts down (n + 1) next new
-cuts_more mid cuts down n now next left new c copies gone apart so_far at below read sets is = record {
-  same = state_on mid now next so_far.same sets.same;
-  unsent = sets.unsent ∙ so_far.unsent;
-  done = λ l d less stands. elim (cases_eq l n) [
-    | inl here ↦
-        let is_d : c ≡ d = same_Some c d (sym at ∙ (ap (slice_get cuts) (sym here) ∙ stands)) in
-        let long : length (now.inputs ++ now.cores) ≡ length now.inputs + length now.cores = length-append now.inputs now.cores in
-        ap (λ (x : Cut). get_or (next.inputs ++ next.cores) x.queue []) (sym is_d) ∙ (ap (λ l. get_or l c.queue []) sets.queues
-        ∙ (get_or-set_same (now.inputs ++ now.cores) c.queue copies [] (omega (arith, below, long)) ∙ (read ∙ (so_far.left_down n (omega arith) ∙ ap (λ (j : ℕ). get_or down j []) (sym here)))))
-    | inr other ↦
-        ap (λ qs. get_or qs d.queue []) sets.queues
-        ∙ (get_or-set_other (now.inputs ++ now.cores) c.queue d.queue copies [] (λ same. other (apart l n d c stands at same)) ∙ so_far.done l d (omega (arith, less, other)) stands)
-  ];
-  others = λ q not. ap (λ qs. get_or qs q []) sets.queues ∙ (get_or-set_other (now.inputs ++ now.cores) c.queue q copies [] (λ same. not n c at (sym same)) ∙ so_far.others q not);
-  left_down = λ l from. ap (λ qs. get_or qs l []) is ∙ (get_or-set_other left n l gone [] (λ same. omega (arith, same, from)) ∙ so_far.left_down l (omega (arith, from)));
-  long = ap length is ∙ (length-set left n gone ∙ so_far.long);
-}
+cuts_more mid cuts down n now next left new c copies gone apart so_far at below read sets is =
+    grind (arith, state_on, cases_eq, same_Some, length-append, get_or, get_or-set_same, get_or-set_other, length-set)
 
 pub cut_at : (cuts : List Cut) (n : ℕ) (c : Cut) → n < length cuts → c ≡ get_or cuts n c → slice_get cuts n ≡ Some c
 cut_at cuts n c below read = slice_get-get_or cuts n c below ∙ ap Some (sym read)

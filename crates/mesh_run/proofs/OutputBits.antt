@@ -19,8 +19,7 @@ link_bit (Core c) a = let of = among_map Link (Core c) all_dirs a in cc
 core_bit : (o : Out) → Among o core_outs → IsOutput o
 unfolding core_outs
 core_bit (Link d) a = tt
-core_bit (Core c) a =
-    grind (arith, among_map Core (Core c) (range_with_len 0 18) a, range_parts 0 18 (among_map Core (Core c) (range_with_len 0 18) a).0 (among_map Core (Core c) (range_with_len 0 18) a).1)
+core_bit (Core c) a = grind (arith, among_map, range_parts)
 
 pub has_bit : (o : Out) → Among o all_outs → IsOutput o
 has_bit o a = grind (arith, among_either o link_outs core_outs a, link_bit, core_bit)

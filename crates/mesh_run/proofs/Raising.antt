@@ -21,22 +21,14 @@ was_there before after k t long at = let within = slice_get_within after k t at 
 
 -- the shares have what they had of the runs
 pub shared_still : (u : Setup) (ends : List ℕ) (before after : List Share) → AreSameRuns before after → AreShared u ends before → AreShared u ends after
-shared_still u ends before after same shared = record {
-  long = same.long ∙ shared.long;
-  from = λ k t at. let s = was_there before after k t same.long at in same.from k s.0 t s.1 at ∙ shared.from k s.0 s.1;
-  to = λ k t at. let s = was_there before after k t same.long at in same.to k s.0 t s.1 at ∙ shared.to k s.0 s.1;
-  ends_long = λ k t at. let s = was_there before after k t same.long at in same.ends_long k s.0 t s.1 at ∙ shared.ends_long k s.0 s.1;
-  unsent_long = λ k t at. let s = was_there before after k t same.long at in same.unsent_long k s.0 t s.1 at ∙ shared.unsent_long k s.0 s.1;
-}
+shared_still u ends before after same shared = grind (arith, was_there)
 
 -- ---- a mesh moved in
 
 -- what vertices did not send, by the places that the setup tells
 pub unsent_held : (m : State) (homes : List Home) (shares : List Share) → length m.inputs ≡ port_count m.setup → HoldVertices (length m.inputs) m.unsent homes shares →
     HoldUnsent m.setup m.unsent homes shares
-unsent_held m homes shares long held =
-    let here = subst (λ (n : ℕ). HoldVertices n m.unsent homes shares) long held in
-    record { here = here.here; nowhere_else = here.nowhere_else }
+unsent_held m homes shares long held = grind arith
 
 pub raised_in : (m left : State) (more : ℕ) (start : List Share) (ends : List LinkEnds) (r : RaisedMesh) → IsMesh m → IsLayoutOf m.setup r.layout.now →
     AreShared m.setup r.layout.now.runs.items start → HoldsAll ends r.standing →

@@ -26,8 +26,7 @@ end_taken end ends slots place old x are at is = same_Some x (end old) (same_Som
 -- what stands in a list that is a map, with one item set
 same_slot : {X : Type 0} (f : LinkEnds → X) (ends : List LinkEnds) (slots : List X) (place : ℕ) (old new : LinkEnds) → slots ≡ map f ends → slice_get ends place ≡ Some old → f new ≡ f old →
     slots ≡ map f (set ends place new)
-same_slot f ends slots place old new are at same =
-    grind (arith, set-slice_get (map f ends) place (f old) (slice_get-mapped f ends place old at), slice_get-mapped f ends place old at, map-set f ends place new)
+same_slot f ends slots place old new are at same = grind (arith, set-slice_get, slice_get-mapped, map-set)
 
 new_slot : {X : Type 0} (f : LinkEnds → X) (ends : List LinkEnds) (lacking slots : List X) (place : ℕ) (gone : X) (new : LinkEnds) → lacking ≡ set (map f ends) place gone →
     slots ≡ set lacking place (f new) → slots ≡ map f (set ends place new)

@@ -27,8 +27,7 @@ sets_input m n place q below inputs cores unsent setup hands delivered dumped = 
 
 pub sets_core : (m n : State) (place : ℕ) (q : List McCopy) → length m.inputs ≤ place → n.cores ≡ set m.cores (place - length m.inputs) q → n.inputs ≡ m.inputs → n.unsent ≡ m.unsent →
     n.setup ≡ m.setup → n.hands ≡ m.hands → n.delivered ≡ m.delivered → n.dumped ≡ m.dumped → SetsQueue place q m n
-sets_core m n place q past cores inputs unsent setup hands delivered dumped =
-    grind (arith, length-set m.cores (place - length m.inputs) q, set-append_right m.inputs m.cores (length m.inputs) place q refl past)
+sets_core m n place q past cores inputs unsent setup hands delivered dumped = grind (arith, length-set, set-append_right)
 
 pub read_input : (m : State) (place : ℕ) (q : List McCopy) → place < length m.inputs → q ≡ get_or m.inputs place [] → q ≡ get_or (m.inputs ++ m.cores) place []
 read_input m place q below read = read ∙ sym (get_or_append_left m.inputs m.cores [] place below)
@@ -51,27 +50,8 @@ vertices_on x y z p q = grind arith
 pub unsent_set : (before after : List Share) (share vertex : ℕ) (s t : Share) (copies : List McCopy) → slice_get before share ≡ Some s → vertex < length s.hold.unsent.items →
     after ≡ set before share t → t.from ≡ s.from → t.to ≡ s.to → t.hold.ends ≡ s.hold.ends → t.hold.dumps ≡ s.hold.dumps → t.hold.deliveries ≡ s.hold.deliveries →
     t.hold.unsent.items ≡ set s.hold.unsent.items vertex copies → PutsUnsent share vertex copies before after
-unsent_set before after share vertex s t copies stands below is from to ends dumps deliveries unsent = subst (PutsUnsent share vertex copies before) (sym is) (record {
-  same = each_set SameButUnsent vertices_self before share s t stands (record {
-    from = from;
-    to = to;
-    ends = ends;
-    unsent_long = ap length unsent ∙ length-set s.hold.unsent.items vertex copies;
-    dumps = dumps;
-    deliveries = deliveries;
-  });
-  here = ap (λ (o : Option Share). unsent_in o vertex) (slice_get-set_same before share s t stands)
-      ∙ (ap (λ l. get_or l vertex []) unsent ∙ get_or-set_same s.hold.unsent.items vertex copies [] below);
-  others = λ k v differs. elim (cases_eq k share) [
-    | inl here ↦
-        ap (λ (j : ℕ). unsent_at (set before share t) j v) here
-        ∙ (ap (λ (o : Option Share). unsent_in o v) (slice_get-set_same before share s t stands)
-        ∙ (ap (λ l. get_or l v []) unsent
-        ∙ (get_or-set_other s.hold.unsent.items vertex v copies [] (λ same. differs (here, same))
-        ∙ (ap (λ (o : Option Share). unsent_in o v) (sym stands) ∙ ap (λ (j : ℕ). unsent_at before j v) (sym here)))))
-    | inr other ↦ ap (λ (o : Option Share). unsent_in o v) (slice_get-set_other before share k t other)
-  ];
-})
+unsent_set before after share vertex s t copies stands below is from to ends dumps deliveries unsent =
+    grind (arith, each_set, vertices_self, length-set, slice_get-set_same, get_or, get_or-set_same, cases_eq, get_or-set_other, slice_get-set_other)
 
 pub unsent_self : (shares : List Share) → AreSameButUnsent shares shares
 unsent_self shares = each_self SameButUnsent vertices_self shares
@@ -113,8 +93,7 @@ lanes_none m homes start = grind (arith, same_state m, same_self start)
 pub lanes_more : (m : State) (homes : List Home) (start : List Share) (n : ℕ) (now next : State) (shares new : List Share) (home : Home) (copies gone : List McCopy) →
     LanesTo m homes start n now shares → slice_get homes n ≡ Some home →
     copies ≡ get_or (now.inputs ++ now.cores) n [] → SetsQueue n gone now next → MayPutLane home n copies shares new → LanesTo m homes start (n + 1) next new
-lanes_more m homes start n now next shares new home copies gone so_far at read sets (inl apart) =
-    grind (arith, state_on m now next so_far.same sets.same, get_or, get_or-set_other, cases_eq, same_Some)
+lanes_more m homes start n now next shares new home copies gone so_far at read sets (inl apart) = grind (arith, state_on, get_or, get_or-set_other, cases_eq, same_Some)
 lanes_more m homes start n now next shares new home copies gone so_far at read sets (inr put) =
     grind (arith, state_on m now next so_far.same sets.same, same_on start shares new so_far.shares_same put.3.same, get_or, get_or-set_other, cases_eq, same_Some)
 
@@ -175,8 +154,7 @@ home_inside m homes shares ports v fits is below = let long = fits.long in let v
 
 pub vertex_home : (m : State) (homes : List Home) (shares : List Share) (ports v : ℕ) → FitHomes m homes shares → ports ≡ length m.inputs → v < length m.unsent →
     slice_get homes (length m.inputs + v) ≡ Some (get_or homes (ports + v) (record { sender = 0; receiver = 0 }))
-vertex_home m homes shares ports v fits is below =
-    ap (λ (p : ℕ). slice_get homes (p + v)) (sym is) ∙ slice_get-get_or homes (ports + v) (record { sender = 0; receiver = 0 }) (home_inside m homes shares ports v fits is below)
+vertex_home m homes shares ports v fits is below = grind (arith, slice_get-get_or, home_inside)
 
 -- the share of its receiver is there, with a place for the vertex
 pub vertex_there : (m : State) (homes : List Home) (start second now : List Share) (ports v : ℕ) → FitHomes m homes start → AreSameButEnds start second → AreSameButUnsent second now →

@@ -68,11 +68,7 @@ module _ (u : Setup) where
 
   each_once_on : (xs ys : List Item) (i : ℕ) → map told (services i xs) ≡ owed_on u (chip_of u.machine i) (takings i xs) →
       map told (services i ys) ≡ owed_on u (chip_of u.machine i) (takings i ys) → map told (services i (xs ++ ys)) ≡ owed_on u (chip_of u.machine i) (takings i (xs ++ ys))
-  each_once_on xs ys i h k =
-      ap (map told) (flat_map-append (service_of i) xs ys) ∙ (map-append told (services i xs) (services i ys)
-      ∙ (ap₂ (λ (a b : List (Out × McCopy)). a ++ b) h k
-      ∙ (sym (flat_map-append (λ (t : Port × McCopy). map (λ o. (o, t.1)) (outputs u (chip_of u.machine i) t.0 t.1)) (takings i xs) (takings i ys))
-      ∙ ap (owed_on u (chip_of u.machine i)) (sym (flat_map-append (taking_of i) xs ys)))))
+  each_once_on xs ys i h k = grind (arith, flat_map-append, map-append)
 
   length_on : {Y : Type 0} (f : Item → List Y) (xs ys : List Item) (m n : ℕ) → length (flat_map f xs) ≤ m → length (flat_map f ys) ≤ n → length (flat_map f (xs ++ ys)) ≤ m + n
   length_on f xs ys m n h k = grind (arith, flat_map-append f xs ys, length-append (flat_map f xs) (flat_map f ys))
@@ -159,13 +155,7 @@ module _ (u : Setup) where
       let outs : outputs_at r.table.now h.port h.copy ≡ outputs u (chip_of u.machine i) h.port h.copy = ap (λ (t : List Entry). outputs_at t h.port h.copy) table in
       ap (map told) done ∙ (h.each_once ∙ (ap (λ (l : List Out). map {B = Out × McCopy} (λ o. (o, h.copy)) l) outs
       ∙ (sym (append-nil (map (λ o. (o, h.copy)) (outputs u (chip_of u.machine i) h.port h.copy))) ∙ ap (owed_on u (chip_of u.machine i)) (sym taken))))
-  routed_each_once r a of items h i (inr other) =
-      let place : Service → Option ℕ = λ s. place_at_router r.behind.now s.out in
-      let done : services i items ≡ [] = ap (services i) h.are ∙ services_elsewhere r.index i r.chip place other h.done in
-      let none : takings i (service_items r h.done) ≡ [] = flat_map_map_none (taking_of i) (λ s. served r.index r.chip (place s) s) (λ s. refl) h.done in
-      let taken : takings i items ≡ [] =
-      ap (takings i) h.are ∙ ap₂ (λ (x y : List (Port × McCopy)). x ++ y) (elsewhere r.index i ((h.port, h.copy) ∷ []) other) none in
-      ap (map told) done ∙ ap (owed_on u (chip_of u.machine i)) (sym taken)
+  routed_each_once r a of items h i (inr other) = grind (arith, services_elsewhere, flat_map_map_none, elsewhere)
 
   served_outputs : (r : RouterNode) (items : List Item) → (h : RoutesOne r.table.now r items) → All (λ (s : Service). IsOutput s.out) h.done
   served_outputs r items h =

@@ -35,13 +35,7 @@ put_end-second-requires c =
     (same_on c.args.shares.now.items c.loop-number.shares.items c.put_end-first.new.shares.items c.loop-number.invariant.same c.put_end-first.ensures.put.same) e.1
 
 pub loop-number-preserved : goal.loop-number-preserved
-loop-number-preserved c =
-    let nothing : Cut = record { queue = 0; sender = 0; receiver = 0 } in
-    let at = slice_get-get_or c.args.cuts.now c.loop-number.number nothing c.loop-number-test.true in
-    dealt_more c.args.cuts.now c.args.standing.now c.loop-number.standing _ c.args.shares.now.items c.loop-number.shares.items c.put_end-first.new.shares.items
-    c.put_end-second.new.shares.items c.loop-number.number _ c.take_at-tx.result c.take_at-rx.result
-    c.requires.cuts c.loop-number.invariant at c.take_at-tx.ensures.stood c.take_at-rx.ensures.stood refl refl c.take_at-tx.ensures.left c.take_at-rx.ensures.left
-    c.put_end-first.ensures.put c.put_end-second.ensures.put
+loop-number-preserved c = grind (arith, slice_get-get_or, dealt_more)
 
 pub returns-clause-deals : goal.returns-clause-deals
 returns-clause-deals c = λ ends holds.

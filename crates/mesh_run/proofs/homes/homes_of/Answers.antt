@@ -11,19 +11,10 @@ pub loop-index-init : goal.loop-index-init
 loop-index-init c = homes_none c.args.table.now c.new-homes.result.items c.new-homes.ensures.items
 
 pub loop-index-preserved : goal.loop-index-preserved
-loop-index-preserved c =
-    let long = c.requires in
-    let chips = c.chips_of-chips.ensures.value in
-    let below = c.loop-index-test.true in
-    let router : 2 * c.loop-index.index < length c.args.table.now = omega (arith, long, chips, below) in
-    let bank : 2 * c.loop-index.index + 1 < length c.args.table.now = omega (arith, long, chips, below) in
-    ports_more c.args.table.now c.loop-index.index _ _ c.loop-index.homes.items c.push_ports.new.homes.items c.loop-index.invariant
-    (slice_get-get_or c.args.table.now (2 * c.loop-index.index) 0 router) (slice_get-get_or c.args.table.now (2 * c.loop-index.index + 1) 0 bank) c.in_ok-push_ports.ensures
+loop-index-preserved c = grind (arith, ports_more, slice_get-get_or)
 
 pub loop-vertex-init : goal.loop-vertex-init
-loop-vertex-init c =
-    let all : c.loop-index.index ≡ grid_size c.args.footing.setup.now = omega (arith, c.chips_of-chips.ensures.value) in
-    subst (λ (n : ℕ). AreHomesTo c.args.table.now n 0 c.loop-index.homes.items) all c.loop-index.invariant
+loop-vertex-init c = grind arith
 
 pub index-home-requires : goal.index-home-requires
 index-home-requires c =
@@ -50,5 +41,4 @@ loop-vertex-preserved c =
     }) c.in_ok-push.ensures.items
 
 pub returns : goal.returns
-returns c =
-    homes_all c.args.footing.setup.now c.args.table.now c.loop-at.at c.loop-at.homes.items (omega (arith, c.chips_of-chips.ensures.value)) c.loop-at.invariant
+returns c = homes_all _ _ _ _ (omega (arith, c.chips_of-chips.ensures.value)) c.loop-at.invariant

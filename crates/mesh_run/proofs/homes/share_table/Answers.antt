@@ -6,11 +6,7 @@ pub loop-number-init : goal.loop-number-init
 loop-number-init c = table_none c.args.ends.now c.new-table.result.items c.new-table.ensures.items
 
 pub loop-number-preserved : goal.loop-number-preserved
-loop-number-preserved c =
-    let ends = c.args.ends.now in
-    let n = c.loop-number.number in
-    let from = run_from c.args.count ends n c.requires c.loop-number-test.true in
-    run_all ends n c.loop-place._place c.loop-place.table.items c.loop-place.invariant (omega (arith, from, c.loop-number.invariant.long))
+loop-number-preserved c = grind (arith, run_from, run_all)
 
 pub loop-place-preserved : goal.loop-place-preserved
 loop-place-preserved c = run_more c.args.ends.now c.loop-number.number c.loop-place._place c.loop-place.table.items c.push.new.self.items c.loop-place.invariant c.in_ok-push.ensures.items

@@ -15,10 +15,7 @@ invariant_of-first g c =
     record { some = omega (arith, c.for_held-cap.ensures, c.args.places.some); fits = omega (arith, c.for_held-cap.ensures, c.len.ensures, fits) }
 
 pub put-requires : goal.put-requires
-put-requires g c =
-    let u = c.loop-place.invariant in
-    let k = c.loop-place.place in
-    (u.ends, length c.args.queues.now - (k + 1), may_rise c.args.places.cap (c.args.places.turns + 1) c.args.queues.now k c.loop-place.rising u c.loop-place-test.true)
+put-requires g c = grind (arith, may_rise)
 
 pub loop-place-preserved : goal.loop-place-preserved
 loop-place-preserved g c =

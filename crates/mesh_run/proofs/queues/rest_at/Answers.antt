@@ -1,3 +1,4 @@
+use Rattle.std.proofs.Common.{arith}
 use Rattle.std.proofs.Common.{subst}
 use Rattle.link_queue.specs.{declared.links.Link.Link, Ends.IsTx, Ends.IsRx}
 use Rattle.mesh_run.proofs.Resting.{lent_there, rests_there}
@@ -16,9 +17,7 @@ invariant_of-lent g c =
     record { sends = both.0; takes = both.1 }
 
 pub put_ends-requires : goal.put_ends-requires
-put_ends-requires g c =
-    let r = c.requires in
-    (r.0, c.take_ends-tx.ensures.left r.0 r.2, slice_get_within r.0 c.args.place r.1 r.3)
+put_ends-requires g c = grind (arith, slice_get_within)
 
 pub returns : goal.returns
 returns g c = λ ends old holds at.

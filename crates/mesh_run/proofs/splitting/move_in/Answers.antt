@@ -28,8 +28,7 @@ loop-place-preserved c =
     c.swap_queue-copies.ensures.stood c.swap_queue-copies.ensures.stands c.put_lane.ensures
 
 pub loop-vertex-init : goal.loop-vertex-init
-loop-vertex-init c =
-    vertices_to_none (length c.args.parts.now.inputs) c.args.parts.now c.loop-place.parts c.args.homes.now c.loop-place.shares.items c.loop-place.invariant.same c.loop-place.invariant.unsent
+loop-vertex-init c = grind (arith, vertices_to_none)
 
 pub loop-cut-init : goal.loop-cut-init
 loop-cut-init c = holds_self c.loop-vertex.shares.items

@@ -4,9 +4,7 @@ use Rattle.mesh_run.proofs.FloorLaws.{floor_all, floor_none}
 use Rattle.mesh_run.proofs.floors.Floor.of.Goals as goal
 
 pub loop-index-init : goal.loop-index-init
-loop-index-init c =
-    floor_none c.args.setup.now _ (c.in_ok-reserve_exact.ensures.items ∙ c.new.ensures.items) (c.in_ok-reserve_exact-2.ensures.items ∙ c.new-2.ensures.items)
-    (c.in_ok-reserve_exact-3.ensures.items ∙ c.new-3.ensures.items)
+loop-index-init c = grind (arith, floor_none)
 
 pub returns : goal.returns
 returns c = λ tables.

@@ -8,8 +8,7 @@ pub invariant_of-footing : goal.invariant_of-footing
 invariant_of-footing c = record { stands = c.in_ok-floor.ensures (subst (λ (s : State). length s.setup.tables ≡ grid_size s.setup) (sym c.parts.view_is) c.requires.table_list) }
 
 pub share_table-requires : goal.share_table-requires
-share_table-requires c = subst (λ n. AreShareRuns n c.deref.result.now) (sym c.actors.ensures)
-    (subst (AreShareRuns (2 * grid_size c.parts.inside.setup)) (sym c.deref.ensures.value) c.in_ok-runs.ensures)
+share_table-requires c = grind arith
 
 pub homes_of-requires : goal.homes_of-requires
 homes_of-requires c = ap length c.deref-2.ensures.value ∙ (c.in_ok-table.ensures.long ∙ c.actors.ensures)

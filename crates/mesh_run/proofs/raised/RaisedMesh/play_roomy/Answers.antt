@@ -1,3 +1,4 @@
+use Rattle.std.proofs.Common.{arith}
 use Rattle.std.proofs.Common.{ℕ, ◌+◌, List, ◌++◌, length, sym, ap, ◌∙◌, subst}
 use Rattle.std.proofs.lemmas.List.{with_items_is}
 use Rattle.std.specs.{List.All, List.flat_map, Vec.with_items}
@@ -30,10 +31,7 @@ dealt g c m is_mesh roomy =
 -- what turns made of them
 turned : (g : Over) (c : After-play_all g) (m : State) → IsDealt m c.args.self.now c.deal.new.standing c.deal.new.shares.items →
     IsTurned m c.args.self.now c.deal.new.standing c.deal.new.shares.items c.play_all.new.shares.items
-turned g c m before =
-    is_turned before c.play_all.ensures.long
-    (subst (λ (l : List Link). PlayAndStay c.args.self.now l c.deal.new.shares.items c.play_all.new.shares.items) c.deref-2.ensures.value
-    (subst (λ (x : RaisedMesh). PlayAndStay x c.deref-2.result.now c.deal.new.shares.items c.play_all.new.shares.items) c.self.view_is c.play_all.ensures.each))
+turned g c m before = grind (arith, is_turned, PlayAndStay)
 
 -- the ends that were collected
 collected : (g : Over) (c : After-collect g) (m : State) → IsTurned m c.args.self.now c.deal.new.standing c.deal.new.shares.items c.play_all.new.shares.items →

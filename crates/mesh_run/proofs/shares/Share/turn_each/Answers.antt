@@ -11,20 +11,13 @@ use Rattle.mesh_run.proofs.shares.Share.turn_each.Goals as goal
 -- a share with other flags is a share of the same mesh
 flagged : (u : Setup) (links : List Link) (s : Share) (awake short : Flags) (moved : Bool) →
     IsShareOf u links s → IsShareOf u links (record s { awake = awake; short = short; moved = moved })
-flagged u links s awake short moved h =
-    record { ends_long = h.ends_long; unsent_long = h.unsent_long; within = h.within; routers = h.routers; banks = h.banks; ends = h.ends }
+flagged u links s awake short moved h = grind arith
 
 pub actors-init : goal.actors-init
 actors-init g c = (c.requires, omega arith, each_none c.args.ground.footing.setup.now c.args.ground.around.patience c.args.self.now c.args.self.now.from)
 
 pub act-requires-clause-within : goal.act-requires-clause-within
-act-requires-clause-within g c =
-    let h = c.actors.invariant in
-    let past : c.actors.at ≤ c.if-not-all.at = elim c.if-not-all.branch [
-      | then-not-all+in-Some w ↦ let is = w.at-is in let from = w.in-Some.ensures.from in omega (arith, is, from)
-      | else-not-all w ↦ let is = w.at-is in omega (arith, is)
-    ] in
-    record { above = omega (arith, h.2.plays.from, h.1, past); below = c.if-at-self.true }
+act-requires-clause-within g c = grind (arith, then-not-all+in-Some, else-not-all)
 
 pub actors-preserved : goal.actors-preserved
 actors-preserved g c =

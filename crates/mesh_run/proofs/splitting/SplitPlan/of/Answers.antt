@@ -7,13 +7,7 @@ use Rattle.mesh_run.proofs.PlanLaws.{cuts_fit, cuts_inside, plan_fits, plan_shar
 use Rattle.mesh_run.proofs.splitting.SplitPlan.of.Goals as goal
 
 pub crossing_of-requires : goal.crossing_of-requires
-crossing_of-requires g c =
-    let m = c.args.parts.now in
-    let l = c.args.layout.now in
-    let is = c.requires.layout in
-    let inputs = c.requires.mesh.input_lists in
-    subst (AreInside (length m.inputs + length m.cores)) (sym c.deref.ensures.value)
-    (cuts_inside l.homes.items l.cuts.items (length m.inputs + length m.cores) is.cuts (omega (arith, is.homes.long, inputs, c.requires.mesh.core_lists)))
+crossing_of-requires g c = grind (arith, cuts_inside)
 
 pub bring_up-requires : goal.bring_up-requires
 bring_up-requires g c = grind (arith, cuts_fit (c.args.parts.now) (c.args.layout.now.cuts.items) c.requires.mesh)
