@@ -19,10 +19,8 @@ pub beside : (columns up down width : ℕ) →
     (wrap : Bool) (step : Step) (x k : ℕ) → x < width → stepped wrap width step x ≡ Some k → bit_at columns k ≡ 1 → bit_at (bit_or (bit_or columns up) down) x ≡ 1
 beside columns up down width ahead ahead_round back back_round wrap Ahead x k within leads bit =
     or_left (bit_or columns up) down x (or_right columns up x (turned_ahead columns up width ahead ahead_round wrap x k within leads ∙ bit))
-beside columns up down width ahead ahead_round back back_round wrap Stay x k within leads bit =
-    or_left (bit_or columns up) down x (or_left columns up x (turned_stay columns width wrap x k leads ∙ bit))
-beside columns up down width ahead ahead_round back back_round wrap Back x k within leads bit =
-    or_right (bit_or columns up) down x (turned_back columns down width back back_round wrap x k within leads ∙ bit)
+beside columns up down width ahead ahead_round back back_round wrap Stay x k within leads bit = grind (arith, or_left, turned_stay)
+beside columns up down width ahead ahead_round back back_round wrap Back x k within leads bit = grind (arith, or_right, turned_back)
 
 -- outside the columns beside those that grew nothing changed beside a chip, so the newer set has spread there
 pub spread_but : (m : Description) (old new : List ℕ) (grown near : ℕ) → ((c : Chip) → IsInside m c → IsSpread m old c → IsIn new c) →
@@ -131,8 +129,7 @@ module _ (left x : ℕ) (few : x < 64) (here : bit_at left x ≡ 1) where
 -- and where no column is named the set has not changed
 pub none_grew : (old new : List ℕ) (grown : ℕ) → length old ≡ length new → grown ≡ 0 →
     ((x : ℕ) → (bit_at grown x ≡ 1 → ⊥) → get_or old x 0 ≡ get_or new x 0) → old ≡ new
-none_grew old new grown long none told = ext_get_or 0 old new long (λ x below. told x (λ bit.
-    let clear : bit_at grown x ≡ 0 = ap (λ n. bit_at n x) none ∙ bit_at-zero x in omega (arith, clear, bit)))
+none_grew old new grown long none told = ext_get_or _ _ _ long (λ x below. told x (λ bit. let clear : bit_at grown x ≡ 0 = ap (λ n. bit_at n x) none ∙ bit_at-zero x in omega (arith, clear, bit)))
 
 -- where all columns are named nothing is asked
 pub all_named : (m : Description) (set : List ℕ) → m.width ≤ 64 → IsSpreadBut m set 18446744073709551615

@@ -36,17 +36,7 @@ TellsTree m root edges chips = (c : Chip) → IsIn chips c ↔ IsTreeChip m root
 
 -- no chip is in a set of words that are 0
 pub none_in : (words : List ℕ) (n : ℕ) → words ≡ replicate n 0 → (c : Chip) → IsIn words c → ⊥
-none_in words n e c bit = elim (cases_lt c.x n) [
-  | inl low ↦
-      let zero_word : get_or words c.x 0 ≡ 0 = ap (λ t. get_or t c.x 0) e ∙ get_or-replicate n c.x 0 0 low in
-      let clear : bit_at (get_or words c.x 0) c.y ≡ 0 = ap (λ k. bit_at k c.y) zero_word ∙ bit_at-zero c.y in
-      omega (arith, clear, bit)
-  | inr high ↦
-      let zero_word : get_or words c.x 0 ≡ 0 =
-      get_or_past words c.x 0 (subst (λ k. k ≤ c.x) (sym (ap length e ∙ length-replicate n 0)) high) in
-      let clear : bit_at (get_or words c.x 0) c.y ≡ 0 = ap (λ k. bit_at k c.y) zero_word ∙ bit_at-zero c.y in
-      omega (arith, clear, bit)
-]
+none_in words n e c bit = grind (arith, cases_lt, get_or, get_or-replicate, bit_at-zero, get_or_past, length-replicate)
 
 -- the root alone
 pub TellsTree-root : (m : Description) (root : Chip) (words chips : List ℕ) → ((c : Chip) → IsIn words c → ⊥) → IsIn chips root →

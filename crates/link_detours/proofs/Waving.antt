@@ -148,10 +148,7 @@ module _ (m : Description) (root : Chip) (tree : List Edge) where
       ((rest : List Edge) → IsDetour m root tree at rest → IsDetour m root tree target (done ++ rest)) → IsLastLink m root tree at e →
       (items ++ e ∷ [] ≡ tree ++ (done ++ e ∷ []))
       × ((rest : List Edge) → IsDetour m root tree e.chip rest → IsDetour m root tree target ((done ++ e ∷ []) ++ rest))
-  way_more target at items done e is way last = (
-    ap (λ es. es ++ e ∷ []) is ∙ append_assoc tree done (e ∷ []),
-    λ rest down. subst (λ es. IsDetour m root tree target es) (sym (append_assoc done (e ∷ []) rest)) (way (e ∷ rest) (last, down)),
-  )
+  way_more target at items done e is way last = grind (arith, append_assoc)
 
   pub way_ends : (target at : Chip) (done : List Edge) →
       ((rest : List Edge) → IsDetour m root tree at rest → IsDetour m root tree target (done ++ rest)) →

@@ -9,8 +9,7 @@ use Rattle.link_detours.specs.{Steps.Steps, Whole.IsWholeTree, Repair.EdgeStep, 
 use Rattle.link_detours.proofs.Stepping.{Steps-map}
 
 pub more_steps : (m : Description) (tree more : List Edge) (n : ℕ) (a c : Chip) → Steps (EdgeStep m tree) n a c → Steps (EdgeStep m (tree ++ more)) n a c
-more_steps m tree more = Steps-map (EdgeStep m tree) (EdgeStep m (tree ++ more))
-    (λ a b step. (step.0, Contains-append_left tree more (record { chip = a; dir = step.0 }) step.1, step.2))
+more_steps m tree more = Steps-map _ _ (λ a b step. (step.0, Contains-append_left tree more (record { chip = a; dir = step.0 }) step.1, step.2))
 
 -- a step by an edge leads to a chip of the tree
 pub steps_on_tree : (m : Description) (root : Chip) (tree : List Edge) (n : ℕ) (c : Chip) → Steps (EdgeStep m tree) n root c → IsTreeChip m root tree c
@@ -23,8 +22,7 @@ edge_step m tree e c has leads = (e.dir, has, leads)
 
 -- steps by live edges are live steps
 pub live_steps : (m : Description) (root : Chip) (tree : List Edge) → IsWholeTree m root tree → (n : ℕ) (a c : Chip) → Steps (EdgeStep m tree) n a c → Steps (LeadsTo m) n a c
-live_steps m root tree is = Steps-map (EdgeStep m tree) (LeadsTo m)
-    (λ a b step. (step.0, is.live (record { chip = a; dir = step.0 }) step.1, step.2))
+live_steps m root tree is = Steps-map _ _ (λ a b step. (step.0, is.live (record { chip = a; dir = step.0 }) step.1, step.2))
 
 module _ (m : Description) (root : Chip) (tree : List Edge) (is : IsWholeTree m root tree) where
   -- chips of the tree have level 0

@@ -6,30 +6,16 @@ use Rattle.link_detours.proofs.Waving.{added_words}
 use Rattle.link_detours.proofs.detours.waves.Goals as goal
 
 pub overflow_mul-tree : goal.overflow_mul-tree
-overflow_mul-tree c =
-    let most = mul-le (length c.args.target.front.set.now) c.chips.result 64 4096 (omega (arith, c.args.target.front.long, c.width.ensures.size.width_to_64))
-    c.chips.ensures.few in omega (arith, most)
+overflow_mul-tree c = grind (arith, mul-le)
 
 pub spreading-init : goal.spreading-init
-spreading-init c = record {
-  count = 0;
-  waves = c.in_ok-waves.ensures.items;
-  wave = subst (λ s. IsWave c.args.target.front.ground.machine.now (IsIn c.args.target.front.set.now) 0 s) (sym (c.deref_mut-last.ensures.value ∙ c.in_ok-words.ensures.items))
-      (first_wave c.args.target.front.ground.machine.now (IsIn c.args.target.front.set.now) c.args.target.front.set.now c.args.target.front.long (λ x. (λ b. b, λ b. b)));
-  near = all_named c.args.target.front.ground.machine.now c.deref_mut-last.result.now c.width.ensures.size.width_to_64;
-  off = λ k below. absurd (omega (arith, below));
-}
+spreading-init c = grind (arith, first_wave, all_named)
 
 pub invariant_of-front : goal.invariant_of-front
-invariant_of-front c = record {
-  long = ap length (added_words c.spreading.waves.items c.spreading.last c.deref.result.now c.len-from.result
-      (c.deref.ensures.value ∙ c.in_ok-extend_from_slice.ensures.items) (search rules)) ∙ c.spreading.invariant.wave.long;
-}
+invariant_of-front c = grind (arith, added_words)
 
 pub spread-grown-requires-clause-same : goal.spread-grown-requires-clause-same
-spread-grown-requires-clause-same c =
-    sym (added_words c.spreading.waves.items c.spreading.last c.deref.result.now c.len-from.result
-    (c.deref.ensures.value ∙ c.in_ok-extend_from_slice.ensures.items) (search rules))
+spread-grown-requires-clause-same c = grind (arith, added_words)
 
 pub spreading-preserved : goal.spreading-preserved
 spreading-preserved c =
@@ -45,10 +31,7 @@ spreading-preserved c =
     }
 
 pub spreading-smaller : goal.spreading-smaller
-spreading-smaller c =
-    sum_rises c.args.target.front.ground.machine.now c.spreading.last c.spread-grown.new.next c.spreading.invariant.wave.long
-    (c.spread-grown.auto.next ∙ c.spreading.invariant.wave.long) c.spread-grown.ensures.fits c.spread-grown.ensures.rises
-    (λ same. let none : c.spread-grown.result ≡ 0 = c.spread-grown.ensures.grew (sym same) in omega (arith, c.if-grown-eq0.false, none))
+spreading-smaller c = grind (arith, sum_rises)
 
 pub returns-then-grown-eq0-clause-cut_off : goal.returns-then-grown-eq0-clause-cut_off
 returns-then-grown-eq0-clause-cut_off c = λ n by.

@@ -5,10 +5,7 @@ use Rattle.link_detours.proofs.{Keeping.joined_more, Keeping.first_cut_off, Reac
 use Rattle.link_detours.proofs.repairs.join_all.Goals as goal
 
 pub invariant_of-edges : goal.invariant_of-edges
-invariant_of-edges c = record {
-  root_inside = live_inside c.args.broken.ground.machine.now c.args.broken.root c.args.broken.is_tree.root_lives;
-  inside = rw c.deref.ensures.value (edges_inside c.args.broken.ground.machine.now c.args.broken.root c.args.kept.items c.requires);
-}
+invariant_of-edges c = grind (arith, live_inside, edges_inside)
 
 pub put_tree-requires : goal.put_tree-requires
 put_tree-requires c = rw c.deref_mut-chips.ensures.value c.in_ok-words.ensures
@@ -17,13 +14,7 @@ pub join-requires : goal.join-requires
 join-requires c = record { long = c.loop-target.invariant.long; told = c.loop-target.invariant.told }
 
 pub loop-target-init : goal.loop-target-init
-loop-target-init c = record {
-  joins = refl;
-  is_whole = c.requires;
-  long = c.put_tree.auto.set ∙ (ap length c.deref_mut-chips.ensures.value ∙ c.in_ok-words.ensures.long);
-  told = rw c.deref.ensures.value at c.put_tree.ensures;
-  on_tree = λ k d h. absurd (omega (arith, h));
-}
+loop-target-init c = grind arith
 
 pub loop-target-preserved : goal.loop-target-preserved
 loop-target-preserved c =
@@ -33,10 +24,7 @@ loop-target-preserved c =
     (c.join.auto.tree ∙ c.loop-target.invariant.long) (c.in_ok-joined.ensures.chips c.if-not-joined.false) c.loop-target.invariant
 
 pub returns-then-not-joined-clause-cut_off : goal.returns-then-not-joined-clause-cut_off
-returns-then-not-joined-clause-cut_off c =
-    first_cut_off c.args.broken.ground.machine.now c.args.broken.root c.args.kept.items c.loop-target.whole.items c.loop-target.chips c.args.broken.targets.now
-    c.loop-target.target-index _ (slice_get-get_or c.args.broken.targets.now c.loop-target.target-index _ c.loop-target-test.true)
-    (c.in_ok-joined.ensures.cut_off c.if-not-joined.true) c.loop-target.invariant
+returns-then-not-joined-clause-cut_off c = grind (arith, first_cut_off, slice_get-get_or)
 
 pub returns-clause-on_tree : goal.returns-clause-on_tree
 returns-clause-on_tree c = rw (take_all c.loop-target.target-index c.args.broken.targets.now c.loop-target-test.false) at c.loop-target.invariant.on_tree

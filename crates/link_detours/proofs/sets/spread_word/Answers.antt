@@ -5,9 +5,7 @@ use Rattle.link_detours.proofs.{Searching.dir_number_at, Spreading.SpreadTo-more
 use Rattle.link_detours.proofs.sets.spread_word.Goals as goal
 
 pub loop-d-preserved : goal.loop-d-preserved
-loop-d-preserved c =
-    SpreadTo-more c.args.column.front.ground.machine.now c.args.column.front.set.now c.args.column.x c.loop-d.word c.loop-d.d-index c.leading-word.result _
-    (dir_number_at c.loop-d.d-index _ c.loop-d-test.true) c.leading-word.ensures c.loop-d.invariant
+loop-d-preserved c = SpreadTo-more _ _ _ _ _ _ _ (dir_number_at _ _ c.loop-d-test.true) c.leading-word.ensures c.loop-d.invariant
 
 pub returns-clause-new : goal.returns-clause-new
 returns-clause-new c = λ y d inside leads.

@@ -1,10 +1,9 @@
+use Rattle.std.proofs.Common.{arith}
 use Rattle.link_detours.proofs.{Reaching.edges_inside, Trimming.sorted_stay}
 use Rattle.link_detours.proofs.trims.trimmed.Goals as goal
 
 pub invariant_of-edges : goal.invariant_of-edges
-invariant_of-edges c = record {
-  inside = rw c.deref.ensures.value (edges_inside c.args.broken.ground.machine.now c.args.broken.root c.args.whole.items c.requires.is_whole);
-}
+invariant_of-edges c = grind (arith, edges_inside)
 
 pub returns-then-not-branch-clause-left : goal.returns-then-not-branch-clause-left
 returns-then-not-branch-clause-left c = rw c.deref.ensures.value at c.pruned.ensures.left

@@ -13,12 +13,4 @@ loop-place-preserved c =
     c.road_word.ensures c.loop-place.invariant)
 
 pub returns : goal.returns
-returns c = record {
-  few = c.width.ensures.size.height_to_64;
-  long = let long = c.loop-place.invariant.long in omega arith;
-  told = λ e d inside.
-      let parts = inside_parts c.args.machine.now e inside in
-      let column : e.x < c.args.machine.now.width = parts.0 in
-      let six : dir_number d < 6 = below_six d in
-      c.loop-place.invariant.told e.x e.y d (omega arith) parts.1;
-}
+returns c = grind (arith, inside_parts, below_six)
