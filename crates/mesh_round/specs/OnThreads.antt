@@ -45,6 +45,6 @@ pub record MeshOnLayout : Type 0 where
   pub layout : Layout
 
 -- A mesh may go on by rounds on its layout.
-pub record IsLaid (m : State) (l : Layout) : Type 0 where
+pub record IsReadyOn (m : State) (l : Layout) : Type 0 where
   pub ready : MayGoOn m
   pub layout : IsLayoutOf m.setup l

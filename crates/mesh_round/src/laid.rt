@@ -11,11 +11,11 @@ pub(crate) struct LaidMesh<'l> {
 }
 
 impl<'l> Model for LaidMesh<'l> {
-    ghost use Rattle.mesh_round.specs.OnThreads.{MeshOnLayout, IsLaid};
+    ghost use Rattle.mesh_round.specs.OnThreads.{MeshOnLayout, IsReadyOn};
 
     ghost Value = { MeshOnLayout };
 
     ghost view = { λ l. record { mesh = l.parts; layout = l.layout.now } };
 
-    ghost invariant = { λ l. IsLaid l.parts l.layout.now };
+    ghost invariant = { λ l. IsReadyOn l.parts l.layout.now };
 }

@@ -6,7 +6,7 @@ use Rattle.std.specs.List.{AllZip, position}
 use Rattle.default_routes.specs.declared.stripping.Final.{Final}
 use Rattle.net_tables.specs.declared.marks.Mark.{Mark}
 use Rattle.par_compile.specs.declared.workers.Work.{Work, TheVariants.Plain, TheVariants.Done, TheVariants.Refused}
-use Rattle.par_compile.specs.Finals.{GivesFinal, IsFinalFor, IsWaiting, IsWorked, is_long}
+use Rattle.par_compile.specs.Finals.{GivesFinal, IsFinalFor, IsStillPlain, IsWorked, is_long}
 use Rattle.par_compile.proofs.Unique.{none_long}
 
 -- the tables before place k are worked on, and the others are as they were
@@ -17,14 +17,14 @@ pub record IsWorkedTo (target : ℕ) (start now : List Work) (k : ℕ) : Type 0 
 
 -- the final tables that work gives are those of the original blocks
 module _ (target : ℕ) where
-  gives_one : (t : List Mark) (old new : Work) (f : Final) → IsWaiting t old → IsWorked target old new → GivesFinal target new f → IsFinalFor target t f
+  gives_one : (t : List Mark) (old new : Work) (f : Final) → IsStillPlain t old → IsWorked target old new → GivesFinal target new f → IsFinalFor target t f
   gives_one t (Plain b) (Plain c) f waits worked gives = subst (λ (x : List Mark). IsFinalFor target x f) (worked ∙ waits) gives
   gives_one t (Plain b) (Done g) f waits worked gives = subst (IsFinalFor target t) gives (subst (λ (x : List Mark). IsFinalFor target x g) waits worked)
   gives_one t (Plain b) Refused f waits worked gives = absurd gives
   gives_one t (Done g) new f waits worked gives = absurd waits
   gives_one t Refused new f waits worked gives = absurd waits
 
-  pub all_beside : (ts : List (List Mark)) (fs : List Final) (olds news : List Work) → AllZip IsWaiting ts olds → length news ≡ length olds →
+  pub all_beside : (ts : List (List Mark)) (fs : List Final) (olds news : List Work) → AllZip IsStillPlain ts olds → length news ≡ length olds →
       ((i : ℕ) (d : Work) → i < length olds → IsWorked target (get_or olds i d) (get_or news i d)) → AllZip (GivesFinal target) (take (length fs) news) fs →
       AllZip (IsFinalFor target) (take (length fs) ts) fs
   all_beside ts [] olds news wait long each gives = tt

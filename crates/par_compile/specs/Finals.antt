@@ -71,10 +71,10 @@ AreAllUnlessLong count finals = position is_long finals ≡ None → length fina
 -- ---- what workers find and leave
 
 -- a chip's original blocks, which wait for its table to be made and covered
-abbrev pub IsWaiting : List Mark → Work → Type 0
-IsWaiting marks (Plain blocks) = blocks.marks ≡ marks
-IsWaiting marks (Done f) = ⊥
-IsWaiting marks Refused = ⊥
+abbrev pub IsStillPlain : List Mark → Work → Type 0
+IsStillPlain marks (Plain blocks) = blocks.marks ≡ marks
+IsStillPlain marks (Done f) = ⊥
+IsStillPlain marks Refused = ⊥
 
 -- the final table of the plain table of original blocks
 pub record IsFinalFor (target : ℕ) (marks : List Mark) (f : Final) : Type 0 where

@@ -2,7 +2,7 @@
 ghost use Rattle.std.specs.Prelude.{◌≡◌, ℕ, ◌<◌, ◌≤◌, ◌^◌, ◌↔◌, All, IfOk, IsTrue, length, slice_index_or, take};
 ghost use Rattle.std.specs.List.{AllZip};
 ghost use Rattle.par_compile.specs.declared.workers.Work.{Work};
-ghost use Rattle.par_compile.specs.Finals.{AreAllUnlessLong, AreCoverable, CanBeCovered, GivesFinal, IsFinalFor, HasLong, IsWaiting, IsWorked, is_long};
+ghost use Rattle.par_compile.specs.Finals.{AreAllUnlessLong, AreCoverable, CanBeCovered, GivesFinal, IsFinalFor, HasLong, IsStillPlain, IsWorked, is_long};
 
 use crate::requests::{CompileRequest, Coverable};
 use crate::short_tables::short_table;
@@ -48,7 +48,7 @@ pub(crate) fn finals<R: Threads + Sync, G: Gate>(
 // The original blocks of each chip, as work to be done.
 fn works_of(alloc: Global, blocks: Seq<Seq<Mark>>) -> Result<Vec<Work>, Memory>
     requires { All AreCoverable blocks }
-    ensures { IfOk result (λ v. AllZip IsWaiting blocks v.items) }
+    ensures { IfOk result (λ v. AllZip IsStillPlain blocks v.items) }
 {
     let mut works = Vec::new(alloc);
     for marks in blocks.into_vec() {

@@ -14,12 +14,12 @@ use Rattle.run_report.specs.declared.causes.Refusal.TheVariants as refusals
 use Rattle.spin_checks.specs.Findings.{name_at}
 
 -- the name of the vertex at a place
-abbrev pub vertex_name_at : List Vertex → ℕ → List ℕ
-vertex_name_at vertices i = option_map_or (λ (vertex : Vertex). vertex.name) (slice_get vertices i) []
+abbrev pub vertex_name_in : List Vertex → ℕ → List ℕ
+vertex_name_in vertices i = option_map_or (λ (vertex : Vertex). vertex.name) (slice_get vertices i) []
 
 -- the name of the vertex without room
 abbrev pub vertex_in : Graph → PlaceErr → List ℕ
-vertex_in graph (places.NoRoom i) = vertex_name_at graph.vertices i
+vertex_in graph (places.NoRoom i) = vertex_name_in graph.vertices i
 vertex_in graph places.Memory = []
 
 -- the refusal of a vertex without room, by this name

@@ -7,7 +7,7 @@ ghost use Rattle.run_report.specs.declared.causes.Refusal.{Refusal as Cause};
 ghost use Rattle.run_report.specs.declared.causes.Refusal.TheVariants.{Memory as NoMemory};
 ghost use Rattle.spin_checks.specs.Answers.{IsJobRefusal, HasNoAnswer};
 ghost use Rattle.spin_checks.specs.Nets.{AreNetsWith, IsEachNetWith, IsNetWith, IsTreeOf, StandsOnSites};
-ghost use Rattle.spin_checks.specs.Naming.{key_refusal, net_in, place_refusal, vertex_in, vertex_name_at};
+ghost use Rattle.spin_checks.specs.Naming.{key_refusal, net_in, place_refusal, vertex_in, vertex_name_in};
 
 use crate::lines::name_at;
 use app_graph::{Graph, Net, Vertex};
@@ -59,14 +59,14 @@ fn vertex_in(alloc: Global, graph: &Graph, error: PlaceErr) -> Result<Name, Memo
     ensures { IfOk result (λ name. name ≡ vertex_in graph.now error) }
 {
     match error {
-        PlaceErr::NoRoom { vertex } => Name::of(alloc, vertex_name_at(&graph.vertices, vertex)),
+        PlaceErr::NoRoom { vertex } => Name::of(alloc, vertex_name_in(&graph.vertices, vertex)),
         PlaceErr::Memory => Err(Memory),
     }
 }
 
 // The name of the vertex at this place, and no letter where there is no such vertex.
-fn vertex_name_at(vertices: &Seq<Vertex>, vertex: u32) -> &str
-    ensures { result.now ≡ vertex_name_at vertices.now vertex }
+fn vertex_name_in(vertices: &Seq<Vertex>, vertex: u32) -> &str
+    ensures { result.now ≡ vertex_name_in vertices.now vertex }
 {
     match vertices.as_slice().get(vertex as usize) {
         Some(vertex) => vertex.name.as_str(),

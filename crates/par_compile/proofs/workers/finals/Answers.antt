@@ -2,13 +2,13 @@ use Rattle.std.proofs.Common.{◌∙◌, List, length, take, arith}
 use Rattle.std.proofs.lemmas.{Result.IfOk-weaker, Slice.Zip.AllZip-long}
 use Rattle.std.specs.List.{AllZip}
 use Rattle.default_routes.specs.declared.stripping.Final.{Final}
-use Rattle.par_compile.specs.Finals.{AreAllUnlessLong, GivesFinal, IsFinalFor, IsWaiting}
+use Rattle.par_compile.specs.Finals.{AreAllUnlessLong, GivesFinal, IsFinalFor, IsStillPlain}
 use Rattle.par_compile.proofs.Working.{all_beside}
 use Rattle.par_compile.proofs.workers.finals.Goals as goal
 
 pub cover_all-requires-after_bounds : goal.cover_all-requires-after_bounds
 cover_all-requires-after_bounds g c κs within =
-    let long = AllZip-long IsWaiting c.args.blocks c.in_ok-works.works.items c.in_ok-works.ensures in
+    let long = AllZip-long IsStillPlain c.args.blocks c.in_ok-works.works.items c.in_ok-works.ensures in
     let few = c.requires.few in
     omega (arith, long, few)
 
@@ -22,4 +22,4 @@ returns-clause-finals g c =
 pub returns-clause-all : goal.returns-clause-all
 returns-clause-all g c =
     IfOk-weaker c.finals_of.result (AreAllUnlessLong (length c.cover_all.new.works.items)) (AreAllUnlessLong (length c.args.blocks))
-    (λ fs all none. all none ∙ (c.cover_all.ensures.long ∙ AllZip-long IsWaiting c.args.blocks c.in_ok-works.works.items c.in_ok-works.ensures)) c.finals_of.ensures.all
+    (λ fs all none. all none ∙ (c.cover_all.ensures.long ∙ AllZip-long IsStillPlain c.args.blocks c.in_ok-works.works.items c.in_ok-works.ensures)) c.finals_of.ensures.all

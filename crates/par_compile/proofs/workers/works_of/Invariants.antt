@@ -1,6 +1,6 @@
 use Rattle.std.proofs.Common.{All}
 use Rattle.std.specs.Vec.Iter.{into_iter_items}
-use Rattle.par_compile.specs.Finals.{AreCoverable, IsWaiting}
+use Rattle.par_compile.specs.Finals.{AreCoverable, IsStillPlain}
 use Rattle.par_compile.proofs.Working.{AreGiven}
 use Rattle.par_compile.proofs.workers.works_of.Given as goal
 
@@ -9,5 +9,5 @@ abbrev pub invariant-loop-marks : goal.invariant-loop-marks
 invariant-loop-marks l =
     goal.iterator-loop-marks.can_next l.marks-iterator
     × goal.iterator-loop-marks.is_finite l.marks-iterator
-    × AreGiven IsWaiting l.fn.blocks (into_iter_items l.marks-iterator) l.works.items
+    × AreGiven IsStillPlain l.fn.blocks (into_iter_items l.marks-iterator) l.works.items
     × All AreCoverable (into_iter_items l.marks-iterator)
