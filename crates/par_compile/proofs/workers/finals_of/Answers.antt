@@ -32,4 +32,5 @@ returns-clause-finals c = all_given (GivesFinal c.args.target) c.args.works.item
 
 pub returns-clause-all : goal.returns-clause-all
 returns-clause-all c = λ none.
-    given_at_end (GivesFinal c.args.target) c.args.works.items (into_iter_items c.loop-work.work-iterator) c.loop-work.finals (grind (arith, common_steps, c.in-None.ensures.steps.0)) c.loop-work.invariant.2
+    given_at_end (GivesFinal c.args.target) c.args.works.items (into_iter_items c.loop-work.work-iterator) c.loop-work.finals
+    (grind (arith, common_steps, c.in-None.ensures.steps.0)) c.loop-work.invariant.2
