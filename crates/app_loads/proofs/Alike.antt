@@ -1,14 +1,7 @@
 -- What machines with the same applications have in common, and that unloads and runs keep it.
-use Rattle.std.proofs.Common.{◌≡◌, ℕ, List, [], ◌∷◌, ◌++◌, length, refl, sym, ap, ◌∙◌, subst, arith, true, None}
-use Rattle.std.proofs.lemmas.List.{same_lists, Elements.All-head, Elements.All-tail}
-use Rattle.std.specs.List.{All, Contains, filter, flat_map}
-use Rattle.spin_base.proofs.Members.{Among}
-use Rattle.spin_base.specs.declared.copies.McCopy.{McCopy}
-use Rattle.mesh_core.specs.{State.State, State.IsMesh, Trail.Mark, Trail.IsUnderWayAt, Ledger.marks_of, Ledger.MeetsLedgerFor, Expected.IsAtRest, Expected.NothingWaits}
-use Rattle.mesh_core.proofs.Fixed.{setup_after}
-use Rattle.app_loads.specs.{declared.answers.Ended.Ended, declared.loaded.LoadedApp.LoadedApp, Alike.AreAlike, Alike.IsQuiet, Applications.AreApps, Host.Host, Host.all_nets, Host.asked_of}
-use Rattle.app_loads.specs.Leaving.{held_packets, is_delivery_of, is_packet_of, mesh_without, NoneUnderWay, packet_numbers_of, WaitsIn}
-use Rattle.app_loads.specs.{Opening.usable_spots, Running.HasMovedMesh, Unloading.HasUnloaded}
+use Rattle.app_loads.proofs.Common.{All, All-head, All-tail, Among, AreAlike, AreApps, Contains, Ended, HasMovedMesh, HasUnloaded, Host, IsAtRest, IsMesh, IsQuiet, IsUnderWayAt, List, LoadedApp, Mark}
+use Rattle.app_loads.proofs.Common.{McCopy, MeetsLedgerFor, None, NoneUnderWay, NothingWaits, State, WaitsIn, [], all_nets, ap, arith, asked_of, filter, flat_map, held_packets, is_delivery_of}
+use Rattle.app_loads.proofs.Common.{is_packet_of, length, marks_of, mesh_without, packet_numbers_of, refl, same_lists, setup_after, subst, sym, true, usable_spots, ℕ, ◌++◌, ◌∙◌, ◌∷◌, ◌≡◌}
 use Rattle.app_loads.proofs.{Delivered.HasOneWay, Delivered.no_more, LeavingLeast.listed_waits, LeavingLeast.under_way, LeavingLeast.waits_listed}
 
 pub alike_too : (h g : Host) → AreAlike h g → AreAlike g h

@@ -1,18 +1,9 @@
 -- The nets of a loaded application: their blocks are ranges of their own, and their trees stand on its spots.
-use Rattle.std.proofs.Common.{◌≡◌, ◌≢◌, ℕ, zero, suc, ◌+◌, ◌^◌, ◌<◌, ◌≤◌, ◌↔◌, true, List, [], ◌∷◌, get_or, refl, sym, ap, ◌∙◌, subst, inl, inr, arith, Some}
-use Rattle.std.proofs.lemmas.{Bool.cases_eq, Bool.cases_lt, Bool.and_from, Bool.eq-eqb, List.Elements.All-contains, List.Elements.All-weaker, Option.slice_get-get_or, Option.slice_get_within}
-use Rattle.std.proofs.lemmas.Option.{get_or_from_slice_get, same_Some}
-use Rattle.std.specs.List.{slice_get, All, AllPairs, AllZip, Contains}
-use Rattle.key_alloc.proofs.Ranges.{in_from}
-use Rattle.spin_base.proofs.{Members.Contains-at, Places.All-at, Places.All-each, Places.AllZip-at_first}
-use Rattle.spin_base.specs.declared.{blocks.Block.Block, chips.Spot.Spot}
-use Rattle.machine_desc.specs.{Description.Description, Live.IsInside, Live.IsUsable, RoutingTree.IsRoutingTree, declared.nets.NetPlan.NetPlan, NetsOn.HaveDisjointBlocks, RightTables.IsKeyOf}
-use Rattle.machine_desc.proofs.{Far.live_inside, Sites.usable_parts}
-use Rattle.tern_word.specs.Ternary.{Matches}
-use Rattle.net_tables.specs.PlainTable.{AreRoutedApart}
-use Rattle.app_loads.specs.declared.{answers.LoadRefusal.TheVariants.KeysOut, loaded.Claim.Claim, loaded.LoadedApp.LoadedApp, loaded.Range.Range, plans.AppNet.AppNet}
-use Rattle.app_loads.specs.{Applications.IsLoadedOn, Applications.IsRangeFor, Claims.claims_of, Claims.IsBlockOf, Host.net_with, Host.nets_with, Host.nets_of, Plans.IsAppNet, Plans.IsSpotBefore}
-use Rattle.app_loads.specs.Regions.{place_of, ShareNoPlace, range_has}
+use Rattle.app_loads.proofs.Common.{All, All-at, All-contains, All-each, All-weaker, AllPairs, AllZip, AllZip-at_first, AppNet, AreRoutedApart, Block, Claim, Contains, Contains-at, Description}
+use Rattle.app_loads.proofs.Common.{HaveDisjointBlocks, IsAppNet, IsBlockOf, IsInside, IsKeyOf, IsLoadedOn, IsRangeFor, IsRoutingTree, IsSpotBefore, IsUsable, KeysOut, List, LoadedApp, Matches}
+use Rattle.app_loads.proofs.Common.{NetPlan, Range, ShareNoPlace, Some, Spot, [], and_from, ap, arith, cases_eq, cases_lt, claims_of, eq-eqb, get_or, get_or_from_slice_get, in_from, inl, inr}
+use Rattle.app_loads.proofs.Common.{live_inside, net_with, nets_of, nets_with, place_of, range_has, refl, same_Some, slice_get, slice_get-get_or, slice_get_within, subst, suc, sym, true, usable_parts}
+use Rattle.app_loads.proofs.Common.{zero, ℕ, ◌+◌, ◌<◌, ◌^◌, ◌↔◌, ◌∙◌, ◌∷◌, ◌≡◌, ◌≢◌, ◌≤◌}
 use Rattle.app_loads.proofs.{Blocks.block_keys, ClaimCases.facts, ClaimCases.same_net, ClaimCases.IsKeyClaim}
 
 -- a net with its block is made of the net and the block of its place

@@ -1,21 +1,13 @@
 -- What holds of a host without an application.
-use Rattle.std.proofs.Common.{arith, ◌≡◌, ℕ, ◌+◌, ◌-◌, ◌*◌, ◌/◌, ◌%◌, ◌<◌, ◌≤◌, zero, suc, ◌∙◌, List, [], ◌∷◌, ◌++◌, Option, Some, None, Bool, true, false, ◌&&◌, if◌then◌else◌, ◌==◌, refl, sym, ap}
-use Rattle.std.proofs.Common.{subst, length, replicate, not, get_or, leb, ltb}
-use Rattle.std.proofs.lemmas.{Option.same_Some, Option.slice_get-get_or, Option.slice_get_within, Option.get_or_from_slice_get, Bool.cases_lt, Bool.leb-false, Bool.leb-true, Bool.Decides.nat_tests}
-use Rattle.std.proofs.lemmas.List.{get_or-replicate, length-replicate, length-append, get_or_append_left, get_or-append_right, Elements.All-nil, Elements.All-replicate}
-use Rattle.std.specs.List.{slice_get, Contains}
-use Rattle.spin_base.proofs.{Members.Contains-none, Gathering.gathered_nothing}
-use Rattle.spin_base.specs.declared.{blocks.Entry.Entry, chips.Chip.Chip, chips.Spot.Spot, copies.McCopy.McCopy}
-use Rattle.machine_desc.specs.{Description.Description, Live.index_of, Live.chip_of, Live.IsInside, NetsOn.AreNetsOn, RightTables.table_at}
-use Rattle.machine_desc.proofs.Far.{index_below}
-use Rattle.range_store.specs.Regions.{AreRuns, hole_of, is_free}
-use Rattle.tcam_find.specs.Memory.{empty_memory, unused}
-use Rattle.mesh_core.specs.{State.Setup, State.State, State.Hand, State.IsMesh, Trail.Mark, Trail.unsent, Trail.in_queue, Trail.at_core, Ledger.marks_of, Ledger.marks_at, Ledger.hand_marks}
-use Rattle.mesh_core.specs.{Ledger.port_of, Ledger.unsent_marks, Ledger.input_marks, Ledger.all_hand_marks, Ledger.core_marks, Ledger.MeetsLedgerFor, Opened.empty_mesh}
-use Rattle.app_loads.specs.{declared.loaded.LoadedApp.LoadedApp, Host.Free, Host.Host, Host.asked_of, Regions.all_free, Regions.open_regions, Regions.chip_count, Regions.region_size}
-use Rattle.app_loads.specs.{Regions.IsFreeBeside, Applications.AreApps, Opening.bare_mesh, Opening.bare_host}
+use Rattle.app_loads.proofs.Common.{All-nil, All-replicate, AreApps, AreNetsOn, AreRuns, Bool, Chip, Contains, Contains-none, Description, Entry, Free, Hand, Host, IsFreeBeside, IsInside, IsMesh}
+use Rattle.app_loads.proofs.Common.{List, LoadedApp, Mark, McCopy, MeetsLedgerFor, None, Option, SendAlone, Setup, Some, Spot, State, [], all_free, all_hand_marks, ap, arith, asked_of, at_core}
+use Rattle.app_loads.proofs.Common.{bare_host, bare_mesh, cases_lt, chip_count, chip_of, core_marks, empty_mesh, false, gathered_nothing, get_or, get_or-append_right, get_or-replicate}
+use Rattle.app_loads.proofs.Common.{get_or_append_left, get_or_from_slice_get, hand_marks, hole_of, if◌then◌else◌, in_queue, index_below, index_of, input_marks, is_free, leb, leb-false, leb-true}
+use Rattle.app_loads.proofs.Common.{length, length-append, length-replicate, ltb, marks_at, marks_of, nat_tests, not, open_regions, port_of, refl, region_size, replicate, same_Some, slice_get}
+use Rattle.app_loads.proofs.Common.{slice_get-get_or, slice_get_within, subst, suc, sym, table_at, true, unsent, unsent_marks, unused, zero, ℕ, ◌%◌, ◌&&◌, ◌*◌, ◌++◌, ◌+◌, ◌-◌, ◌/◌, ◌<◌, ◌==◌, ◌∙◌}
+use Rattle.app_loads.proofs.Common.{◌∷◌, ◌≡◌, ◌≤◌}
+use Rattle.tcam_find.specs.Memory.{empty_memory}
 use Rattle.app_loads.proofs.Resting.{rest_alone}
-use Rattle.mesh_drain.specs.Draining.{SendAlone}
 
 -- ---- copies
 

@@ -1,10 +1,6 @@
 -- The blocks of nets, made of the ranges that their claims got.
-use Rattle.std.proofs.Common.{◌≡◌, ℕ, ◌+◌, ◌^◌, ◌<◌, ◌≤◌, List, length, get_or, arith, Some}
-use Rattle.std.proofs.lemmas.{Bool.cases_lt, Option.slice_get-get_or, Option.slice_get_within, Option.same_Some}
-use Rattle.std.specs.List.{slice_get, slice_set}
-use Rattle.spin_base.specs.declared.blocks.Block.{Block}
-use Rattle.app_loads.specs.{declared.answers.LoadRefusal.TheVariants.KeysOut, declared.loaded.Claim.Claim, declared.loaded.Range.Range, declared.plans.AppNet.AppNet, Claims.AreBlocks}
-use Rattle.app_loads.specs.{Claims.IsBlockOf, Joining.AreKeyed, Joining.IsKeyRange}
+use Rattle.app_loads.proofs.Common.{AppNet, AreBlocks, AreKeyed, Block, Claim, IsBlockOf, IsKeyRange, KeysOut, List, Range, Some, arith, cases_lt, get_or, length, same_Some, slice_get}
+use Rattle.app_loads.proofs.Common.{slice_get-get_or, slice_get_within, slice_set, ℕ, ◌+◌, ◌<◌, ◌^◌, ◌≡◌, ◌≤◌}
 use Rattle.app_loads.proofs.{Serving.set_cases, ClaimCases.same_net}
 
 -- the nets of the claims up to a place have their blocks

@@ -1,11 +1,5 @@
 -- A block whose mask has the high bits has the keys of a range.
-use Rattle.std.proofs.Common.{◌≡◌, ℕ, ◌+◌, ◌-◌, ◌*◌, ◌/◌, ◌%◌, ◌^◌, ◌<◌, ◌≤◌, ◌↔◌, sym, subst, arith}
-use Rattle.std.proofs.lemmas.Nat.{shr_split, Bits.and_high_mask}
-use Rattle.std.specs.Prelude.{bit_and}
-use Rattle.key_alloc.proofs.Ranges.{room_above}
-use Rattle.spin_base.specs.declared.blocks.Block.{Block}
-use Rattle.tern_word.specs.Ternary.{Matches}
-use Rattle.tern_word.proofs.BlockLaws.{range_keys, key_small}
+use Rattle.app_loads.proofs.Common.{Block, Matches, and_high_mask, arith, bit_and, key_small, range_keys, room_above, shr_split, subst, sym, ℕ, ◌%◌, ◌*◌, ◌+◌, ◌-◌, ◌/◌, ◌<◌, ◌^◌, ◌↔◌, ◌≡◌, ◌≤◌}
 
 module _ (b : Block) (z : ℕ) (few : z ≤ 32) (sum : b.mask + 2 ^ z ≡ 2 ^ 32) where
   whole_there : b.key / 2 ^ z * 2 ^ z ≡ b.key

@@ -1,19 +1,11 @@
 -- What the claims of a plan are, and that each net and chip has its own.
-use Rattle.std.proofs.Common.{arith, ◌≡◌, ◌≢◌, ℕ, zero, suc, ◌+◌, ◌-◌, ◌%◌, ◌^◌, ◌<◌, ◌≤◌, ◌==◌, Bool, true, false, List, [], ◌∷◌, ◌++◌, ◌∙◌, Option, None, Some, if◌then◌else◌, leb, get_or, length}
-use Rattle.std.proofs.Common.{map, refl, sym, ap, subst, inl, inr, IfSome, count_by}
-use Rattle.std.proofs.lemmas.{Option.slice_get-get_or, Bool.cases_eq, Bool.cases_lt, Bool.le-leb, Bool.leb-true, Bool.both_ways, Bool.eq-eqb, Bool.ne_eqb, List.FromFn.get_or-map-range_with_len}
-use Rattle.std.proofs.lemmas.{List.FromFn.length-map-range_with_len, List.Folds.find_at, List.Sums.fails_before_first, List.Sums.passes_at_first, List.Sums.position_or_len_is, Nat.pow_pos}
-use Rattle.std.specs.{Prelude.find, Prelude.unwrap_or, Prelude.zip, List.slice_get, List.Contains, List.flat_map, List.position_or_len, List.range_with_len}
-use Rattle.spin_base.specs.{Gathered.gathered, declared.blocks.Block.Block}
-use Rattle.spin_base.proofs.{Gathering.among_gathered, Gathering.gathered_among, Members.Among, Members.among_contains, Members.contains_among, Members.among_left, Members.among_right}
-use Rattle.spin_base.proofs.{Members.among_either, Places.All-at, Places.slice_get_there, Places.zip-first_at}
-use Rattle.machine_desc.specs.{Description.Description, Live.index_of, Live.chip_of, Live.IsUsable}
-use Rattle.machine_desc.proofs.{Far.index_below, Far.live_inside, Live.chip_of-inside, Live.index_of-chip_of, Sites.usable_parts}
-use Rattle.key_alloc.specs.KeyBlocks.{size_of}
-use Rattle.app_loads.specs.declared.answers.LoadRefusal.TheVariants.{Loaded, MemoryOut, KeysOut, RowsOut}
-use Rattle.app_loads.specs.{declared.loaded.Claim.Claim, declared.plans.AppNet.AppNet, declared.plans.AppPlan.AppPlan, Plans.IsPlan, Plans.IsAppNet, declared.places.Region.TheVariants.Keys}
-use Rattle.app_loads.specs.{declared.places.Region.TheVariants.Memory, declared.places.Region.TheVariants.Rows, Regions.chip_count, Regions.place_of, Claims.claims_of, Claims.memory_claim}
-use Rattle.app_loads.specs.{Claims.fixed_claim, Claims.key_claim, Claims.row_claim, Claims.has_chip, Claims.size_for, Taking.IsFair}
+use Rattle.app_loads.proofs.Common.{All-at, Among, AppNet, AppPlan, Block, Bool, Claim, Contains, Description, IfSome, IsAppNet, IsFair, IsPlan, IsUsable, Keys, KeysOut, List, Loaded, Memory}
+use Rattle.app_loads.proofs.Common.{MemoryOut, None, Option, Rows, RowsOut, Some, [], among_contains, among_either, among_gathered, among_left, among_right, ap, arith, both_ways, cases_eq, cases_lt}
+use Rattle.app_loads.proofs.Common.{chip_count, chip_of, chip_of-inside, claims_of, contains_among, count_by, eq-eqb, fails_before_first, false, find, find_at, fixed_claim, flat_map, gathered}
+use Rattle.app_loads.proofs.Common.{gathered_among, get_or, get_or-map-range_with_len, has_chip, if◌then◌else◌, index_below, index_of, index_of-chip_of, inl, inr, key_claim, le-leb, leb, leb-true}
+use Rattle.app_loads.proofs.Common.{length, length-map-range_with_len, live_inside, map, memory_claim, ne_eqb, passes_at_first, place_of, position_or_len, position_or_len_is, pow_pos, range_with_len}
+use Rattle.app_loads.proofs.Common.{refl, row_claim, size_for, size_of, slice_get, slice_get-get_or, slice_get_there, subst, suc, sym, true, unwrap_or, usable_parts, zero, zip, zip-first_at, ℕ, ◌%◌}
+use Rattle.app_loads.proofs.Common.{◌++◌, ◌+◌, ◌-◌, ◌<◌, ◌==◌, ◌^◌, ◌∙◌, ◌∷◌, ◌≡◌, ◌≢◌, ◌≤◌}
 use Rattle.app_loads.proofs.Blocks.{block_aligned, block_room}
 
 -- ---- the size for a number of keys

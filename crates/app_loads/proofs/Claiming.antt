@@ -1,12 +1,7 @@
 -- The claims of a plan, item by item, and the least power of two for a number of keys.
-use Rattle.std.proofs.Common.{◌≡◌, ℕ, zero, suc, ◌+◌, ◌/◌, ◌^◌, ◌<◌, ◌≤◌, max, leb, false, inl, inr, refl, sym, ap, ◌∙◌, arith, List, [], ◌∷◌, ◌++◌, take, get_or, length, Some, append_assoc}
-use Rattle.std.proofs.{lemmas.Bool.cases_lt, lemmas.Bool.le-leb, lemmas.Bool.lt-leb, Math.Pow.pow_mono, lemmas.Grind.pow_more, lemmas.List.take_all, lemmas.Slice.Zip.length-zip}
-use Rattle.std.specs.{Prelude.unwrap_or, Prelude.zip, Int.IsPowerOfTwo, List.flat_map, List.range_with_len, List.slice_get}
-use Rattle.spin_base.specs.{Gathered.gathered, declared.chips.Spot.Spot}
-use Rattle.spin_base.proofs.Gathering.{gathered_more}
-use Rattle.machine_desc.specs.Description.{Description}
-use Rattle.app_loads.specs.{declared.loaded.Claim.Claim, declared.plans.AppNet.AppNet, declared.plans.AppPlan.AppPlan, Regions.chip_count, Claims.size_for, Claims.memory_claim, Claims.fixed_claim}
-use Rattle.app_loads.specs.Claims.{key_claim, row_claim, claims_of}
+use Rattle.app_loads.proofs.Common.{AppNet, AppPlan, Claim, Description, IsPowerOfTwo, List, Some, Spot, [], ap, append_assoc, arith, cases_lt, chip_count, claims_of, false, fixed_claim, flat_map}
+use Rattle.app_loads.proofs.Common.{gathered, gathered_more, get_or, inl, inr, key_claim, le-leb, leb, length, length-zip, lt-leb, max, memory_claim, pow_mono, pow_more, range_with_len, refl}
+use Rattle.app_loads.proofs.Common.{row_claim, size_for, slice_get, suc, sym, take, take_all, unwrap_or, zero, zip, ℕ, ◌++◌, ◌+◌, ◌/◌, ◌<◌, ◌^◌, ◌∙◌, ◌∷◌, ◌≡◌, ◌≤◌}
 use Rattle.app_loads.proofs.ClaimCases.{first_of_row}
 
 -- ---- lists gathered item by item

@@ -1,13 +1,7 @@
 -- Entries made unused.
-use Rattle.std.proofs.Common.{◌≡◌, ◌≢◌, ℕ, ◌+◌, ◌<◌, ◌≤◌, Bool, true, false, ◌&&◌, ◌==◌, List, take, get_or, length, refl, sym, ap, ◌∙◌, inl, inr, arith, subst, Some}
-use Rattle.std.proofs.{lemmas.Bool.cases_Bool, lemmas.Bool.cases_eq, lemmas.Bool.eq-eqb, lemmas.Bool.ne_eqb, lemmas.List.length-set, lemmas.Option.slice_get-get_or, Math.Bool.or-false}
-use Rattle.std.specs.List.{slice_get, slice_set}
-use Rattle.spin_base.specs.declared.{blocks.Entry.Entry, chips.Chip.Chip}
-use Rattle.machine_desc.specs.{Description.Description, Live.index_of, Live.IsInside, RightTables.table_at}
-use Rattle.machine_desc.proofs.Far.{index_below}
-use Rattle.range_store.specs.Regions.{in_range}
-use Rattle.app_loads.specs.{declared.loaded.Range.Range, declared.places.Region.TheVariants.Rows, Regions.IsRangeWithin, Regions.chip_count, Regions.range_has, Regions.is_taken, Regions.place_of}
-use Rattle.app_loads.specs.{Regions.region_size, Writing.AreUnused, Writing.AreUnusedFrom, Writing.CanClear}
+use Rattle.app_loads.proofs.Common.{AreUnused, AreUnusedFrom, Bool, CanClear, Chip, Description, Entry, IsInside, IsRangeWithin, List, Range, Rows, Some, ap, arith, cases_Bool, cases_eq, chip_count}
+use Rattle.app_loads.proofs.Common.{eq-eqb, false, get_or, in_range, index_below, index_of, inl, inr, is_taken, length, length-set, ne_eqb, or-false, place_of, range_has, refl, region_size, slice_get}
+use Rattle.app_loads.proofs.Common.{slice_get-get_or, slice_set, subst, sym, table_at, take, true, ℕ, ◌&&◌, ◌+◌, ◌<◌, ◌==◌, ◌∙◌, ◌≡◌, ◌≢◌, ◌≤◌}
 use Rattle.app_loads.proofs.{Copying.IsOfChip, Copying.changed_here, Copying.same_elsewhere, Copying.was_here, Copying.none_more, Copying.taken_more, Settling.rows_size}
 
 module _ {m : Description} {old cur : List (List Entry)} {ranges : List Range} {i : ℕ} (d : Range) (can : CanClear m old ranges) (below : i < length ranges)

@@ -1,21 +1,13 @@
 -- Rows put into ranges of entries.
-use Rattle.std.proofs.Common.{arith, ◌≡◌, ◌≢◌, ℕ, zero, suc, ◌+◌, ◌<◌, ◌≤◌, true, false, ◌||◌, ◌&&◌, ◌==◌, List, [], ◌∷◌, ◌++◌, take, drop, get_or, length, map, set, refl, sym, ap, ◌∙◌, subst, inl}
-use Rattle.std.proofs.{Common.inr, Common.◌⊎◌, Common.Some, Common.append_assoc, lemmas.List.Folds.list_any-append}
-use Rattle.std.proofs.{lemmas.Option.slice_get-get_or, lemmas.Option.get_or_from_slice_get, lemmas.Option.same_Some, lemmas.Option.slice_get_within, Math.Seq.drop-cons, lemmas.Bool.cases_eq}
-use Rattle.std.proofs.{lemmas.Bool.cases_lt, lemmas.Bool.eq-eqb, lemmas.Bool.and_from, lemmas.Bool.false_from_ne_true, lemmas.Bool.or_parts, Math.ListN.get_or-map, lemmas.List.length-set}
-use Rattle.std.proofs.lemmas.List.{length-append, length-take-le, length-map, length-drop, map-append, set_at, get_or-take, take_all, take_at, drop_at, Elements.Contains-push_cases}
-use Rattle.std.specs.List.{AllZip, slice_get, slice_set, Contains}
-use Rattle.key_alloc.proofs.Ranges.{in_from}
-use Rattle.spin_base.proofs.{Members.Contains-at, Places.AllZip-more, Places.slice_get-set_same, Places.slice_get-set_other, Places.take_more_at, Places.map_more_at}
-use Rattle.spin_base.specs.declared.{blocks.Entry.Entry, chips.Chip.Chip}
-use Rattle.machine_desc.specs.{Description.Description, Live.index_of, Live.IsInside, RightTables.table_at}
-use Rattle.machine_desc.proofs.Far.{index_below}
-use Rattle.range_store.specs.Regions.{in_range}
-use Rattle.range_store.proofs.HolePlaces.{clash}
-use Rattle.tern_word.specs.{declared.tables.Row.Row, declared.tables.Table.Table, Entries.entry_of}
-use Rattle.net_tables.specs.{declared.marks.Mark.Mark, Marks.IsTableOf, Marks.row_of_mark, Marks.table_of_sorted}
-use Rattle.app_loads.specs.declared.{loaded.Range.Range, places.Region.Region, places.Region.TheVariants.Keys, places.Region.TheVariants.Memory, places.Region.TheVariants.Rows}
-use Rattle.app_loads.specs.{Regions.ShareNoPlace, Regions.IsRegion, Regions.chip_count, Regions.range_has, Regions.is_taken, Regions.place_of, Writing.AreCopied, Writing.CanCopy, Writing.tables_in}
+use Rattle.app_loads.proofs.Common.{AllZip, AllZip-more, AreCopied, CanCopy, Chip, Contains, Contains-at, Contains-push_cases, Description, Entry, IsInside, IsRegion, IsTableOf, Keys, List, Memory}
+use Rattle.app_loads.proofs.Common.{Range, Row, Rows, ShareNoPlace, Some, Table, [], and_from, ap, append_assoc, arith, cases_eq, cases_lt, chip_count, clash, drop, drop-cons, drop_at, entry_of}
+use Rattle.app_loads.proofs.Common.{eq-eqb, false, false_from_ne_true, get_or, get_or-take, get_or_from_slice_get, in_from, in_range, index_below, index_of, inl, inr, is_taken, length, length-append}
+use Rattle.app_loads.proofs.Common.{length-drop, length-map, length-set, length-take-le, list_any-append, map, map-append, map_more_at, or_parts, place_of, range_has, refl, row_of_mark, same_Some}
+use Rattle.app_loads.proofs.Common.{set, set_at, slice_get, slice_get-get_or, slice_get-set_other, slice_get-set_same, slice_get_within, slice_set, subst, suc, sym, table_at, table_of_sorted}
+use Rattle.app_loads.proofs.Common.{tables_in, take, take_all, take_at, take_more_at, true, zero, ℕ, ◌&&◌, ◌++◌, ◌+◌, ◌<◌, ◌==◌, ◌||◌, ◌∙◌, ◌∷◌, ◌≡◌, ◌≢◌, ◌≤◌, ◌⊎◌}
+use Rattle.std.proofs.Math.ListN.{get_or-map}
+use Rattle.net_tables.specs.declared.marks.Mark.{Mark}
+use Rattle.app_loads.specs.declared.places.Region.{Region}
 
 -- ---- a list with a part written
 

@@ -1,15 +1,9 @@
 -- Of packets of which no copy is under way, two meshes that meet the ledger of the same packets have as many deliveries.
-use Rattle.std.proofs.Common.{◌≡◌, ℕ, ◌≤◌, ◌==◌, ◌&&◌, Bool, true, List, [], length, sym, ap, ◌∙◌, subst, arith, Option, Some, count_by}
-use Rattle.std.proofs.lemmas.{Bool.and_from, Bool.and_parts, Bool.eqb-true, Bool.eq-eqb, List.Sums.length-filter, Option.same_Some}
-use Rattle.std.specs.List.{filter, Contains}
-use Rattle.spin_base.proofs.{Counts.count_by-append, Counts.count_by-map, Members.Among, Members.among_contains, Members.among_filter, Members.contains_among, Members.Contains-filter}
-use Rattle.spin_base.specs.declared.{chips.Spot.Spot, copies.McCopy.McCopy, copies.Delivery.Delivery, copies.DumpRec.DumpRec}
-use Rattle.machine_desc.specs.{Description.Description, Branch.Exit, declared.nets.NetPlan.NetPlan, RightTables.IsKeyOf, NetsOn.AreNetsOn, NetsOn.IsWayOn}
-use Rattle.mesh_core.specs.{State.State, Trail.Station, Trail.unsent, Trail.in_queue, Trail.in_hand, Trail.at_core, Trail.delivered, Trail.dumped, Trail.Mark, Trail.on_trail, Trail.is_packet_on_trail}
-use Rattle.mesh_core.specs.{Trail.IsUnderWayAt, Ledger.marks_of, Ledger.unsent_marks, Ledger.input_marks, Ledger.all_hand_marks, Ledger.core_marks, Ledger.delivered_marks, Ledger.dumped_marks}
-use Rattle.mesh_core.specs.Ledger.{Asked, label_of, MeetsLedgerFor}
-use Rattle.mesh_core.proofs.{Counting.count_covered, Counting.count_le, Counting.counted, ExpectedList.is_of, ExpectedList.is_of_from, ExpectedList.is_of_parts, LedgerLaw.one_net, Moves.mark}
-use Rattle.mesh_core.proofs.{Standing.StandsAt, Standing.delivered_mark, Standing.mark_stands, Ways.vertex_at_stands}
+use Rattle.app_loads.proofs.Common.{Among, AreNetsOn, Asked, Bool, Contains, Contains-filter, Delivery, Description, DumpRec, Exit, IsKeyOf, IsUnderWayAt, IsWayOn, List, Mark, McCopy, MeetsLedgerFor}
+use Rattle.app_loads.proofs.Common.{NetPlan, Option, Some, Spot, StandsAt, State, Station, [], all_hand_marks, among_contains, among_filter, and_from, and_parts, ap, arith, at_core, contains_among}
+use Rattle.app_loads.proofs.Common.{core_marks, count_by, count_by-append, count_by-map, count_covered, count_le, counted, delivered, delivered_mark, delivered_marks, dumped, dumped_marks, eq-eqb}
+use Rattle.app_loads.proofs.Common.{eqb-true, filter, in_hand, in_queue, input_marks, is_of, is_of_from, is_of_parts, is_packet_on_trail, label_of, length, length-filter, mark, mark_stands, marks_of}
+use Rattle.app_loads.proofs.Common.{on_trail, one_net, same_Some, subst, sym, true, unsent, unsent_marks, vertex_at_stands, ℕ, ◌&&◌, ◌==◌, ◌∙◌, ◌≡◌, ◌≤◌}
 use Rattle.app_loads.proofs.LeavingLists.{after_cores, after_hands, after_inputs, after_unsent}
 
 abbrev mark_of : Delivery → Mark

@@ -1,21 +1,12 @@
 -- Deliveries that came earlier change nothing of what events do, and where no copy waits, all that is unsent keeps its ledger without
 -- them.
-use Rattle.std.proofs.Common.{◌≡◌, ℕ, ◌/◌, ◌%◌, ◌&&◌, Bool, true, false, List, [], ◌∷◌, ◌++◌, count_by, refl, sym, ap, ◌∙◌, subst, arith, Option, None, Some, if◌then◌else◌, not}
-use Rattle.std.proofs.lemmas.{Bool.eq-eqb, List.append_assoc, List.append-nil, List.Elements.Contains-append_left, Option.same_Some}
-use Rattle.std.specs.{Prelude.unwrap_or, List.slice_get, List.Contains}
-use Rattle.spin_base.proofs.{Counts.count_by-append, Gathering.among_gathered, Gathering.gathered_of_none, Members.among_map, Members.contains_among}
-use Rattle.spin_base.specs.declared.{chips.Chip.Chip, chips.Spot.Spot, chips.Port.Port, copies.Delivery.Delivery, copies.Event.Event, copies.Event.TheVariants.Inject, copies.Event.TheVariants.Take}
-use Rattle.spin_base.specs.declared.{copies.Event.TheVariants.Send, copies.Event.TheVariants.Dump, copies.Event.TheVariants.Collect, copies.McCopy.McCopy, routes.Out.Out}
-use Rattle.spin_base.specs.Hops.{onward}
-use Rattle.machine_desc.specs.{Branch.Exit, Live.chip_of, Live.index_of, NetsOn.vertex_at, declared.nets.NetPlan.NetPlan}
-use Rattle.mesh_core.specs.{Expected.NothingWaits, Ledger.Label, Ledger.MeetsLedger, Ledger.all_hand_marks, Ledger.core_marks, Ledger.delivered_marks, Ledger.dumped_marks, Ledger.hand_marks}
-use Rattle.mesh_core.specs.{Ledger.input_marks, Ledger.marks_at, Ledger.marks_of, Ledger.port_of, Ledger.unsent_marks, State.State, State.Hand, State.IsMesh, State.Queue, State.behind, State.input}
-use Rattle.mesh_core.specs.{State.core, State.nowhere, State.queue_at, Step.after_event, Step.after_events, Step.after_serving, Step.collect_of, Step.dump_of, Step.has_room_behind, Step.inject_of}
-use Rattle.mesh_core.specs.{Step.push_behind, Step.send_of, Step.serves, Step.step_of, Step.take_of, Trail.Mark, Trail.Station, Trail.in_queue, Trail.at_core, Trail.is_packet_on_trail, Trail.on_trail}
-use Rattle.mesh_core.specs.Trail.{unsent}
-use Rattle.mesh_core.proofs.{Counting.count_some, LedgerLaw.one_net}
-use Rattle.mesh_drain.specs.Draining.{IsReachedDropless, MeetsSomeLedger}
-use Rattle.app_loads.specs.Earlier.{with_earlier}
+use Rattle.app_loads.proofs.Common.{Bool, Chip, Collect, Contains, Contains-append_left, Delivery, Dump, Event, Exit, Hand, Inject, IsMesh, IsReachedDropless, Label, List, Mark, McCopy, MeetsLedger}
+use Rattle.app_loads.proofs.Common.{MeetsSomeLedger, NetPlan, None, NothingWaits, Option, Out, Port, Queue, Send, Some, Spot, State, Station, Take, [], after_event, after_events, after_serving}
+use Rattle.app_loads.proofs.Common.{all_hand_marks, among_gathered, among_map, ap, append-nil, append_assoc, arith, at_core, behind, chip_of, collect_of, contains_among, core, core_marks, count_by}
+use Rattle.app_loads.proofs.Common.{count_by-append, count_some, delivered_marks, dump_of, dumped_marks, eq-eqb, false, gathered_of_none, hand_marks, has_room_behind, if◌then◌else◌, in_queue}
+use Rattle.app_loads.proofs.Common.{index_of, inject_of, input, input_marks, is_packet_on_trail, marks_at, marks_of, not, nowhere, on_trail, one_net, onward, port_of, push_behind, queue_at, refl}
+use Rattle.app_loads.proofs.Common.{same_Some, send_of, serves, slice_get, step_of, subst, sym, take_of, true, unsent, unsent_marks, unwrap_or, vertex_at, with_earlier, ℕ, ◌%◌, ◌&&◌, ◌++◌, ◌/◌, ◌∙◌}
+use Rattle.app_loads.proofs.Common.{◌∷◌, ◌≡◌}
 
 -- ---- events
 

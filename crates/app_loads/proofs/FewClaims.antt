@@ -1,12 +1,7 @@
 -- A plan asks the regions for few ranges: at most 262,144.
-use Rattle.std.proofs.Common.{◌≡◌, ℕ, ◌+◌, ◌*◌, ◌≤◌, ◌==◌, Bool, true, false, List, [], ◌∷◌, ◌++◌, length, arith, Option, Some, None, if◌then◌else◌, count_by}
-use Rattle.std.proofs.lemmas.{List.length-append, List.FromFn.length-range_with_len, Nat.mul-le, Slice.Zip.AllZip-long, Slice.Zip.length-zip}
-use Rattle.std.specs.{Prelude.zip, List.flat_map, List.range_with_len}
-use Rattle.spin_base.specs.{Gathered.gathered, declared.blocks.Block.Block}
-use Rattle.machine_desc.specs.{Description.Description, Description.HasSize, Live.chip_of}
-use Rattle.app_loads.specs.declared.{answers.LoadRefusal.TheVariants.MemoryOut, answers.LoadRefusal.TheVariants.RowsOut, loaded.Claim.Claim, loaded.LoadedApp.LoadedApp, plans.AppNet.AppNet}
-use Rattle.app_loads.specs.{declared.plans.AppPlan.AppPlan, Applications.IsLoadedOn, Applications.IsRangeFor, Claims.claims_of, Claims.fixed_claim, Claims.has_chip, Claims.key_claim}
-use Rattle.app_loads.specs.{Claims.memory_claim, Claims.row_claim, Plans.IsPlan, declared.places.Region.TheVariants.Memory, declared.places.Region.TheVariants.Rows, Regions.chip_count}
+use Rattle.app_loads.proofs.Common.{AllZip-long, AppNet, AppPlan, Block, Bool, Claim, Description, HasSize, IsLoadedOn, IsPlan, IsRangeFor, List, LoadedApp, Memory, MemoryOut, None, Option, Rows}
+use Rattle.app_loads.proofs.Common.{RowsOut, Some, [], arith, chip_count, chip_of, claims_of, count_by, false, fixed_claim, flat_map, gathered, has_chip, if◌then◌else◌, key_claim, length}
+use Rattle.app_loads.proofs.Common.{length-append, length-range_with_len, length-zip, memory_claim, mul-le, range_with_len, row_claim, true, zip, ℕ, ◌*◌, ◌++◌, ◌+◌, ◌==◌, ◌∷◌, ◌≡◌, ◌≤◌}
 use Rattle.app_loads.proofs.FewSpots.{few_spots}
 
 one_unless : (b : Bool) (claim : Claim) → length (if b then [] else claim ∷ []) ≤ 1

@@ -1,12 +1,6 @@
 -- A plan has few spots: at most 24 a chip.
-use Rattle.std.proofs.Common.{◌≡◌, ◌≢◌, ℕ, ◌*◌, ◌<◌, ◌≤◌, List, map, get_or, length, sym, ◌∙◌, subst, arith}
-use Rattle.std.proofs.lemmas.List.{length-map, get_or-map}
-use Rattle.std.specs.List.{All, AllPairs}
-use Rattle.spin_base.specs.declared.chips.Spot.{Spot}
-use Rattle.machine_desc.specs.{Description.Description, Live.IsInside, Live.IsUsable}
-use Rattle.machine_desc.proofs.{Branches.length_le_from_apart, Sites.usable_site}
-use Rattle.mesh_core.specs.VertexTable.{spot_place}
-use Rattle.mesh_core.proofs.VertexTableLaws.{same_spot_place, site_inside, spot_place-below}
+use Rattle.app_loads.proofs.Common.{All, AllPairs, Description, IsInside, IsUsable, List, Spot, arith, get_or, get_or-map, length, length-map, length_le_from_apart, map, same_spot_place, site_inside}
+use Rattle.app_loads.proofs.Common.{spot_place, spot_place-below, subst, sym, usable_site, ℕ, ◌*◌, ◌<◌, ◌∙◌, ◌≡◌, ◌≢◌, ◌≤◌}
 
 -- different usable cores have different places among the 24 of each chip
 pub few_spots : (m : Description) (spots : List Spot) → AllPairs (λ a b. a ≢ b) spots → All (IsUsable m) spots → length spots ≤ 24 * (m.width * m.height)

@@ -1,16 +1,11 @@
 -- Deliveries held in groups.
-use Rattle.std.proofs.Common.{◌≡◌, ◌≢◌, ℕ, zero, suc, ◌+◌, ◌-◌, ◌<◌, ◌≤◌, Bool, true, false, not, ◌&&◌, ◌||◌, List, [], ◌∷◌, ◌++◌, drop, take, length, refl, sym, ap, ◌∙◌, subst, arith, cond, inl, inr}
-use Rattle.std.proofs.Common.{leb, ltb, Some, Result, Ok, Err, IfOk, OnErr}
-use Rattle.std.proofs.lemmas.Bool.{and_from, and_parts, cases_Bool, cases_lt, false≢true, le-leb, leb-true, lt-ltb, ltb-true, not-false, not-true, or_parts}
-use Rattle.std.proofs.lemmas.{Grind.flat_map-append, List.append_assoc, List.append-nil, List.drop_at, List.length-append, List.length-map, List.length-set, List.set-get_or, List.take_all}
-use Rattle.std.proofs.lemmas.List.{Elements.All-head, Elements.All-map, Elements.All-tail, Elements.All-weaker, Elements.filter-append, Filters.length-filter_both}
-use Rattle.std.proofs.lemmas.Option.{same_Some, slice_get-get_or, slice_get_within}
-use Rattle.std.specs.List.{All, filter, list_any, slice_get, slice_index_or, slice_set}
-use Rattle.spin_base.proofs.{Pairs.All-flat_map, Places.take_more_at}
-use Rattle.spin_base.specs.declared.copies.{Delivery.Delivery, McCopy.McCopy}
-use Rattle.app_loads.specs.{declared.arrivals.Arrival.Arrival, declared.group.Group.TheInside.Inside, declared.group.Sent.Sent, declared.loaded.LoadedApp.LoadedApp, Grouping.Grouped, Grouping.HasPut}
-use Rattle.app_loads.specs.{Grouping.all_grouped, Grouping.is_mixed_group, Grouping.is_others_group, Grouping.is_own_group, Groups.EndsWith, Groups.IsBetween, Groups.IsGroup, Groups.deliveries_at}
-use Rattle.app_loads.specs.{Groups.deliveries_in, Groups.delivery_of, Groups.grouped_of, Groups.last_arrivals, Groups.sent_of, Leaving.is_delivery_of, Leaving.is_packet_of}
+use Rattle.app_loads.proofs.Common.{All, All-flat_map, All-head, All-map, All-tail, All-weaker, Arrival, Bool, Delivery, EndsWith, Err, Grouped, HasPut, IfOk, IsBetween, IsGroup, List, LoadedApp}
+use Rattle.app_loads.proofs.Common.{McCopy, Ok, OnErr, Result, Sent, Some, [], all_grouped, and_from, and_parts, ap, append-nil, append_assoc, arith, cases_Bool, cases_lt, cond, deliveries_at}
+use Rattle.app_loads.proofs.Common.{deliveries_in, delivery_of, drop, drop_at, false, false≢true, filter, filter-append, flat_map-append, grouped_of, inl, inr, is_delivery_of, is_mixed_group}
+use Rattle.app_loads.proofs.Common.{is_others_group, is_own_group, is_packet_of, last_arrivals, le-leb, leb, leb-true, length, length-append, length-filter_both, length-map, length-set, list_any}
+use Rattle.app_loads.proofs.Common.{lt-ltb, ltb, ltb-true, not, not-false, not-true, or_parts, refl, same_Some, sent_of, set-get_or, slice_get, slice_get-get_or, slice_get_within, slice_index_or}
+use Rattle.app_loads.proofs.Common.{slice_set, subst, suc, sym, take, take_all, take_more_at, true, zero, ℕ, ◌&&◌, ◌++◌, ◌+◌, ◌-◌, ◌<◌, ◌||◌, ◌∙◌, ◌∷◌, ◌≡◌, ◌≢◌, ◌≤◌}
+use Rattle.app_loads.specs.declared.group.Group.TheInside.{Inside}
 
 -- ---- one group
 

@@ -1,8 +1,6 @@
 -- The free places of a region tell its holes.
-use Rattle.std.proofs.Common.{◌≡◌, ℕ, ◌+◌, ◌<◌, ◌≤◌, true, false, List, [], ◌∷◌, refl, sym, ap, ◌∙◌, subst, inl, inr, arith}
-use Rattle.std.proofs.lemmas.Bool.{cases_lt, false_from_ne_true, or_cases, or_left, or_right}
-use Rattle.range_store.specs.{declared.holes.Hole.Hole, Regions.AreRuns, Regions.has_range, Regions.is_free, Regions.hole_end}
-use Rattle.range_store.proofs.HolePlaces.{clash, has_facts, has_from, free_within}
+use Rattle.app_loads.proofs.Common.{AreRuns, Hole, List, [], ap, arith, cases_lt, clash, false, false_from_ne_true, free_within, has_facts, has_from, has_range, hole_end, inl, inr, is_free, or_cases}
+use Rattle.app_loads.proofs.Common.{or_left, or_right, refl, subst, sym, true, ℕ, ◌+◌, ◌<◌, ◌∙◌, ◌∷◌, ◌≡◌, ◌≤◌}
 use Rattle.app_loads.proofs.Others.{same_tests}
 
 -- the first place of the first hole is free, and no place before it

@@ -1,12 +1,8 @@
 -- The fields of a host are those of one after events of its mesh.
-use Rattle.std.proofs.Common.{arith, ◌≡◌, ℕ, List, sym, ap, subst, Option, Some, Result, Ok, Err, OnOk, OnErr}
-use Rattle.std.specs.Prelude.{IfSome}
-use Rattle.spin_base.specs.declared.{copies.Event.Event, wants.Memory.Memory}
-use Rattle.mesh_core.specs.{declared.places.Did.Did, State.State, Step.after_event}
-use Rattle.app_loads.specs.{declared.apps.Apps.TheInside.Inside, Host.Host, Applications.AreApps, Inner.mesh_in, Inner.host_of, Inner.IsHost, Running.AreAlikeInBlocks, Running.HasMovedMesh}
+use Rattle.app_loads.proofs.Common.{AreAlikeInBlocks, AreApps, Did, Err, Event, HasMovedMesh, Host, IfSome, Inside, IsAfter, IsHost, IsMoved, List, MeetsSomeLedger, Ok, OnErr, OnOk, Option, Result}
+use Rattle.app_loads.proofs.Common.{SendAlone, Some, State, after_event, after_none, after_one, ap, arith, host_of, mesh_in, subst, sym, ℕ, ◌≡◌}
+use Rattle.spin_base.specs.declared.wants.Memory.{Memory}
 use Rattle.app_loads.proofs.{Keeping.apps_after, Keeping.apps_kept, OneBlock.alike_in_blocks}
-use Rattle.mesh_drain.specs.Draining.{MeetsSomeLedger, IsAfter, IsMoved, SendAlone}
-use Rattle.mesh_drain.proofs.Moving.{after_none, after_one}
 
 mesh_is : (i : Inside) (m : State) → i.mesh ≡ Some m → (host_of i).mesh ≡ m
 mesh_is i m e = ap mesh_in e

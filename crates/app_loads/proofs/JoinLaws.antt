@@ -1,14 +1,7 @@
 -- An application whose claims were served can be settled.
-use Rattle.std.proofs.Common.{◌≡◌, ℕ, suc, ◌+◌, ◌^◌, ◌<◌, List, [], ◌∷◌, length, refl, sym, ◌∙◌, subst, arith, Some}
-use Rattle.std.proofs.lemmas.List.{length-map}
-use Rattle.std.specs.List.{slice_get, All, AllZip}
-use Rattle.spin_base.proofs.Pairs.{AllPairs-right}
-use Rattle.machine_desc.specs.Description.{Description}
-use Rattle.range_store.specs.Views.{Region}
-use Rattle.mesh_core.specs.State.{State}
-use Rattle.app_loads.specs.{declared.loaded.LoadedApp.LoadedApp, declared.loaded.Range.Range, declared.plans.AppPlan.AppPlan, Applications.IsLoadedOn, Applications.IsRangeFor, Claims.AreBlocks}
-use Rattle.app_loads.specs.{Claims.AreServed, Claims.claims_of, Joining.CanJoin, Joining.CanSettle, Joining.IsServedApp, Joining.NoneUnsent, Plans.IsPlan, Regions.ShareNoPlace, Regions.IsRangeWithin}
-use Rattle.app_loads.specs.Taking.{AreTaken, free_places_in}
+use Rattle.app_loads.proofs.Common.{All, AllPairs-right, AllZip, AppPlan, AreBlocks, AreServed, AreTaken, CanJoin, CanSettle, Description, IsLoadedOn, IsPlan, IsRangeFor, IsRangeWithin, IsServedApp}
+use Rattle.app_loads.proofs.Common.{List, LoadedApp, NoneUnsent, Range, Region, ShareNoPlace, Some, State, [], arith, claims_of, free_places_in, length, length-map, refl, slice_get, subst, suc, sym}
+use Rattle.app_loads.proofs.Common.{ℕ, ◌+◌, ◌<◌, ◌^◌, ◌∙◌, ◌∷◌, ◌≡◌}
 
 zipped : {X Y : Type 0} (R : X → Y → Type 0) (xs : List X) (ys : List Y) → length ys ≡ length xs →
     ((i : ℕ) (x : X) (y : Y) → slice_get xs i ≡ Some x → slice_get ys i ≡ Some y → R x y) → AllZip R xs ys

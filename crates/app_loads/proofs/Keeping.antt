@@ -1,10 +1,6 @@
 -- What holds of a host holds after events of its mesh.
-use Rattle.std.proofs.Common.{arith, ◌≡◌, sym, subst}
-use Rattle.mesh_core.specs.{State.State, State.IsMesh, Ledger.MeetsLedgerFor, Ledger.label_of}
-use Rattle.mesh_core.proofs.EventsLaw.{IsMesh-after_events, events_keep_for}
-use Rattle.mesh_drain.specs.Draining.{MeetsSomeLedger, IsAfter}
-use Rattle.mesh_drain.proofs.Moving.{after_setup}
-use Rattle.app_loads.specs.{Host.Host, Host.all_nets, Host.asked_of, Applications.AreApps}
+use Rattle.app_loads.proofs.Common.{AreApps, Host, IsAfter, IsMesh, IsMesh-after_events, MeetsLedgerFor, MeetsSomeLedger, State, after_setup, all_nets, arith, asked_of, events_keep_for, label_of}
+use Rattle.app_loads.proofs.Common.{subst, sym, ◌≡◌}
 
 -- another mesh of the same setup
 other_mesh : (h : Host) (mesh : State) → mesh.setup ≡ h.mesh.setup → IsMesh mesh → MeetsLedgerFor mesh (all_nets h.apps) (asked_of h.apps) → AreApps h →

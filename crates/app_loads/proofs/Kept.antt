@@ -1,18 +1,12 @@
 -- A mesh whose earlier deliveries are held apart, seen as one mesh.
-use Rattle.std.proofs.Common.{◌≡◌, ◌≢◌, Bool, ℕ, ◌+◌, ◌^◌, ◌<◌, List, [], ◌++◌, ◌∷◌, drop, get_or, length, refl, sym, ap, ◌∙◌, subst, inl, inr, arith, Option, Result, Ok, Err, OnOk, Some, map}
-use Rattle.mesh_core.specs.{Ledger.dumped_marks, Ledger.all_hand_marks, Ledger.core_marks, Ledger.delivered_marks, Ledger.input_marks, Ledger.marks_of, Ledger.unsent_marks, State.Setup, State.State}
-use Rattle.mesh_core.specs.{State.IsMesh, Trail.Mark, Trail.IsUnderWayAt, Trail.delivered, Expected.NothingWaits, Queues.drop_front}
-use Rattle.std.proofs.lemmas.{Bool.cases_Bool, Bool.eq-eqb, Option.none-some, Option.same_Some, List.append-nil, List.drop_at, List.map-append, List.Sums.count_by-le-length, List.Sums.length-filter}
-use Rattle.std.specs.{BTreeMap.BTreeMap, BTreeMap.Updates, BTreeMap.is_at, Map.lookup, List.Contains, List.filter, List.slice_get, List.slice_set, Ordering.nat_cmp}
-use Rattle.spin_base.proofs.Members.{Among, among_contains, among_either, among_left, among_map, among_right, contains_among}
-use Rattle.spin_base.specs.declared.{blocks.Block.Block, copies.Delivery.Delivery, copies.McCopy.McCopy}
-use Rattle.machine_desc.specs.RightTables.{IsKeyOf}
-use Rattle.mesh_drain.specs.Draining.{AreRoutedAlike, HasBrought, IsMoved, IsReachedDropless, MaySend, SendAlone, of_packet}
-use Rattle.mesh_drain.proofs.Frame.{dumped_reached, kept_reached, setup_reached}
-use Rattle.app_loads.specs.declared.answers.UnloadErr.{UnloadErr, TheVariants.NotLoaded, TheVariants.Waiting, TheVariants.Memory}
-use Rattle.app_loads.specs.{declared.known.KnownBlock.KnownBlock, declared.loaded.LoadedApp.LoadedApp, Earlier.with_earlier, Joining.CanSettle, Leaving.NoneUnderWay, Leaving.WaitsIn}
-use Rattle.app_loads.specs.{Removing.IsWhyHere, declared.arrivals.Arrival.Arrival, Groups.deliveries_at, Groups.sent_of, Running.AreAlikeInBlocks, Running.AreKnown, Running.Comes}
-use Rattle.app_loads.specs.Running.{HasBroughtMore, HasFirstUnsent, HasSomeUnsent, IsClean}
+use Rattle.app_loads.proofs.Common.{Among, AreAlikeInBlocks, AreKnown, AreRoutedAlike, Arrival, BTreeMap, Block, Bool, CanSettle, Comes, Contains, Delivery, Err, HasBrought, HasBroughtMore}
+use Rattle.app_loads.proofs.Common.{HasFirstUnsent, HasSomeUnsent, IsClean, IsKeyOf, IsMesh, IsMoved, IsReachedDropless, IsUnderWayAt, IsWhyHere, KnownBlock, List, LoadedApp, Mark, MaySend, McCopy}
+use Rattle.app_loads.proofs.Common.{NoneUnderWay, NotLoaded, NothingWaits, Ok, OnOk, Option, Result, SendAlone, Setup, Some, State, UnloadErr, Updates, Waiting, WaitsIn, [], all_hand_marks}
+use Rattle.app_loads.proofs.Common.{among_contains, among_either, among_left, among_map, among_right, ap, append-nil, arith, cases_Bool, contains_among, core_marks, count_by-le-length, delivered}
+use Rattle.app_loads.proofs.Common.{delivered_marks, deliveries_at, drop, drop_at, drop_front, dumped_marks, dumped_reached, eq-eqb, filter, get_or, inl, input_marks, inr, is_at, kept_reached, length}
+use Rattle.app_loads.proofs.Common.{length-filter, lookup, map, map-append, marks_of, nat_cmp, none-some, of_packet, refl, same_Some, sent_of, setup_reached, slice_get, slice_set, subst, sym}
+use Rattle.app_loads.proofs.Common.{unsent_marks, with_earlier, ℕ, ◌++◌, ◌+◌, ◌<◌, ◌^◌, ◌∙◌, ◌∷◌, ◌≡◌, ◌≢◌}
+use Rattle.app_loads.specs.declared.answers.UnloadErr.TheVariants.{Memory}
 use Rattle.app_loads.proofs.{Earlier.kept_without, Earlier.reached_with, LeftMesh.mesh_with}
 
 -- what follows where a call was answered

@@ -1,34 +1,17 @@
 -- The least packet of an application that is under way, from the lists of the mesh.
-use Rattle.std.proofs.Common.{◌≡◌, ℕ, ◌+◌, ◌/◌, ◌%◌, ◌<◌, ◌≤◌, min, Bool, true, false, if◌then◌else◌, List, [], ◌∷◌, ◌++◌, take, length, get_or, refl, sym, ap, ◌∙◌, subst, inl, inr, arith, Option}
-use Rattle.std.proofs.{Common.None, Common.Some, Common.append-nil, lemmas.Option.slice_get-get_or}
-use Rattle.std.proofs.lemmas.{List.Elements.All-contains, Bool.cases_lt, List.get_or_default, List.take_more, List.take_all, List.Concat.flat_map-append, Option.get_or_from_slice_get}
-use Rattle.std.specs.{List.slice_get, List.flat_map, List.All, List.Contains, Prelude.IfSome, Prelude.IfNone}
-use Rattle.spin_base.specs.{Gathered.gathered, declared.chips.Chip.Chip, declared.copies.McCopy.McCopy, declared.routes.Out.Out}
-use Rattle.spin_base.proofs.Members.{Among, among_contains, contains_among, among_left, among_right, among_either, among_map, map_among, among_at}
-use Rattle.spin_base.proofs.{Gathering.gathered_among, Places.map_more_at, Places.All-at}
-use Rattle.machine_desc.specs.Live.{chip_of}
-use Rattle.mesh_core.specs.{State.State, State.Hand, State.FitsHand, State.IsMesh, Trail.Station, Trail.unsent, Trail.in_queue, Trail.in_hand, Trail.at_core, Trail.delivered, Trail.dumped, Trail.Mark}
-use Rattle.mesh_core.specs.{Trail.IsUnderWayAt, Ledger.marks_of, Ledger.marks_at, Ledger.hand_marks, Ledger.port_of, Ledger.unsent_marks, Ledger.input_marks, Ledger.all_hand_marks, Ledger.core_marks}
-use Rattle.mesh_core.proofs.{Moves.mark, Standing.mark_stands, Standing.StandsAt}
-use Rattle.mesh_drain.specs.Draining.{SendAlone}
+use Rattle.app_loads.proofs.Common.{All, All-at, All-contains, Among, Bool, Chip, Contains, FitsHand, Hand, IfNone, IfSome, IsLeastUnderWay, IsMesh, IsUnderWayAt, List, LoadedApp, Mark, McCopy, None}
+use Rattle.app_loads.proofs.Common.{NoneUnderWay, Option, Out, SendAlone, Some, StandsAt, State, Station, WaitsIn, [], all_hand_marks, among_at, among_contains, among_either, among_left, among_map}
+use Rattle.app_loads.proofs.Common.{among_right, ap, append-nil, arith, at_core, cases_lt, chip_of, contains_among, core_marks, delivered, dumped, false, flat_map, flat_map-append, gathered}
+use Rattle.app_loads.proofs.Common.{gathered_among, get_or, get_or_default, get_or_from_slice_get, hand_marks, held_packets, if◌then◌else◌, in_hand, in_queue, inl, input_marks, inr, is_packet_of}
+use Rattle.app_loads.proofs.Common.{least_own_packet, length, lesser_of, map_among, map_more_at, mark, mark_stands, marks_at, marks_of, min, own_packet, packet_numbers_of, port_of, refl, slice_get}
+use Rattle.app_loads.proofs.Common.{slice_get-get_or, subst, sym, take, take_all, take_more, true, unsent, unsent_marks, unsent_numbers, ℕ, ◌%◌, ◌++◌, ◌+◌, ◌/◌, ◌<◌, ◌∙◌, ◌∷◌, ◌≡◌, ◌≤◌}
 use Rattle.app_loads.proofs.{ClaimCases.among_flat, ClaimCases.flat_among, LeavingLists.after_cores, LeavingLists.after_hands, LeavingLists.after_inputs, LeavingLists.after_unsent}
-use Rattle.app_loads.specs.{declared.loaded.LoadedApp.LoadedApp, Leaving.is_packet_of, Leaving.WaitsIn, Leaving.NoneUnderWay, Leaving.IsLeastUnderWay, Leaving.own_packet, Leaving.lesser_of}
-use Rattle.app_loads.specs.Leaving.{least_own_packet, packet_numbers_of, held_packets, unsent_numbers}
 
 -- ---- the least of some numbers
 
 pub none_right : (a : Option ℕ) → lesser_of a None ≡ a
 none_right (Some n) = refl
 none_right None = refl
-
-lesser_assoc : (a b c : Option ℕ) → lesser_of (lesser_of a b) c ≡ lesser_of a (lesser_of b c)
-lesser_assoc None b c = refl
-lesser_assoc (Some x) None c = refl
-lesser_assoc (Some x) (Some y) None = refl
-lesser_assoc (Some x) (Some y) (Some z) = ap Some (three x y z)
-  where
-    three : (m n o : ℕ) → min (min m n) o ≡ min m (min n o)
-    three m n o = omega arith
 
 module _ (app : LoadedApp) where
   pub least_append : (xs ys : List ℕ) → least_own_packet app (xs ++ ys) ≡ lesser_of (least_own_packet app xs) (least_own_packet app ys)

@@ -1,19 +1,12 @@
 -- The ledger of a mesh without the deliveries and dump records of an application of which no packet is under way.
-use Rattle.std.proofs.Common.{◌≡◌, ◌≢◌, ℕ, ◌+◌, ◌-◌, ◌/◌, ◌%◌, ◌<◌, ◌≤◌, ◌==◌, Bool, true, false, List, [], ◌∷◌, ◌++◌, ◌∙◌, ◌⊎◌, Option, None, Some, if◌then◌else◌, leb, ltb, not, cond, length, refl}
-use Rattle.std.proofs.Common.{sym, ap, subst, inl, inr, arith, IsTrue, count_by}
-use Rattle.std.proofs.lemmas.Bool.{cases_Bool, cases_lt, and_from, leb-true, lt-ltb, ltb-true, and_parts, eqb-true, eq-eqb, not-true, Decides.nat_tests}
-use Rattle.std.proofs.lemmas.{List.Elements.filter-append, List.Elements.Contains-append_left, List.Elements.Contains-append_right, Option.slice_get_past}
-use Rattle.std.specs.List.{filter, All, AllPairs, Contains}
-use Rattle.spin_base.proofs.Members.{Among, among_contains, contains_among, among_left, among_right, among_map, Contains-first, Contains-later, Contains-from_filter, Contains-filter}
-use Rattle.spin_base.proofs.Gathering.{among_gathered}
-use Rattle.spin_base.specs.declared.{blocks.Entry.Entry, chips.Spot.Spot, copies.McCopy.McCopy}
-use Rattle.machine_desc.specs.{Description.Description, Live.chip_of, Branch.Exit, RoutingTree.IsRoutingTree, declared.nets.NetPlan.NetPlan, RightTables.IsKeyOf, NetsOn.AreNetsOn, NetsOn.IsWayOn}
-use Rattle.mesh_core.specs.{State.State, State.Hand, Trail.Station, Trail.in_queue, Trail.in_hand, Trail.Mark, Trail.is_on_trail, Trail.is_packet_on_trail, Trail.IsUnderWayAt, Ledger.marks_of}
-use Rattle.mesh_core.specs.Ledger.{marks_at, hand_marks, port_of, unsent_marks, input_marks, all_hand_marks, core_marks, delivered_marks, dumped_marks, Asked, label_of, MeetsLedgerFor}
-use Rattle.mesh_core.specs.Opened.{asked_at, asked_by}
-use Rattle.mesh_core.proofs.{AskedPackets.asked_parts, AskedPackets.net_in_list, LedgerLaw.one_net, Moves.mark}
-use Rattle.app_loads.specs.{declared.loaded.LoadedApp.LoadedApp, Host.Host, Host.all_nets, Host.asked_of, Host.asked_of_app, Host.either, Host.nets_of, Applications.AreApps}
-use Rattle.app_loads.specs.{Applications.HaveOtherNumbers, Leaving.is_packet_of, Leaving.NoneUnderWay, Leaving.others_than, Leaving.mesh_without}
+use Rattle.app_loads.proofs.Common.{All, AllPairs, Among, AreApps, AreNetsOn, Asked, Bool, Contains, Contains-append_left, Contains-append_right, Contains-filter, Contains-first, Contains-from_filter}
+use Rattle.app_loads.proofs.Common.{Contains-later, Description, Entry, Exit, Hand, HaveOtherNumbers, Host, IsKeyOf, IsRoutingTree, IsTrue, IsUnderWayAt, IsWayOn, List, LoadedApp, Mark, McCopy}
+use Rattle.app_loads.proofs.Common.{MeetsLedgerFor, NetPlan, None, NoneUnderWay, Option, Some, Spot, State, Station, [], all_hand_marks, all_nets, among_contains, among_gathered, among_left}
+use Rattle.app_loads.proofs.Common.{among_map, among_right, and_from, and_parts, ap, arith, asked_at, asked_by, asked_of, asked_of_app, asked_parts, cases_Bool, cases_lt, chip_of, cond}
+use Rattle.app_loads.proofs.Common.{contains_among, core_marks, count_by, delivered_marks, dumped_marks, either, eq-eqb, eqb-true, false, filter, filter-append, hand_marks, if◌then◌else◌, in_hand}
+use Rattle.app_loads.proofs.Common.{in_queue, inl, input_marks, inr, is_on_trail, is_packet_of, is_packet_on_trail, label_of, leb, leb-true, length, lt-ltb, ltb, ltb-true, mark, marks_at, marks_of}
+use Rattle.app_loads.proofs.Common.{mesh_without, nat_tests, net_in_list, nets_of, not, not-true, one_net, others_than, port_of, refl, slice_get_past, subst, sym, true, unsent_marks, ℕ, ◌%◌, ◌++◌}
+use Rattle.app_loads.proofs.Common.{◌+◌, ◌-◌, ◌/◌, ◌<◌, ◌==◌, ◌∙◌, ◌∷◌, ◌≡◌, ◌≢◌, ◌≤◌, ◌⊎◌}
 use Rattle.app_loads.proofs.{Ledgers.own_net, LeavingLists.after_cores, LeavingLists.after_hands, LeavingLists.after_inputs, LeavingLists.after_unsent, LeavingLists.filter_stays}
 use Rattle.app_loads.proofs.{LeavingLists.filter_of_map, LeavingLists.count_of_filter, LeavingLists.either_pair, Others.All-left_in, Others.AllPairs-left_in, Others.Contains-left_in, Others.only_one}
 

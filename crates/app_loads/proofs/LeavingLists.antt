@@ -1,9 +1,6 @@
 -- What stays of a list of applications, and of what each of them has, where some leave.
-use Rattle.std.proofs.Common.{◌≡◌, ℕ, ◌+◌, Bool, true, false, cond, if◌then◌else◌, List, [], ◌∷◌, map, refl, sym, ap, ◌∙◌, arith, inl, inr, ◌⊎◌, count_by, ◌++◌}
-use Rattle.std.proofs.lemmas.{Bool.cases_order, List.get_or_default}
-use Rattle.std.specs.List.{AllPairs, Contains, filter}
-use Rattle.spin_base.proofs.{Counts.count_by-cons, Members.Among}
-use Rattle.mesh_core.specs.{State.State, Trail.Mark, Ledger.all_hand_marks, Ledger.core_marks, Ledger.delivered_marks, Ledger.dumped_marks, Ledger.input_marks}
+use Rattle.app_loads.proofs.Common.{AllPairs, Among, Bool, Contains, List, Mark, State, [], all_hand_marks, ap, arith, cases_order, cond, core_marks, count_by, count_by-cons, delivered_marks}
+use Rattle.app_loads.proofs.Common.{dumped_marks, false, filter, get_or_default, if◌then◌else◌, inl, input_marks, inr, map, refl, sym, true, ℕ, ◌++◌, ◌+◌, ◌∙◌, ◌∷◌, ◌≡◌, ◌⊎◌}
 
 -- ---- lists
 

@@ -1,15 +1,9 @@
 -- The ledger of asked packets, where nets or a packet come.
-use Rattle.std.proofs.Common.{◌≡◌, ◌≢◌, ℕ, ◌+◌, ◌==◌, ◌&&◌, Bool, true, false, refl, sym, ap, ◌∙◌, subst, arith, inl, inr, ◌⊎◌, List, [], ◌∷◌, ◌++◌, Option, Some, None, if◌then◌else◌, count_by}
-use Rattle.std.proofs.Common.{IsTrue}
-use Rattle.std.proofs.lemmas.{Bool.cases_eq, Bool.eq-eqb, Bool.eqb-true, Bool.and_from, Bool.and_parts, Bool.ne_eqb, List.Elements.Contains-append_left, Option.same_Some, Option.none-some}
-use Rattle.std.specs.List.{slice_get, slice_set, Contains}
-use Rattle.spin_base.proofs.{Counts.count_by-cons, Counts.count_by-none, Exchange.PutIn, Exchange.put_in_before, Exchange.put_in_gathered, Exchange.count_put_in, Members.Among, Members.among_contains}
-use Rattle.spin_base.proofs.Members.{contains_among, among_left, among_right, among_either}
-use Rattle.spin_base.specs.declared.{chips.Spot.Spot, copies.McCopy.McCopy}
-use Rattle.machine_desc.specs.{Branch.Exit, declared.nets.NetPlan.NetPlan, RightTables.IsKeyOf, NetsOn.vertex_at, NetsOn.AreNetsOn, NetsOn.IsWayOn}
-use Rattle.mesh_core.specs.{State.State, Trail.Station, Trail.unsent, Trail.Mark, Trail.is_on_trail, Trail.is_packet_on_trail, Ledger.marks_of, Ledger.marks_at, Ledger.unsent_marks, Ledger.Asked}
-use Rattle.mesh_core.specs.Ledger.{label_of, MeetsLedgerFor}
-use Rattle.mesh_core.proofs.{Counting.count_le, LedgerLaw.one_net, Moves.mark, Ways.some_way}
+use Rattle.app_loads.proofs.Common.{Among, AreNetsOn, Asked, Bool, Contains, Contains-append_left, Exit, IsKeyOf, IsTrue, IsWayOn, List, Mark, McCopy, MeetsLedgerFor, NetPlan, None, Option, PutIn}
+use Rattle.app_loads.proofs.Common.{Some, Spot, State, Station, [], among_contains, among_either, among_left, among_right, and_from, and_parts, ap, arith, cases_eq, contains_among, count_by}
+use Rattle.app_loads.proofs.Common.{count_by-cons, count_by-none, count_le, count_put_in, eq-eqb, eqb-true, false, if◌then◌else◌, inl, inr, is_on_trail, is_packet_on_trail, label_of, mark, marks_at}
+use Rattle.app_loads.proofs.Common.{marks_of, ne_eqb, none-some, one_net, put_in_before, put_in_gathered, refl, same_Some, slice_get, slice_set, some_way, subst, sym, true, unsent, unsent_marks}
+use Rattle.app_loads.proofs.Common.{vertex_at, ℕ, ◌&&◌, ◌++◌, ◌+◌, ◌==◌, ◌∙◌, ◌∷◌, ◌≡◌, ◌≢◌, ◌⊎◌}
 use Rattle.app_loads.proofs.LeavingLists.{after_unsent, one_if}
 
 -- ---- more nets

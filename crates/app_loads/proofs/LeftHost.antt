@@ -1,16 +1,9 @@
 -- A host that an application left.
-use Rattle.std.proofs.Common.{arith, ◌≡◌, ◌≢◌, ℕ, ◌+◌, ◌≤◌, ◌==◌, ltb, not, ◌&&◌, true, false, List, ◌++◌, length, refl, sym, ap, ◌∙◌, subst, inl, inr}
-use Rattle.std.proofs.lemmas.{Bool.cases_Bool, Bool.false_from_ne_true, Bool.false≢true, List.length-map, List.Elements.All-contains, List.Elements.All-filter, List.Kept.AllPairs-filter}
-use Rattle.std.specs.List.{All, AllPairs, Contains}
-use Rattle.spin_base.proofs.{Members.among_contains, Members.among_either, Members.among_left, Members.among_right, Members.contains_among, Pairs.AllPairs-append, Places.All-each}
-use Rattle.spin_base.specs.declared.{blocks.Entry.Entry, chips.Chip.Chip, chips.Spot.Spot}
-use Rattle.machine_desc.specs.{Description.Description, Live.IsInside, NetsOn.HaveDisjointBlocks, RightTables.IsKeyOf, RightTables.table_at, declared.nets.NetPlan.NetPlan}
-use Rattle.range_store.specs.Views.{Region}
-use Rattle.mesh_core.specs.{Ledger.MeetsLedgerFor, State.State}
-use Rattle.app_loads.specs.{declared.answers.Ended.Ended, declared.loaded.LoadedApp.LoadedApp, declared.loaded.Range.Range, Applications.AreApps, Applications.HasRows, Applications.HaveOtherNumbers}
-use Rattle.app_loads.specs.{Applications.HaveRows, Applications.IsLoadedOn, Host.Host, Host.all_nets, Host.all_ranges, Host.asked_of, Host.nets_of, Leaving.NoneUnderWay, Leaving.mesh_without}
-use Rattle.app_loads.specs.{Leaving.others_than, declared.places.Region.TheVariants.Rows, Regions.ShareNoPlace, Regions.AreFreeBeside, Regions.IsRangeWithin, Regions.range_has, Regions.is_taken}
-use Rattle.app_loads.specs.{Regions.place_of, Removing.HasLeft, Taking.AreTaken, Taking.free_places_in, Taking.frees, Unloading.HasUnloaded, Unloading.NoneWaits}
+use Rattle.app_loads.proofs.Common.{All, All-contains, All-each, All-filter, AllPairs, AllPairs-append, AllPairs-filter, AreApps, AreFreeBeside, AreTaken, Chip, Contains, Description, Ended, Entry}
+use Rattle.app_loads.proofs.Common.{HasLeft, HasRows, HasUnloaded, HaveDisjointBlocks, HaveOtherNumbers, HaveRows, Host, IsInside, IsKeyOf, IsLoadedOn, IsRangeWithin, List, LoadedApp, MeetsLedgerFor}
+use Rattle.app_loads.proofs.Common.{NetPlan, NoneUnderWay, NoneWaits, Range, Region, Rows, ShareNoPlace, Spot, State, all_nets, all_ranges, among_contains, among_either, among_left, among_right, ap}
+use Rattle.app_loads.proofs.Common.{arith, asked_of, cases_Bool, contains_among, false, false_from_ne_true, false≢true, free_places_in, frees, inl, inr, is_taken, length, length-map, ltb}
+use Rattle.app_loads.proofs.Common.{mesh_without, nets_of, not, others_than, place_of, range_has, refl, subst, sym, table_at, true, ℕ, ◌&&◌, ◌++◌, ◌+◌, ◌==◌, ◌∙◌, ◌≡◌, ◌≢◌, ◌≤◌}
 use Rattle.app_loads.proofs.{Copying.mine_at, Copying.same_part, LeftMesh.mesh_with, LeavingLedger.the_ledger_without, Others.AllPairs-left_in, Others.item_of, Others.only_one, Others.other_in}
 use Rattle.app_loads.proofs.{Others.others_item, Others.own_item, Others.own_pairs, Others.same_tests, Others.with_mine, RightRows.right_rows, Serving.by_taken, Serving.none_taken, Serving.taken_by}
 

@@ -1,12 +1,6 @@
 -- A mesh and regions that an application leaves.
-use Rattle.std.proofs.{Common.◌≡◌, Common.◌++◌, Common.List, Common.length, Common.sym, Common.ap, Common.◌∙◌, Common.subst, Common.refl, lemmas.List.length-map}
-use Rattle.std.specs.List.{All}
-use Rattle.spin_base.specs.declared.{blocks.Entry.Entry, copies.Delivery.Delivery, copies.DumpRec.DumpRec}
-use Rattle.machine_desc.specs.Description.{Description}
-use Rattle.range_store.specs.Views.{Region}
-use Rattle.mesh_core.specs.State.{Setup, State, IsMesh}
-use Rattle.app_loads.specs.{declared.loaded.LoadedApp.LoadedApp, declared.loaded.Range.Range, Regions.AreFreeBeside, Regions.IsRangeWithin, Removing.CanLeave, Taking.AreTaken, Taking.free_places_in}
-use Rattle.app_loads.specs.{Taking.frees, Writing.CanClear}
+use Rattle.app_loads.proofs.Common.{All, AreFreeBeside, AreTaken, CanClear, CanLeave, Delivery, Description, DumpRec, Entry, IsMesh, IsRangeWithin, List, LoadedApp, Range, Region, Setup, State, ap}
+use Rattle.app_loads.proofs.Common.{free_places_in, frees, length, length-map, refl, subst, sym, ◌++◌, ◌∙◌, ◌≡◌}
 use Rattle.app_loads.proofs.Settling.{changed_mesh}
 
 -- a mesh with other tables, deliveries and records

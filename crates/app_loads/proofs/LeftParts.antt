@@ -1,15 +1,9 @@
 -- The fields of a host that an application left, or left not.
-use Rattle.std.proofs.Common.{◌≡◌, ℕ, suc, ◌<◌, ◌==◌, false, List, ◌++◌, length, take, drop, get_or, sym, ap, ◌∙◌, subst, None, Some, Result, Ok, OnOk, Option}
-use Rattle.app_loads.specs.{Inner.numbers_of, Inner.host_of, Inner.IsHost, Inner.mesh_in, Unloading.IsWhyNotUnloaded, Unloading.NoneWaits, Unloading.HasUnloaded, declared.answers.Ended.Ended}
-use Rattle.app_loads.specs.declared.answers.UnloadErr.{UnloadErr, TheVariants.NotLoaded, TheVariants.Waiting, TheVariants.Memory}
-use Rattle.app_loads.specs.{declared.apps.Apps.TheInside.Inside, declared.loaded.LoadedApp.LoadedApp, Applications.AreApps, Host.Host, Host.all_ranges, Host.is_loaded, Leaving.NoneUnderWay}
-use Rattle.app_loads.specs.{Leaving.others_than, Removing.CanLeave, Removing.HasLeft, Removing.IsWhyHere, Taking.AreGivenBack, Taking.frees}
-use Rattle.std.specs.{Prelude.is_some, Prelude.IfSome, Prelude.position, List.slice_get, List.Contains}
-use Rattle.std.proofs.lemmas.{List.drop-map, List.map-append, List.take-map, Bool.eqb-true, Bool.false_from_ne_true, Option.slice_get-get_or, Option.slice_get_within, Option.same_Some}
-use Rattle.spin_base.proofs.Members.{Contains-at, any_among, position_nowhere, position_there}
-use Rattle.range_store.specs.Views.{Region}
-use Rattle.mesh_core.specs.State.{State}
-use Rattle.mesh_drain.specs.Draining.{SendAlone}
+use Rattle.app_loads.proofs.Common.{AreApps, AreGivenBack, CanLeave, Contains, Contains-at, Ended, HasLeft, HasUnloaded, Host, IfSome, Inside, IsHost, IsWhyHere, IsWhyNotUnloaded, List, LoadedApp}
+use Rattle.app_loads.proofs.Common.{None, NoneUnderWay, NoneWaits, NotLoaded, Ok, OnOk, Option, Region, Result, SendAlone, Some, State, UnloadErr, Waiting, all_ranges, any_among, ap, drop, drop-map}
+use Rattle.app_loads.proofs.Common.{eqb-true, false, false_from_ne_true, frees, get_or, host_of, is_loaded, is_some, length, map-append, mesh_in, numbers_of, others_than, position, position_nowhere}
+use Rattle.app_loads.proofs.Common.{position_there, same_Some, slice_get, slice_get-get_or, slice_get_within, subst, suc, sym, take, take-map, ℕ, ◌++◌, ◌<◌, ◌==◌, ◌∙◌, ◌≡◌}
+use Rattle.app_loads.specs.declared.answers.UnloadErr.TheVariants.{Memory}
 use Rattle.app_loads.proofs.{FewClaims.few_ranges, LeftHost.apps_left, LeftHost.has_unloaded, LeftHost.loaded_one, LeftHost.none_waits, LeftHost.taken_beside, LoadedParts.IsOut, LoadedParts.host_is}
 use Rattle.app_loads.proofs.{LoadedParts.mesh_h, LoadedParts.old_is, Others.without_one, Resting.left_alone}
 

@@ -1,3 +1,4 @@
+mod Common
 pub mod Alike
 mod AppNets
 mod Bare

@@ -1,31 +1,20 @@
 -- A host to which an application came.
-use Rattle.std.proofs.Common.{◌≡◌, ◌≢◌, ℕ, zero, suc, ◌+◌, ◌<◌, ◌≤◌, ◌==◌, true, false, List, [], ◌∷◌, ◌++◌, ◌∙◌, Option, None, Some, if◌then◌else◌, length, take, refl, sym, ap, subst, inl, inr, not}
-use Rattle.std.proofs.Common.{ltb, ◌&&◌, arith, append-nil, append_assoc, get_or}
+use Rattle.app_loads.proofs.Common.{All, All-append, All-contains, All-each, All-push, All-weaker, AllPairs, AllPairs-across, AllPairs-append, AllPairs-right, Among, AppNet, AppPlan, AreApps}
+use Rattle.app_loads.proofs.Common.{AreFreeBeside, AreNetsOn, AreRuns, AreSent, AreServed, AreTaken, Chip, Contains, Contains-at, Description, Entry, Free, HasLoaded, HasRows, HaveDisjointBlocks}
+use Rattle.app_loads.proofs.Common.{HaveOtherNumbers, HaveRows, Host, IsAppNet, IsDueAlways, IsInside, IsKeyOf, IsLoadRefusal, IsLoadedOn, IsPacketOfApp, IsPlan, IsRangeWithin, IsRefusalDue}
+use Rattle.app_loads.proofs.Common.{IsRoutingTree, IsSent, IsServedApp, IsSettled, IsWhyNotLoaded, KeysOut, List, LoadErr, LoadRefusal, Loaded, LoadedApp, Mark, MayLoad, McCopy, MeetsLedgerFor}
+use Rattle.app_loads.proofs.Common.{MemoryOut, NetPlan, None, NoneUnsent, Option, Packet, Range, Refused, Region, Rows, RowsOut, ShareNoPlace, Some, Spot, State, [], all_nets, all_ranges, all_spots}
+use Rattle.app_loads.proofs.Common.{among_any, among_contains, among_left, among_right, and_parts, ap, append-nil, append_assoc, arith, asked_of, cases_eq, claims_of, cons_option, contains_among}
+use Rattle.app_loads.proofs.Common.{copy_from, enumerate_from, enumerate_more, eq-eqb, eqb-true, false, false≢true, filter_map, filter_map-append, first_copy, flat_map_more, frees, gathered_among}
+use Rattle.app_loads.proofs.Common.{get_or, if◌then◌else◌, inl, inr, is_loaded, is_spot_taken, is_taken, length, list_any, list_any-append, ltb, marks_at, marks_of, ne_eqb, nets_of, none-some, not}
+use Rattle.app_loads.proofs.Common.{option_map_or, or_parts, place_of, range_has, refl, region_size, same_Some, same_lists, slice_get, slice_get-get_or, slice_get-set_other, slice_get-set_same}
+use Rattle.app_loads.proofs.Common.{slice_get_there, slice_get_within, slice_set, spot_eq, spot_eq_same, subst, suc, sym, table_at, take, take_all, true, unsent, unsent_marks, vertex_at}
+use Rattle.app_loads.proofs.Common.{vertex_at_stands, zero, ℕ, ◌&&◌, ◌++◌, ◌+◌, ◌<◌, ◌==◌, ◌∙◌, ◌∷◌, ◌≡◌, ◌≢◌, ◌≤◌}
+use Rattle.app_loads.specs.declared.answers.LoadErr.TheVariants.{Memory}
 use Rattle.app_loads.proofs.{Holes.same_holes, Settling.settled_mesh, Settling.usable_there, Others.pairs_with_last, RegionLaws.one_free, AppNets.apps_disjoint, AppNets.different_of, AppNets.facts_at}
 use Rattle.app_loads.proofs.AppNets.{facts_of, key_of_index, own_disjoint, roots_of, sources_in, targets_in, trees_of, usable_spot}
 use Rattle.app_loads.proofs.{ClaimCases.among_flat, ClaimCases.flat_among, ClaimCases.facts, Copying.mine_at, Copying.same_part, JoinLaws.loaded_from, Ledgers.more_nets, LeavingLists.after_unsent}
 use Rattle.app_loads.proofs.{PacketLedger.asked_is, PacketLedger.none_past, PacketLedger.other_tables, PacketLedger.same_packets, PacketLedger.sent_ledger, RightRows.right_rows, Serving.none_taken}
-use Rattle.app_loads.specs.{Regions.place_of, Regions.ShareNoPlace, Regions.AreFreeBeside, Regions.range_has, Regions.is_taken, Regions.region_size, Regions.IsRangeWithin, Applications.HasRows}
-use Rattle.app_loads.specs.{Applications.AreApps, Applications.HaveOtherNumbers, Applications.HaveRows, Applications.IsLoadedOn, declared.places.Region.TheVariants.Rows}
-use Rattle.app_loads.specs.declared.answers.{LoadErr.LoadErr, LoadErr.TheVariants.Refused, LoadErr.TheVariants.Memory, LoadRefusal.LoadRefusal, LoadRefusal.TheVariants.Loaded}
-use Rattle.app_loads.specs.declared.{answers.LoadRefusal.TheVariants.MemoryOut, answers.LoadRefusal.TheVariants.KeysOut, answers.LoadRefusal.TheVariants.RowsOut, loaded.LoadedApp.LoadedApp}
-use Rattle.app_loads.specs.{declared.loaded.Range.Range, declared.plans.AppNet.AppNet, declared.plans.AppPlan.AppPlan, Claims.AreServed, Claims.claims_of, Claims.IsRefusalDue, Host.Free, Host.Host}
-use Rattle.app_loads.specs.{Host.all_nets, Host.all_ranges, Host.all_spots, Host.asked_of, Host.is_loaded, Host.is_spot_taken, Host.nets_of, Joining.AreSent, Joining.IsSent, Joining.IsServedApp}
-use Rattle.app_loads.specs.{Joining.IsSettled, Joining.NoneUnsent, Loading.HasLoaded, Loading.IsLoadRefusal, Loading.IsWhyNotLoaded, Plans.IsAppNet, Plans.IsPlan, Plans.IsPacketOfApp, Plans.MayLoad}
-use Rattle.app_loads.specs.Taking.{AreTaken, IsDueAlways, frees}
-use Rattle.range_store.specs.{Regions.AreRuns, Views.Region}
-use Rattle.machine_desc.specs.{RightTables.table_at, RightTables.IsKeyOf, Live.IsInside, Description.Description, RoutingTree.IsRoutingTree, declared.nets.NetPlan.NetPlan, NetsOn.AreNetsOn}
-use Rattle.machine_desc.specs.NetsOn.{HaveDisjointBlocks, vertex_at}
-use Rattle.spin_base.specs.{declared.chips.Chip.Chip, declared.blocks.Entry.Entry, declared.chips.Spot.Spot, declared.copies.McCopy.McCopy, declared.copies.Packet.Packet, Equality.spot_eq}
-use Rattle.std.proofs.lemmas.{Bool.cases_eq, Bool.eq-eqb, Bool.eqb-true, Bool.false≢true, Bool.and_parts, Bool.ne_eqb, Bool.or_parts, List.Elements.All-append, List.Elements.All-contains}
-use Rattle.std.proofs.lemmas.{List.Elements.All-weaker, List.Elements.filter_map-append, List.Elements.All-push, List.Folds.list_any-append, Option.slice_get_within, Option.same_Some}
-use Rattle.std.proofs.lemmas.{Option.none-some, Option.slice_get-get_or, List.flat_map_more, List.take_all, List.same_lists}
-use Rattle.std.specs.{Option.option_map_or, List.list_any, List.slice_get, List.slice_set, List.All, List.AllPairs, List.Contains, List.filter_map, List.enumerate_from, List.cons_option}
-use Rattle.spin_base.proofs.{Members.Among, Members.Contains-at, Members.among_any, Members.among_left, Members.among_right, Members.among_contains, Members.contains_among, Pairs.AllPairs-append}
-use Rattle.spin_base.proofs.{Pairs.AllPairs-right, Pairs.AllPairs-across, Places.All-each, Places.enumerate_more, Places.slice_get_there, Places.slice_get-set_same, Places.slice_get-set_other}
-use Rattle.spin_base.proofs.{Equality.spot_eq_same, Gathering.gathered_among}
-use Rattle.mesh_core.specs.{State.State, Trail.Mark, Trail.unsent, Ledger.MeetsLedgerFor, Ledger.marks_of, Ledger.marks_at, Ledger.unsent_marks, Opened.copy_from, Opened.first_copy}
-use Rattle.mesh_core.proofs.Ways.{vertex_at_stands}
 
 -- regions with the same free places are the same
 pub same_frees : (m : Description) (taken : List Range) (xs ys : List Free) → AreFreeBeside m taken xs → AreFreeBeside m taken ys → xs ≡ ys

@@ -1,15 +1,8 @@
 -- The fields of a host to which an application came, or came not.
-use Rattle.std.proofs.Common.{arith, ◌≡◌, ℕ, ◌+◌, ◌^◌, ◌<◌, true, false, List, [], ◌∷◌, ◌++◌, length, refl, sym, ap, ◌∙◌, subst, inl, Option, None, Some, Result, Ok, Err, OnOk, OnErr}
-use Rattle.std.proofs.lemmas.List.{map-append, Elements.All-contains}
-use Rattle.std.specs.{Prelude.IfSome, Prelude.is_err, Prelude.is_some, List.Contains}
-use Rattle.spin_base.proofs.Members.{among_contains, among_right}
-use Rattle.range_store.specs.Views.{Region}
-use Rattle.mesh_core.specs.State.{State}
-use Rattle.mesh_drain.specs.Draining.{SendAlone}
-use Rattle.app_loads.specs.{declared.answers.LoadErr.LoadErr, declared.apps.Apps.TheInside.Inside, declared.loaded.LoadedApp.LoadedApp, declared.plans.AppPlan.AppPlan, Applications.AreApps}
-use Rattle.app_loads.specs.{Applications.IsLoadedOn, Claims.claims_of, Host.Free, Host.Host, Host.all_ranges, Host.is_loaded, Inner.host_of, Inner.IsHost, Inner.mesh_in, Inner.numbers_of}
-use Rattle.app_loads.specs.{Joining.CanJoin, Joining.IsServedApp, Joining.IsSettled, Loading.HasLoaded, Loading.IsWhyNotLoaded, Plans.MayLoad, Regions.AreFreeBeside, Taking.AreFreeAgain}
-use Rattle.app_loads.specs.{Taking.IsDueAlways, Taking.frees, Sending.AreWithSources}
+use Rattle.app_loads.proofs.Common.{All-contains, AppPlan, AreApps, AreFreeAgain, AreFreeBeside, AreWithSources, CanJoin, Contains, Err, Free, HasLoaded, Host, IfSome, Inside, IsDueAlways, IsHost}
+use Rattle.app_loads.proofs.Common.{IsLoadedOn, IsServedApp, IsSettled, IsWhyNotLoaded, List, LoadErr, LoadedApp, MayLoad, None, Ok, OnErr, OnOk, Option, Region, Result, SendAlone, Some, State, []}
+use Rattle.app_loads.proofs.Common.{all_ranges, among_contains, among_right, ap, arith, claims_of, false, frees, host_of, inl, is_err, is_loaded, is_some, length, map-append, mesh_in, numbers_of}
+use Rattle.app_loads.proofs.Common.{refl, subst, sym, true, ℕ, ◌++◌, ◌+◌, ◌<◌, ◌^◌, ◌∙◌, ◌∷◌, ◌≡◌}
 use Rattle.app_loads.proofs.{LoadedHost.apps_now, LoadedHost.loaded_host, LoadedHost.none_unsent, LoadedHost.same_frees, LoadedHost.why_not, Resting.with_alone}
 
 one_host : (a b : State) (r s : List Free) (p q : List LoadedApp) (n k : ℕ) → a ≡ b → r ≡ s → p ≡ q → n ≡ k →

@@ -1,12 +1,6 @@
 -- Keys of one block of an application are alike: each table gives all of them the same.
-use Rattle.std.proofs.Common.{◌≡◌, ℕ, List, length, refl, sym, subst, arith, Some}
-use Rattle.std.proofs.lemmas.{List.Elements.All-contains, Option.slice_get_within}
-use Rattle.std.specs.List.{slice_get, Contains}
-use Rattle.spin_base.proofs.{Members.Contains-at, Members.among_contains, Members.contains_among, Places.slice_get_there}
-use Rattle.spin_base.specs.declared.blocks.Block.{Block}
-use Rattle.machine_desc.specs.{declared.nets.NetPlan.NetPlan, RightTables.IsKeyOf}
-use Rattle.app_loads.specs.{declared.loaded.LoadedApp.LoadedApp, declared.plans.AppNet.AppNet, Applications.AreApps, Applications.IsLoadedOn, Host.Host, Host.all_nets, Host.net_with, Host.nets_of}
-use Rattle.app_loads.specs.{Host.nets_with, Running.AreAlikeInBlocks}
+use Rattle.app_loads.proofs.Common.{All-contains, AppNet, AreAlikeInBlocks, AreApps, Block, Contains, Contains-at, Host, IsKeyOf, IsLoadedOn, List, LoadedApp, NetPlan, Some, all_nets, among_contains}
+use Rattle.app_loads.proofs.Common.{arith, contains_among, length, net_with, nets_of, nets_with, refl, slice_get, slice_get_there, slice_get_within, subst, sym, ℕ, ◌≡◌}
 use Rattle.app_loads.proofs.{AppNets.member_at, ClaimCases.flat_among, RightRows.alike, Unsent.nets_with_at}
 
 -- the net that has a block

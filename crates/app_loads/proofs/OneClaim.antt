@@ -1,16 +1,8 @@
 -- Each net of a plan has one claim of keys, and so one block.
-use Rattle.std.proofs.Common.{◌≡◌, ℕ, zero, suc, ◌+◌, ◌<◌, ◌≤◌, ◌==◌, Bool, true, false, List, [], ◌∷◌, ◌++◌, refl, sym, ap, ◌∙◌, arith, Option, Some, None, count_by, if◌then◌else◌}
-use Rattle.std.proofs.lemmas.{Bool.eq-eqb, Bool.eqb-true, Bool.ne_eqb, Option.same_Some}
-use Rattle.std.specs.{Prelude.zip, List.flat_map, List.range_with_len, List.slice_get}
-use Rattle.spin_base.specs.{Gathered.gathered, declared.blocks.Block.Block}
-use Rattle.spin_base.proofs.{Counts.count_by-append, Counts.count_by-cons, Members.among_at}
-use Rattle.machine_desc.specs.{Description.Description, Live.chip_of}
-use Rattle.tern_word.proofs.BlockLaws.{same_block}
-use Rattle.key_alloc.specs.KeyBlocks.{size_of}
-use Rattle.mesh_core.proofs.Counting.{count_some, counts_one}
-use Rattle.app_loads.specs.declared.{answers.LoadRefusal.LoadRefusal, loaded.Claim.Claim, loaded.Range.Range, plans.AppNet.AppNet, plans.AppPlan.AppPlan}
-use Rattle.app_loads.specs.Claims.{claims_of, fixed_claim, has_chip, IsBlockOf, key_claim, memory_claim, row_claim, size_for}
-use Rattle.app_loads.specs.{declared.places.Region.TheVariants.Keys, declared.places.Region.TheVariants.Memory, declared.places.Region.TheVariants.Rows, Regions.chip_count}
+use Rattle.app_loads.proofs.Common.{AppNet, AppPlan, Block, Bool, Claim, Description, IsBlockOf, Keys, List, LoadRefusal, Memory, None, Option, Range, Rows, Some, [], among_at, ap, arith, chip_count}
+use Rattle.app_loads.proofs.Common.{chip_of, claims_of, count_by, count_by-append, count_by-cons, count_some, counts_one, eq-eqb, eqb-true, false, fixed_claim, flat_map, gathered, has_chip}
+use Rattle.app_loads.proofs.Common.{if◌then◌else◌, key_claim, memory_claim, ne_eqb, range_with_len, refl, row_claim, same_Some, same_block, size_for, size_of, slice_get, suc, sym, true, zero, zip, ℕ}
+use Rattle.app_loads.proofs.Common.{◌++◌, ◌+◌, ◌<◌, ◌==◌, ◌∙◌, ◌∷◌, ◌≡◌, ◌≤◌}
 use Rattle.app_loads.specs.declared.answers.LoadRefusal.TheVariants as refusals
 
 -- whether a claim is for the keys of a net

@@ -1,11 +1,8 @@
 -- Lists of an application's items beside those of all others.
-use Rattle.std.proofs.Common.{◌≡◌, ◌≢◌, ℕ, zero, suc, ◌==◌, Bool, true, false, not, List, [], ◌∷◌, ◌++◌, take, drop, sym, ap, ◌∙◌, refl, subst, inl, inr, ◌⊎◌, arith, Some, get_or}
-use Rattle.std.proofs.lemmas.{Bool.cases_Bool, Bool.cond_both, Bool.cond-true, Bool.cond-false, Bool.eq-eqb, Bool.eqb-true, Bool.false≢true, Bool.ne_eqb, List.Elements.All-contains}
-use Rattle.std.proofs.lemmas.{List.Elements.All-weaker, Option.same_Some, Option.slice_get-get_or, List.Quantifiers.all_pairs_push}
-use Rattle.std.specs.List.{slice_get, All, AllPairs, Contains, filter, flat_map}
-use Rattle.spin_base.proofs.Members.{Among, among_at, among_contains, among_filter, contains_among, Contains-filter, Contains-from_filter, Contains-at}
-use Rattle.spin_base.proofs.{Pairs.AllPairs-append, Pairs.AllPairs-left, Pairs.AllPairs-right, Pairs.AllPairs-across, Pairs.AllPairs-head, Pairs.AllPairs-tail, Places.All-each}
-use Rattle.app_loads.specs.{declared.loaded.LoadedApp.LoadedApp, Leaving.others_than}
+use Rattle.app_loads.proofs.Common.{All, All-contains, All-each, All-weaker, AllPairs, AllPairs-across, AllPairs-append, AllPairs-head, AllPairs-left, AllPairs-right, AllPairs-tail, Among, Bool}
+use Rattle.app_loads.proofs.Common.{Contains, Contains-at, Contains-filter, Contains-from_filter, List, LoadedApp, Some, [], all_pairs_push, among_at, among_contains, among_filter, ap, arith}
+use Rattle.app_loads.proofs.Common.{cases_Bool, cond-false, cond-true, cond_both, contains_among, drop, eq-eqb, eqb-true, false, false≢true, filter, flat_map, get_or, inl, inr, ne_eqb, not}
+use Rattle.app_loads.proofs.Common.{others_than, refl, same_Some, slice_get, slice_get-get_or, subst, suc, sym, take, true, zero, ℕ, ◌++◌, ◌==◌, ◌∙◌, ◌∷◌, ◌≡◌, ◌≢◌, ◌⊎◌}
 use Rattle.app_loads.proofs.{ClaimCases.among_flat, ClaimCases.flat_among, LeavingLists.either_pair}
 
 pub same_tests : (a b : Bool) → (a ≡ true → b ≡ true) → (b ≡ true → a ≡ true) → a ≡ b

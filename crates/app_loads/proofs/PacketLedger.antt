@@ -1,14 +1,8 @@
 -- The ledger of a mesh to which an application's packets came.
-use Rattle.std.proofs.Common.{◌≡◌, ◌≢◌, ℕ, zero, suc, ◌+◌, ◌-◌, ◌<◌, ◌≤◌, ◌==◌, List, [], ◌∷◌, ◌++◌, length, refl, sym, ap, ◌∙◌, subst, inl, inr, arith, Option, None, Some, if◌then◌else◌}
-use Rattle.std.proofs.lemmas.{Bool.cases_eq, Bool.cases_lt, Bool.eq-eqb, Bool.le-leb, Bool.lt-leb, Bool.ne_eqb, List.length-map, List.Elements.All-head, List.Elements.All-tail}
-use Rattle.std.proofs.lemmas.Option.{slice_get_within, slice_get_past, get_or_from_slice_get}
-use Rattle.std.specs.List.{slice_get, slice_set, All, Contains}
-use Rattle.spin_base.specs.declared.{blocks.Entry.Entry, chips.Spot.Spot, copies.McCopy.McCopy, copies.Packet.Packet}
-use Rattle.machine_desc.specs.{Description.Description, RoutingTree.IsRoutingTree, declared.nets.NetPlan.NetPlan, RightTables.IsKeyOf}
-use Rattle.machine_desc.proofs.Branches.{link_on_branch}
-use Rattle.mesh_core.specs.{State.State, Ledger.Asked, Ledger.MeetsLedgerFor, Opened.asked_by, Opened.label_in}
-use Rattle.mesh_core.proofs.AskedPackets.{asked_from}
-use Rattle.app_loads.specs.{declared.loaded.LoadedApp.LoadedApp, Host.asked_of, Host.asked_of_app, Host.either, Host.nets_of, Joining.AreSent}
+use Rattle.app_loads.proofs.Common.{All, All-head, All-tail, AreSent, Asked, Contains, Description, Entry, IsKeyOf, IsRoutingTree, List, LoadedApp, McCopy, MeetsLedgerFor, NetPlan, None, Option}
+use Rattle.app_loads.proofs.Common.{Packet, Some, Spot, State, [], ap, arith, asked_by, asked_from, asked_of, asked_of_app, cases_eq, cases_lt, either, eq-eqb, get_or_from_slice_get, if◌then◌else◌}
+use Rattle.app_loads.proofs.Common.{inl, inr, label_in, le-leb, length, length-map, link_on_branch, lt-leb, ne_eqb, nets_of, refl, slice_get, slice_get_past, slice_get_within, slice_set, subst, suc}
+use Rattle.app_loads.proofs.Common.{sym, zero, ℕ, ◌++◌, ◌+◌, ◌-◌, ◌<◌, ◌==◌, ◌∙◌, ◌∷◌, ◌≡◌, ◌≢◌, ◌≤◌}
 use Rattle.app_loads.proofs.Ledgers.{one_packet_more}
 
 -- a routing tree has a target

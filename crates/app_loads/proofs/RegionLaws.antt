@@ -1,8 +1,7 @@
 -- What serving a claim in its region answers, from what the region's calls promise.
-use Rattle.std.proofs.Common.{◌≡◌, ℕ, ◌%◌, ◌<◌, true, false, not, ◌&&◌, List, refl, sym, subst, Option, None, Some, IfSome, IfNone, Result, Ok, Err, IfOk}
+use Rattle.app_loads.proofs.Common.{AreRuns, Claim, Err, Free, HasNoFit, Hole, IfNone, IfOk, IfSome, IsFirstFit, IsFreeBeside, List, None, Ok, Option, RefusesClaim, Region, Result, ServesClaim, Some}
+use Rattle.app_loads.proofs.Common.{false, free_places_in, in_range, is_free, is_hole_range, not, place_of, refl, subst, sym, true, ℕ, ◌%◌, ◌&&◌, ◌<◌, ◌≡◌}
 use Rattle.spin_base.specs.declared.wants.Memory.{Memory}
-use Rattle.range_store.specs.{declared.holes.Hole.Hole, Views.Region, Regions.AreRuns, Regions.IsFirstFit, Regions.HasNoFit, Regions.is_hole_range, Regions.is_free, Regions.in_range}
-use Rattle.app_loads.specs.{declared.loaded.Claim.Claim, Host.Free, Regions.IsFreeBeside, Regions.place_of, Taking.free_places_in, Taking.ServesClaim, Taking.RefusesClaim}
 use Rattle.app_loads.proofs.Taking.{taken_more, least_from_fit, refused_from_fit, least_from_fixed, refused_from_fixed}
 
 module _ (claim : Claim) (before after : Region) (some : 0 < claim.size) (size : after.size ≡ before.size) (runs : AreRuns 0 after.size after.holes) where

@@ -1,18 +1,8 @@
 -- Which vertices may have packets unsent, where no copy waits.
-use Rattle.std.proofs.Common.{◌≡◌, ℕ, zero, suc, ◌<◌, List, [], ◌∷◌, ◌++◌, length, refl, sym, ap, ◌∙◌, subst, inl, inr, arith, Option, None, Some}
-use Rattle.std.proofs.lemmas.{Bool.cases_eq, List.Elements.All-append, List.Elements.All-nil, Option.slice_get_within}
-use Rattle.std.specs.{Prelude.IfSome, List.slice_get, List.flat_map, List.All, List.Contains, Option.option_to_list}
-use Rattle.spin_base.proofs.{Members.Among, Members.Contains-at, Members.among_at, Members.among_contains, Members.among_left, Members.among_right, Members.contains_among, Places.All-at}
-use Rattle.spin_base.proofs.Places.{All-each, slice_get-set_other}
-use Rattle.spin_base.specs.declared.{blocks.Entry.Entry, chips.Spot.Spot, copies.McCopy.McCopy, routes.Out.TheVariants.Core}
-use Rattle.machine_desc.specs.{Description.Description, declared.nets.NetPlan.NetPlan, NetsOn.vertex_at}
-use Rattle.machine_desc.proofs.Sites.{usable_parts}
-use Rattle.mesh_core.specs.{State.State, State.vertex_behind, Expected.IsAtRest, Expected.NothingWaits}
-use Rattle.mesh_core.proofs.ServingLaws.{vertex_behind-core}
-use Rattle.mesh_drain.specs.Draining.{SendAlone}
-use Rattle.mesh_drain.proofs.Senders.{Unsent}
-use Rattle.app_loads.specs.{declared.loaded.LoadedApp.LoadedApp, declared.plans.AppNet.AppNet, Applications.IsLoadedOn, Host.nets_of, Joining.AreSent, Joining.IsSettled, Leaving.mesh_without}
-use Rattle.app_loads.specs.Sending.{AreWithSources, source_vertex}
+use Rattle.app_loads.proofs.Common.{All, All-append, All-at, All-each, All-nil, Among, AppNet, AreSent, AreWithSources, Contains, Contains-at, Core, Description, Entry, IfSome, IsAtRest, IsLoadedOn}
+use Rattle.app_loads.proofs.Common.{IsSettled, List, LoadedApp, McCopy, NetPlan, None, NothingWaits, Option, SendAlone, Some, Spot, State, Unsent, [], among_at, among_contains, among_left}
+use Rattle.app_loads.proofs.Common.{among_right, ap, arith, cases_eq, contains_among, flat_map, inl, inr, length, mesh_without, nets_of, option_to_list, refl, slice_get, slice_get-set_other}
+use Rattle.app_loads.proofs.Common.{slice_get_within, source_vertex, subst, suc, sym, usable_parts, vertex_at, vertex_behind, vertex_behind-core, zero, ℕ, ◌++◌, ◌<◌, ◌∙◌, ◌∷◌, ◌≡◌}
 use Rattle.app_loads.proofs.{AppNets.facts_of, AppNets.usable_spot, ClaimCases.among_flat, ClaimCases.flat_among}
 
 -- ---- after a load
@@ -29,11 +19,6 @@ sent_by_sources spots app vertices sources (suc n) before after sent own v k res
           sent_by_sources spots app vertices sources n before sent.0 sent.2 own v k rest
           (sym (slice_get-set_other sent.0 one.vertex v _ other) ∙ (ap (λ l. slice_get l v) (sym one.is) ∙ at))
     ]
-
-in_option : (o : Option ℕ) (v : ℕ) → Among v (option_to_list o) → o ≡ Some v
-in_option None v a = absurd a
-in_option (Some w) v (inl is) = ap Some (sym is)
-in_option (Some w) v (inr none) = absurd none
 
 option_in : (o : Option ℕ) (v : ℕ) → o ≡ Some v → Among v (option_to_list o)
 option_in o v is = subst (λ (r : Option ℕ). Among v (option_to_list r)) (sym is) (inl refl)

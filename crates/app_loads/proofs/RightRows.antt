@@ -1,25 +1,13 @@
 -- Tables with the plain rows of all applications are right for their nets, and give all keys of a net's block the same.
-use Rattle.std.proofs.Common.{◌≡◌, ℕ, zero, suc, ◌+◌, ◌-◌, ◌<◌, ◌≤◌, ◌==◌, leb, ltb, cond, bit_and, Bool, true, false, List, [], ◌∷◌, map, take, drop, get_or, length, ◌*◌, refl, sym, ap, ◌∙◌, subst}
-use Rattle.std.proofs.Common.{inl, inr, arith, Some, count_by, find}
-use Rattle.std.proofs.lemmas.{Bool.cases_Bool, Bool.eqb-true, Bool.eq-eqb, Bool.and_parts, Bool.false≢true, Bool.ltb-true, Bool.leb-true, List.Elements.All-contains, List.Elements.All-from_get_or}
-use Rattle.std.proofs.lemmas.{List.Sorted.IsPermutation-sym, List.Sorted.Contains-permutation, Option.slice_get-get_or, Option.same_Some}
-use Rattle.std.specs.{Int.Bits.and_zero_r, Option.option_map_or, List.slice_get, List.All, List.Contains}
-use Rattle.mesh_core.proofs.{Counting.count_some, Moves.chip_of-index_of, LedgerLaw.one_net}
-use Rattle.spin_base.proofs.Members.{Contains-at, Contains-none, Contains-first, Contains-later, Contains-cases, Contains-map, Contains-unmap, among_contains, contains_among}
-use Rattle.spin_base.proofs.Places.{All-each, AllZip-at_first, slice_get-mapped, unmapped}
-use Rattle.spin_base.specs.declared.{blocks.Block.Block, blocks.Entry.Entry, chips.Chip.Chip, chips.Port.Port, routes.Out.Out, routes.Route.Route}
-use Rattle.spin_base.specs.{Lookup.lookup, Lookup.matches, Lookup.default_route, Outputs.has, Outputs.IsOutput}
-use Rattle.machine_desc.specs.{Description.Description, Live.index_of, Live.chip_of, Live.IsInside, RoutingTree.IsRoutingTree, declared.nets.NetPlan.NetPlan, NetsOn.HaveDisjointBlocks}
-use Rattle.machine_desc.specs.{Outputs.is_wanted, RightTables.IsKeyOf, RightTables.AreRight, RightTables.RoutesByTree, RightTables.table_at}
-use Rattle.machine_desc.proofs.{Far.index_below, Live.chip_of-inside, Live.index_of-chip_of}
-use Rattle.range_store.specs.Regions.{in_range}
-use Rattle.tcam_find.specs.Memory.{unused}
-use Rattle.tern_word.specs.{declared.tables.Row.Row, Entries.entry_of, SoundTable.Original}
-use Rattle.net_tables.specs.PlainTable.{HasChip, IsOriginalOf, IsPlainTable, row_of}
-use Rattle.net_tables.proofs.{Trees.chips_inside, Trees.comes_in_tree, Whole.has_original, Whole.from_net}
-use Rattle.app_loads.specs.{declared.loaded.LoadedApp.LoadedApp, declared.loaded.Range.Range, Applications.HasRows, Applications.HaveRows, Applications.IsLoadedOn, Applications.IsRangeFor}
-use Rattle.app_loads.specs.{Claims.claims_of, Claims.has_chip, Host.all_nets, Host.all_ranges, Host.nets_of, declared.places.Region.TheVariants.Rows, Regions.range_has, Regions.is_taken}
-use Rattle.app_loads.specs.Regions.{place_of}
+use Rattle.app_loads.proofs.Common.{All, All-contains, All-each, All-from_get_or, AllZip-at_first, AreRight, Block, Bool, Chip, Contains, Contains-at, Contains-cases, Contains-first, Contains-later}
+use Rattle.app_loads.proofs.Common.{Contains-map, Contains-none, Contains-permutation, Contains-unmap, Description, Entry, HasChip, HasRows, HaveDisjointBlocks, HaveRows, IsInside, IsKeyOf}
+use Rattle.app_loads.proofs.Common.{IsLoadedOn, IsOriginalOf, IsOutput, IsPermutation-sym, IsPlainTable, IsRangeFor, IsRoutingTree, List, LoadedApp, NetPlan, Original, Out, Port, Range, Route}
+use Rattle.app_loads.proofs.Common.{RoutesByTree, Row, Rows, Some, [], all_nets, all_ranges, among_contains, and_parts, and_zero_r, ap, arith, bit_and, cases_Bool, chip_of, chip_of-index_of}
+use Rattle.app_loads.proofs.Common.{chip_of-inside, chips_inside, claims_of, comes_in_tree, cond, contains_among, count_by, count_some, default_route, drop, entry_of, eq-eqb, eqb-true, false}
+use Rattle.app_loads.proofs.Common.{false≢true, find, from_net, get_or, has, has_chip, has_original, in_range, index_below, index_of, index_of-chip_of, inl, inr, is_taken, is_wanted, leb, leb-true}
+use Rattle.app_loads.proofs.Common.{length, ltb, ltb-true, map, matches, nets_of, one_net, option_map_or, place_of, range_has, refl, row_of, same_Some, slice_get, slice_get-get_or, slice_get-mapped}
+use Rattle.app_loads.proofs.Common.{subst, suc, sym, table_at, take, true, unmapped, unused, zero, ℕ, ◌*◌, ◌+◌, ◌-◌, ◌<◌, ◌==◌, ◌∙◌, ◌∷◌, ◌≡◌, ◌≤◌}
+use Rattle.spin_base.specs.Lookup.{lookup}
 use Rattle.app_loads.proofs.{AppNets.facts_of, AppNets.member_at, AppNets.spot_inside, ClaimCases.among_flat, ClaimCases.flat_among, ClaimCases.chip_claim, Serving.by_taken, Settling.has_chip-true}
 
 -- ---- lookup in a table where all that match agree

@@ -1,10 +1,6 @@
 -- Room made in regions for ranges that are to be given back.
-use Rattle.std.proofs.Common.{◌≡◌, ◌≢◌, ℕ, ◌+◌, ◌<◌, ◌≤◌, List, [], ◌∷◌, ◌++◌, take, get_or, length, sym, ap, ◌∙◌, inl, inr, arith, Some}
-use Rattle.std.proofs.lemmas.{Option.slice_get-get_or, List.length-take, List.map-set, List.Sums.count_by-le-length}
-use Rattle.std.specs.List.{slice_get, slice_set, All}
-use Rattle.spin_base.proofs.Places.{slice_get-mapped, set-slice_get, take_more_at}
-use Rattle.range_store.specs.Views.{Region}
-use Rattle.app_loads.specs.{declared.loaded.Range.Range, Taking.free_places_in, Taking.frees, Taking.HaveRoom}
+use Rattle.app_loads.proofs.Common.{All, HaveRoom, List, Range, Region, Some, [], ap, arith, count_by-le-length, free_places_in, frees, get_or, inl, inr, length, length-take, map-set, set-slice_get}
+use Rattle.app_loads.proofs.Common.{slice_get, slice_get-get_or, slice_get-mapped, slice_set, sym, take, take_more_at, ℕ, ◌++◌, ◌+◌, ◌<◌, ◌∙◌, ◌∷◌, ◌≡◌, ◌≢◌, ◌≤◌}
 use Rattle.app_loads.proofs.{Serving.counted_push, Serving.more_here, Serving.none_elsewhere, Serving.of_region, Serving.set_cases, RegionLaws.one_free}
 
 module _ (ranges : List Range) {i : ℕ} (d : Range) (below : i < length ranges) where

@@ -1,11 +1,7 @@
 -- Room for the rows of an application.
-use Rattle.std.proofs.Common.{◌≡◌, ℕ, ◌+◌, zero, suc, List, [], ◌∷◌, ◌++◌, length, drop, ap, arith, Some}
-use Rattle.std.specs.List.{slice_get}
-use Rattle.std.proofs.lemmas.{List.length_push, Option.same_Some, Option.slice_get_within}
-use Rattle.machine_desc.specs.Description.{Description}
-use Rattle.spin_base.proofs.Places.{slice_get-push_cases}
-use Rattle.spin_base.specs.declared.chips.Chip.{Chip}
-use Rattle.app_loads.specs.{declared.loaded.Range.Range, declared.places.Region.Region, declared.places.Region.TheVariants.Rows, Regions.IsRegion, Regions.place_of, Writing.HasRoom}
+use Rattle.app_loads.proofs.Common.{Chip, Description, HasRoom, IsRegion, List, Range, Rows, Some, [], ap, arith, drop, length, length_push, place_of, same_Some, slice_get, slice_get-push_cases}
+use Rattle.app_loads.proofs.Common.{slice_get_within, suc, zero, ℕ, ◌++◌, ◌+◌, ◌∷◌, ◌≡◌}
+use Rattle.app_loads.specs.declared.places.Region.{Region}
 use Rattle.app_loads.proofs.Copying.{place_of_no_rows}
 
 -- a range of no entries needs none

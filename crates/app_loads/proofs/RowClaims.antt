@@ -1,17 +1,12 @@
 -- How many entries nets need of a chip, counted in the list of the chips of their trees.
-use Rattle.std.proofs.Common.{◌≡◌, ◌≢◌, ℕ, zero, suc, ◌+◌, ◌-◌, ◌*◌, ◌<◌, ◌≤◌, Bool, true, false, ◌||◌, ◌==◌, List, [], ◌∷◌, ◌++◌, ◌∙◌, Option, None, Some, Result, Ok, Err, get_or, length, refl, sym}
-use Rattle.std.proofs.Common.{ap, inl, inr, arith, OnOk, append_assoc, append-nil, count_by, take}
-use Rattle.std.proofs.lemmas.{Bool.cases_eq, Bool.cases_lt, Bool.eq-eqb, Bool.false_from_ne_true, Bool.ne_eqb, Grind.flat_map-append, List.Elements.All-nil, List.Elements.All-cons}
-use Rattle.std.proofs.lemmas.List.{Elements.All-contains, Elements.All-head, Elements.All-tail, Elements.All-weaker, Sorted.All-permutation, Sorted.sum_by-IsPermutation, Sums.sum_by-cons}
-use Rattle.std.proofs.lemmas.{Option.slice_get_within, Option.get_or_from_slice_get, List.flat_map_more}
-use Rattle.std.specs.{List.list_any, List.slice_get, List.All, List.AllPairs, List.flat_map, List.range_with_len, List.sum_by, List.Sorted.IsPermutation, Option.option_map_or}
-use Rattle.spin_base.proofs.{Equality.chip_eq_true, Counts.count_by-append, Counts.count_by-cons, Pairs.All-flat_map, Pairs.AllPairs-head, Pairs.AllPairs-tail, Members.any_among}
-use Rattle.spin_base.proofs.{Members.among_contains, Places.All-at, Places.slice_get_there, Places.take_more_at}
-use Rattle.spin_base.specs.{declared.chips.Chip.Chip, Equality.chip_eq, declared.wants.Memory.Memory}
-use Rattle.machine_desc.specs.{declared.trees.Edge.Edge, Description.Description, Live.index_of, Live.chip_of, Live.IsInside, RoutingTree.end_of}
-use Rattle.machine_desc.proofs.{Far.far_inside, Far.index_below, Far.same_index, Far.live_ends, Far.live_inside, Live.index_of-chip_of, Live.chip_of-inside, Same.chip_eq-from_same}
-use Rattle.app_loads.specs.{declared.loaded.Claim.Claim, declared.plans.AppNet.AppNet, Regions.chip_count, Claims.has_chip, Claims.entries_claim, Claims.row_claim, Counting.HasTree}
-use Rattle.app_loads.specs.Counting.{HasTreeInside, IsRunEnd, chip_places, end_places, tree_places, run_claim}
+use Rattle.app_loads.proofs.Common.{All, All-at, All-cons, All-contains, All-flat_map, All-head, All-nil, All-permutation, All-tail, All-weaker, AllPairs, AllPairs-head, AllPairs-tail, AppNet, Bool}
+use Rattle.app_loads.proofs.Common.{Chip, Claim, Description, Edge, Err, HasTree, HasTreeInside, IsInside, IsPermutation, IsRunEnd, List, None, Ok, OnOk, Option, Result, Some, [], among_contains}
+use Rattle.app_loads.proofs.Common.{any_among, ap, append-nil, append_assoc, arith, cases_eq, cases_lt, chip_count, chip_eq, chip_eq-from_same, chip_eq_true, chip_of, chip_of-inside, chip_places}
+use Rattle.app_loads.proofs.Common.{count_by, count_by-append, count_by-cons, end_of, end_places, entries_claim, eq-eqb, false, false_from_ne_true, far_inside, flat_map, flat_map-append}
+use Rattle.app_loads.proofs.Common.{flat_map_more, get_or, get_or_from_slice_get, has_chip, index_below, index_of, index_of-chip_of, inl, inr, length, list_any, live_ends, live_inside, ne_eqb}
+use Rattle.app_loads.proofs.Common.{option_map_or, range_with_len, refl, row_claim, run_claim, same_index, slice_get, slice_get_there, slice_get_within, suc, sum_by, sum_by-IsPermutation, sum_by-cons}
+use Rattle.app_loads.proofs.Common.{sym, take, take_more_at, tree_places, true, zero, ℕ, ◌*◌, ◌++◌, ◌+◌, ◌-◌, ◌<◌, ◌==◌, ◌||◌, ◌∙◌, ◌∷◌, ◌≡◌, ◌≢◌, ◌≤◌}
+use Rattle.spin_base.specs.declared.wants.Memory.{Memory}
 use Rattle.app_loads.proofs.LeavingLists.{one_if}
 
 -- of two tests at most one of which holds

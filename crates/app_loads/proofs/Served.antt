@@ -1,12 +1,7 @@
 -- What the claims of a plan ask for can be served, and what follows where they are.
-use Rattle.std.proofs.Common.{◌≡◌, ◌+◌, ◌%◌, ◌^◌, ◌≤◌, List, length, sym, ap, ◌∙◌, subst, arith, Some}
-use Rattle.std.proofs.{Math.Pow.pow_mono, lemmas.Nat.pow_pos, lemmas.List.length-map, lemmas.Option.slice_get_within, lemmas.Option.slice_get-get_or}
-use Rattle.std.specs.List.{slice_get, All, Contains}
-use Rattle.spin_base.proofs.{Members.Contains-at, Places.All-each}
-use Rattle.machine_desc.specs.Description.{Description}
-use Rattle.range_store.specs.Views.{Region}
-use Rattle.app_loads.specs.{declared.loaded.Claim.Claim, declared.loaded.Range.Range, declared.plans.AppPlan.AppPlan, Claims.AreServed, Claims.claims_of, Joining.AreKeyed, Plans.IsPlan}
-use Rattle.app_loads.specs.{Regions.chip_count, Regions.place_of, Regions.region_size, Taking.AreRegionsOf, Taking.CanServe, Taking.IsFair, Taking.free_places_in}
+use Rattle.app_loads.proofs.Common.{All, All-each, AppPlan, AreKeyed, AreRegionsOf, AreServed, CanServe, Claim, Contains, Contains-at, Description, IsFair, IsPlan, List, Range, Region, Some, ap}
+use Rattle.app_loads.proofs.Common.{arith, chip_count, claims_of, free_places_in, length, length-map, place_of, pow_mono, pow_pos, region_size, slice_get, slice_get-get_or, slice_get_within, subst}
+use Rattle.app_loads.proofs.Common.{sym, ◌%◌, ◌+◌, ◌^◌, ◌∙◌, ◌≡◌, ◌≤◌}
 use Rattle.app_loads.proofs.ClaimCases.{facts, net_claim}
 
 pub can_serve : (m : Description) (plan : AppPlan) (regions : List Region) (claims : List Claim) → IsPlan m plan → AreRegionsOf m regions → claims ≡ claims_of m plan → CanServe m claims regions

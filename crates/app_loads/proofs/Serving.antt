@@ -1,22 +1,14 @@
 -- Ranges taken one after the other for claims, and given back.
-use Rattle.std.proofs.Common.{◌≡◌, ◌≢◌, ℕ, ◌+◌, ◌%◌, ◌<◌, ◌≤◌, zero, suc, true, false, ◌&&◌, ◌||◌, ◌⊎◌, ◌==◌, List, [], ◌∷◌, ◌++◌, ◌∙◌, Option, None, Some, not, ltb, take, drop, get_or, length, refl}
-use Rattle.std.proofs.Common.{sym, ap, subst, inl, inr, arith, IfSome, append_assoc, append-nil, count_by, replicate}
-use Rattle.std.proofs.lemmas.Bool.{cases_Bool, cases_eq, eqb-true, eq-eqb, and_parts, and_from, false_from_ne_true, lt-ltb, ne_eqb, and_right, or_right}
-use Rattle.std.proofs.lemmas.List.{length-set, length_push, take_at, take-append-le, map-set, drop_all, drop_more, Elements.All-nil, Elements.All-cons, Elements.All-head, Elements.All-tail}
-use Rattle.std.proofs.lemmas.{List.Elements.All-append, List.Elements.All-contains, List.Folds.list_any-append, List.Sums.count_by-le-length, Option.slice_get_within, Option.slice_get-get_or}
-use Rattle.std.proofs.{lemmas.Option.same_Some, lemmas.Option.none-some, Math.Bool.or-false}
-use Rattle.std.specs.List.{slice_get, slice_set, All, AllPairs, Contains}
-use Rattle.key_alloc.proofs.Ranges.{in_facts}
-use Rattle.spin_base.proofs.{Counts.count_by-append, Counts.count_by-cons, Pairs.AllPairs-left, Pairs.AllPairs-right, Pairs.AllPairs-across, Pairs.AllPairs-append, Pairs.AllPairs-head}
-use Rattle.spin_base.proofs.{Pairs.AllPairs-tail, Places.All-each, Places.slice_get-mapped, Places.slice_get-push_cases, Places.slice_get-set_same, Places.slice_get-set_other, Places.set-slice_get}
-use Rattle.spin_base.proofs.Members.{any_among, among_any, contains_among, among_contains, among_right, among_either}
-use Rattle.machine_desc.specs.Description.{Description}
-use Rattle.range_store.specs.{Views.CanGive, Views.Region, Regions.AreRuns, Regions.is_free, Regions.in_range}
-use Rattle.range_store.proofs.HolePlaces.{clash}
-use Rattle.app_loads.specs.declared.{answers.LoadErr.LoadErr, answers.LoadErr.TheVariants.Memory, answers.LoadErr.TheVariants.Refused, loaded.Claim.Claim, loaded.Range.Range}
-use Rattle.app_loads.specs.{Host.Free, Regions.AreFreeBeside, Regions.IsFreeBeside, Regions.ShareNoPlace, Regions.place_of, Regions.range_has, Regions.is_taken, Regions.region_size}
-use Rattle.app_loads.specs.{Regions.IsRangeWithin, Claims.IsLeastOpenRange, Claims.IsOpenRange, Claims.IsRefusalDue, Taking.free_places_in, Taking.frees, Taking.range_at, Taking.ServesClaim}
-use Rattle.app_loads.specs.Taking.{RefusesClaim, IsFair, IsFairFor, HaveRoom, CanServe, HaveServed, AreTaken, AreTakenAlways, AreServedAlways, IsDueAlways, IsDueOf}
+use Rattle.app_loads.proofs.Common.{All, All-append, All-cons, All-contains, All-each, All-head, All-nil, All-tail, AllPairs, AllPairs-across, AllPairs-append, AllPairs-head, AllPairs-left}
+use Rattle.app_loads.proofs.Common.{AllPairs-right, AllPairs-tail, AreFreeBeside, AreRuns, AreServedAlways, AreTaken, AreTakenAlways, CanGive, CanServe, Claim, Contains, Description, Free, HaveRoom}
+use Rattle.app_loads.proofs.Common.{HaveServed, IfSome, IsDueAlways, IsDueOf, IsFair, IsFairFor, IsFreeBeside, IsLeastOpenRange, IsOpenRange, IsRangeWithin, IsRefusalDue, List, LoadErr, None, Option}
+use Rattle.app_loads.proofs.Common.{Range, Refused, RefusesClaim, Region, ServesClaim, ShareNoPlace, Some, [], among_any, among_contains, among_either, among_right, and_from, and_parts, and_right}
+use Rattle.app_loads.proofs.Common.{any_among, ap, append-nil, append_assoc, arith, cases_Bool, cases_eq, clash, contains_among, count_by, count_by-append, count_by-cons, count_by-le-length, drop}
+use Rattle.app_loads.proofs.Common.{drop_all, drop_more, eq-eqb, eqb-true, false, false_from_ne_true, free_places_in, frees, get_or, in_facts, in_range, inl, inr, is_free, is_taken, length}
+use Rattle.app_loads.proofs.Common.{length-set, length_push, list_any-append, lt-ltb, ltb, map-set, ne_eqb, none-some, not, or-false, or_right, place_of, range_at, range_has, refl, region_size}
+use Rattle.app_loads.proofs.Common.{replicate, same_Some, set-slice_get, slice_get, slice_get-get_or, slice_get-mapped, slice_get-push_cases, slice_get-set_other, slice_get-set_same, slice_get_within}
+use Rattle.app_loads.proofs.Common.{slice_set, subst, suc, sym, take, take-append-le, take_at, true, zero, ℕ, ◌%◌, ◌&&◌, ◌++◌, ◌+◌, ◌<◌, ◌==◌, ◌||◌, ◌∙◌, ◌∷◌, ◌≡◌, ◌≢◌, ◌≤◌, ◌⊎◌}
+use Rattle.app_loads.specs.declared.answers.LoadErr.TheVariants.{Memory}
 use Rattle.app_loads.proofs.{LeavingLists.one_if, Others.pairs_with_last}
 
 -- ---- lists

@@ -1,24 +1,13 @@
 -- An application's rows and packets on a mesh.
-use Rattle.std.proofs.Common.{arith, ◌≡◌, ℕ, zero, suc, ◌+◌, ◌-◌, ◌*◌, ◌/◌, ◌%◌, ◌^◌, ◌<◌, ◌≤◌, ◌==◌, true, false, List, [], ◌∷◌, ◌++◌, ◌∙◌, Some, if◌then◌else◌, leb, length, drop, take, map, refl}
-use Rattle.std.proofs.Common.{sym, ap, subst, inl, inr, count_by}
-use Rattle.std.proofs.lemmas.{Option.same_Some, Option.slice_get_within, Bool.false_from_ne_true, Bool.or_left, Bool.or_right, Bool.or_cases, Bool.Decides.nat_tests, List.length-map, List.length-set}
-use Rattle.std.proofs.lemmas.List.{Elements.All-contains, Elements.All-head, Elements.All-set, Elements.All-push, Sorted.IsPermutation-refl, Sorted.length_permutation}
-use Rattle.std.specs.{Option.option_map_or, List.list_any, List.slice_get, List.All, List.Contains}
-use Rattle.mesh_core.proofs.{Moves.chip_of-index_of, Ways.vertex_there}
-use Rattle.mesh_core.specs.State.{Setup, State, IsMesh}
-use Rattle.spin_base.proofs.{Equality.chip_eq_true, Counts.count_by-cons, Members.Contains-at, Members.Contains-filter, Members.among_any, Members.any_among, Members.among_contains}
-use Rattle.spin_base.proofs.{Members.contains_among, Places.All-at, Places.All-each, Places.AllZip-at_second, Places.slice_get_there, Ranges.slice_get-map_range}
-use Rattle.spin_base.specs.declared.{blocks.Block.Block, blocks.Entry.Entry, chips.Chip.Chip, chips.Spot.Spot, copies.Delivery.Delivery, copies.DumpRec.DumpRec, copies.McCopy.McCopy}
-use Rattle.spin_base.specs.{declared.copies.Packet.Packet, Equality.chip_eq}
-use Rattle.machine_desc.specs.{declared.trees.Edge.Edge, Description.Description, Live.index_of, Live.chip_of, Live.is_usable, Live.IsInside, Live.IsUsable, RoutingTree.end_of, RoutingTree.IsTreeChip}
-use Rattle.machine_desc.specs.RightTables.{table_at}
-use Rattle.machine_desc.proofs.{Far.index_below, Far.live_inside, Same.chip_eq-from_same, Same.same_spot, Sites.usable_parts, TreeLemmas.tree_cases, TreeLemmas.tree_end}
-use Rattle.tern_word.specs.{declared.tables.Row.Row, declared.tables.Table.Table, SoundTable.Original}
-use Rattle.net_tables.specs.PlainTable.{AreOriginals, AtEach, IsPlainTable, row_of}
-use Rattle.app_loads.specs.{declared.loaded.LoadedApp.LoadedApp, declared.loaded.Range.Range, declared.plans.AppNet.AppNet, Applications.IsRangeFor, Claims.claims_of, Claims.has_chip, Host.net_with}
-use Rattle.app_loads.specs.{Host.nets_with, Host.nets_of, Joining.AreSent, Joining.AreWritten, Joining.CanSettle, Joining.IsSettled, Opening.grid_spots, Opening.spot_of, Opening.usable_spots}
-use Rattle.app_loads.specs.{Plans.IsAppNet, Plans.IsPacketOfApp, declared.places.Region.TheVariants.Rows, Regions.chip_count, Regions.region_size, Regions.IsRangeWithin, Regions.place_of}
-use Rattle.app_loads.specs.{Sending.CanSend, Sending.IsPacketOn, Sending.IsSendingFrom, Writing.AreCopied, Writing.CanCopy, Writing.HaveRooms}
+use Rattle.app_loads.proofs.Common.{All, All-at, All-contains, All-each, All-head, All-push, All-set, AllZip-at_second, AppNet, AreCopied, AreOriginals, AreSent, AreWritten, AtEach, Block, CanCopy}
+use Rattle.app_loads.proofs.Common.{CanSend, CanSettle, Chip, Contains, Contains-at, Contains-filter, Delivery, Description, DumpRec, Edge, Entry, HaveRooms, IsAppNet, IsInside, IsMesh, IsPacketOfApp}
+use Rattle.app_loads.proofs.Common.{IsPacketOn, IsPermutation-refl, IsPlainTable, IsRangeFor, IsRangeWithin, IsSendingFrom, IsSettled, IsTreeChip, IsUsable, List, LoadedApp, McCopy, Original, Packet}
+use Rattle.app_loads.proofs.Common.{Range, Row, Rows, Setup, Some, Spot, State, Table, [], among_any, among_contains, any_among, ap, arith, chip_count, chip_eq, chip_eq-from_same, chip_eq_true}
+use Rattle.app_loads.proofs.Common.{chip_of, chip_of-index_of, claims_of, contains_among, count_by, count_by-cons, drop, end_of, false, false_from_ne_true, grid_spots, has_chip, if◌then◌else◌}
+use Rattle.app_loads.proofs.Common.{index_below, index_of, inl, inr, is_usable, leb, length, length-map, length-set, length_permutation, list_any, live_inside, map, nat_tests, net_with, nets_of}
+use Rattle.app_loads.proofs.Common.{nets_with, option_map_or, or_cases, or_left, or_right, place_of, refl, region_size, row_of, same_Some, same_spot, slice_get, slice_get-map_range, slice_get_there}
+use Rattle.app_loads.proofs.Common.{slice_get_within, spot_of, subst, suc, sym, table_at, take, tree_cases, tree_end, true, usable_parts, usable_spots, vertex_there, zero, ℕ, ◌%◌, ◌*◌, ◌++◌, ◌+◌, ◌-◌}
+use Rattle.app_loads.proofs.Common.{◌/◌, ◌<◌, ◌==◌, ◌^◌, ◌∙◌, ◌∷◌, ◌≡◌, ◌≤◌}
 use Rattle.app_loads.proofs.{AppNets.facts_at, AppNets.key_of_index, AppNets.member_at, AppNets.spot_inside, AppNets.usable_spot, ClaimCases.row_size, LeavingLists.one_if, RowClaims.leads_to}
 use Rattle.app_loads.proofs.Unsent.{nets_with_at}
 

@@ -1,12 +1,7 @@
 -- The usable cores of a machine as a list.
-use Rattle.std.proofs.Common.{◌≡◌, ◌≢◌, ℕ, ◌+◌, ◌*◌, ◌/◌, refl, sym, ap, ◌∙◌, arith, List, [], ◌∷◌, ◌++◌, map, length, Bool, true, false, cond}
-use Rattle.std.specs.List.{All, AllPairs, filter, range_with_len, slice_index_or}
-use Rattle.std.proofs.lemmas.List.{Kept.AllPairs-filter, FromFn.filter_of_map_range_with_len_more, FromFn.get_or-map-range_with_len, FromFn.length-map-range_with_len}
-use Rattle.spin_base.proofs.{Members.Contains-from_filter, Places.All-each}
-use Rattle.spin_base.specs.declared.chips.Spot.{Spot}
-use Rattle.machine_desc.specs.{Description.Description, Live.is_usable, Live.IsSite}
-use Rattle.machine_desc.proofs.{Live.index_of-chip_of, Sites.usable_site}
-use Rattle.app_loads.specs.Opening.{spot_of, grid_spots, usable_spots}
+use Rattle.app_loads.proofs.Common.{All, All-each, AllPairs, AllPairs-filter, Bool, Contains-from_filter, Description, IsSite, List, Spot, [], ap, arith, cond, false, filter}
+use Rattle.app_loads.proofs.Common.{filter_of_map_range_with_len_more, get_or-map-range_with_len, grid_spots, index_of-chip_of, is_usable, length, length-map-range_with_len, map, range_with_len, refl}
+use Rattle.app_loads.proofs.Common.{slice_index_or, spot_of, sym, true, usable_site, usable_spots, ℕ, ◌*◌, ◌++◌, ◌+◌, ◌/◌, ◌∙◌, ◌∷◌, ◌≡◌, ◌≢◌}
 
 -- two numbers of one spot are one number
 same_number : (m : Description) (i j : ℕ) → spot_of m i ≡ spot_of m j → i ≡ j

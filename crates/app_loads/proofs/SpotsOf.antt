@@ -1,13 +1,7 @@
 -- The application of a number, where its place is asked for.
-use Rattle.std.proofs.{Common.arith, lemmas.List.Elements.All-contains}
-use Rattle.std.proofs.Common.{◌≡◌, ◌≢◌, ℕ, ◌==◌, Bool, true, false, not, ◌||◌, List, get_or, refl, sym, ap, ◌∙◌, None, Some, inl, inr}
-use Rattle.std.specs.{Prelude.position, List.All, List.Contains, List.list_any}
-use Rattle.std.proofs.lemmas.Bool.{both_ways, cases_Bool, eq-eqb, eqb-true, false_from_ne_true, not-true, or_left, or_right}
-use Rattle.spin_base.proofs.Equality.{spot_eq_true}
-use Rattle.spin_base.proofs.Members.{Among, Contains-filter, among_any, among_at, among_contains, among_filter, any_among, contains_among}
-use Rattle.spin_base.specs.{declared.chips.Spot.Spot, Equality.spot_eq}
-use Rattle.machine_desc.specs.Live.{IsUsable}
-use Rattle.app_loads.specs.{declared.loaded.LoadedApp.LoadedApp, Leaving.others_than, Applications.AreApps, Applications.IsLoadedOn, Host.Host, Host.is_loaded, Host.is_spot_taken}
+use Rattle.app_loads.proofs.Common.{All, All-contains, Among, AreApps, Bool, Contains, Contains-filter, Host, IsLoadedOn, IsUsable, List, LoadedApp, None, Some, Spot, among_any, among_at}
+use Rattle.app_loads.proofs.Common.{among_contains, among_filter, any_among, ap, arith, both_ways, cases_Bool, contains_among, eq-eqb, eqb-true, false, false_from_ne_true, get_or, inl, inr, is_loaded}
+use Rattle.app_loads.proofs.Common.{is_spot_taken, list_any, not, not-true, or_left, or_right, others_than, position, refl, spot_eq, spot_eq_true, sym, true, ℕ, ◌==◌, ◌||◌, ◌∙◌, ◌≡◌, ◌≢◌}
 use Rattle.app_loads.proofs.{LeftParts.found_number, LeftParts.found_there, LeftParts.not_loaded, Others.HaveNumbers, Others.across_pairs, Others.only_one}
 pub use Rattle.app_loads.proofs.Others.{same_tests}
 

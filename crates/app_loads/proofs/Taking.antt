@@ -1,12 +1,7 @@
 -- What taking a range does to the free places of a region, and which range is the first.
-use Rattle.std.proofs.Common.{◌≡◌, ℕ, ◌+◌, ◌-◌, ◌%◌, ◌<◌, ◌≤◌, Bool, true, false, not, ◌&&◌, ◌||◌, ◌==◌, ltb, List, [], ◌∷◌, ◌++◌, refl, sym, ap, ◌∙◌, subst, arith, None, Some, IfSome}
-use Rattle.std.proofs.lemmas.{Bool.and_parts, Bool.lt-ltb, Bool.ltb-true, Bool.not-true, Bool.eq-eqb, List.Folds.list_any-append}
-use Rattle.key_alloc.proofs.Ranges.{in_facts, in_from, regroup, free_of}
-use Rattle.machine_desc.specs.Description.{Description}
-use Rattle.range_store.specs.Regions.{AreRuns, IsFirstFit, HasNoFit, is_hole_range, is_free, in_range}
-use Rattle.range_store.proofs.HolePlaces.{clash, free_in_range, range_of_free}
-use Rattle.app_loads.specs.{declared.loaded.Claim.Claim, declared.loaded.Range.Range, Host.Free, Regions.IsFreeBeside, Regions.place_of, Regions.range_has, Regions.is_taken, Claims.IsOpenRange}
-use Rattle.app_loads.specs.Claims.{IsLeastOpenRange, IsRefusedClaim}
+use Rattle.app_loads.proofs.Common.{AreRuns, Bool, Claim, Description, Free, HasNoFit, IfSome, IsFirstFit, IsFreeBeside, IsLeastOpenRange, IsOpenRange, IsRefusedClaim, List, None, Range, Some, []}
+use Rattle.app_loads.proofs.Common.{and_parts, ap, arith, clash, eq-eqb, false, free_in_range, free_of, in_facts, in_from, in_range, is_free, is_hole_range, is_taken, list_any-append, lt-ltb, ltb}
+use Rattle.app_loads.proofs.Common.{ltb-true, not, not-true, place_of, range_has, range_of_free, refl, regroup, subst, sym, true, ℕ, ◌%◌, ◌&&◌, ◌++◌, ◌+◌, ◌-◌, ◌<◌, ◌==◌, ◌||◌, ◌∙◌, ◌∷◌, ◌≡◌, ◌≤◌}
 
 here_too : (region : ℕ) (b : Bool) → ((region == region) && b) ≡ b
 here_too region b = ap (λ z. z && b) (eq-eqb region region refl)

@@ -1,15 +1,9 @@
 -- Packets put to the vertices of their nets' sources, and queues emptied.
-use Rattle.std.proofs.Common.{◌≡◌, ◌≢◌, ℕ, zero, suc, ◌+◌, ◌^◌, ◌<◌, ◌≤◌, ◌==◌, List, [], ◌∷◌, ◌++◌, take, get_or, length, map, refl, sym, ap, ◌∙◌, subst, inl, inr, arith, Some}
-use Rattle.std.proofs.lemmas.{Bool.cases_Bool, Bool.cases_eq, Bool.eqb-true, Bool.eq-eqb, Bool.false≢true, List.length-map, List.length-set, List.take_all, List.same_lists}
-use Rattle.std.proofs.lemmas.{List.Elements.Contains-push_cases, Option.slice_get_within, Option.slice_get-get_or, Option.same_Some, Option.unwrap_or-slice_get}
-use Rattle.std.specs.{Prelude.unwrap_or, List.list_any, List.slice_get, List.slice_set, List.All, List.Contains}
-use Rattle.mesh_core.proofs.ServingLaws.{vertex_at-below}
-use Rattle.mesh_core.specs.State.{Setup}
-use Rattle.spin_base.proofs.{Members.Contains-at, Members.any_among, Members.among_any, Members.among_contains, Members.contains_among, Places.All-at, Places.slice_get_there}
-use Rattle.spin_base.proofs.Places.{slice_get-set_same, slice_get-mapped, slice_get-set_other, take_more_at}
-use Rattle.spin_base.specs.declared.{blocks.Block.Block, chips.Spot.Spot, copies.McCopy.McCopy, copies.Packet.Packet}
-use Rattle.app_loads.specs.{declared.loaded.LoadedApp.LoadedApp, declared.plans.AppNet.AppNet, Host.net_with, Host.nets_with, Joining.AreSent, Joining.NoneUnsent, Sending.AreCleared}
-use Rattle.app_loads.specs.Sending.{AreSources, CanAdd, IsPacketOn, IsSameBeside, IsSendingFrom, source_at}
+use Rattle.app_loads.proofs.Common.{All, All-at, AppNet, AreCleared, AreSent, AreSources, Block, CanAdd, Contains, Contains-at, Contains-push_cases, IsPacketOn, IsSameBeside, IsSendingFrom, List}
+use Rattle.app_loads.proofs.Common.{LoadedApp, McCopy, NoneUnsent, Packet, Setup, Some, Spot, [], among_any, among_contains, any_among, ap, arith, cases_Bool, cases_eq, contains_among, eq-eqb}
+use Rattle.app_loads.proofs.Common.{eqb-true, false≢true, get_or, inl, inr, length, length-map, length-set, list_any, map, net_with, nets_with, refl, same_Some, same_lists, slice_get}
+use Rattle.app_loads.proofs.Common.{slice_get-get_or, slice_get-mapped, slice_get-set_other, slice_get-set_same, slice_get_there, slice_get_within, slice_set, source_at, subst, suc, sym, take}
+use Rattle.app_loads.proofs.Common.{take_all, take_more_at, unwrap_or, unwrap_or-slice_get, vertex_at-below, zero, ℕ, ◌++◌, ◌+◌, ◌<◌, ◌==◌, ◌^◌, ◌∙◌, ◌∷◌, ◌≡◌, ◌≢◌, ◌≤◌}
 
 -- a net of the application, by its place
 pub nets_with_at : (nets : List AppNet) (blocks : List Block) (i : ℕ) (net : AppNet) (block : Block) → slice_get nets i ≡ Some net → slice_get blocks i ≡ Some block →

@@ -1,12 +1,7 @@
 -- A bank's turn: one unsent copy is offered, and one look goes round the queues of its vertices.
-use Rattle.std.proofs.Common.{arith, ◌≡◌, ◌≢◌, ℕ, ◌+◌, ◌<◌, List, [], ◌∷◌, ◌++◌, length, get_or, Option, Some, None, option_to_list, refl, sym, ap, ◌∙◌, append-nil}
-use Rattle.std.specs.{List.Contains, List.slice_get, Option.IsNone}
-use Rattle.std.proofs.lemmas.List.{get_or_default, Elements.All-weaker}
-use Rattle.spin_base.specs.declared.copies.McCopy.{McCopy}
-use Rattle.link_queue.specs.declared.links.Link.{Link}
-use Rattle.chip_node.specs.declared.holdings.{Holdings.Holdings, Turn.Turn, Turn.TheVariants.Moved, Turn.TheVariants.Nothing, Turn.TheVariants.Waits}
-use Rattle.chip_node.specs.{declared.nodes.CoreBank.CoreBank, Acting.BankActs, Acting.BankMoves, Acting.CannotGet, Acting.GetsOne, Acting.HalfActs, Acting.IsReadyBank, Acting.IsUnsentAt}
-use Rattle.chip_node.specs.{Acting.SendsOne, Acting.turn_of_both, Going.IsIdleAt, Going.Stays, Items.Item}
+use Rattle.chip_node.proofs.Common.{All-weaker, BankActs, BankMoves, CannotGet, Contains, CoreBank, GetsOne, HalfActs, Holdings, IsIdleAt, IsNone, IsReadyBank, IsUnsentAt, Item, Link, List, McCopy}
+use Rattle.chip_node.proofs.Common.{Moved, None, Nothing, Option, SendsOne, Some, Stays, Turn, Waits, [], ap, append-nil, arith, get_or, get_or_default, length, option_to_list, refl, slice_get, sym}
+use Rattle.chip_node.proofs.Common.{turn_of_both, ℕ, ◌++◌, ◌+◌, ◌<◌, ◌∙◌, ◌∷◌, ◌≡◌, ◌≢◌}
 use Rattle.chip_node.proofs.{Flows.goes_on, Flows.goes_stays, Flows.stays_goes, Stays.idle_before, Stays.stays_on}
 
 -- ---- unsent copies

@@ -1,12 +1,7 @@
 -- What one look, one offer or one copy makes of an end, as what was done tells it.
-use Rattle.std.proofs.Common.{◌≡◌, ℕ, ◌<◌, ◌≤◌, List, [], ◌∷◌, ◌++◌, length, replicate, append-nil, length-append, arith}
-use Rattle.std.proofs.lemmas.List.{length-replicate, Elements.All-nil, Elements.All-replicate}
-use Rattle.spin_base.specs.declared.copies.McCopy.{McCopy}
-use Rattle.link_queue.specs.{Ends.sending, Ends.taking, TheRule.put_of}
-use Rattle.chip_node.specs.declared.ends.{End.End, End.TheVariants.Away, End.TheVariants.Own, End.TheVariants.Sends, End.TheVariants.Takes, OutEnd.OutEnd}
-use Rattle.chip_node.specs.{Going.EndGoes, Going.EndStays, Going.IsFullEnd, Going.IsFullMoment, Going.IsIdle, Going.LaneGoes, Going.SenderGoes, Offers.RefusesOffers, Passing.EndLacks}
-use Rattle.chip_node.specs.Passing.{EndRefuses, EndSends, EndTakes}
-use Rattle.chip_node.specs.Offers.{Sends as SendsOffer}
+use Rattle.chip_node.proofs.Common.{All-nil, All-replicate, Away, End, EndGoes, EndLacks, EndRefuses, EndSends, EndStays, EndTakes, IsFullEnd, IsFullMoment, IsIdle, LaneGoes, List, McCopy, OutEnd}
+use Rattle.chip_node.proofs.Common.{Own, RefusesOffers, SenderGoes, Sends, SendsOffer, Takes, [], append-nil, arith, length, length-append, length-replicate, put_of, replicate, sending, taking, ℕ}
+use Rattle.chip_node.proofs.Common.{◌++◌, ◌<◌, ◌∷◌, ◌≡◌, ◌≤◌}
 use Rattle.chip_node.proofs.Stays.{sender_same}
 
 -- ---- a copy was sent

@@ -1,13 +1,8 @@
 -- What was done, one list after the other, is what both lists tell.
-use Rattle.std.proofs.Common.{◌≡◌, ℕ, ◌+◌, ◌*◌, ◌≤◌, List, [], ◌++◌, length, map, refl, sym, ap, subst, ◌∙◌, append-nil, append_assoc, length-append, arith}
-use Rattle.std.specs.List.{slice_index_or}
-use Rattle.std.proofs.lemmas.{List.length-map, List.Elements.All-append, List.Elements.All-map, List.Elements.All-nil, List.Elements.All-weaker, Grind.flat_map-append}
-use Rattle.spin_base.specs.declared.copies.McCopy.{McCopy}
-use Rattle.link_queue.specs.declared.links.Link.{Link}
-use Rattle.chip_node.specs.declared.{ends.End.End, ends.End.TheVariants.Away, ends.End.TheVariants.Own, ends.End.TheVariants.Sends, ends.End.TheVariants.Takes, holdings.Holdings.Holdings}
-use Rattle.chip_node.specs.{declared.nodes.CoreBank.CoreBank, declared.nodes.RouterNode.RouterNode, Acting.IsReadyBank, Acting.IsReadyRouter, Going.AreEndsOf, Going.EndGoes, Going.EndStays}
-use Rattle.chip_node.specs.{Going.Goes, Going.HoldsSender, Going.IsFullMoment, Going.IsSending, Going.LaneGoes, Going.Stays, Items.Item, Items.delivered_of, Items.deliveries, Items.dumped_of}
-use Rattle.chip_node.specs.Items.{entered, entered_by, injection_place, left, left_by, lost_at, lost_by, records, sent_by, sent_in}
+use Rattle.chip_node.proofs.Common.{All-append, All-map, All-nil, All-weaker, AreEndsOf, Away, CoreBank, End, EndGoes, EndStays, Goes, Holdings, HoldsSender, IsFullMoment, IsReadyBank, IsReadyRouter}
+use Rattle.chip_node.proofs.Common.{IsSending, Item, LaneGoes, Link, List, McCopy, Own, RouterNode, Sends, Stays, Takes, [], ap, append-nil, append_assoc, arith, delivered_of, deliveries, dumped_of}
+use Rattle.chip_node.proofs.Common.{entered, entered_by, flat_map-append, injection_place, left, left_by, length, length-append, length-map, lost_at, lost_by, map, records, refl, sent_by, sent_in}
+use Rattle.chip_node.proofs.Common.{slice_index_or, subst, sym, ℕ, ◌*◌, ◌++◌, ◌+◌, ◌∙◌, ◌≡◌, ◌≤◌}
 use Rattle.chip_node.proofs.Stays.{end_before, patient_on, sender_on, taker_on}
 
 -- ---- lanes

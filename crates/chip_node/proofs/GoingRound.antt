@@ -1,6 +1,5 @@
 -- A ring of places that is gone through from a start: what holds at each place that was gone by.
-use Rattle.std.proofs.Common.{◌≡◌, ◌≢◌, ℕ, ◌+◌, ◌<◌, ◌≤◌, ◌⊎◌, inl, inr, arith}
-use Rattle.std.proofs.lemmas.Bool.{cases_eq, cases_lt}
+use Rattle.chip_node.proofs.Common.{arith, cases_eq, cases_lt, inl, inr, ℕ, ◌+◌, ◌<◌, ◌≡◌, ◌≢◌, ◌≤◌, ◌⊎◌}
 
 -- the place was gone by within so many steps
 abbrev pub IsBehind : ℕ → ℕ → ℕ → ℕ → Type 0

@@ -1,3 +1,4 @@
+mod Common
 mod Offering
 pub mod Stays
 pub mod Flows

@@ -1,15 +1,9 @@
 -- What a router sees at a port, and that there is room for what its turn needs.
-use Rattle.std.proofs.Common.{◌≡◌, ℕ, ◌<◌, ◌≤◌, Bool, true, false, cond, ◌==◌, List, [], ◌∷◌, length, get_or, set, Option, None, Some, refl, sym, subst, ◌∙◌, arith}
-use Rattle.std.specs.List.{All, slice_get}
-use Rattle.std.proofs.lemmas.{List.Elements.All-filter, List.Elements.All-nil, List.Elements.All-weaker, Option.slice_get_read, Option.slice_get_within}
-use Rattle.spin_base.specs.{declared.blocks.Entry.Entry, declared.chips.Port.Port, declared.copies.McCopy.McCopy, declared.routes.Out.Out, Hops.last_hop, Lookup.lookup, Outputs.all_outs}
-use Rattle.spin_base.specs.Outputs.{core_outs, has, link_outs, out_number, outs_of}
-use Rattle.spin_base.proofs.Places.{All-at, All-each, one_item_at, slice_get-set_other}
-use Rattle.link_queue.specs.declared.links.Link.{Link}
-use Rattle.chip_node.specs.declared.ends.{End.End, End.TheVariants.Away, End.TheVariants.Own, End.TheVariants.Sends, End.TheVariants.Takes, Seen.TheVariants.Front}
-use Rattle.chip_node.specs.{declared.holdings.Holdings.Holdings, declared.nodes.Behind.Behind, declared.nodes.RouterNode.RouterNode, Acting.place_in, Acting.IsReadyRouter, Going.EndHasRoom}
-use Rattle.chip_node.specs.{Going.IsIdle, Going.IsIdleAt, Going.Stays, Items.port_place, Passing.EndLacks, Passing.EndTakes, Passing.IsSeen, Routing.outputs_at, Taking.HasRoomBehind}
-use Rattle.chip_node.specs.Taking.{HasRoomForOuts, HasRoomIn}
+use Rattle.chip_node.proofs.Common.{All, All-at, All-each, All-filter, All-nil, All-weaker, Away, Behind, Bool, End, EndHasRoom, EndLacks, EndTakes, Entry, Front, HasRoomBehind, HasRoomForOuts}
+use Rattle.chip_node.proofs.Common.{HasRoomIn, Holdings, IsIdle, IsIdleAt, IsReadyRouter, IsSeen, Link, List, McCopy, None, Option, Out, Own, Port, RouterNode, Sends, Some, Stays, Takes, [], all_outs}
+use Rattle.chip_node.proofs.Common.{arith, cond, false, get_or, has, last_hop, length, lookup, one_item_at, out_number, outputs_at, outs_of, place_in, port_place, refl, set, slice_get}
+use Rattle.chip_node.proofs.Common.{slice_get-set_other, slice_get_read, slice_get_within, subst, sym, true, ℕ, ◌<◌, ◌==◌, ◌∙◌, ◌∷◌, ◌≡◌, ◌≤◌}
+use Rattle.spin_base.specs.Outputs.{core_outs, link_outs}
 use Rattle.chip_node.proofs.{Outputs.few_pass, EndSteps.end_lacks_idle, EndSteps.end_stays_lacks, Placing.stays_at, Placing.Writes}
 
 -- ---- nothing to take

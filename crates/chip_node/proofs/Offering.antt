@@ -1,8 +1,6 @@
 -- An end stays an end of its link, and one offer more is refused.
-use Rattle.std.proofs.Common.{◌≡◌, ℕ, ◌+◌, List, [], ◌∷◌, ◌++◌, length, get_or, replicate, sym, ap, subst, ◌∙◌, append_assoc, arith}
-use Rattle.std.proofs.lemmas.{List.replicate_more, Option.get_or_from_slice_get}
-use Rattle.link_queue.specs.{declared.known.Known.Known, declared.links.Link.Link, declared.links.Rx.Rx, declared.links.Tx.Tx, Ends.IsRx, Ends.IsTx, TheRule.put_of, Moves.RefusesOffer}
-use Rattle.chip_node.specs.{declared.ends.InEnd.InEnd, declared.ends.OutEnd.OutEnd, Ends.IsInEndOf, Ends.IsOutEndOf, Offers.full_noted_often, Offers.RefusesOffers}
+use Rattle.chip_node.proofs.Common.{InEnd, IsInEndOf, IsOutEndOf, IsRx, IsTx, Known, Link, List, OutEnd, RefusesOffer, RefusesOffers, Rx, Tx, [], ap, append_assoc, arith, full_noted_often, get_or}
+use Rattle.chip_node.proofs.Common.{get_or_from_slice_get, length, put_of, replicate, replicate_more, subst, sym, ℕ, ◌++◌, ◌+◌, ◌∙◌, ◌∷◌, ◌≡◌}
 
 -- the link that is read is the one of which it is an end
 pub in_end_stays : (links : List Link) (e : InEnd) (l : Link) (rx : Rx) → IsInEndOf links e → l ≡ get_or links e.link l → IsRx l rx → IsInEndOf links (record { link = e.link; rx = rx })

@@ -1,9 +1,7 @@
 -- The outputs that a route names: each has a number below 24, and no two are the same.
-use Rattle.std.proofs.Common.{◌≢◌, ℕ, zero, suc, ◌+◌, ◌<◌, ◌≤◌, Bool, true, false, cond, List, [], ◌∷◌, map, filter, length, get_or, arith}
-use Rattle.std.specs.List.{All, AllPairs, range_with_len}
-use Rattle.std.proofs.lemmas.List.Elements.{All-nil, All-cons, All-weaker}
-use Rattle.spin_base.specs.{declared.routes.Out.Out, declared.routes.Out.TheVariants.Core, declared.routes.Route.Route, Outputs.all_outs, Outputs.core_outs, Outputs.has, Outputs.link_outs}
-use Rattle.spin_base.specs.Outputs.{IsOutput, out_number, outs_of}
+use Rattle.chip_node.proofs.Common.{All, All-cons, All-nil, All-weaker, AllPairs, Bool, Core, IsOutput, List, Out, Route, [], all_outs, arith, cond, false, filter, get_or, has, length, map}
+use Rattle.chip_node.proofs.Common.{out_number, outs_of, range_with_len, suc, true, zero, ℕ, ◌+◌, ◌<◌, ◌∷◌, ◌≢◌, ◌≤◌}
+use Rattle.spin_base.specs.Outputs.{core_outs, link_outs}
 
 -- outputs in the order of their numbers, from one number on
 abbrev Rises : ℕ → List Out → Type 0

@@ -1,15 +1,9 @@
 -- One end is written, and what was done tells of it alone.
-use Rattle.std.proofs.Common.{◌≡◌, ◌≢◌, ℕ, ◌+◌, ◌<◌, inl, inr, List, [], ◌∷◌, ◌++◌, length, set, ◌==◌, Option, Some, None, refl, sym, ap, subst, ◌∙◌, append-nil, arith}
-use Rattle.std.specs.List.{slice_get, slice_index_or}
-use Rattle.std.proofs.{Math.ListN.length-set, lemmas.Bool.cases_eq, lemmas.Bool.cond-true, lemmas.Bool.cond-false, lemmas.Bool.eq-eqb, lemmas.Bool.ne_eqb, lemmas.List.get_or-set_same}
-use Rattle.std.proofs.lemmas.{List.get_or-set_other, List.length-append, Option.same_Some}
-use Rattle.spin_base.specs.declared.{chips.Chip.Chip, chips.Port.Port, routes.Out.Out, copies.Delivery.Delivery, copies.DumpRec.DumpRec, copies.McCopy.McCopy}
-use Rattle.spin_base.specs.{WithRoom.WithRoom, Hops.onward}
-use Rattle.spin_base.proofs.Places.{slice_get-set_same, slice_get-set_other}
-use Rattle.chip_node.specs.declared.{ends.End.End, ends.Served.Served, ends.Served.TheVariants.Sent, ends.Served.TheVariants.Dumped, holdings.Holdings.Holdings}
-use Rattle.chip_node.specs.{Going.EndGoes, Going.EndStays, Going.Goes, Going.Stays, Items.Item, Items.Service, Items.brought, Items.deliveries, Items.entered, Items.got, Items.injection_place}
-use Rattle.chip_node.specs.{Items.left, Items.lost, Items.lost_at, Items.port_place, Items.recorded, Items.sent, Items.sent_by, Items.served, Items.took, Items.where_same, Passing.EndSends}
-use Rattle.chip_node.specs.Passing.{EndServes, EndTakes, SendsBehind, SendsThere}
+use Rattle.chip_node.proofs.Common.{Chip, Delivery, DumpRec, Dumped, End, EndGoes, EndSends, EndServes, EndStays, EndTakes, Goes, Holdings, Item, List, McCopy, None, Option, Out, Port, SendsBehind}
+use Rattle.chip_node.proofs.Common.{SendsThere, Sent, Served, Service, Some, Stays, WithRoom, [], ap, append-nil, arith, brought, cases_eq, cond-false, cond-true, deliveries, entered, eq-eqb}
+use Rattle.chip_node.proofs.Common.{get_or-set_other, get_or-set_same, got, injection_place, inl, inr, left, length, length-append, length-set, lost, lost_at, ne_eqb, onward, port_place, recorded}
+use Rattle.chip_node.proofs.Common.{refl, same_Some, sent, sent_by, served, set, slice_get, slice_get-set_other, slice_get-set_same, slice_index_or, subst, sym, took, where_same, ℕ, ◌++◌, ◌+◌, ◌<◌}
+use Rattle.chip_node.proofs.Common.{◌==◌, ◌∙◌, ◌∷◌, ◌≡◌, ◌≢◌}
 use Rattle.chip_node.proofs.{Flows.end_goes_none, EndSteps.end_goes_refuses, EndSteps.end_goes_sends, EndSteps.end_goes_takes, Stays.end_stays_same}
 
 -- ---- places

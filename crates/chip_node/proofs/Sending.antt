@@ -1,11 +1,7 @@
 -- The queue behind an output of a router: where it stands, and that its end is one by which copies are sent.
-use Rattle.std.proofs.Common.{◌≡◌, ℕ, ◌+◌, ◌<◌, List, [], ◌∷◌, ◌++◌, length, get_or, Option, Some, None, refl, sym, ap, subst, ◌∙◌, append-nil, arith}
-use Rattle.std.specs.List.{slice_get}
-use Rattle.std.proofs.lemmas.Option.{slice_get-get_or, slice_get_read, slice_get_within}
-use Rattle.spin_base.specs.{declared.chips.Chip.Chip, declared.copies.DumpRec.DumpRec, declared.copies.McCopy.McCopy, declared.routes.Out.Out, WithRoom.WithRoom, Outputs.IsOutput, Outputs.out_number}
-use Rattle.spin_base.proofs.{Outputs.out_number_below, Places.one_item_at}
-use Rattle.chip_node.specs.declared.{ends.End.End, ends.Served.Served, ends.Served.TheVariants.Sent, ends.Served.TheVariants.Dumped, nodes.Behind.Behind}
-use Rattle.chip_node.specs.{Acting.place_at_router, Acting.place_in, Going.HoldsSender, Going.IsSending, Items.recorded, Passing.SendsBehind}
+use Rattle.chip_node.proofs.Common.{Behind, Chip, DumpRec, Dumped, End, HoldsSender, IsOutput, IsSending, List, McCopy, None, Option, Out, SendsBehind, Sent, Served, Some, WithRoom, [], ap}
+use Rattle.chip_node.proofs.Common.{append-nil, arith, get_or, length, one_item_at, out_number, out_number_below, place_at_router, place_in, recorded, refl, slice_get, slice_get-get_or}
+use Rattle.chip_node.proofs.Common.{slice_get_read, slice_get_within, subst, sym, ℕ, ◌++◌, ◌+◌, ◌<◌, ◌∙◌, ◌∷◌, ◌≡◌}
 
 -- ---- the place behind an output
 

@@ -1,11 +1,7 @@
 -- Outputs of a copy that are served one after the other.
-use Rattle.std.proofs.Common.{◌≡◌, ◌≢◌, ℕ, ◌+◌, ◌<◌, List, [], ◌∷◌, ◌++◌, length, map, take, get_or, Some, None, sym, ap, subst, ◌∙◌, arith}
-use Rattle.std.specs.List.{AllWithin, slice_get}
-use Rattle.std.proofs.lemmas.List.{get_or_default, map-append, take_more, Elements.All-nil, Elements.All-cons, Elements.All-append}
-use Rattle.spin_base.specs.{declared.copies.McCopy.McCopy, declared.routes.Out.Out, Outputs.IsOutput}
-use Rattle.link_queue.specs.declared.links.Link.{Link}
-use Rattle.chip_node.specs.{declared.holdings.Holdings.Holdings, declared.nodes.RouterNode.RouterNode, Acting.IsReadyRouter, Acting.ServesOuts, Acting.place_at_router, Acting.service_items}
-use Rattle.chip_node.specs.{Going.Goes, Items.Item, Items.Service, Items.served, declared.ends.Served.TheVariants.Dumped, Taking.AreOuts, Taking.HasRoomBehind}
+use Rattle.chip_node.proofs.Common.{All-append, All-cons, All-nil, AllWithin, AreOuts, Dumped, Goes, HasRoomBehind, Holdings, IsOutput, IsReadyRouter, Item, Link, List, McCopy, None, Out, RouterNode}
+use Rattle.chip_node.proofs.Common.{ServesOuts, Service, Some, [], ap, arith, get_or, get_or_default, length, map, map-append, place_at_router, served, service_items, slice_get, subst, sym, take}
+use Rattle.chip_node.proofs.Common.{take_more, ℕ, ◌++◌, ◌+◌, ◌<◌, ◌∙◌, ◌∷◌, ◌≡◌, ◌≢◌}
 use Rattle.chip_node.proofs.{Flows.goes_none, Flows.goes_on, Stays.stays_same}
 
 pub serves_none : (cap patience : ℕ) (r : RouterNode) (k : McCopy) (a : Holdings) → ServesOuts cap patience r [] k a a

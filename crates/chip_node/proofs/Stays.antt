@@ -1,12 +1,7 @@
 -- What stays where nothing was done: what is not there to take, what is full, and room.
-use Rattle.std.proofs.Common.{◌≡◌, ℕ, ◌+◌, ◌*◌, ◌≤◌, List, [], ◌++◌, length, get_or, Some, refl, sym, ap, subst, ◌∙◌, append-nil, append_assoc, length-append, arith}
-use Rattle.std.specs.List.{slice_get}
-use Rattle.std.proofs.lemmas.Option.{slice_get_within, slice_get-get_or, same_Some}
-use Rattle.spin_base.specs.{declared.copies.McCopy.McCopy, declared.copies.Delivery.Delivery, declared.copies.DumpRec.DumpRec, WithRoom.WithRoom}
-use Rattle.spin_base.proofs.Places.{All-at, slice_get_there}
-use Rattle.link_queue.specs.Ends.{sending, taking}
-use Rattle.chip_node.specs.declared.ends.{End.End, End.TheVariants.Away, End.TheVariants.Own, End.TheVariants.Sends, End.TheVariants.Takes, InEnd.InEnd, OutEnd.OutEnd}
-use Rattle.chip_node.specs.{declared.holdings.Holdings.Holdings, Going.EndStays, Going.EndHasRoom, Going.IsIdle, Going.IsIdleAt, Going.HasAmpleRoom, Going.SenderGoes, Going.Stays, Going.TakerGoes}
+use Rattle.chip_node.proofs.Common.{All-at, Away, Delivery, DumpRec, End, EndHasRoom, EndStays, HasAmpleRoom, Holdings, InEnd, IsIdle, IsIdleAt, List, McCopy, OutEnd, Own, SenderGoes, Sends, Some}
+use Rattle.chip_node.proofs.Common.{Stays, TakerGoes, Takes, WithRoom, [], ap, append-nil, append_assoc, arith, get_or, length, length-append, refl, same_Some, sending, slice_get, slice_get-get_or}
+use Rattle.chip_node.proofs.Common.{slice_get_there, slice_get_within, subst, sym, taking, ℕ, ◌*◌, ◌++◌, ◌+◌, ◌∙◌, ◌≡◌, ◌≤◌}
 
 -- ---- ends of links, one step after the other
 

@@ -1,13 +1,8 @@
 -- A router's turn: looks at its ports until one gives a copy, which is routed.
-use Rattle.std.proofs.Common.{◌≡◌, ℕ, zero, suc, ◌+◌, ◌%◌, ◌<◌, ◌≤◌, List, [], ◌∷◌, map, get_or, refl, ap, ◌∙◌, arith}
-use Rattle.std.proofs.lemmas.Bool.{cases_lt}
-use Rattle.spin_base.specs.declared.{blocks.Entry.Entry, chips.Dir.TheVariants.East, chips.Dir.TheVariants.NorthEast, chips.Dir.TheVariants.North, chips.Dir.TheVariants.West}
-use Rattle.spin_base.specs.declared.{chips.Dir.TheVariants.SouthWest, chips.Dir.TheVariants.South, chips.Port.Port, chips.Port.TheVariants.Link, chips.Port.TheVariants.Local, copies.McCopy.McCopy}
-use Rattle.spin_base.specs.{declared.routes.Out.Out, Links.dir_number, Links.port_number}
-use Rattle.spin_base.proofs.Outputs.{dir_number_below}
-use Rattle.chip_node.specs.{declared.holdings.Holdings.Holdings, declared.nodes.RouterNode.RouterNode, Acting.RoutesOne, Acting.ServesOuts, Acting.service_items, Going.Goes, Going.IsIdleAt}
-use Rattle.chip_node.specs.{Going.Stays, Items.Item, Items.port_place, Items.took, Routing.outputs_at, declared.routers.Look.Look, declared.routers.Look.TheVariants.Empty}
-use Rattle.chip_node.specs.{declared.routers.Look.TheVariants.NoRoom, declared.routers.Look.TheVariants.Took, Taking.Looks}
+use Rattle.chip_node.proofs.Common.{East, Empty, Entry, Goes, Holdings, IsIdleAt, Item, List, Local, Look, Looks, McCopy, NoRoom, North, NorthEast, Out, Port, RouterNode, RoutesOne, ServesOuts, South}
+use Rattle.chip_node.proofs.Common.{SouthWest, Stays, Took, West, [], ap, arith, cases_lt, dir_number, dir_number_below, get_or, map, outputs_at, port_number, port_place, refl, service_items, suc}
+use Rattle.chip_node.proofs.Common.{took, zero, ℕ, ◌%◌, ◌+◌, ◌<◌, ◌∙◌, ◌∷◌, ◌≡◌, ◌≤◌}
+use Rattle.spin_base.specs.declared.chips.Port.TheVariants.{Link}
 use Rattle.chip_node.proofs.{Flows.goes_on, Flows.stays_goes, GoingRound.GoneBy, GoingRound.IsPlaceOf, GoingRound.gone_all, Stays.idle_before, Stays.roomy_on, Stays.stays_on}
 
 -- a copy was taken after looks that did nothing, and each of its outputs was served

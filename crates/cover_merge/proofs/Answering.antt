@@ -1,12 +1,6 @@
 -- What one turn of a check tells of the whole.
-use Rattle.std.proofs.Common.{◌≡◌, ℕ, ◌+◌, ◌<◌, ◌≤◌, ◌↔◌, IsTrue, Bool, true, false, List, length, get_or, refl, sym, ◌∙◌, subst, arith}
-use borrow.Author.Count.{below_more}
-use mathlib.Core.Bool.{true≢false, false≢true}
-use Rattle.tern_word.specs.declared.tables.Row.{Row}
-use Rattle.std.proofs.lemmas.List.{get_or_default}
-use Rattle.std.proofs.lemmas.List.Elements.{pair_read}
-use Rattle.tern_word.specs.SoundTable.{Misses}
-use Rattle.cover_merge.specs.Merge.{has_row, IsClearOf, insert_place, PassesUp, PassesUpCheck}
+use Rattle.cover_merge.proofs.Common.{Bool, IsClearOf, IsTrue, List, Misses, PassesUp, PassesUpCheck, Row, arith, below_more, false, false≢true, get_or, get_or_default, has_row, insert_place, length}
+use Rattle.cover_merge.proofs.Common.{pair_read, refl, subst, sym, true, true≢false, ℕ, ◌+◌, ◌<◌, ◌↔◌, ◌∙◌, ◌≡◌, ◌≤◌}
 use Rattle.cover_merge.proofs.Positions.{has-at, has-place}
 pub use Rattle.spin_base.proofs.Tests.{fails, answers_none, answers_no}
 

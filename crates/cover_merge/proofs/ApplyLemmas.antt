@@ -1,12 +1,8 @@
 -- Taking rows out, and the table after a merge.
-use Rattle.std.proofs.Common.{◌≡◌, ℕ, zero, suc, ◌+◌, ◌<◌, ◌≤◌, ◌==◌, ◌||◌, ◌≢◌, Bool, true, false, cond, List, [], ◌∷◌, ◌++◌, length, get_or, take, drop, inl, inr, ◌⊎◌, refl, sym, ap, ◌∙◌, subst}
-use Rattle.std.proofs.Common.{Option, length-take, arith}
-use Rattle.std.specs.{Prelude.All, Prelude.not, Prelude.insert, Prelude.remove, Prelude.map, Prelude.Result, Prelude.Ok, Prelude.Err, Prelude.OnOk, List.flat_map, List.cons_option}
-use Rattle.std.proofs.lemmas.{Bool.eq-eqb, Bool.ne_eqb, Bool.or_from, Bool.Decides.eqb_tells, List.Elements.All-head, List.Elements.All-tail, List.Elements.All-weaker, Grind.flat_map-append}
-use Rattle.std.proofs.lemmas.{List.append-nil, List.take_more, List.get_or_default, Option.slice_get-get_or}
-use Rattle.spin_base.specs.declared.blocks.Block.{Block}
-use Rattle.tern_word.specs.{declared.tables.Alias.Alias, declared.tables.Row.Row, SoundTable.IsOrdered, Ternary.generality, Ternary.merge_of}
-use Rattle.cover_merge.specs.Merge.{has_row, rows_at, picked, kept, merge_rows, merged_row, merged_block, place_for, insert_place, after, IsMergeSet, aliases_at}
+use Rattle.cover_merge.proofs.Common.{Alias, All, All-head, All-tail, All-weaker, Block, Bool, Err, IsMergeSet, IsOrdered, List, Ok, OnOk, Option, Result, Row, [], after, aliases_at, ap, append-nil}
+use Rattle.cover_merge.proofs.Common.{arith, cond, cons_option, drop, eq-eqb, eqb_tells, false, flat_map, flat_map-append, generality, get_or, get_or_default, has_row, inl, inr, insert, insert_place}
+use Rattle.cover_merge.proofs.Common.{kept, length, length-take, map, merge_of, merge_rows, merged_block, merged_row, ne_eqb, not, or_from, picked, place_for, refl, remove, rows_at, slice_get-get_or}
+use Rattle.cover_merge.proofs.Common.{subst, suc, sym, take, take_more, true, zero, ℕ, ◌++◌, ◌+◌, ◌<◌, ◌==◌, ◌||◌, ◌∙◌, ◌∷◌, ◌≡◌, ◌≢◌, ◌≤◌, ◌⊎◌}
 use Rattle.cover_merge.proofs.Positions.{rows_at-push, member_before, has-at, place_for-le}
 
 -- ---- a place that is not of the set

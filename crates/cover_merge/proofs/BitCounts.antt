@@ -1,14 +1,9 @@
 -- Counting, for each bit, the places that it keeps: one pass over the places, with a counter a bit.
-use Rattle.std.proofs.Common.{◌≡◌, ◌≢◌, ◌⊎◌, ℕ, zero, suc, ◌+◌, ◌-◌, ◌*◌, ◌^◌, ◌%◌, ◌<◌, ◌≤◌, ◌==◌, ◌&&◌, Bool, true, false, cond, List, length, get_or, set, take, refl, sym, ap, subst, ◌∙◌, inl, inr}
-use Rattle.std.proofs.Common.{◌++◌, ◌∷◌, [], length-append, length-take, arith}
-use Rattle.std.specs.{Prelude.MatchOption, Prelude.Option, Prelude.None, Prelude.Some, Prelude.bit_and, Prelude.bit_xor, Prelude.min, Prelude.filter, Prelude.not, Int.bit_at, Int.bit_not}
-use Rattle.std.specs.Int.{trailing_zeros, w32}
-use Rattle.std.proofs.lemmas.{Bool.cases_eq, Grind.get_or-set_at, List.get_or-set_other, List.take_all, List.take_more, List.Elements.filter-append, List.Sums.count_by-le-length}
-use Rattle.std.proofs.lemmas.{List.Sums.length-filter, Nat.and_le_l, Nat.Bits.bit_at-lt, Nat.Bits.bit_at_and, Nat.Bits.bit_at_not, Nat.Bits.bit_at_xor, Nat.Bits.bit_at-zero}
-use Rattle.std.proofs.lemmas.Nat.Bits.{bit_at-trailing_zeros, bit_at_clear_same, bit_at_clear_other}
-use Rattle.spin_base.specs.declared.blocks.Block.{Block}
-use Rattle.tern_word.specs.declared.tables.Row.{Row}
-use Rattle.cover_merge.specs.Refinement.{can_choose, parts, keeps, kept_by, kept_count, IsBestBit}
+use Rattle.cover_merge.proofs.Common.{Block, Bool, IsBestBit, List, MatchOption, None, Option, Row, Some, [], and_le_l, ap, arith, bit_and, bit_at, bit_at-lt, bit_at-trailing_zeros, bit_at-zero}
+use Rattle.cover_merge.proofs.Common.{bit_at_and, bit_at_clear_other, bit_at_clear_same, bit_at_not, bit_at_xor, bit_not, bit_xor, cases_eq, cond, count_by-le-length, false, filter, filter-append}
+use Rattle.cover_merge.proofs.Common.{get_or, get_or-set_at, get_or-set_other, inl, inr, keeps, kept_by, kept_count, length, length-append, length-filter, length-take, min, not, refl, set, subst, suc}
+use Rattle.cover_merge.proofs.Common.{sym, take, take_all, take_more, trailing_zeros, true, w32, zero, ℕ, ◌%◌, ◌&&◌, ◌*◌, ◌++◌, ◌+◌, ◌-◌, ◌<◌, ◌==◌, ◌^◌, ◌∙◌, ◌∷◌, ◌≡◌, ◌≢◌, ◌≤◌, ◌⊎◌}
+use Rattle.cover_merge.specs.Refinement.{can_choose, parts}
 use Rattle.cover_merge.proofs.RefineLemmas.{keeps_inside, keeps_outside}
 
 -- ---- the words

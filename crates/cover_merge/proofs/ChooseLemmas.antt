@@ -1,14 +1,9 @@
 -- The places of a route, and pairs.
-use Rattle.std.proofs.Common.{◌≡◌, ◌≢◌, ℕ, zero, suc, ◌+◌, ◌-◌, ◌<◌, ◌≤◌, ◌==◌, Bool, true, false, cond, List, [], ◌∷◌, ◌++◌, length, get_or, take, inl, inr, ◌⊎◌, refl, sym, ap, ◌∙◌, subst}
-use Rattle.std.proofs.Common.{length-take, append-nil, arith}
-use Rattle.std.specs.Prelude.{All, AllPairs}
-use Rattle.std.proofs.lemmas.{Bool.cases_lt, Bool.eqb-true, Bool.eq-eqb, Bool.Decides.eqb_tells, List.take_more, List.take_all, List.get_or_default, List.Elements.All-nil, List.Elements.All-cons}
-use Rattle.std.proofs.lemmas.List.Kept.{AllPairs-cons}
-use Rattle.tern_word.specs.declared.tables.Row.{Row}
-use Rattle.cover_merge.specs.{Merge.IsOneRoute, Merge.IsMergeSet, Merge.merge_rows, Links.AreNexts, Links.IsNextOfRoute, Links.IsFirstOfRoute, Covering.places_of, Covering.IsLegalPair}
-use Rattle.cover_merge.specs.Covering.{IsFirstPartner, HasNoLegalPair, IsFirstLegalPair}
+use Rattle.cover_merge.proofs.Common.{All, All-cons, All-nil, AllPairs, AllPairs-cons, AreNexts, Bool, HasNoLegalPair, IsFirstLegalPair, IsFirstOfRoute, IsFirstPartner, IsLegalPair, IsMergeSet}
+use Rattle.cover_merge.proofs.Common.{IsNextOfRoute, IsOneRoute, List, Row, [], ap, append-nil, arith, cases_lt, cond, eq-eqb, eqb-true, eqb_tells, false, get_or, get_or_default, inl, inr, length}
+use Rattle.cover_merge.proofs.Common.{length-take, merge_rows, places_of, refl, same_route, subst, suc, sym, take, take_all, take_more, true, zero, ℕ, ◌++◌, ◌+◌, ◌-◌, ◌<◌, ◌==◌, ◌∙◌, ◌∷◌, ◌≡◌, ◌≢◌}
+use Rattle.cover_merge.proofs.Common.{◌≤◌, ◌⊎◌}
 use Rattle.cover_merge.proofs.{Positions.pair_set, Lists.AllPairs-nil}
-use Rattle.spin_base.proofs.RouteBits.{same_route}
 
 -- ---- the places of a route
 

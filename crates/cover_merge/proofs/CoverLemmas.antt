@@ -1,15 +1,10 @@
 -- What a chosen merge keeps: soundness and the served blocks; and that each merge makes the table shorter.
-use Rattle.std.proofs.Common.{◌≡◌, ℕ, zero, suc, ◌+◌, ◌^◌, ◌<◌, ◌≤◌, List, [], ◌∷◌, ◌++◌, length, get_or, take, drop, inl, inr, ◌⊎◌, refl, sym, ap, ◌∙◌, subst, append_assoc, append-nil}
-use Rattle.std.proofs.Common.{take-append-drop, length-append, length-take, arith}
-use Rattle.std.specs.{Prelude.All, Prelude.AllPairs, Prelude.map, Prelude.not, List.Contains, List.flat_map, List.cons_option, List.Sorted.IsPermutation}
-use Rattle.std.proofs.{Math.Seq.drop-cons, lemmas.Grind.flat_map-append, lemmas.List.map-append, lemmas.List.get_or_default, lemmas.Option.slice_get-get_or, lemmas.List.Elements.All-nil}
-use Rattle.std.proofs.lemmas.List.Elements.{All-cons, All-head, All-tail, All-append, All-take, All-drop, All-contains_itself}
-use Rattle.std.proofs.lemmas.List.Sorted.{IsPermutation-refl, IsPermutation-trans, IsPermutation-append_left, IsPermutation-append_comm}
-use Rattle.spin_base.specs.declared.routes.Route.{Route}
-use Rattle.tern_word.specs.{declared.tables.Alias.Alias, declared.tables.Row.Row, Ternary.generality, SoundTable.IsSound, SoundTable.Original, SoundTable.served_by, SoundTable.served}
-use Rattle.cover_merge.specs.Merge.{has_row, kept, rows_at, merge_rows, merged_row, merged_block, insert_place, after, SameRoute, IsOneRoute, IsMergeSet, IsLegal}
-use Rattle.cover_merge.specs.{Refinement.Refines, Refinement.ends_empty, Refinement.ends_legal, Refinement.goes_up, Refinement.goes_down, Covering.places_of, Covering.IsChosen, Covering.HasNoChosen}
-use Rattle.cover_merge.specs.{Covering.HasRoutesOf, Covering.Covers, Covering.short, Covering.stuck, Covering.merged, declared.covering.Merge.Merge, Merges.sets_of}
+use Rattle.cover_merge.proofs.Common.{Alias, All, All-append, All-cons, All-contains_itself, All-drop, All-head, All-nil, All-tail, All-take, AllPairs, Contains, Covers, HasNoChosen, HasRoutesOf}
+use Rattle.cover_merge.proofs.Common.{IsChosen, IsLegal, IsMergeSet, IsOneRoute, IsPermutation, IsPermutation-append_comm, IsPermutation-append_left, IsPermutation-refl, IsPermutation-trans, IsSound}
+use Rattle.cover_merge.proofs.Common.{List, Merge, Original, Refines, Route, Row, SameRoute, [], after, ap, append-nil, append_assoc, arith, cons_option, drop, drop-cons, ends_empty, ends_legal}
+use Rattle.cover_merge.proofs.Common.{flat_map, flat_map-append, generality, get_or, get_or_default, goes_down, goes_up, has_row, inl, inr, insert_place, kept, length, length-append, length-take, map}
+use Rattle.cover_merge.proofs.Common.{map-append, merge_rows, merged, merged_block, merged_row, not, places_of, refl, rows_at, served, served_by, sets_of, short, slice_get-get_or, stuck, subst, suc}
+use Rattle.cover_merge.proofs.Common.{sym, take, take-append-drop, zero, ℕ, ◌++◌, ◌+◌, ◌<◌, ◌^◌, ◌∙◌, ◌∷◌, ◌≡◌, ◌≤◌, ◌⊎◌}
 use Rattle.cover_merge.proofs.{Lists.All-picked, Lists.All-from_map, Lists.AllPairs-head, Lists.AllPairs-tail, Positions.has-place, Positions.rows_at-from, Positions.place_for-le}
 use Rattle.cover_merge.proofs.{RefineLemmas.one_route_after, RefineLemmas.legal_here, ApplyLemmas.kept_none, ApplyLemmas.kept_longer, ApplyLemmas.kept_remove, ApplyLemmas.picked-append}
 use Rattle.cover_merge.proofs.{ApplyLemmas.kept_in, ApplyLemmas.first_kept, ApplyLemmas.route_is, ChooseLemmas.places_of-one_route}

@@ -1,12 +1,8 @@
 -- At most one refined set, one chosen merge, one covered table.
-use Rattle.std.proofs.Common.{◌≡◌, ℕ, ◌<◌, ◌≤◌, inl, inr, List, [], ◌∷◌, length, get_or, refl, sym, ap, ◌∙◌, subst, arith}
-use Rattle.std.proofs.lemmas.{Bool.cases_order, Option.get_or_from_slice_get, Option.slice_get_within}
-use Rattle.spin_base.specs.declared.{blocks.Block.Block, routes.Route.Route}
-use Rattle.tern_word.specs.{declared.tables.Alias.Alias, declared.tables.Row.Row, Ternary.Intersects, SoundTable.Misses}
-use Rattle.cover_merge.specs.{Merge.insert_place, Merge.after, Merge.merge_rows, Merge.merged_block, Merge.PassesUpCheck, Merge.PassesDown, Merge.PassesDownCheck, Refinement.IsLastFailing}
-use Rattle.cover_merge.specs.Refinement.{set_without, IsUpStep, IsFirstMet, IsFirstMetFrom, kept_by, IsBestBit, IsNarrowed, IsDownStep, Refines, ends_empty, ends_legal, goes_up, goes_down}
-use Rattle.cover_merge.specs.Covering.{places_of, IsNoRival, IsLargest, HasNoLargest, IsFirstLegalPair, IsChosen, HasNoChosen, Covers, short, stuck, merged}
-use Rattle.cover_merge.specs.{Merges.sets_of, declared.covering.Merge.Merge, declared.covering.Covered.Covered}
+use Rattle.cover_merge.proofs.Common.{Alias, Block, Covered, Covers, HasNoChosen, HasNoLargest, Intersects, IsBestBit, IsChosen, IsDownStep, IsFirstLegalPair, IsFirstMet, IsFirstMetFrom, IsLargest}
+use Rattle.cover_merge.proofs.Common.{IsLastFailing, IsNarrowed, IsNoRival, IsUpStep, List, Merge, Misses, PassesDown, PassesDownCheck, PassesUpCheck, Refines, Route, Row, [], after, ap, arith}
+use Rattle.cover_merge.proofs.Common.{cases_order, ends_empty, ends_legal, get_or, get_or_from_slice_get, goes_down, goes_up, inl, inr, insert_place, kept_by, length, merge_rows, merged, merged_block}
+use Rattle.cover_merge.proofs.Common.{places_of, refl, set_without, sets_of, short, slice_get_within, stuck, subst, sym, ℕ, ◌<◌, ◌∙◌, ◌∷◌, ◌≡◌, ◌≤◌}
 use Rattle.cover_merge.proofs.ChooseLemmas.{route_cases}
 
 -- ---- the first alias that a block meets

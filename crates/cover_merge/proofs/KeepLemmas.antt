@@ -1,15 +1,9 @@
 -- What is kept of routes: the greatest, and what a merge leaves.
-use Rattle.std.proofs.Common.{◌≡◌, ◌≢◌, ℕ, ◌+◌, ◌<◌, ◌≤◌, ◌⊎◌, List, [], length, get_or, set, inl, inr, refl, sym, ap, ◌∙◌, subst, arith}
-use Rattle.std.specs.Prelude.{All, Option, Some, None}
-use Rattle.std.proofs.{Math.ListN.get_or-eq_default, lemmas.Bool.cases_lt, lemmas.Bool.cases_eq, lemmas.Grind.get_or-set_at, lemmas.List.get_or_default, lemmas.List.get_or-set_other}
-use Rattle.std.proofs.lemmas.List.{length-set}
-use Rattle.spin_base.specs.declared.blocks.Block.{Block}
-use Rattle.tern_word.specs.{declared.tables.Row.Row, SoundTable.IsSound, SoundTable.Misses, Ternary.generality}
-use Rattle.cover_merge.specs.{Merge.after, Merge.merged_block, Merge.merge_rows, Merge.IsOneRoute, Merge.IsLegalMerge, Merge.PassesUpCheck, Merge.PassesDownCheck, Refinement.IsDownStep}
-use Rattle.cover_merge.specs.{Refinement.Refines, Refinement.ends_empty, Kept.IsKept, Kept.IsGone, Kept.LeadsWithin, Kept.RefinesWithin, Covering.places_of, Covering.IsNoRival, Covering.IsLargest}
-use Rattle.cover_merge.specs.{Covering.HasNoLargest, Links.place_of_route, Links.IsEachOnce, Links.AreLinks, Links.AreNumbers, Links.IsFirstOfRoute, Known.AreAllKept, Known.AreRoutesKept}
-use Rattle.cover_merge.specs.{Known.AreStillKept, Known.IsApart, Known.IsFreshlyRefined, Known.MissesAllOf, Known.IsMostBefore, declared.choosing.Fresh.Fresh, declared.keeping.Kept.Kept}
-use Rattle.cover_merge.specs.declared.keeping.Most.{Most}
+use Rattle.cover_merge.proofs.Common.{All, AreAllKept, AreLinks, AreNumbers, AreRoutesKept, AreStillKept, Block, Fresh, HasNoLargest, IsApart, IsDownStep, IsEachOnce, IsFirstOfRoute, IsFreshlyRefined}
+use Rattle.cover_merge.proofs.Common.{IsGone, IsKept, IsLargest, IsLegalMerge, IsMostBefore, IsNoRival, IsOneRoute, IsSound, Kept, LeadsWithin, List, Misses, MissesAllOf, Most, None, Option}
+use Rattle.cover_merge.proofs.Common.{PassesDownCheck, PassesUpCheck, Refines, RefinesWithin, Row, Some, [], after, ap, arith, cases_eq, cases_lt, ends_empty, generality, get_or, get_or-eq_default}
+use Rattle.cover_merge.proofs.Common.{get_or-set_at, get_or-set_other, get_or_default, inl, inr, length, length-set, merge_rows, merged_block, place_of_route, places_of, refl, set, subst, sym, ℕ, ◌+◌}
+use Rattle.cover_merge.proofs.Common.{◌<◌, ◌∙◌, ◌≡◌, ◌≢◌, ◌≤◌, ◌⊎◌}
 use Rattle.cover_merge.proofs.{LinkLemmas.number_of_route, LinkLemmas.route_there, LinkLemmas.routes_all, KeptLemmas.forgets, KeptLemmas.kept_after, KeptLemmas.merge_other, KeptLemmas.no_rival_kept}
 use Rattle.cover_merge.proofs.{KeptLemmas.size_of_kept, ChooseLemmas.route_cases, KeptLemmasSteps.gone_checked, KeptLemmasSteps.gone_down, KeptLemmasSteps.gone_legal, KeptLemmasSteps.gone_up}
 

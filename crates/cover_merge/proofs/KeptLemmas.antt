@@ -1,17 +1,11 @@
 -- What is kept of a route is true in the table after a merge that leaves it alone.
-use Rattle.std.proofs.Common.{◌≡◌, ◌≢◌, ◌==◌, ◌||◌, ℕ, zero, suc, ◌+◌, ◌<◌, ◌≤◌, ◌⊎◌, Bool, true, false, cond, Some, List, [], ◌∷◌, length, get_or, inl, inr, refl, sym, ap, ◌∙◌, subst, arith}
-use Rattle.std.specs.{Prelude.All, Prelude.not, Prelude.map, Prelude.filter, Prelude.slice_get, List.cons_option}
-use mathlib.Core.Bool.{true≢false}
-use Rattle.std.proofs.lemmas.{Bool.cases_Bool, Bool.cases_lt, Bool.cases_order, Bool.eq-eqb, Bool.ne_eqb, Bool.Decides.eqb_tells, List.get_or_default, List.length-map, List.Elements.All-nil}
-use Rattle.std.proofs.lemmas.{List.Elements.All-cons, List.Elements.All-head, List.Elements.All-tail, List.Elements.All-map, List.Elements.All-filter, Option.slice_get-get_or}
-use Rattle.std.proofs.lemmas.Option.{get_or_from_slice_get, slice_get_within}
-use Rattle.spin_base.specs.declared.{blocks.Block.Block, routes.Route.Route}
-use Rattle.tern_word.specs.{declared.tables.Alias.Alias, declared.tables.Row.Row, Ternary.Intersects, Ternary.LiesIn, Ternary.Wants, Ternary.generality, Ternary.merge_of, SoundTable.IsSound}
-use Rattle.tern_word.specs.SoundTable.{Misses, HoldsItsAliases}
-use Rattle.tern_word.proofs.BlockLaws.{Intersects-sym, Intersects-wider, LiesIn-trans, LiesIn-from_wants, generality-mono, merge_of-is_merge}
-use Rattle.cover_merge.specs.Merge.{has_row, rows_at, merged_row, merged_block, place_for, insert_place, after, IsMergeSet, IsLegal, PassesUp, PassesUpCheck, PassesDown, PassesDownCheck}
-use Rattle.cover_merge.specs.Refinement.{IsLastFailing, IsUpStep, IsFirstMetFrom, can_choose, keeps, kept_by, kept_count, IsNarrowed, IsDownStep, Refines}
-use Rattle.cover_merge.specs.{Covering.places_of, Covering.IsNoRival, Kept.RefinesWithin, Kept.IsKept, Kept.IsLeftBy}
+use Rattle.cover_merge.proofs.Common.{Alias, All, All-cons, All-filter, All-head, All-map, All-nil, All-tail, Block, Bool, HoldsItsAliases, Intersects, Intersects-sym, Intersects-wider, IsDownStep}
+use Rattle.cover_merge.proofs.Common.{IsFirstMetFrom, IsKept, IsLastFailing, IsLeftBy, IsLegal, IsMergeSet, IsNarrowed, IsNoRival, IsSound, IsUpStep, LiesIn, LiesIn-from_wants, LiesIn-trans, List}
+use Rattle.cover_merge.proofs.Common.{Misses, PassesDown, PassesDownCheck, PassesUp, PassesUpCheck, Refines, RefinesWithin, Route, Row, Some, Wants, [], after, ap, arith, can_choose, cases_Bool}
+use Rattle.cover_merge.proofs.Common.{cases_lt, cases_order, cond, cons_option, eq-eqb, eqb_tells, false, filter, generality, generality-mono, get_or, get_or_default, get_or_from_slice_get, has_row}
+use Rattle.cover_merge.proofs.Common.{inl, inr, insert_place, keeps, kept_by, kept_count, length, length-map, map, merge_of, merge_of-is_merge, merged_block, merged_row, ne_eqb, not, place_for}
+use Rattle.cover_merge.proofs.Common.{places_of, refl, rows_at, slice_get, slice_get-get_or, slice_get_within, subst, suc, sym, true, true≢false, zero, ℕ, ◌+◌, ◌<◌, ◌==◌, ◌||◌, ◌∙◌, ◌∷◌, ◌≡◌, ◌≢◌}
+use Rattle.cover_merge.proofs.Common.{◌≤◌, ◌⊎◌}
 use Rattle.cover_merge.proofs.Positions.{has-at, has-place, has-later, All-has, rows_at-from, rows_at-has, rows_at-length, some_blocks, place_for-le, place_for-below, place_for-above, member_le}
 use Rattle.cover_merge.proofs.{Lists.All-from_map, Legal.HoldsItsAliases-merge, Legal.narrower_misses, Legal.member_lies, ApplyLemmas.block_is, Determined.one_refined, KeptLemmasMoved.moved}
 use Rattle.cover_merge.proofs.KeptLemmasMoved.{moved_less, moved_get, moved_onto, moved_places}

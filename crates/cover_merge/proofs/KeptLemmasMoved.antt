@@ -1,10 +1,7 @@
 -- Where the rows outside a merge stand in the table after it.
-use Rattle.std.proofs.Common.{◌≡◌, ◌≢◌, ◌==◌, ℕ, zero, suc, ◌+◌, ◌<◌, ◌≤◌, ◌⊎◌, Bool, true, false, cond, List, [], ◌∷◌, length, get_or, inl, inr, refl, sym, ap, ◌∙◌, subst, arith}
-use Rattle.std.specs.Prelude.{not, insert, map}
-use Rattle.std.proofs.lemmas.{Bool.cases_Bool, Bool.cases_lt, Bool.cases_eq, Bool.not-true, Bool.not-false, Bool.not_from_false, Bool.ne_eqb, List.Edits.get_or-insert_at}
-use Rattle.std.proofs.lemmas.{List.Edits.get_or-insert_below, List.Edits.length-insert, Simd.map-map}
-use Rattle.tern_word.specs.{declared.tables.Row.Row, Ternary.generality, SoundTable.IsOrdered}
-use Rattle.cover_merge.specs.{Merge.has_row, Merge.picked, Merge.kept, Merge.merge_rows, Merge.merged_row, Merge.merged_block, Merge.insert_place, Merge.after, Merge.IsMergeSet, Covering.places_of}
+use Rattle.cover_merge.proofs.Common.{Bool, IsMergeSet, IsOrdered, List, Row, [], after, ap, arith, cases_Bool, cases_eq, cases_lt, cond, false, generality, get_or, get_or-insert_at}
+use Rattle.cover_merge.proofs.Common.{get_or-insert_below, has_row, inl, inr, insert, insert_place, kept, length, length-insert, map, map-map, merge_rows, merged_block, merged_row, ne_eqb, not}
+use Rattle.cover_merge.proofs.Common.{not-false, not-true, not_from_false, picked, places_of, refl, subst, suc, sym, true, zero, ℕ, ◌+◌, ◌<◌, ◌==◌, ◌∙◌, ◌∷◌, ◌≡◌, ◌≢◌, ◌≤◌, ◌⊎◌}
 use Rattle.cover_merge.proofs.{Positions.has-at, Positions.All-has, Positions.place_for-le, ApplyLemmas.left, ApplyLemmas.none_from, ApplyLemmas.members_before, ApplyLemmas.after_is}
 use Rattle.cover_merge.proofs.ApplyLemmas.{route_is}
 

@@ -1,12 +1,7 @@
 -- Steps of refinement one after another, and the bounds of the blocks that are down-checked on the way.
-use Rattle.std.proofs.Common.{◌≡◌, ℕ, ◌+◌, ◌<◌, ◌≤◌, ◌⊎◌, true, List, [], length, get_or, inl, inr, sym, subst, arith}
-use Rattle.std.specs.Prelude.{All, not, remove, ◌==◌}
-use Rattle.std.proofs.lemmas.List.{get_or_default, Elements.All-nil, Elements.All-filter}
-use Rattle.spin_base.specs.declared.blocks.Block.{Block}
-use Rattle.tern_word.specs.{declared.tables.Row.Row, Ternary.LiesIn, Ternary.generality, SoundTable.IsOrdered}
-use Rattle.tern_word.proofs.BlockLaws.{LiesIn-trans, generality_le}
-use Rattle.cover_merge.specs.{Merge.has_row, Merge.merged_block, Merge.place_for, Merge.IsOneRoute, Merge.PassesUpCheck, Merge.PassesDownCheck, Refinement.IsLastFailing, Refinement.IsUpStep}
-use Rattle.cover_merge.specs.{Refinement.IsNarrowed, Refinement.IsDownStep, Refinement.keeps, Kept.RefinesWithin, Kept.LeadsWithin, Kept.IsGone}
+use Rattle.cover_merge.proofs.Common.{All, All-filter, All-nil, Block, IsDownStep, IsGone, IsLastFailing, IsNarrowed, IsOneRoute, IsOrdered, IsUpStep, LeadsWithin, LiesIn, LiesIn-trans, List}
+use Rattle.cover_merge.proofs.Common.{PassesDownCheck, PassesUpCheck, RefinesWithin, Row, [], arith, generality, generality_le, get_or, get_or_default, has_row, inl, inr, keeps, length, merged_block}
+use Rattle.cover_merge.proofs.Common.{not, place_for, remove, subst, sym, true, ℕ, ◌+◌, ◌<◌, ◌==◌, ◌≡◌, ◌≤◌, ◌⊎◌}
 use Rattle.cover_merge.proofs.{Positions.has-at, Positions.has-place, Positions.All-has, SiftLemmas.sift_step, KeptLemmas.fewer_lies}
 
 -- each place of a set is one of it

@@ -1,15 +1,8 @@
 -- On a sound table both checks are true exactly where the table after the merge is sound.
-use Rattle.std.proofs.Common.{◌≡◌, ℕ, ◌+◌, ◌-◌, ◌<◌, ◌≤◌, ◌⊎◌, inl, inr, true, false, List, [], ◌∷◌, length, get_or, take, drop, refl, sym, ap, ◌∙◌, subst, length-take, length-drop, get_or-take}
-use Rattle.std.proofs.Common.{get_or-drop, arith}
-use Rattle.std.specs.{Prelude.All, Prelude.not, Prelude.map, List.flat_map}
-use Rattle.std.proofs.lemmas.{Bool.cases_Bool, Bool.cases_lt, Bool.not-true, Bool.not_from_false, List.get_or_default, List.Elements.All-cons, List.Elements.All-append, List.Elements.All-take}
-use Rattle.std.proofs.lemmas.List.Elements.{All-drop}
-use mathlib.Core.Bool.{true≢false}
-use Rattle.spin_base.specs.declared.blocks.Block.{Block}
-use Rattle.tern_word.specs.{declared.tables.Alias.Alias, declared.tables.Row.Row, Ternary.Intersects, Ternary.LiesIn, Ternary.generality, Ternary.merge_of, SoundTable.Misses}
-use Rattle.tern_word.specs.SoundTable.{HoldsItsAliases, IsSound}
-use Rattle.tern_word.proofs.BlockLaws.{Intersects-sym, Intersects-wider, LiesIn-trans, LiesIn-merge}
-use Rattle.cover_merge.specs.Merge.{has_row, rows_at, kept, merge_rows, merged_row, merged_block, insert_place, IsLegal, IsMergeSet, PassesUpCheck, PassesDownCheck}
+use Rattle.cover_merge.proofs.Common.{Alias, All, All-append, All-cons, All-drop, All-take, Block, HoldsItsAliases, Intersects, Intersects-sym, Intersects-wider, IsLegal, IsMergeSet, IsSound, LiesIn}
+use Rattle.cover_merge.proofs.Common.{LiesIn-merge, LiesIn-trans, List, Misses, PassesDownCheck, PassesUpCheck, Row, [], ap, arith, cases_Bool, cases_lt, drop, false, flat_map, generality, get_or}
+use Rattle.cover_merge.proofs.Common.{get_or-drop, get_or-take, get_or_default, has_row, inl, inr, insert_place, kept, length, length-drop, length-take, map, merge_of, merge_rows, merged_block}
+use Rattle.cover_merge.proofs.Common.{merged_row, not, not-true, not_from_false, refl, rows_at, subst, sym, take, true, true≢false, ℕ, ◌+◌, ◌-◌, ◌<◌, ◌∙◌, ◌∷◌, ◌≡◌, ◌≤◌, ◌⊎◌}
 use Rattle.cover_merge.proofs.Lists.{All-picked, picked-at, picked-from, All-from_map, All-flat_map, All-from_flat_map, AllPairs-around, AllPairs-into, AllPairs-out}
 use Rattle.cover_merge.proofs.Positions.{All-has, rows_at-from, rows_at-has, place_for-le, place_for-below, place_for-above, member_before}
 

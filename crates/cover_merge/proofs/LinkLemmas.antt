@@ -1,13 +1,8 @@
 -- Numbers of routes, and the rows of one route one after another.
-use Rattle.std.proofs.Common.{◌≡◌, ◌≢◌, ℕ, zero, suc, ◌+◌, ◌<◌, ◌≤◌, ◌⊎◌, ◌==◌, Bool, true, false, cond, List, [], ◌∷◌, ◌++◌, length, length-append, get_or, take, drop, inl, inr, refl, sym, ap, ◌∙◌}
-use Rattle.std.proofs.Common.{subst, arith}
-use Rattle.std.specs.Prelude.{All, map, not, insert}
-use Rattle.std.proofs.lemmas.{Bool.cases_lt, Bool.eq-eqb, Bool.Decides.eqb_tells, List.get_or_default, List.get_or_append_left, List.take_all}
-use Rattle.std.proofs.{Math.Seq.get_or-append_seam, lemmas.List.Elements.All-cons, lemmas.List.Elements.All-append, lemmas.List.Elements.All-take, lemmas.List.Elements.All-drop}
-use Rattle.spin_base.specs.declared.routes.Route.{Route}
-use Rattle.tern_word.specs.{declared.tables.Row.Row, SoundTable.IsOrdered}
-use Rattle.cover_merge.specs.{Merge.has_row, Merge.picked, Merge.merged_row, Merge.insert_place, Merge.after, Merge.IsMergeSet, Merge.merge_rows, Links.place_of_route, Links.IsEachOnce}
-use Rattle.cover_merge.specs.Links.{AreRoutes, IsRouteAdded, AreNumbers, IsAhead, IsNextOfRoute, IsFirstOfRoute, AreLinks}
+use Rattle.cover_merge.proofs.Common.{All, All-append, All-cons, All-drop, All-take, AreLinks, AreNumbers, AreRoutes, Bool, IsAhead, IsEachOnce, IsFirstOfRoute, IsMergeSet, IsNextOfRoute, IsOrdered}
+use Rattle.cover_merge.proofs.Common.{IsRouteAdded, List, Route, Row, [], after, ap, arith, cases_lt, cond, drop, eq-eqb, eqb_tells, false, get_or, get_or-append_seam, get_or_append_left}
+use Rattle.cover_merge.proofs.Common.{get_or_default, has_row, inl, inr, insert, insert_place, length, length-append, map, merge_rows, merged_row, not, picked, place_of_route, refl, subst, suc, sym}
+use Rattle.cover_merge.proofs.Common.{take, take_all, true, zero, ℕ, ◌++◌, ◌+◌, ◌<◌, ◌==◌, ◌∙◌, ◌∷◌, ◌≡◌, ◌≢◌, ◌≤◌, ◌⊎◌}
 use Rattle.cover_merge.proofs.{Lists.All-picked, ApplyLemmas.left, ApplyLemmas.after_is, ApplyLemmas.route_is}
 
 -- ---- the place of a route

@@ -1,9 +1,6 @@
 -- What holds of the picked items of a list, and of all pairs of a list.
-use Rattle.std.proofs.Common.{◌≡◌, ℕ, zero, suc, ◌+◌, ◌<◌, Bool, true, false, cond, List, [], ◌∷◌, ◌++◌, length, get_or, take, drop, take-append-drop, refl, sym, ap, ◌∙◌, subst, arith}
-use Rattle.std.specs.Prelude.{All, AllPairs}
-use Rattle.std.proofs.lemmas.List.Elements.{All-nil, All-cons, All-head, All-tail}
-use Rattle.std.proofs.lemmas.List.Kept.{AllPairs-cons}
-use Rattle.cover_merge.specs.Merge.{picked}
+use Rattle.cover_merge.proofs.Common.{All, All-cons, All-head, All-nil, All-tail, AllPairs, AllPairs-cons, Bool, List, [], ap, arith, cond, drop, false, get_or, length, picked, refl, subst, suc, sym}
+use Rattle.cover_merge.proofs.Common.{take, take-append-drop, true, zero, ℕ, ◌++◌, ◌+◌, ◌<◌, ◌∙◌, ◌∷◌, ◌≡◌}
 pub use Rattle.spin_base.proofs.Pairs.{All-left, All-right, All-from_map, All-flat_map, All-from_flat_map, AllPairs-nil, AllPairs-head, AllPairs-tail, AllAcross, AllPairs-append, AllPairs-left, AllPairs-right, AllPairs-across}
 
 module _ {X : Type 0} (P : X → Type 0) where

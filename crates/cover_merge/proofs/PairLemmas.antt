@@ -1,15 +1,9 @@
 -- A pair of rows that is legal after a merge was legal before it, where neither loses a row behind it by the merge.
-use Rattle.std.proofs.Common.{◌≡◌, ℕ, zero, suc, ◌<◌, ◌≤◌, ◌⊎◌, true, false, List, [], ◌∷◌, length, get_or, take, drop, length-append, length-take, length-drop, inl, inr, refl, sym, ap, ◌∙◌, subst}
-use Rattle.std.proofs.Common.{arith}
-use Rattle.std.specs.Prelude.{All, insert, map, not}
-use mathlib.Core.Bool.{true≢false}
-use Rattle.std.proofs.lemmas.{Bool.cases_Bool, Bool.cases_lt, List.Elements.All-nil, List.Elements.All-cons, List.Kept.AllPairs-cons}
-use Rattle.spin_base.specs.declared.{blocks.Block.Block, routes.Route.Route}
-use Rattle.tern_word.specs.{declared.tables.Row.Row, Ternary.generality, Ternary.merge_of, SoundTable.IsSound, SoundTable.Misses}
-use Rattle.tern_word.proofs.BlockLaws.{generality-merge}
-use Rattle.cover_merge.specs.Merge.{has_row, rows_at, merged_row, merged_block, place_for, insert_place, after, SameRoute, IsMergeSet, IsLegal, PassesUp, PassesUpCheck, PassesDown, PassesDownCheck}
-use Rattle.cover_merge.specs.{Covering.IsLegalPair, declared.rivals.Rival.Rival, declared.times.Times.Times, Links.place_of_route, Rivals.AreRivalsAt, Rivals.HasSerial, Rivals.MeetsNone}
-use Rattle.cover_merge.specs.{Rivals.is_at_one, Tried.AreTriedUpTo, Tried.AreTouched, Tried.AreNoLater, Tried.IsFresh, Tried.LosesNone}
+use Rattle.cover_merge.proofs.Common.{All, All-cons, All-nil, AllPairs-cons, AreNoLater, AreRivalsAt, AreTouched, AreTriedUpTo, Block, HasSerial, IsFresh, IsLegal, IsLegalPair, IsMergeSet, IsSound}
+use Rattle.cover_merge.proofs.Common.{List, LosesNone, MeetsNone, Misses, PassesDown, PassesDownCheck, PassesUp, PassesUpCheck, Rival, Route, Row, SameRoute, Times, [], after, ap, arith, cases_Bool}
+use Rattle.cover_merge.proofs.Common.{cases_lt, drop, false, generality, generality-merge, get_or, has_row, inl, inr, insert, insert_place, is_at_one, length, length-append, length-drop, length-take}
+use Rattle.cover_merge.proofs.Common.{map, merge_of, merged_block, merged_row, not, place_for, place_of_route, refl, rows_at, subst, suc, sym, take, true, true≢false, zero, ℕ, ◌<◌, ◌∙◌, ◌∷◌, ◌≡◌, ◌≤◌}
+use Rattle.cover_merge.proofs.Common.{◌⊎◌}
 use Rattle.cover_merge.proofs.{Lists.All-from_map, Lists.picked_lengths, Positions.All-has, Positions.at_one_of, Positions.has-at, Positions.has-place, Positions.rows_at-has, Positions.place_for-le}
 use Rattle.cover_merge.proofs.{Positions.place_for-below, Positions.place_for-above, Legal.Misses-members, Legal.legal_from_checks, Legal.up_from_legal, Legal.down_from_legal, ApplyLemmas.left}
 use Rattle.cover_merge.proofs.{ApplyLemmas.after_is, ApplyLemmas.block_is, ApplyLemmas.route_is, TriedLemmas.all_before, KeptLemmasMoved.moved, KeptLemmasMoved.merged_at, KeptLemmasMoved.item_moved}

@@ -1,14 +1,9 @@
 -- Places of rows: those of a set, and the insertion place of a merge.
-use Rattle.std.proofs.Common.{◌≡◌, ℕ, zero, suc, ◌+◌, ◌-◌, ◌<◌, ◌≤◌, true, false, cond, ◌||◌, Option, Some, None, List, [], ◌∷◌, ◌++◌, length, get_or, take, drop, refl, sym, ap, ◌∙◌, zero-add}
-use Rattle.std.proofs.Common.{add_comm, length-take, length-drop, get_or-take, get_or-drop, subst, inl, inr, ◌⊎◌, arith}
-use Rattle.std.specs.{Prelude.All, Prelude.AllPairs, Prelude.map, Prelude.nat_le, Prelude.◌==◌, Prelude.slice_get, List.cons_option}
-use Rattle.std.proofs.lemmas.{List.take_more, List.map-append, Bool.eq-eqb, Bool.or_left, Bool.or_right, Bool.Decides.leb_tells, Bool.Decides.eqb_tells, Bool.Decides.nat_tests, List.Elements.All-take}
-use Rattle.std.proofs.lemmas.List.{Elements.All-drop, Elements.filter_map-append, Elements.All-nil, Elements.All-cons, Elements.All-head, Elements.All-tail, Sums.sum_by-append}
-use Rattle.std.proofs.lemmas.{List.Sums.count_by-le-length, Option.slice_get-get_or, Option.get_or_from_slice_get}
-use Rattle.spin_base.specs.declared.blocks.Block.{Block}
-use Rattle.tern_word.specs.{declared.tables.Row.Row, Ternary.generality, Ternary.merge_of, Ternary.merge_two, SoundTable.IsOrdered}
-use Rattle.tern_word.proofs.BlockLaws.{generality-merge, merge_of-push}
-use Rattle.cover_merge.specs.{Merge.SameRoute, Merge.has_row, Merge.rows_at, Merge.merged_block, Merge.place_for, Merge.insert_place, Merge.IsMergeSet, Rivals.is_at_one}
+use Rattle.cover_merge.proofs.Common.{All, All-cons, All-drop, All-head, All-nil, All-tail, All-take, AllPairs, Block, IsMergeSet, IsOrdered, List, None, Option, Row, SameRoute, Some, [], add_comm}
+use Rattle.cover_merge.proofs.Common.{ap, arith, cond, cons_option, count_by-le-length, drop, eq-eqb, eqb_tells, false, filter_map-append, generality, generality-merge, get_or, get_or-drop}
+use Rattle.cover_merge.proofs.Common.{get_or-take, get_or_from_slice_get, has_row, inl, inr, insert_place, is_at_one, leb_tells, length, length-drop, length-take, map, map-append, merge_of}
+use Rattle.cover_merge.proofs.Common.{merge_of-push, merge_two, merged_block, nat_le, nat_tests, or_left, or_right, place_for, refl, rows_at, slice_get, slice_get-get_or, subst, suc, sum_by-append}
+use Rattle.cover_merge.proofs.Common.{sym, take, take_more, true, zero, zero-add, ℕ, ◌++◌, ◌+◌, ◌-◌, ◌<◌, ◌==◌, ◌||◌, ◌∙◌, ◌∷◌, ◌≡◌, ◌≤◌, ◌⊎◌}
 use Rattle.cover_merge.proofs.Lists.{All-from_map, AllPairs-head, AllPairs-tail}
 
 -- ---- places of a set

@@ -1,13 +1,8 @@
 -- Rows that a block meets, and a rival that is put into a list.
-use Rattle.std.proofs.Common.{◌≡◌, ℕ, ◌+◌, ◌<◌, ◌≤◌, ◌==◌, false, List, [], ◌∷◌, ◌++◌, length, get_or, get_or-take, take, set, inl, inr, ◌⊎◌, true, sym, ap, ◌∙◌, subst, length-append, length-take}
-use Rattle.std.proofs.Common.{length-set, arith}
-use Rattle.std.specs.Prelude.{All, AllPairs, insert, not}
-use Rattle.std.proofs.{Math.Seq.get_or-append_seam, lemmas.Bool.cases_lt, lemmas.Bool.eq-eqb, lemmas.Bool.or_left, lemmas.Bool.or_right, lemmas.List.get_or_append_left, lemmas.List.get_or_default}
-use Rattle.std.proofs.lemmas.List.{take_more, Elements.All-append, Elements.All-cons, Elements.All-nil, Kept.AllPairs-cons, Kept.AllPairs-filter, Folds.list_any-append}
-use Rattle.std.proofs.lemmas.Grind.{get_or-set_at}
-use Rattle.spin_base.specs.declared.blocks.Block.{Block}
-use Rattle.tern_word.specs.{declared.tables.Row.Row, SoundTable.IsSound, SoundTable.Misses}
-use Rattle.cover_merge.specs.{Merge.IsLegalMerge, Merge.PassesDown, Merge.has_row, Merge.insert_place, Rivals.AreMet, Rivals.IsPutIn, Rivals.is_at_one, Rivals.rivals_left, declared.rivals.Rival.Rival}
+use Rattle.cover_merge.proofs.Common.{All, All-append, All-cons, All-nil, AllPairs, AllPairs-cons, AllPairs-filter, AreMet, Block, IsLegalMerge, IsPutIn, IsSound, List, Misses, PassesDown, Rival, Row}
+use Rattle.cover_merge.proofs.Common.{[], ap, arith, cases_lt, eq-eqb, false, get_or, get_or-append_seam, get_or-set_at, get_or-take, get_or_append_left, get_or_default, has_row, inl, inr, insert}
+use Rattle.cover_merge.proofs.Common.{insert_place, is_at_one, length, length-append, length-set, length-take, list_any-append, not, or_left, or_right, rivals_left, set, subst, sym, take, take_more}
+use Rattle.cover_merge.proofs.Common.{true, ℕ, ◌++◌, ◌+◌, ◌<◌, ◌==◌, ◌∙◌, ◌∷◌, ◌≡◌, ◌≤◌, ◌⊎◌}
 use Rattle.cover_merge.proofs.{Legal.down_from_legal, Lists.AllPairs-append, Lists.AllPairs-nil}
 
 -- ---- rows that a block meets

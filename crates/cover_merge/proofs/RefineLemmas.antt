@@ -1,15 +1,10 @@
 -- What one turn of a refinement tells of the rules.
-use Rattle.std.proofs.Common.{◌≡◌, ◌≢◌, ℕ, zero, suc, ◌-◌, ◌/◌, ◌^◌, ◌<◌, ◌≤◌, ◌==◌, ◌&&◌, Bool, true, false, cond, Option, List, [], ◌∷◌, length, get_or, inl, inr, ◌⊎◌, refl, sym, ap, ◌∙◌, subst}
-use Rattle.std.proofs.Common.{arith}
-use Rattle.std.specs.{Prelude.bit_and, Prelude.not, Prelude.filter, Prelude.map, Prelude.All, Prelude.AllPairs, Prelude.IsTrue, Prelude.◌↔◌, Int.bit_at, Option.option_map_or}
-use Rattle.std.proofs.lemmas.{Bool.cases_lt, List.Sums.length-filter, List.Sums.count_by-le-length, List.Elements.All-nil, List.Elements.All-cons, List.Elements.All-map, List.Elements.All-filter}
-use Rattle.std.proofs.lemmas.{List.Kept.AllPairs-filter, Bool.Decides.eqb_tells, Nat.Bits.bit_at-lt, Nat.Bits.bit_at_above, Nat.Bits.shr_and_one, Option.slice_get-get_or}
-use mathlib.Core.Bool.{false≢true}
-use Rattle.spin_base.specs.declared.blocks.Block.{Block}
-use Rattle.tern_word.specs.{declared.tables.Row.Row, Ternary.Wants, Ternary.generality, SoundTable.IsSound}
-use Rattle.tern_word.proofs.BlockLaws.{merge_of-is_merge}
-use Rattle.cover_merge.specs.Merge.{has_row, rows_at, merged_block, place_for, insert_place, SameRoute, IsOneRoute, IsMergeSet, IsLegal, PassesUp, PassesUpCheck, PassesDownCheck}
-use Rattle.cover_merge.specs.Refinement.{can_choose, parts, keeps, kept_by, IsLastFailing, IsUpStep, IsFirstMetFrom, IsNarrowed, IsDownStep}
+use Rattle.cover_merge.proofs.Common.{All, All-cons, All-filter, All-map, All-nil, AllPairs, AllPairs-filter, Block, Bool, IsDownStep, IsFirstMetFrom, IsLastFailing, IsLegal, IsMergeSet, IsNarrowed}
+use Rattle.cover_merge.proofs.Common.{IsOneRoute, IsSound, IsTrue, IsUpStep, List, Option, PassesDownCheck, PassesUp, PassesUpCheck, Row, SameRoute, Wants, [], ap, arith, bit_and, bit_at, bit_at-lt}
+use Rattle.cover_merge.proofs.Common.{bit_at_above, cases_lt, cond, count_by-le-length, eqb_tells, false, false≢true, filter, generality, get_or, has_row, inl, inr, insert_place, keeps, kept_by}
+use Rattle.cover_merge.proofs.Common.{length, length-filter, map, merge_of-is_merge, merged_block, not, option_map_or, place_for, refl, rows_at, shr_and_one, slice_get-get_or, subst, suc, sym, true}
+use Rattle.cover_merge.proofs.Common.{zero, ℕ, ◌&&◌, ◌-◌, ◌/◌, ◌<◌, ◌==◌, ◌^◌, ◌↔◌, ◌∙◌, ◌∷◌, ◌≡◌, ◌≢◌, ◌≤◌, ◌⊎◌}
+use Rattle.cover_merge.specs.Refinement.{can_choose, parts}
 use Rattle.cover_merge.proofs.{Legal.legal_from_checks, Answering.fails, Positions.has-at, Positions.has-place, Positions.All-has, Positions.rows_at-from, Positions.rows_at-length}
 use Rattle.cover_merge.proofs.Positions.{some_blocks}
 

@@ -1,11 +1,8 @@
 -- Putting an item in and taking out those at places before it, in one pass.
-use Rattle.std.proofs.Common.{◌≡◌, ℕ, zero, suc, ◌+◌, ◌-◌, ◌<◌, ◌≤◌, true, false, List, [], ◌∷◌, ◌++◌, length, get_or, take, drop, set, refl, sym, ap, ◌∙◌, subst, length-append, length-take}
-use Rattle.std.proofs.Common.{length-drop, arith}
-use Rattle.std.specs.{Prelude.All, Prelude.AllPairs, Prelude.insert, Prelude.not, List.copy_within}
-use Rattle.std.proofs.{Math.Seq.drop-cons, Math.Seq.drop-drop, Math.Seq.get_or-append_seam, Math.Seq.paste, Math.Seq.take-add, lemmas.Bool.cases_lt, lemmas.Bool.false_from_ne_true}
-use Rattle.std.proofs.lemmas.List.{append_assoc, get_or_append_left, take_all, take_more_set, drop-set-lt, take_at, drop-take, Edits.take-paste, Edits.drop-paste, Edits.length-paste}
-use Rattle.std.proofs.lemmas.{List.Elements.All-cons, List.Elements.All-nil, List.Kept.AllPairs-cons, Slice.drop-put_mid}
-use Rattle.cover_merge.specs.Merge.{has_row}
+use Rattle.cover_merge.proofs.Common.{All, All-cons, All-nil, AllPairs, AllPairs-cons, List, [], ap, append_assoc, arith, cases_lt, copy_within, drop, drop-cons, drop-drop, drop-paste, drop-put_mid}
+use Rattle.cover_merge.proofs.Common.{drop-set-lt, drop-take, false, false_from_ne_true, get_or, get_or-append_seam, get_or_append_left, has_row, insert, length, length-append, length-drop}
+use Rattle.cover_merge.proofs.Common.{length-paste, length-take, not, paste, refl, set, subst, suc, sym, take, take-add, take-paste, take_all, take_at, take_more_set, true, zero, ℕ, ◌++◌, ◌+◌, ◌-◌}
+use Rattle.cover_merge.proofs.Common.{◌<◌, ◌∙◌, ◌∷◌, ◌≡◌, ◌≤◌}
 use Rattle.cover_merge.proofs.{ApplyLemmas.left, ApplyLemmas.kept_in, ApplyLemmas.kept_out, ApplyLemmas.kept_none, ApplyLemmas.picked-append, Lists.AllPairs-append, Lists.AllPairs-nil}
 use Rattle.cover_merge.proofs.Positions.{has-at, has-place}
 

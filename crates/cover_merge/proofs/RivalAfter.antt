@@ -1,15 +1,10 @@
 -- The rivals of rows in the table after a merge.
-use Rattle.std.proofs.Common.{◌≡◌, ◌≢◌, ◌==◌, ◌||◌, ◌^◌, ℕ, zero, suc, ◌+◌, ◌<◌, ◌≤◌, ◌⊎◌, Bool, true, false, cond, List, [], ◌∷◌, ◌++◌, length, get_or, take, drop, inl, inr, refl, sym, ap, ◌∙◌}
-use Rattle.std.proofs.Common.{subst, take-append-drop, length-append, length-take, length-drop, get_or-take, get_or-drop, arith}
-use Rattle.std.specs.Prelude.{All, AllPairs, filter, insert, not}
-use Rattle.std.proofs.{Math.Seq.get_or-append_seam, lemmas.Bool.cases_Bool, lemmas.Bool.cases_eq, lemmas.Bool.cases_lt, lemmas.Bool.eq-eqb, lemmas.Bool.ne_eqb, lemmas.Bool.not-true}
-use Rattle.std.proofs.lemmas.{Bool.not_from_false, List.get_or_append_left, List.Edits.length-insert, List.Elements.All-nil, List.Elements.All-head, List.Elements.All-tail, List.Elements.All-cons}
-use Rattle.std.proofs.lemmas.List.{Elements.All-append, Elements.All-take, Elements.All-drop, Elements.All-filter, Elements.filter_passes, Kept.AllPairs-cons, Kept.AllPairs-filter}
-use Rattle.spin_base.specs.declared.blocks.Block.{Block}
-use Rattle.tern_word.specs.{declared.tables.Row.Row, SoundTable.IsSound, SoundTable.Misses, Ternary.generality}
-use Rattle.cover_merge.specs.{Merge.has_row, Merge.merge_rows, Merge.merged_row, Merge.merged_block, Merge.place_for, Merge.insert_place, Merge.after, Merge.IsMergeSet, Merge.IsLegal, Rivals.AreMet}
-use Rattle.cover_merge.specs.Rivals.{AreRivalsAt, AreRivalsAfter, HasSerial, IsPutIn, IsRivalBehind, IsRivalOf, IsRivaled, MeetsAliasOf, MeetsNone, is_at_one, rivals_left}
-use Rattle.cover_merge.specs.{Spans.AreSpansOf, declared.rivals.Rival.Rival, declared.rivals.Rivals.Rivals}
+use Rattle.cover_merge.proofs.Common.{All, All-append, All-cons, All-drop, All-filter, All-head, All-nil, All-tail, All-take, AllPairs, AllPairs-cons, AllPairs-filter, AreMet, AreRivalsAfter}
+use Rattle.cover_merge.proofs.Common.{AreRivalsAt, AreSpansOf, Block, Bool, HasSerial, IsLegal, IsMergeSet, IsPutIn, IsRivalBehind, IsRivalOf, IsRivaled, IsSound, List, MeetsAliasOf, MeetsNone}
+use Rattle.cover_merge.proofs.Common.{Misses, Rival, Rivals, Row, [], after, ap, arith, cases_Bool, cases_eq, cases_lt, cond, drop, eq-eqb, false, filter, filter_passes, generality, get_or}
+use Rattle.cover_merge.proofs.Common.{get_or-append_seam, get_or-drop, get_or-take, get_or_append_left, has_row, inl, inr, insert, insert_place, is_at_one, length, length-append, length-drop}
+use Rattle.cover_merge.proofs.Common.{length-insert, length-take, merge_rows, merged_block, merged_row, ne_eqb, not, not-true, not_from_false, place_for, refl, rivals_left, subst, suc, sym, take}
+use Rattle.cover_merge.proofs.Common.{take-append-drop, true, zero, ℕ, ◌++◌, ◌+◌, ◌<◌, ◌==◌, ◌^◌, ◌||◌, ◌∙◌, ◌∷◌, ◌≡◌, ◌≢◌, ◌≤◌, ◌⊎◌}
 use Rattle.cover_merge.proofs.{Legal.narrower_misses, Legal.member_lies, Lists.All-picked, Lists.AllPairs-head, Lists.AllPairs-tail, Lists.AllPairs-append, Lists.AllPairs-left, Lists.AllPairs-right}
 use Rattle.cover_merge.proofs.{Lists.AllPairs-across, Lists.picked_lengths, Positions.has-place, Positions.place_for-le, ApplyLemmas.left, ApplyLemmas.first_kept, ApplyLemmas.members_before}
 use Rattle.cover_merge.proofs.{ApplyLemmas.block_is, ApplyLemmas.route_is, ApplyLemmas.after_is, CoverLemmas.shorter, KeptLemmas.from_less, KeptLemmas.to_less, KeptLemmasMoved.rank}

@@ -1,18 +1,10 @@
 -- Rivals of rows: what they tell of the up-check, and how they are found.
-use Rattle.std.proofs.Common.{◌≡◌, ℕ, zero, suc, ◌+◌, ◌<◌, ◌≤◌, ◌^◌, ◌⊎◌, ◌↔◌, IsTrue, Bool, true, false, List, [], ◌∷◌, ◌++◌, length, get_or, refl, sym, ap, subst, subst₂, ◌∙◌, length-append, arith}
-use Rattle.std.proofs.Common.{inl, inr}
-use Rattle.std.specs.Prelude.{All, AllPairs, bit_and, ◌==◌}
-use Rattle.std.proofs.lemmas.{Bool.cases_order, Bool.cases_lt, Bool.eqb-false, Bool.eqb-true, Bool.or_parts, Bool.false_from_ne_true, List.get_or_append_left, List.get_or_default, List.get_or_past}
-use Rattle.std.proofs.lemmas.{List.get_or_push, List.Folds.list_any-append, List.Folds.Any-from_list_any, Option.get_or_from_slice_get, Option.slice_get_within, List.Elements.All-nil}
-use Rattle.std.proofs.lemmas.List.{Elements.All-push, Elements.All-weaker, Elements.pair_read, Quantifiers.all_pairs_push}
-use mathlib.Core.Bool.{true≢false}
-use borrow.Author.Count.{below_more}
-use Rattle.spin_base.specs.declared.blocks.Block.{Block}
-use Rattle.tern_word.specs.{declared.tables.Alias.Alias, declared.tables.Row.Row, Ternary.Intersects, Ternary.LiesIn, Ternary.generality, SoundTable.IsOrdered, SoundTable.IsSound, SoundTable.Misses}
-use Rattle.tern_word.proofs.BlockLaws.{Intersects-sym, Intersects-wider}
-use Rattle.cover_merge.specs.Merge.{has_row, merge_rows, merged_block, insert_place, SameRoute, IsOneRoute, IsMergeSet, IsLegal, place_for, PassesUp, PassesDown}
-use Rattle.cover_merge.specs.{declared.rivals.Rival.Rival, declared.rivals.Rivals.Rivals, Rivals.AreJoined, Rivals.AreRivalsAt, Rivals.HasSerial, Rivals.IsOriginal, Rivals.IsRivalBehind}
-use Rattle.cover_merge.specs.{Rivals.IsRivalOf, Rivals.IsRivaled, Rivals.MeetsAliasOf, Rivals.MeetsNone, Rivals.is_at_one, Spans.AreSpansOf, Spans.AreSpansOfAll}
+use Rattle.cover_merge.proofs.Common.{Alias, All, All-nil, All-push, All-weaker, AllPairs, Any-from_list_any, AreJoined, AreRivalsAt, AreSpansOf, AreSpansOfAll, Block, Bool, HasSerial, Intersects}
+use Rattle.cover_merge.proofs.Common.{Intersects-sym, Intersects-wider, IsLegal, IsMergeSet, IsOneRoute, IsOrdered, IsOriginal, IsRivalBehind, IsRivalOf, IsRivaled, IsSound, IsTrue, LiesIn, List}
+use Rattle.cover_merge.proofs.Common.{MeetsAliasOf, MeetsNone, Misses, PassesDown, PassesUp, Rival, Rivals, Row, SameRoute, [], all_pairs_push, ap, arith, below_more, bit_and, cases_lt, cases_order}
+use Rattle.cover_merge.proofs.Common.{eqb-false, eqb-true, false, false_from_ne_true, generality, get_or, get_or_append_left, get_or_default, get_or_from_slice_get, get_or_past, get_or_push, has_row}
+use Rattle.cover_merge.proofs.Common.{inl, inr, insert_place, is_at_one, length, length-append, list_any-append, merge_rows, merged_block, or_parts, pair_read, place_for, refl, slice_get_within}
+use Rattle.cover_merge.proofs.Common.{subst, subst₂, suc, sym, true, true≢false, zero, ℕ, ◌++◌, ◌+◌, ◌<◌, ◌==◌, ◌^◌, ◌↔◌, ◌∙◌, ◌∷◌, ◌≡◌, ◌≤◌, ◌⊎◌}
 use Rattle.cover_merge.proofs.{Lists.AllPairs-nil, Positions.at_one_of, Positions.has-at, Positions.has-place, Positions.place_for-above, Positions.place_for-below, Positions.place_for-le}
 use Rattle.cover_merge.proofs.{Answering.answers_no, Answering.fails, Legal.up_from_legal, Legal.down_from_legal, Legal.legal_from_checks}
 

@@ -1,16 +1,10 @@
 -- Places taken out one after another, the greatest first.
-use Rattle.std.proofs.Common.{◌≡◌, ◌≢◌, ℕ, zero, suc, ◌+◌, ◌<◌, ◌≤◌, ◌⊎◌, ◌==◌, ◌||◌, IsTrue, Bool, true, false, cond, List, [], ◌∷◌, ◌++◌, length, get_or, take, inl, inr, refl, sym, ap, ◌∙◌, subst}
-use Rattle.std.proofs.Common.{length-append, length-take, set, drop, ◌-◌, ◌↔◌, append_assoc, add-one, length-drop, get_or-take, arith, take-append-drop}
-use Rattle.std.specs.Prelude.{All, AllPairs, filter, map, not, remove}
-use mathlib.Core.Bool.{true≢false}
-use Rattle.std.proofs.lemmas.{Bool.cases_lt, Bool.eq-eqb, Bool.Decides.eqb_tells, List.get_or_append_left, List.get_or_default, List.get_or_push, List.take_more, List.take-set-le, List.drop-set}
-use Rattle.std.proofs.lemmas.List.{get_or-append_right, Edits.get_or-remove_above, Edits.remove-append_left, Elements.All-append, Elements.All-filter, Elements.All-head, Elements.All-map}
-use Rattle.std.proofs.lemmas.{List.Elements.All-tail, List.Elements.All-take, Option.slice_get-get_or}
-use Rattle.spin_base.specs.declared.blocks.Block.{Block}
-use Rattle.tern_word.specs.{declared.tables.Row.Row, Ternary.Wants, Ternary.generality, Ternary.merge_two, SoundTable.IsOrdered}
-use Rattle.tern_word.proofs.BlockLaws.{generality-mono, merge_of-is_merge}
-use Rattle.cover_merge.specs.Merge.{has_row, merge_rows, rows_at, merged_block, place_for, insert_place, SameRoute, IsOneRoute, PassesUp, PassesUpCheck}
-use Rattle.cover_merge.specs.Refinement.{IsLastFailing, IsUpStep, set_without}
+use Rattle.cover_merge.proofs.Common.{All, All-append, All-filter, All-head, All-map, All-tail, All-take, AllPairs, Block, Bool, IsLastFailing, IsOneRoute, IsOrdered, IsTrue, IsUpStep, List, PassesUp}
+use Rattle.cover_merge.proofs.Common.{PassesUpCheck, Row, SameRoute, Wants, [], add-one, ap, append_assoc, arith, cases_lt, cond, drop, drop-set, eq-eqb, eqb_tells, false, filter, generality}
+use Rattle.cover_merge.proofs.Common.{generality-mono, get_or, get_or-append_right, get_or-remove_above, get_or-take, get_or_append_left, get_or_default, get_or_push, has_row, inl, inr, insert_place}
+use Rattle.cover_merge.proofs.Common.{length, length-append, length-drop, length-take, map, merge_of-is_merge, merge_rows, merge_two, merged_block, not, place_for, refl, remove, remove-append_left}
+use Rattle.cover_merge.proofs.Common.{rows_at, set, set_without, slice_get-get_or, subst, suc, sym, take, take-append-drop, take-set-le, take_more, true, true≢false, zero, ℕ, ◌++◌, ◌+◌, ◌-◌, ◌<◌}
+use Rattle.cover_merge.proofs.Common.{◌==◌, ◌||◌, ◌↔◌, ◌∙◌, ◌∷◌, ◌≡◌, ◌≢◌, ◌≤◌, ◌⊎◌}
 use Rattle.cover_merge.proofs.{Lists.All-from_map, Lists.All-left, Lists.All-right, Lists.AllPairs-head, Lists.AllPairs-tail, Positions.All-has, Positions.has-at, Positions.merged_block-push}
 use Rattle.cover_merge.proofs.Positions.{place_for-above, place_for-below, place_for-le, rows_at-from, rows_at-has, rows_at-length, some_blocks}
 use Rattle.cover_merge.proofs.{RefineLemmas.last_found, RefineLemmas.one_route_after, RivalLemmas.one_route}

@@ -1,11 +1,7 @@
 -- Spans of aliases: what lies in them, and what need not be looked at.
-use Rattle.std.proofs.Common.{◌≡◌, ◌∙◌, ℕ, ◌+◌, ◌*◌, ◌<◌, ◌≤◌, List, [], ◌∷◌, ◌++◌, length, get_or, refl, sym, subst, length-append, arith}
-use Rattle.std.specs.Prelude.{All, MatchOption, Option, Some, None}
-use Rattle.std.proofs.lemmas.{Bool.cases_lt, List.get_or_append_left, List.get_or_default, List.get_or_push, Option.slice_get-get_or}
-use Rattle.spin_base.specs.declared.blocks.Block.{Block}
-use Rattle.tern_word.specs.{declared.tables.Alias.Alias, declared.tables.Row.Row, SoundTable.HoldsItsAliases, SoundTable.Misses, Ternary.Intersects, Ternary.LiesIn, Ternary.merge_two}
-use Rattle.tern_word.proofs.BlockLaws.{Intersects-wider, LiesIn-merge, LiesIn-trans}
-use Rattle.cover_merge.specs.{Refinement.IsFirstMet, Rivals.IsRivaled, declared.rivals.Rivals.Rivals, Spans.AreSpansOf, Spans.IsFirstAt, Spans.IsFreeUpTo}
+use Rattle.cover_merge.proofs.Common.{Alias, All, AreSpansOf, Block, HoldsItsAliases, Intersects, Intersects-wider, IsFirstAt, IsFirstMet, IsFreeUpTo, IsRivaled, LiesIn, LiesIn-merge, LiesIn-trans}
+use Rattle.cover_merge.proofs.Common.{List, MatchOption, Misses, None, Option, Rivals, Row, Some, [], arith, cases_lt, get_or, get_or_append_left, get_or_default, get_or_push, length, length-append}
+use Rattle.cover_merge.proofs.Common.{merge_two, refl, slice_get-get_or, subst, sym, ℕ, ◌*◌, ◌++◌, ◌+◌, ◌<◌, ◌∙◌, ◌∷◌, ◌≡◌, ◌≤◌}
 
 -- ---- one span
 

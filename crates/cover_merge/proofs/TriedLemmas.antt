@@ -1,13 +1,8 @@
 -- Pairs that were tried stay illegal until one of their rows loses a row behind it.
-use Rattle.std.proofs.Common.{◌≡◌, ◌≢◌, ℕ, suc, ◌+◌, ◌-◌, ◌<◌, ◌≤◌, ◌⊎◌, Bool, true, false, List, [], ◌∷◌, length, get_or, take, drop, inl, inr, sym, ap, ◌∙◌, subst, set, length-take, length-drop}
-use Rattle.std.proofs.Common.{get_or-take, get_or-drop, arith}
-use Rattle.std.specs.Prelude.{All, not}
-use Rattle.std.proofs.lemmas.{List.Elements.All-head, Bool.cases_Bool, Bool.cases_lt, Bool.cases_eq, Bool.cases_order, Grind.get_or-set_at, List.get_or_default, List.get_or-set_other, List.length-set}
-use Rattle.spin_base.specs.declared.routes.Route.{Route}
-use Rattle.tern_word.specs.{declared.tables.Row.Row, SoundTable.IsOrdered}
-use Rattle.cover_merge.specs.{Merge.has_row, Merge.kept, Merge.merge_rows, Merge.merged_row, Merge.insert_place, Merge.after, Merge.IsMergeSet, declared.times.Times.Times, Links.IsEachOnce}
-use Rattle.cover_merge.specs.{Links.IsNextOfRoute, Links.place_of_route, Covering.IsLegalPair, Tried.AreTried, Tried.AreTriedUpTo, Tried.AreNoLater, Tried.IsFresh, Tried.IsTriedNow, Tried.IsNextSince}
-use Rattle.cover_merge.specs.Tried.{AreNewerOf}
+use Rattle.cover_merge.proofs.Common.{All, All-head, AreNewerOf, AreNoLater, AreTried, AreTriedUpTo, Bool, IsEachOnce, IsFresh, IsLegalPair, IsMergeSet, IsNextOfRoute, IsNextSince, IsOrdered}
+use Rattle.cover_merge.proofs.Common.{IsTriedNow, List, Route, Row, Times, [], after, ap, arith, cases_Bool, cases_eq, cases_lt, cases_order, drop, false, get_or, get_or-drop, get_or-set_at}
+use Rattle.cover_merge.proofs.Common.{get_or-set_other, get_or-take, get_or_default, has_row, inl, inr, insert_place, kept, length, length-drop, length-set, length-take, merge_rows, merged_row, not}
+use Rattle.cover_merge.proofs.Common.{place_of_route, set, subst, suc, sym, take, true, ℕ, ◌+◌, ◌-◌, ◌<◌, ◌∙◌, ◌∷◌, ◌≡◌, ◌≢◌, ◌≤◌, ◌⊎◌}
 use Rattle.cover_merge.proofs.{ChooseLemmas.ArePlaces, Lists.All-left, Lists.All-right, Lists.picked-at}
 
 -- ---- the times of one row in place of others

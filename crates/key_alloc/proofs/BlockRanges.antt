@@ -1,12 +1,6 @@
 -- A net's block has the keys of a range, also where it is fixed.
-use Rattle.std.proofs.Common.{◌≡◌, ℕ, ◌+◌, ◌-◌, ◌*◌, ◌/◌, ◌%◌, ◌^◌, ◌<◌, ◌≤◌, ◌↔◌, List, Option, None, Some, IfSome, MatchOption, sym, subst, arith}
-use Rattle.std.specs.Prelude.{bit_and}
-use Rattle.std.proofs.lemmas.Nat.{pow_pos, shr_split, Bits.and_high_mask}
-use Rattle.spin_base.specs.declared.blocks.Block.{Block}
-use Rattle.app_graph.specs.{declared.graphs.Net.Net, ValidGraph.IsFixedFor}
-use Rattle.tern_word.specs.Ternary.{Matches, Intersects}
-use Rattle.tern_word.proofs.BlockLaws.{range_keys, exponent_le, key_small}
-use Rattle.key_alloc.specs.KeyBlocks.{size_of, MissesRange, IsLeastBlock, IsBlockFor}
+use Rattle.key_alloc.proofs.Common.{Block, IfSome, Intersects, IsBlockFor, IsFixedFor, IsLeastBlock, List, MatchOption, Matches, MissesRange, Net, None, Option, Some, and_high_mask, arith, bit_and}
+use Rattle.key_alloc.proofs.Common.{exponent_le, key_small, pow_pos, range_keys, shr_split, size_of, subst, sym, ℕ, ◌%◌, ◌*◌, ◌+◌, ◌-◌, ◌/◌, ◌<◌, ◌^◌, ◌↔◌, ◌≡◌, ◌≤◌}
 use Rattle.key_alloc.proofs.Ranges.{room_above, in_from}
 
 -- the block's keys are those from its key on, as many as its size

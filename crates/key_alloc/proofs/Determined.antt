@@ -1,11 +1,7 @@
 -- Nets have at most one right list of blocks.
-use Rattle.std.proofs.Common.{◌≡◌, ℕ, ◌≤◌, List, ◌++◌, length, take, slice_get, Option, None, Some, MatchOption, refl, sym, ap, ◌∙◌, subst, inl, inr, arith}
-use Rattle.std.proofs.lemmas.{List.take_all, Option.slice_get_cases, Option.slice_get_within, Bool.cases_lt}
-use Rattle.spin_base.proofs.{Places.slice_get_there, Places.one_item_at, Determined.EachFollows, Determined.determined_begins}
-use Rattle.spin_base.specs.declared.blocks.Block.{Block}
-use Rattle.app_graph.specs.declared.graphs.Net.{Net}
-use Rattle.tern_word.proofs.BlockLaws.{same_block}
-use Rattle.key_alloc.specs.KeyBlocks.{size_of, fixed_of, IsOpenPlace, IsLeastBlock, IsBlockFor, AreFirstBlocks, AreRightBlocks, AreKeysOut}
+use Rattle.key_alloc.proofs.Common.{AreFirstBlocks, AreKeysOut, AreRightBlocks, Block, EachFollows, IsBlockFor, IsLeastBlock, IsOpenPlace, List, MatchOption, Net, None, Option, Some, ap, arith}
+use Rattle.key_alloc.proofs.Common.{cases_lt, determined_begins, fixed_of, inl, inr, length, one_item_at, refl, same_block, size_of, slice_get, slice_get_cases, slice_get_there, slice_get_within}
+use Rattle.key_alloc.proofs.Common.{subst, sym, take, take_all, ℕ, ◌++◌, ◌∙◌, ◌≡◌, ◌≤◌}
 use Rattle.key_alloc.proofs.Sizes.{one_size}
 
 same_least : (taken : List Block) (keys : ℕ) (x y : Block) → IsLeastBlock taken keys x → IsLeastBlock taken keys y → x ≡ y

@@ -1,13 +1,8 @@
 -- The fixed blocks of nets: each is a range of enough keys, and no two share a key.
-use Rattle.std.proofs.Common.{◌≡◌, ℕ, ◌+◌, ◌<◌, ◌≤◌, List, [], ◌∷◌, ◌++◌, take, get_or, refl, ap, ◌∙◌, subst, Option, None, Some, IfSome, slice_get, arith, All, AllPairs, Contains}
-use Rattle.std.proofs.lemmas.{List.Elements.All-weaker, List.Elements.All-contains, List.Elements.Contains-append_left, List.Elements.filter_map-append, Bool.cases_lt, List.Sorted.All-permutation}
-use Rattle.std.proofs.lemmas.{List.Kept.AllPairs-cons, Option.slice_get_within, Option.get_or_from_slice_get}
-use Rattle.std.specs.List.{cons_option, Sorted.IsPermutation}
-use Rattle.spin_base.proofs.{Pairs.AllPairs-nil, Pairs.AllPairs-head, Pairs.AllPairs-tail, Pairs.AllPairs-permutation, Members.Contains-at, Members.Contains-filter_map}
-use Rattle.spin_base.proofs.{Members.Contains-from_filter_map, Places.All-at, Places.All-each, Places.take_more_at}
-use Rattle.spin_base.specs.declared.blocks.Block.{Block}
-use Rattle.app_graph.specs.{declared.graphs.Net.Net, declared.graphs.Graph.Graph, ValidGraph.IsValidGraph, ValidGraph.IsFixedFor, ValidGraph.ShareNoKey, ValidGraph.AreFixedApart}
-use Rattle.key_alloc.specs.{KeyBlocks.size_of, KeyBlocks.fixed_of, FreeKeys.AreDownwards, FreeKeys.HaveRanges}
+use Rattle.key_alloc.proofs.Common.{All, All-at, All-contains, All-each, All-permutation, All-weaker, AllPairs, AllPairs-cons, AllPairs-head, AllPairs-nil, AllPairs-permutation, AllPairs-tail}
+use Rattle.key_alloc.proofs.Common.{AreDownwards, AreFixedApart, Block, Contains, Contains-append_left, Contains-at, Contains-filter_map, Contains-from_filter_map, Graph, HaveRanges, IfSome}
+use Rattle.key_alloc.proofs.Common.{IsFixedFor, IsPermutation, IsValidGraph, List, Net, None, Option, ShareNoKey, Some, [], ap, arith, cases_lt, cons_option, filter_map-append, fixed_of, get_or}
+use Rattle.key_alloc.proofs.Common.{get_or_from_slice_get, refl, size_of, slice_get, slice_get_within, subst, take, take_more_at, ℕ, ◌++◌, ◌+◌, ◌<◌, ◌∙◌, ◌∷◌, ◌≡◌, ◌≤◌}
 use Rattle.key_alloc.proofs.BlockRanges.{IsRange, range_of_fixed}
 
 pub record HaveFixed (nets : List Net) : Type 0 where

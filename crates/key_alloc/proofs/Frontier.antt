@@ -1,15 +1,9 @@
 -- The frontier moves: behind a run of free keys, or behind a fixed block.
-use Rattle.std.proofs.Common.{◌≡◌, ℕ, ◌+◌, ◌-◌, ◌<◌, ◌≤◌, true, false, not, ◌&&◌, ◌||◌, ◌⊎◌, ltb, List, [], ◌∷◌, ◌++◌, length, get_or, refl, sym, ap, ◌∙◌, subst, inl, inr, Option, None, Some}
-use Rattle.std.proofs.Common.{slice_get, All, arith}
-use Rattle.std.specs.List.{Contains, list_any, Sorted.IsPermutation}
-use Rattle.std.proofs.lemmas.{Bool.cases_lt, Bool.Decides.nat_tests, List.length_push, List.Folds.list_any_at, List.Folds.list_any_none, List.Elements.All-contains, List.Elements.All-weaker}
-use Rattle.std.proofs.lemmas.List.{Elements.Contains-append_left, Elements.Contains-push, Elements.Contains-push_cases, Sorted.All-permutation, Sorted.IsPermutation-sym}
-use Rattle.std.proofs.lemmas.Option.{get_or_from_slice_get}
-use Rattle.spin_base.proofs.{Members.Contains-at, Pairs.All-left, Pairs.AllPairs-left, Pairs.AllPairs-across, Places.slice_get_there, Places.slice_get-pushed, Places.All-each}
-use Rattle.spin_base.specs.declared.blocks.Block.{Block}
-use Rattle.range_store.specs.Regions.{AreRuns, is_free, in_range}
-use Rattle.key_alloc.specs.{declared.free.FreeKeys.FreeKeys, KeyBlocks.size_of, KeyBlocks.MissesRange, KeyBlocks.IsOpenPlace, FreeKeys.has_key, FreeKeys.key_or_end, FreeKeys.end_of_run}
-use Rattle.key_alloc.specs.FreeKeys.{AreDownwards, HaveRanges, AreAhead, AreStarts, AreKeysFreeBeside}
+use Rattle.key_alloc.proofs.Common.{All, All-contains, All-each, All-left, All-permutation, All-weaker, AllPairs-across, AllPairs-left, AreAhead, AreDownwards, AreKeysFreeBeside, AreRuns, AreStarts}
+use Rattle.key_alloc.proofs.Common.{Block, Contains, Contains-append_left, Contains-at, Contains-push, Contains-push_cases, FreeKeys, HaveRanges, IsOpenPlace, IsPermutation, IsPermutation-sym, List}
+use Rattle.key_alloc.proofs.Common.{MissesRange, None, Option, Some, [], ap, arith, cases_lt, end_of_run, false, get_or, get_or_from_slice_get, has_key, in_range, inl, inr, is_free, key_or_end}
+use Rattle.key_alloc.proofs.Common.{length, length_push, list_any, list_any_at, list_any_none, ltb, nat_tests, not, refl, size_of, slice_get, slice_get-pushed, slice_get_there, subst, sym, true, ℕ}
+use Rattle.key_alloc.proofs.Common.{◌&&◌, ◌++◌, ◌+◌, ◌-◌, ◌<◌, ◌||◌, ◌∙◌, ◌∷◌, ◌≡◌, ◌≤◌, ◌⊎◌}
 
 -- where the run of free keys before the blocks ahead ends
 pub record IsRunEnd (ahead : List Block) (end : ℕ) : Type 0 where

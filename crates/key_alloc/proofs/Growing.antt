@@ -1,15 +1,8 @@
 -- One block more; and what right blocks are for: they are apart, and have enough keys.
-use Rattle.std.proofs.Common.{◌≡◌, ℕ, ◌+◌, ◌^◌, ◌<◌, ◌≤◌, List, [], ◌∷◌, ◌++◌, length, take, get_or, refl, sym, ap, ◌∙◌, subst, suc, Option, None, Some, MatchOption, slice_get, arith, AllPairs}
-use Rattle.std.proofs.Common.{Contains}
-use Rattle.std.specs.List.{AllZip}
-use Rattle.std.proofs.lemmas.List.{length_push, length-take, take-append-le, take_at, get_or-take, Elements.All-contains, Elements.Contains-append_left, Elements.Contains-append_right}
-use Rattle.std.proofs.lemmas.Option.{slice_get-get_or, slice_get_within, get_or_from_slice_get}
-use Rattle.spin_base.proofs.{Members.Contains-at, Members.Contains-filter_map, Places.slice_get-push_cases, Places.slice_get_there}
-use Rattle.spin_base.specs.declared.blocks.Block.{Block}
-use Rattle.app_graph.specs.declared.graphs.Net.{Net}
-use Rattle.tern_word.specs.Ternary.{Intersects}
-use Rattle.tern_word.proofs.BlockLaws.{Intersects-sym}
-use Rattle.key_alloc.specs.KeyBlocks.{size_of, fixed_of, MissesRange, IsLeastBlock, IsBlockFor, AreFirstBlocks, AreRightBlocks, HasKeys}
+use Rattle.key_alloc.proofs.Common.{All-contains, AllPairs, AllZip, AreFirstBlocks, AreRightBlocks, Block, Contains, Contains-append_left, Contains-append_right, Contains-at, Contains-filter_map}
+use Rattle.key_alloc.proofs.Common.{HasKeys, Intersects, Intersects-sym, IsBlockFor, IsLeastBlock, List, MatchOption, MissesRange, Net, None, Option, Some, [], ap, arith, fixed_of, get_or}
+use Rattle.key_alloc.proofs.Common.{get_or-take, get_or_from_slice_get, length, length-take, length_push, refl, size_of, slice_get, slice_get-get_or, slice_get-push_cases, slice_get_there}
+use Rattle.key_alloc.proofs.Common.{slice_get_within, subst, suc, sym, take, take-append-le, take_at, ℕ, ◌++◌, ◌+◌, ◌<◌, ◌^◌, ◌∙◌, ◌∷◌, ◌≡◌, ◌≤◌}
 use Rattle.key_alloc.proofs.{BlockRanges.IsRange, BlockRanges.range_of_block, BlockRanges.apart_missed, FixedBlocks.HaveFixed, FixedBlocks.serves_at, FixedBlocks.apart_at}
 
 pub one_more : (nets : List Net) (blocks : List Block) (i : ℕ) (net : Net) (b : Block) → AreFirstBlocks nets blocks → length blocks ≡ i → slice_get nets i ≡ Some net

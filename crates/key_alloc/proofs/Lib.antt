@@ -1,3 +1,4 @@
+mod Common
 pub mod Ranges
 mod Sizes
 mod Taking

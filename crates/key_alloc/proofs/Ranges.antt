@@ -1,8 +1,6 @@
 -- Laws for who gives out ranges: which numbers a range has, the room for one more, and what is free once more is taken.
-use Rattle.std.proofs.Common.{◌≡◌, ℕ, ◌+◌, ◌-◌, ◌*◌, ◌/◌, ◌^◌, ◌<◌, ◌≤◌, Bool, true, false, not, ◌&&◌, ◌||◌, refl, arith}
-use Rattle.std.proofs.{Math.Nat.mul-le-mul_right, Math.Nat.suc-mul, lemmas.Bool.Decides.nat_tests, lemmas.Nat.pow-add, lemmas.Nat.pow_pos, lemmas.Nat.div_below}
-use Rattle.range_store.specs.Regions.{in_range}
-use Rattle.range_store.proofs.HolePlaces.{clash}
+use Rattle.key_alloc.proofs.Common.{Bool, arith, clash, div_below, false, in_range, mul-le-mul_right, nat_tests, not, pow-add, pow_pos, refl, suc-mul, true, ℕ, ◌&&◌, ◌*◌, ◌+◌, ◌-◌, ◌/◌, ◌<◌, ◌^◌}
+use Rattle.key_alloc.proofs.Common.{◌||◌, ◌≡◌, ◌≤◌}
 
 -- ---- the numbers of a range
 

@@ -1,8 +1,5 @@
 -- The size for a number of keys.
-use Rattle.std.proofs.Common.{◌≡◌, ℕ, ◌+◌, ◌*◌, ◌/◌, ◌^◌, ◌<◌, ◌≤◌, max, refl, inl, inr, arith}
-use Rattle.std.specs.Int.{IsPowerOfTwo}
-use Rattle.std.proofs.{lemmas.Bool.cases_lt, lemmas.Grind.pow_more, Math.Pow.pow_mono}
-use Rattle.key_alloc.specs.KeyBlocks.{IsSizeFor}
+use Rattle.key_alloc.proofs.Common.{IsPowerOfTwo, IsSizeFor, arith, cases_lt, inl, inr, max, pow_mono, pow_more, refl, ℕ, ◌*◌, ◌+◌, ◌/◌, ◌<◌, ◌^◌, ◌≡◌, ◌≤◌}
 
 -- a power of two below another is at most half of it
 half : (i j : ℕ) → 2 ^ i < 2 ^ j → 2 ^ i * 2 ≤ 2 ^ j

@@ -1,18 +1,10 @@
 -- Which places of the region of keys are free, while blocks are taken from it.
-use Rattle.std.proofs.Common.{◌≡◌, ℕ, ◌+◌, ◌-◌, ◌%◌, ◌<◌, ◌≤◌, true, false, not, ◌&&◌, ◌||◌, ◌⊎◌, ltb, List, [], ◌∷◌, ◌++◌, get_or, sym, ap, ◌∙◌, subst, inl, inr, Option, None, Some, MatchOption}
-use Rattle.std.proofs.Common.{IfSome, Result, Ok, Err, IfOk, arith}
-use Rattle.std.specs.List.{Contains, list_any}
-use Rattle.std.proofs.lemmas.{Bool.and_parts, Bool.cases_Bool, Bool.cases_lt, Bool.lt-ltb, Bool.ltb-true, Bool.not-true, Bool.or_left, Bool.Decides.nat_tests, List.Folds.list_any-append}
-use Rattle.std.proofs.lemmas.List.{Folds.list_any_at, Folds.list_any_none, Elements.All-append, Elements.All-cons, Elements.All-nil, Elements.All-weaker, Elements.All-contains}
-use Rattle.std.proofs.lemmas.List.Elements.{Contains-append_left}
-use Rattle.spin_base.specs.declared.{blocks.Block.Block, wants.Memory.Memory}
-use Rattle.app_graph.specs.declared.graphs.Net.{Net}
-use Rattle.range_store.specs.Regions.{AreRuns, IsFirstFitFrom, HasNoFitFrom, is_hole_range, is_free, in_range}
-use Rattle.spin_base.proofs.{Tests.or_neither, Pairs.All-left}
-use Rattle.range_store.proofs.HolePlaces.{clash, free_in_range, range_of_free}
+use Rattle.key_alloc.proofs.Common.{All-append, All-cons, All-contains, All-left, All-nil, All-weaker, AreAhead, AreKeysFreeBeside, AreRuns, AreStarts, Block, Contains, Contains-append_left, Err}
+use Rattle.key_alloc.proofs.Common.{FreeKeys, HasNoFitFrom, IfOk, IfSome, IsBlockFor, IsFirstFitFrom, IsLeastBlock, IsLeastOpenPlace, IsOpenPlace, IsSizeFor, List, MatchOption, Memory, MissesRange}
+use Rattle.key_alloc.proofs.Common.{Net, None, Ok, Option, Result, Some, Start, [], and_parts, ap, arith, cases_Bool, cases_lt, clash, false, free_in_range, get_or, has_key, in_range, inl, inr}
+use Rattle.key_alloc.proofs.Common.{is_free, is_hole_range, list_any, list_any-append, list_any_at, list_any_none, lt-ltb, ltb, ltb-true, nat_tests, not, not-true, or_left, or_neither, range_of_free}
+use Rattle.key_alloc.proofs.Common.{size_of, subst, sym, true, ℕ, ◌%◌, ◌&&◌, ◌++◌, ◌+◌, ◌-◌, ◌<◌, ◌||◌, ◌∙◌, ◌∷◌, ◌≡◌, ◌≤◌, ◌⊎◌}
 use Rattle.key_alloc.proofs.Ranges.{in_facts, free_of, regroup}
-use Rattle.key_alloc.specs.{KeyBlocks.size_of, KeyBlocks.MissesRange, KeyBlocks.IsSizeFor, KeyBlocks.IsOpenPlace, KeyBlocks.IsLeastBlock, KeyBlocks.IsBlockFor, declared.free.FreeKeys.FreeKeys}
-use Rattle.key_alloc.specs.{declared.free.Start.Start, FreeKeys.has_key, FreeKeys.AreAhead, FreeKeys.AreStarts, FreeKeys.AreKeysFreeBeside, FreeKeys.IsLeastOpenPlace}
 
 -- ---- the keys that are free while blocks are taken
 

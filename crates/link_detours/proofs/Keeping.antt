@@ -1,16 +1,10 @@
 -- The kept edges are a whole tree, and a whole tree stays one as targets are joined.
-use Rattle.std.proofs.Common.{◌≡◌, ◌≢◌, ℕ, zero, suc, ◌+◌, ◌<◌, Bool, true, List, [], ◌∷◌, ◌++◌, length, get_or, take, Some, sym, ap, ◌∙◌, subst, arith, inl, inr, ◌↔◌}
-use Rattle.std.specs.List.{Contains, All, AllPairs, filter, slice_get}
-use Rattle.std.proofs.lemmas.{Bool.cases_order, List.get_or_default, List.take_more, List.get_or-take, List.length-take, List.Elements.All-contains, List.Elements.All-push, List.Elements.All-weaker}
-use Rattle.std.proofs.lemmas.{List.Elements.Contains-get_or, Option.get_or_from_slice_get, Option.slice_get_within}
-use Rattle.spin_base.specs.declared.chips.Chip.{Chip}
-use Rattle.machine_desc.specs.{declared.trees.Edge.Edge, Description.Description, Live.IsInside, Live.IsLiveLink, Live.is_live_link, RoutingTree.end_of, RoutingTree.IsTreeChip}
-use Rattle.link_detours.specs.{Steps.Steps, Usable.is_marked, Repair.EdgeStep, Repair.LiveEdgeStep, Repair.IsKeptEdge, Repair.IsDetour, Repair.Joins, Repair.IsCutOff, Repair.IsFirstTargetCutOff}
-use Rattle.link_detours.specs.Whole.{IsWholeTree}
+use Rattle.link_detours.proofs.Common.{All, All-contains, All-push, All-weaker, AllPairs, Bool, Chip, Contains, Contains-filter, Contains-from_filter, Contains-get_or, Description, Edge, EdgeStep}
+use Rattle.link_detours.proofs.Common.{IsCutOff, IsDetour, IsFirstTargetCutOff, IsInside, IsKeptEdge, IsLiveLink, IsTreeChip, IsWholeTree, Joins, List, LiveEdgeStep, Some, Steps, [], ap, arith}
+use Rattle.link_detours.proofs.Common.{cases_order, end_of, filter, get_or, get_or-take, get_or_default, get_or_from_slice_get, inl, inr, is_live_link, is_marked, length, length-take, more_chips}
+use Rattle.link_detours.proofs.Common.{slice_get, slice_get_within, subst, suc, sym, take, take_more, tree_cases, true, zero, ℕ, ◌++◌, ◌+◌, ◌<◌, ◌↔◌, ◌∙◌, ◌∷◌, ◌≡◌, ◌≢◌}
 use Rattle.link_detours.proofs.{Reaching.link_inside, Stepping.Steps-map, Putting.TellsTree, Walks.steps_walk, Wholes.steps_on_tree, Wholes.live_steps, Wholes.whole_joined, Wholes.detour_reached}
 use Rattle.link_detours.proofs.Wholes.{Joins-more}
-use Rattle.machine_desc.proofs.TreeLemmas.{tree_cases, more_chips}
-use Rattle.spin_base.proofs.Members.{Contains-from_filter, Contains-filter}
 
 module _ (m : Description) (root : Chip) (edges : List Edge) (marks : List Bool) where
   abbrev pub live_of : List Edge

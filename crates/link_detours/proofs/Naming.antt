@@ -1,15 +1,8 @@
 -- Words that name columns: those in which a set has more, and those beside them.
-use Rattle.std.proofs.Common.{◌≡◌, ℕ, Bool, ◌≢◌, ◌+◌, ◌-◌, ◌*◌, ◌%◌, ◌^◌, ◌<◌, ◌≤◌, ◌↔◌, List, length, get_or, Some, ◌⊎◌, min, sym, ap, ◌∙◌, subst, arith, inl, inr}
-use Rattle.std.specs.{Int.bit_at, Int.bit_not, Int.w64, Int.RustNames.bit_or, List.All}
-use lib.Bits.{bit_and}
-use mir.Val.{bits}
-use Rattle.std.proofs.lemmas.{Bool.cases_eq, List.ext_get_or, List.get_or-set_same, List.get_or-set_other, List.length-set, Nat.and_le_l, List.Elements.All-set, Nat.Bits.bit_at_and}
-use Rattle.std.proofs.lemmas.Nat.Bits.{bit_at_ones, bit_at-lt, bit_at-zero, bit_at_clear_same, bit_at_clear_other}
-use Rattle.spin_base.specs.declared.chips.Chip.{Chip}
-use Rattle.machine_desc.specs.{declared.steps.Step.Step, declared.steps.Step.TheVariants.Back, declared.steps.Step.TheVariants.Stay, declared.steps.Step.TheVariants.Ahead, Description.Description}
-use Rattle.machine_desc.specs.Live.{stepped, IsInside}
-use Rattle.machine_desc.proofs.Far.{far_parts, inside_parts}
-use Rattle.link_detours.specs.Waves.{IsIn, IsSpread, IsSpreadBut, IsSpreadAt}
+use Rattle.link_detours.proofs.Common.{Ahead, All, All-set, Back, Bool, Chip, Description, IsIn, IsInside, IsSpread, IsSpreadAt, IsSpreadBut, List, Some, Stay, Step, and_le_l, ap, arith, bit_and}
+use Rattle.link_detours.proofs.Common.{bit_at, bit_at-lt, bit_at-zero, bit_at_and, bit_at_clear_other, bit_at_clear_same, bit_at_ones, bit_not, bit_or, bits, cases_eq, ext_get_or, far_parts, get_or}
+use Rattle.link_detours.proofs.Common.{get_or-set_other, get_or-set_same, inl, inr, inside_parts, length, min, stepped, subst, sym, w64, ℕ, ◌%◌, ◌*◌, ◌+◌, ◌-◌, ◌<◌, ◌^◌, ◌↔◌, ◌∙◌, ◌≡◌, ◌≢◌, ◌≤◌, ◌⊎◌}
+use Rattle.std.proofs.lemmas.List.{length-set}
 use Rattle.link_detours.proofs.{RoadBits.chip_of_column, Spreading.or_left, Spreading.or_right, TurnedWords.turned_ahead, TurnedWords.turned_back, TurnedWords.turned_stay}
 
 -- the columns from which a step leads to one that is named

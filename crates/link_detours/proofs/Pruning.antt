@@ -1,12 +1,8 @@
 -- What is left of a whole tree when only the edges that lead to a target stay.
-use Rattle.std.proofs.Common.{◌≡◌, ℕ, zero, suc, ◌<◌, List, [], ◌∷◌, ◌++◌, length, get_or, Some, refl, sym, ap, ◌∙◌, subst, arith, inl, inr, ◌↔◌}
-use Rattle.std.specs.List.{Contains}
-use Rattle.std.proofs.lemmas.List.Elements.{Contains-get_or}
-use Rattle.spin_base.specs.declared.chips.Chip.{Chip}
-use Rattle.machine_desc.specs.{declared.trees.Edge.Edge, Description.Description, RoutingTree.end_of, RoutingTree.IsTreeChip, RoutingTree.IsPath, RoutingTree.IsTreeTo, Flags.link_place}
-use Rattle.link_detours.specs.{Steps.Steps, Repair.EdgeStep, Repair.LeadsToTarget, Repair.AreInPlaceOrder, Whole.IsWholeTree, Whole.GoesOnFrom}
+use Rattle.link_detours.proofs.Common.{AreInPlaceOrder, Chip, Contains, Contains-get_or, Description, Edge, EdgeStep, GoesOnFrom, IsPath, IsTreeChip, IsTreeTo, IsWholeTree, LeadsToTarget, List, Some}
+use Rattle.link_detours.proofs.Common.{Steps, [], ap, arith, end_of, get_or, inl, inr, length, link_place, path_more, refl, subst, suc, sym, tree_cases, tree_end, zero, ℕ, ◌++◌, ◌<◌, ◌↔◌, ◌∙◌, ◌∷◌}
+use Rattle.link_detours.proofs.Common.{◌≡◌}
 use Rattle.link_detours.proofs.{Stepping.Steps-cons, Stepping.Steps-first, Wholes.edge_step}
-use Rattle.machine_desc.proofs.TreeLemmas.{tree_end, tree_cases, path_more}
 
 module _ (m : Description) (root : Chip) (tree : List Edge) (targets : List Chip) (result : List Edge) (is : IsWholeTree m root tree)
     (on_tree : (t : Chip) → Contains targets t → IsTreeChip m root tree t) (some : 0 < length targets) (ordered : AreInPlaceOrder m result)

@@ -1,13 +1,8 @@
 -- Chips put into a set, one after the other.
-use Rattle.std.proofs.Common.{◌≡◌, ◌≢◌, ℕ, ◌+◌, ◌*◌, ◌%◌, ◌^◌, ◌<◌, ◌≤◌, ◌⊎◌, ◌↔◌, List, [], ◌∷◌, ◌++◌, length, get_or, set, take, replicate, Some, None, sym, ap, ◌∙◌, subst, arith, inl, inr}
-use Rattle.std.specs.{Int.bit_at, Int.w64, Int.RustNames.bit_or, List.Contains}
-use mir.Val.{bits}
-use Rattle.std.proofs.lemmas.{Bool.cases_eq, Bool.cases_lt, List.get_or-set_same, List.get_or-set_other, List.get_or-replicate, List.length-replicate, List.take_more, List.get_or_past}
-use Rattle.std.proofs.lemmas.{List.Elements.Contains-push, List.Elements.Contains-push_cases, Nat.Bits.bit_at_set_same, Nat.Bits.bit_at_set_other, Nat.Bits.bit_at-zero}
-use Rattle.spin_base.specs.declared.chips.Chip.{Chip}
-use Rattle.machine_desc.specs.{declared.trees.Edge.Edge, Description.Description, Live.IsInside, RoutingTree.end_of, RoutingTree.IsTreeChip}
-use Rattle.machine_desc.proofs.{Far.inside_parts, Same.same_chip, TreeLemmas.tree_end, TreeLemmas.tree_cases, TreeLemmas.more_chips}
-use Rattle.link_detours.specs.{LiveRoads.AreRoadsOf, declared.roads.Roads.Roads, Waves.IsIn, Waves.HasBitOf}
+use Rattle.link_detours.proofs.Common.{AreRoadsOf, Chip, Contains, Contains-push, Contains-push_cases, Description, Edge, HasBitOf, IsIn, IsInside, IsTreeChip, List, None, Roads, Some, [], ap, arith}
+use Rattle.link_detours.proofs.Common.{bit_at, bit_at-zero, bit_at_set_other, bit_at_set_same, bit_or, bits, cases_eq, cases_lt, end_of, get_or, get_or-replicate, get_or-set_other, get_or-set_same}
+use Rattle.link_detours.proofs.Common.{get_or_past, inl, inr, inside_parts, length, length-replicate, more_chips, replicate, same_chip, set, subst, sym, take, take_more, tree_cases, tree_end, w64, ℕ}
+use Rattle.link_detours.proofs.Common.{◌%◌, ◌*◌, ◌++◌, ◌+◌, ◌<◌, ◌^◌, ◌↔◌, ◌∙◌, ◌∷◌, ◌≡◌, ◌≢◌, ◌⊎◌}
 use Rattle.link_detours.proofs.Searching.{cases_chip}
 
 -- a chip inside the grid has a bit in a set of the machine's chips

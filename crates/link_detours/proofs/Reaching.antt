@@ -1,11 +1,7 @@
 -- What tables of flagged links and of marked chips say of trees.
-use Rattle.std.proofs.Common.{◌≡◌, ℕ, zero, suc, Bool, true, List, [], ◌∷◌, get_or, Some, refl, sym, subst, arith, ◌↔◌}
-use Rattle.std.specs.List.{Contains, All}
-use Rattle.std.proofs.lemmas.List.Elements.{All-contains, Contains-get_or}
-use Rattle.spin_base.specs.{declared.chips.Chip.Chip, declared.chips.Dir.Dir, Links.opposite_of}
-use Rattle.machine_desc.specs.{declared.trees.Edge.Edge, Description.Description, Live.far_of, Live.IsInside, Live.IsLiveLink, Flags.is_flagged}
-use Rattle.machine_desc.proofs.Far.{live_ends, live_inside, live_back, far_back, opposite_of-opposite}
-use Rattle.link_detours.specs.{Steps.Steps, Steps.IsReachedBy, Usable.FlaggedStep, Usable.is_marked, Repair.EdgeStep, Whole.IsWholeTree}
+use Rattle.link_detours.proofs.Common.{All, All-contains, Bool, Chip, Contains, Contains-get_or, Description, Dir, Edge, EdgeStep, FlaggedStep, IsInside, IsLiveLink, IsReachedBy, IsWholeTree, List}
+use Rattle.link_detours.proofs.Common.{Some, Steps, [], arith, far_back, far_of, get_or, is_flagged, is_marked, live_back, live_ends, live_inside, opposite_of, opposite_of-opposite, refl, subst, suc}
+use Rattle.link_detours.proofs.Common.{sym, true, zero, ℕ, ◌↔◌, ◌∷◌, ◌≡◌}
 use Rattle.link_detours.proofs.Stepping.{Steps-map}
 
 -- a live link begins inside the grid

@@ -1,12 +1,7 @@
 -- Words whose bits tell which links live.
-use Rattle.std.proofs.Common.{◌≡◌, ℕ, ◌+◌, ◌*◌, ◌%◌, ◌^◌, ◌<◌, ◌≤◌, ◌↔◌, Bool, true, false, List, [], ◌∷◌, ◌++◌, length, get_or, sym, ap, ◌∙◌, subst, arith, inl, inr}
-use Rattle.std.specs.Int.{bit_at, w64, RustNames.bit_or}
-use mir.Val.{bits}
-use Rattle.std.proofs.lemmas.{Bool.cases_eq, Bool.cases_Bool, Bool.false≢true, Bool.false_from_ne_true, List.get_or_append_left, List.get_or_at, List.length-append, Nat.same_from_place}
-use Rattle.std.proofs.lemmas.Nat.Bits.{bit_at_set_same, bit_at_set_other}
-use Rattle.spin_base.specs.{declared.chips.Chip.Chip, declared.chips.Dir.Dir, Links.dir_number}
-use Rattle.machine_desc.specs.{Description.Description, Live.IsLiveLink, Live.is_live_link, Live.is_inside}
-use Rattle.machine_desc.proofs.{Same.same_dir, Same.below_six, Far.live_ends, Far.live_inside}
+use Rattle.link_detours.proofs.Common.{Bool, Chip, Description, Dir, IsLiveLink, List, [], ap, arith, below_six, bit_at, bit_at_set_other, bit_at_set_same, bit_or, bits, cases_Bool, cases_eq}
+use Rattle.link_detours.proofs.Common.{dir_number, false, false_from_ne_true, false≢true, get_or, get_or_append_left, get_or_at, inl, inr, is_inside, is_live_link, length, length-append, live_ends}
+use Rattle.link_detours.proofs.Common.{live_inside, same_dir, same_from_place, subst, sym, true, w64, ℕ, ◌%◌, ◌*◌, ◌++◌, ◌+◌, ◌<◌, ◌^◌, ◌↔◌, ◌∙◌, ◌∷◌, ◌≡◌, ◌≤◌}
 
 abbrev pub chip_of_column : ℕ → ℕ → Chip
 chip_of_column x y = record { x = x; y = y }

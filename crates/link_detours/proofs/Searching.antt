@@ -1,14 +1,10 @@
 -- A search that marks chips until no flagged link leads from a marked chip to another.
-use Rattle.std.proofs.Common.{◌≡◌, ◌≢◌, ℕ, zero, suc, ◌+◌, ◌*◌, ◌<◌, ◌≤◌, Bool, true, false, cond, List, [], ◌∷◌, ◌++◌, length, get_or, set, Some, None, refl, sym, ap, ◌∙◌, subst, arith, inl, inr}
-use Rattle.std.proofs.Common.{◌⊎◌, ◌↔◌}
-use Rattle.std.specs.List.{Contains, All, sum_by}
-use Rattle.std.proofs.lemmas.{Bool.cases_eq, Bool.cases_Bool, Bool.cond-true, Bool.cond-false, Bool.false≢true, List.get_or-set_same, List.get_or-set_other, List.get_or_append_left, List.get_or_at}
-use Rattle.std.proofs.lemmas.List.{get_or_default, length-append, length-set, Elements.All-push, Elements.All-contains, Elements.Contains-get_or, Sums.sum_by-set}
-use Rattle.spin_base.specs.{declared.chips.Chip.Chip, declared.chips.Dir.Dir, declared.chips.Dir.TheVariants.East, Equality.chip_eq, Links.dir_number, Links.all_dirs}
-use Rattle.spin_base.proofs.{Equality.chip_eq_true, Spots.dir_number-dir_at}
-use Rattle.machine_desc.specs.{Description.Description, Live.far_of, Live.index_of, Live.IsInside, Flags.is_flagged}
-use Rattle.machine_desc.proofs.{Far.far_inside, Far.same_index, Far.index_below, Same.chip_eq-from_same, Same.same_dir}
-use Rattle.link_detours.specs.{Steps.Steps, Steps.IsReachedBy, Usable.FlaggedStep, Usable.is_marked}
+use Rattle.link_detours.proofs.Common.{All, All-contains, All-push, Bool, Chip, Contains, Contains-get_or, Description, Dir, East, FlaggedStep, IsInside, IsReachedBy, List, None, Some, Steps, []}
+use Rattle.link_detours.proofs.Common.{all_dirs, ap, arith, cases_Bool, cases_eq, chip_eq, chip_eq-from_same, chip_eq_true, cond, cond-false, cond-true, dir_number, dir_number-dir_at, false}
+use Rattle.link_detours.proofs.Common.{false≢true, far_inside, far_of, get_or, get_or-set_other, get_or-set_same, get_or_append_left, get_or_at, get_or_default, index_below, index_of, inl, inr}
+use Rattle.link_detours.proofs.Common.{is_flagged, is_marked, length, length-append, refl, same_dir, same_index, set, subst, suc, sum_by, sum_by-set, sym, true, zero, ℕ, ◌*◌, ◌++◌, ◌+◌, ◌<◌, ◌↔◌, ◌∙◌}
+use Rattle.link_detours.proofs.Common.{◌∷◌, ◌≡◌, ◌≢◌, ◌≤◌, ◌⊎◌}
+use Rattle.std.proofs.lemmas.List.{length-set}
 
 -- two chips are the same or not
 pub cases_chip : (a b : Chip) → (a ≡ b) ⊎ (a ≢ b)

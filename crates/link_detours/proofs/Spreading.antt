@@ -1,12 +1,6 @@
 -- How a set of chips spreads over live links, link by link and column by column.
-use Rattle.std.proofs.Common.{◌≡◌, ℕ, ◌+◌, ◌<◌, ◌≤◌, ◌↔◌, ◌⊎◌, List, get_or, Some, min, max, sym, ap, ◌∙◌, subst, arith, inl, inr}
-use Rattle.std.specs.Int.{bit_at, RustNames.bit_or}
-use lib.Bits.{bit_and}
-use Rattle.std.proofs.lemmas.{Bool.cases_eq, Nat.le_or_l, Nat.Bits.bit_at_and, Nat.Bits.bit_at_or, Nat.Bits.bit_at-lt}
-use Rattle.spin_base.specs.{declared.chips.Chip.Chip, declared.chips.Dir.Dir, Links.dir_number}
-use Rattle.machine_desc.specs.{Description.Description, Live.far_of, Live.x_step, Live.y_step, Live.stepped, Live.IsLiveLink}
-use Rattle.machine_desc.proofs.{Far.far_parts, Far.live_ends, Same.same_dir}
-use Rattle.link_detours.specs.Waves.{LeadsInto, IsSpread}
+use Rattle.link_detours.proofs.Common.{Chip, Description, Dir, IsLiveLink, IsSpread, LeadsInto, List, Some, ap, arith, bit_and, bit_at, bit_at-lt, bit_at_and, bit_at_or, bit_or, cases_eq, dir_number}
+use Rattle.link_detours.proofs.Common.{far_of, far_parts, get_or, inl, inr, le_or_l, live_ends, max, min, same_dir, stepped, subst, sym, x_step, y_step, ℕ, ◌+◌, ◌<◌, ◌↔◌, ◌∙◌, ◌≡◌, ◌≤◌, ◌⊎◌}
 use Rattle.link_detours.proofs.RoadBits.{chip_of_column}
 
 both_set : (a b : ℕ) → a < 2 → b < 2 → min a b ≡ 1 → (a ≡ 1) × (b ≡ 1)

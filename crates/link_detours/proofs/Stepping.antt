@@ -1,6 +1,5 @@
 -- Walks: from another relation, from their other end, and their levels.
-use Rattle.std.proofs.Common.{arith, ℕ, zero, suc, refl, sym, subst}
-use Rattle.link_detours.specs.Steps.{Steps, IsReachedBy, IsStepLevel}
+use Rattle.link_detours.proofs.Common.{IsReachedBy, IsStepLevel, Steps, arith, refl, subst, suc, sym, zero, ℕ}
 
 pub Steps-map : {K : Type 0} (R S : K → K → Type 0) → ((a b : K) → R a b → S a b) → (n : ℕ) (a c : K) → Steps R n a c → Steps S n a c
 Steps-map R S on zero a c walk = walk

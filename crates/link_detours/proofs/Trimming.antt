@@ -1,12 +1,8 @@
 -- Trees of which nothing has to be taken off.
-use Rattle.std.proofs.Common.{◌≡◌, ℕ, zero, suc, ◌+◌, ◌<◌, ◌≤◌, Bool, true, List, ◌++◌, length, get_or, map, take, Some, sym, ◌∙◌, subst, arith, inl, inr, ◌↔◌}
-use Rattle.std.specs.List.{Contains, All, Any}
-use Rattle.std.proofs.lemmas.List.{take_more, get_or_default, get_or-map, length-map, Elements.All-contains, Elements.Contains-get_or, Elements.Contains-append_cases, Elements.All-more}
-use Rattle.std.proofs.lemmas.List.Quantifiers.{all_pairs_push}
-use Rattle.spin_base.specs.declared.chips.{Chip.Chip, Dir.TheVariants.East}
-use Rattle.machine_desc.specs.{declared.trees.Edge.Edge, Description.Description, Live.IsInside, RoutingTree.end_of, RoutingTree.IsTreeChip, RoutingTree.IsTreeTo, Flags.link_place}
-use Rattle.machine_desc.proofs.{Far.live_ends, Far.far_inside, TreeLemmas.tree_cases}
-use Rattle.link_detours.specs.{Steps.Steps, Usable.is_marked, Repair.EdgeStep, Repair.LeadsToTarget, Repair.AreInPlaceOrder, Whole.IsWholeTree, Whole.GoesOnFrom}
+use Rattle.link_detours.proofs.Common.{All, All-contains, All-more, Any, AreInPlaceOrder, Bool, Chip, Contains, Contains-append_cases, Contains-get_or, Description, East, Edge, EdgeStep, GoesOnFrom}
+use Rattle.link_detours.proofs.Common.{IsInside, IsTreeChip, IsTreeTo, IsWholeTree, LeadsToTarget, List, Some, Steps, all_pairs_push, arith, end_of, far_inside, get_or, get_or-map, get_or_default}
+use Rattle.link_detours.proofs.Common.{inl, inr, is_marked, length, length-map, link_place, live_ends, map, subst, suc, sym, take, take_more, tree_cases, true, zero, ℕ, ◌++◌, ◌+◌, ◌<◌, ◌↔◌, ◌∙◌, ◌≡◌}
+use Rattle.link_detours.proofs.Common.{◌≤◌}
 use Rattle.link_detours.proofs.{Stepping.Steps-first, Stepping.Steps-map, Pruning.tree_kept, Unchanged.tree_leads}
 
 -- one edge more is in order, where its place is no less than the least that may come

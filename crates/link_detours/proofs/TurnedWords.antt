@@ -1,11 +1,8 @@
 -- Words turned by one bit, and the coordinates to which links lead.
-use Rattle.std.proofs.Common.{◌≡◌, ℕ, ◌+◌, ◌-◌, ◌*◌, ◌/◌, ◌%◌, ◌^◌, ◌<◌, ◌≤◌, ◌⊎◌, Bool, true, false, Some, min, max, refl, sym, ap, ◌∙◌, arith, add-one, lit<}
-use Rattle.std.specs.Int.{bit_at, RustNames.bit_or}
-use lib.Bits.{bit_and}
-use Rattle.std.proofs.{Math.Nat.add-zero, Math.Nat.mod-eq_of_lt, Math.Nat.mod_self, Math.Nat.add-mod_right, lemmas.Bool.lt-ltb, lemmas.Bool.le-ltb, lemmas.Bool.eq-eqb, lemmas.Bool.ne_eqb}
-use Rattle.std.proofs.lemmas.{Bool.cases_lt, Bool.cases_eq, Bool.cond-true, Bool.cond-false, Nat.div-add-mod', Nat.pow_pos, Nat.Bits.bit_at_and, Nat.Bits.bit_at_or, Nat.Bits.bit_at-suc}
-use Rattle.std.proofs.lemmas.Nat.Bits.{bit_at-zero, bit_at-lt, bit_at_lowest, bit_at_ones, bit_at_ones_above, bit_at_above, bit_at_cat_low, bit_at_cat_high}
-use Rattle.machine_desc.specs.{declared.steps.Step.TheVariants.Back, declared.steps.Step.TheVariants.Stay, declared.steps.Step.TheVariants.Ahead, Live.stepped}
+use Rattle.link_detours.proofs.Common.{Ahead, Back, Bool, Some, Stay, add-mod_right, add-one, add-zero, ap, arith, bit_and, bit_at, bit_at-lt, bit_at-suc, bit_at-zero, bit_at_above, bit_at_and}
+use Rattle.link_detours.proofs.Common.{bit_at_cat_high, bit_at_cat_low, bit_at_lowest, bit_at_ones, bit_at_ones_above, bit_at_or, bit_or, cases_eq, cases_lt, cond-false, cond-true, div-add-mod'}
+use Rattle.link_detours.proofs.Common.{eq-eqb, false, le-ltb, lit<, lt-ltb, max, min, mod-eq_of_lt, mod_self, ne_eqb, pow_pos, refl, stepped, sym, true, ℕ, ◌%◌, ◌*◌, ◌+◌, ◌-◌, ◌/◌, ◌<◌, ◌^◌, ◌∙◌, ◌≡◌}
+use Rattle.link_detours.proofs.Common.{◌≤◌, ◌⊎◌}
 
 max_zero : (a b p : ℕ) → a ≡ p → b ≡ 0 → max a b ≡ p
 max_zero a b p h k = omega (arith, h, k)

@@ -1,12 +1,7 @@
 -- Edges from their other ends, and which of them a search from the targets reaches.
-use Rattle.std.proofs.Common.{arith, ◌≡◌, ℕ, Bool, true, List, get_or, Option, Some, None, refl, sym, ap, ◌∙◌, subst, ◌↔◌}
-use Rattle.std.specs.{List.Contains, List.All, List.filter, List.filter_map, Option.option_map}
-use Rattle.std.proofs.lemmas.List.Elements.{All-contains, Contains-get_or}
-use Rattle.spin_base.specs.{declared.chips.Chip.Chip, declared.chips.Dir.Dir, Links.opposite_of}
-use Rattle.machine_desc.specs.{declared.trees.Edge.Edge, Description.Description, Live.far_of, Live.IsInside, RoutingTree.end_of, Flags.is_flagged}
-use Rattle.machine_desc.proofs.{Far.far_inside, Far.far_back, Far.opposite_of-opposite, Same.same_edge}
-use Rattle.spin_base.proofs.Members.{Contains-from_filter, Contains-filter, Contains-from_filter_map, Contains-filter_map}
-use Rattle.link_detours.specs.{Steps.IsReachedBy, Usable.FlaggedStep, Usable.is_marked, Usable.other_end_of, Repair.EdgeStep, Repair.LeadsToTarget}
+use Rattle.link_detours.proofs.Common.{All, All-contains, Bool, Chip, Contains, Contains-filter, Contains-filter_map, Contains-from_filter, Contains-from_filter_map, Contains-get_or, Description, Dir}
+use Rattle.link_detours.proofs.Common.{Edge, EdgeStep, FlaggedStep, IsInside, IsReachedBy, LeadsToTarget, List, None, Option, Some, ap, arith, end_of, far_back, far_inside, far_of, filter, filter_map}
+use Rattle.link_detours.proofs.Common.{get_or, is_flagged, is_marked, opposite_of, opposite_of-opposite, option_map, other_end_of, refl, same_edge, subst, sym, true, ℕ, ◌↔◌, ◌∙◌, ◌≡◌}
 use Rattle.link_detours.proofs.{Reaching.flagged_edges, Reaching.edges_flagged, Stepping.Steps-map, Stepping.Steps-turn}
 
 -- a turned edge leads back

@@ -1,16 +1,9 @@
 -- A tree over live parts alone is repaired by itself.
-use Rattle.std.proofs.Common.{◌≡◌, ℕ, zero, suc, ◌<◌, ◌≤◌, List, [], ◌∷◌, length, Some, refl, sym, ap, ◌∙◌, subst, arith, inl, inr, ◌↔◌}
-use Rattle.std.specs.List.{Contains, All}
-use Rattle.std.proofs.lemmas.{List.append-nil, List.Elements.All-contains, Option.get_or_from_slice_get, Option.slice_get_within}
-use Rattle.spin_base.specs.{declared.chips.Chip.Chip, declared.chips.Spot.Spot, declared.chips.Dir.Dir, Outputs.out_of, declared.routes.Out.Out, declared.routes.Out.TheVariants.Link}
-use Rattle.spin_base.specs.declared.routes.Out.TheVariants.{Core}
-use Rattle.machine_desc.specs.{declared.trees.Edge.Edge, Description.Description, Live.far_of, Live.IsLiveLink, Live.LeadsTo, RoutingTree.end_of, RoutingTree.IsTreeChip, RoutingTree.IsPath}
-use Rattle.machine_desc.specs.{RoutingTree.IsTreeTo, Branch.Exit, Branch.GoesOn, Branch.IsWay, Flags.link_place}
-use Rattle.machine_desc.proofs.{Branches.exit_of, Branches.edge_on_branch, TreeLemmas.tree_end, TreeLemmas.tree_cases}
-use Rattle.link_detours.specs.{Steps.Steps, declared.repairs.RepairErr.RepairErr, declared.repairs.RepairErr.TheVariants.CutOff, declared.repairs.RepairErr.TheVariants.Memory, Cause.IsRepairCause}
-use Rattle.link_detours.specs.Repair.{EdgeStep, LiveEdgeStep, Joins, LeadsToTarget, AreInPlaceOrder, IsRepaired}
+use Rattle.link_detours.proofs.Common.{All, All-contains, AreInPlaceOrder, Chip, Contains, Contains-later, Core, CutOff, Description, Dir, Edge, EdgeStep, Exit, GoesOn, IsLiveLink, IsPath}
+use Rattle.link_detours.proofs.Common.{IsRepairCause, IsRepaired, IsTreeChip, IsTreeTo, IsWay, Joins, LeadsTo, LeadsToTarget, Link, List, LiveEdgeStep, Memory, Out, RepairErr, Some, Spot, Steps, []}
+use Rattle.link_detours.proofs.Common.{ap, append-nil, arith, edge_on_branch, end_of, exit_of, far_of, get_or_from_slice_get, inl, inr, length, link_place, out_of, refl, same_in_order}
+use Rattle.link_detours.proofs.Common.{slice_get_within, subst, suc, sym, tree_cases, tree_end, zero, ℕ, ◌<◌, ◌↔◌, ◌∙◌, ◌∷◌, ◌≡◌, ◌≤◌}
 use Rattle.link_detours.proofs.{Stepping.Steps-map, Stepping.Steps-cons, Walks.steps_walk}
-use Rattle.spin_base.proofs.{Ascending.same_in_order, Members.Contains-later}
 
 -- a path over live edges is as many steps
 path_steps : (m : Description) (edges : List Edge) → All (λ e. IsLiveLink m e.chip e.dir) edges → (from to : Chip) (path : List Edge) →

@@ -1,8 +1,5 @@
 -- Walks as lists of chips, and as so many steps.
-use Rattle.std.proofs.Common.{ℕ, zero, suc, List, [], ◌∷◌, refl}
-use Rattle.spin_base.specs.declared.chips.Chip.{Chip}
-use Rattle.machine_desc.specs.{Description.Description, Live.LeadsTo, Live.IsLiveWalk}
-use Rattle.link_detours.specs.{Steps.Steps, Repair.last_of, Repair.IsWalkTo}
+use Rattle.link_detours.proofs.Common.{Chip, Description, IsLiveWalk, IsWalkTo, LeadsTo, List, Steps, [], last_of, refl, suc, zero, ℕ, ◌∷◌}
 use Rattle.link_detours.proofs.Stepping.{Steps-cons, Steps-first}
 
 -- the steps of a walk

@@ -1,13 +1,8 @@
 -- Waves of chips, and the walks that lead back over them.
-use Rattle.std.proofs.Common.{◌≡◌, ℕ, zero, suc, ◌+◌, ◌*◌, ◌-◌, ◌^◌, ◌<◌, ◌≤◌, ◌↔◌, List, [], ◌∷◌, ◌++◌, length, get_or, take, drop, refl, sym, ap, ◌∙◌, subst, arith, inl, inr, length-append}
-use Rattle.std.proofs.Common.{append_assoc, append-nil}
-use Rattle.std.specs.List.{All, between, sum_by}
-use Rattle.std.proofs.lemmas.{Bool.cases_eq, Bool.cases_lt, List.take_at, List.drop_at, List.Sums.sum_by-cons, List.Sums.sum_by-le, Slice.between_to_end}
-use Rattle.spin_base.specs.{declared.chips.Chip.Chip, declared.chips.Dir.Dir, Links.dir_number, Links.opposite_of}
-use Rattle.machine_desc.specs.{declared.trees.Edge.Edge, Description.Description, Live.IsInside, Live.LeadsTo, RoutingTree.IsTreeChip}
-use Rattle.machine_desc.proofs.{Far.far_inside, Same.same_dir}
-use Rattle.link_detours.specs.{Steps.IsReachedBy, Steps.IsStepLevel, Repair.IsTreeLevel, Repair.IsDetour, Repair.IsLastLink, Waves.IsIn, Waves.IsSpread, Waves.IsWithinLinks, Waves.IsWave}
-use Rattle.link_detours.specs.Waves.{AreWaves, IsStepFrom, IsBestStep}
+use Rattle.link_detours.proofs.Common.{All, AreWaves, Chip, Description, Dir, Edge, IsBestStep, IsDetour, IsIn, IsInside, IsLastLink, IsReachedBy, IsSpread, IsStepFrom, IsStepLevel, IsTreeChip}
+use Rattle.link_detours.proofs.Common.{IsTreeLevel, IsWave, IsWithinLinks, LeadsTo, List, [], ap, append-nil, append_assoc, arith, between, between_to_end, cases_eq, cases_lt, dir_number, drop}
+use Rattle.link_detours.proofs.Common.{drop_at, far_inside, get_or, inl, inr, length, length-append, opposite_of, refl, same_dir, subst, suc, sum_by, sum_by-cons, sum_by-le, sym, take, take_at, zero}
+use Rattle.link_detours.proofs.Common.{ℕ, ◌*◌, ◌++◌, ◌+◌, ◌-◌, ◌<◌, ◌^◌, ◌↔◌, ◌∙◌, ◌∷◌, ◌≡◌, ◌≤◌}
 use Rattle.link_detours.proofs.{Reaching.link_inside, Reaching.link_turned, Stepping.IsReachedBy-map}
 
 module _ (m : Description) (IsStart : Chip → Type 0) where

@@ -1,11 +1,7 @@
 -- Trees whose every chip is reached from the root, and what a detour adds to one.
-use Rattle.std.proofs.Common.{◌≡◌, ℕ, zero, suc, ◌<◌, ◌≤◌, List, [], ◌∷◌, ◌++◌, length, Some, refl, sym, ap, ◌∙◌, subst, arith, inl, inr}
-use Rattle.std.specs.List.{Contains}
-use Rattle.std.proofs.lemmas.List.Elements.{Contains-append_left, Contains-append_right, Contains-append_cases}
-use Rattle.spin_base.specs.declared.chips.Chip.{Chip}
-use Rattle.machine_desc.specs.{declared.trees.Edge.Edge, Description.Description, Live.IsLiveLink, Live.LeadsTo, RoutingTree.end_of, RoutingTree.IsTreeChip}
-use Rattle.machine_desc.proofs.TreeLemmas.{tree_end, tree_cases, more_chips}
-use Rattle.link_detours.specs.{Steps.Steps, Whole.IsWholeTree, Repair.EdgeStep, Repair.IsTreeLevel, Repair.IsDetour, Repair.Joins}
+use Rattle.link_detours.proofs.Common.{Chip, Contains, Contains-append_cases, Contains-append_left, Contains-append_right, Description, Edge, EdgeStep, IsDetour, IsLiveLink, IsTreeChip, IsTreeLevel}
+use Rattle.link_detours.proofs.Common.{IsWholeTree, Joins, LeadsTo, List, Some, Steps, [], ap, arith, end_of, inl, inr, length, more_chips, refl, subst, suc, sym, tree_cases, tree_end, zero, ℕ, ◌++◌}
+use Rattle.link_detours.proofs.Common.{◌<◌, ◌∙◌, ◌∷◌, ◌≡◌, ◌≤◌}
 use Rattle.link_detours.proofs.Stepping.{Steps-map}
 
 pub more_steps : (m : Description) (tree more : List Edge) (n : ℕ) (a c : Chip) → Steps (EdgeStep m tree) n a c → Steps (EdgeStep m (tree ++ more)) n a c

@@ -1,10 +1,6 @@
 -- The packets that a job asks for, each with its net.
-use Rattle.std.proofs.Common.{arith, ◌≡◌, ℕ, List, Option, Some, None, refl, ap, sym, ◌∙◌, subst, ◌+◌}
-use Rattle.std.proofs.lemmas.Option.{get_or_from_slice_get, slice_get_within, same_Some, none-some}
-use Rattle.std.specs.List.{slice_get, Contains}
-use Rattle.spin_base.specs.declared.copies.Packet.{Packet}
-use Rattle.machine_desc.specs.{declared.nets.NetPlan.NetPlan, RightTables.IsKeyOf}
-use Rattle.mesh_core.specs.{Ledger.Asked, Opened.label_in, Opened.asked_in, Opened.asked_at, Opened.asked_by, Opened.AreOfNets}
+use Rattle.mesh_core.proofs.Common.{AreOfNets, Asked, Contains, IsKeyOf, List, NetPlan, None, Option, Packet, Some, ap, arith, asked_at, asked_by, asked_in, get_or_from_slice_get, label_in, none-some}
+use Rattle.mesh_core.proofs.Common.{refl, same_Some, slice_get, slice_get_within, subst, sym, ℕ, ◌+◌, ◌∙◌, ◌≡◌}
 
 -- what a packet of a net asks for
 abbrev pub asks : NetPlan → Packet → Asked

@@ -1,15 +1,8 @@
 -- What every mesh has stays when one list changes, and when a mesh is made.
-use Rattle.std.proofs.Common.{◌≡◌, ◌≢◌, ℕ, ◌*◌, ◌^◌, ◌<◌, ◌≤◌, refl, ap, ◌∙◌, arith, true, false, List, [], ◌∷◌, length, set, replicate, Option, Some, None, lit<}
-use Rattle.std.proofs.lemmas.List.{length-set, length-replicate, get_or-replicate, Elements.All-nil, Elements.All-set, Elements.All-tail, Elements.All-replicate}
-use Rattle.std.proofs.lemmas.{Option.slice_get-get_or, Bool.cases_eq}
-use Rattle.std.specs.{Prelude.AllPairs, Prelude.IfSome, List.All, List.slice_get}
-use Rattle.spin_base.specs.declared.{chips.Chip.Chip, chips.Dir.Dir, chips.Port.Port, chips.Port.TheVariants.Local, copies.McCopy.McCopy, copies.Delivery.Delivery, copies.DumpRec.DumpRec}
-use Rattle.spin_base.specs.Links.{port_number}
-use Rattle.spin_base.specs.declared.chips.Port.TheVariants.{Link as ByLink}
-use Rattle.spin_base.proofs.{Outputs.dir_number_below, Places.All-at, Places.slice_get-set_same, Places.slice_get-set_other}
-use Rattle.machine_desc.specs.{Description.Description, Description.HasSize, Live.index_of, Live.is_live_chip, Live.is_live_link, Live.IsInside, Live.IsSite}
-use Rattle.machine_desc.proofs.Far.{index_below, live_inside, same_index}
-use Rattle.mesh_core.specs.{State.Setup, State.State, State.Hand, State.FitsQueue, State.FitsHand, State.IsMesh, State.queue_at, Opened.empty_mesh, Queues.drop_front}
+use Rattle.mesh_core.proofs.Common.{All, All-at, All-nil, All-replicate, All-set, All-tail, AllPairs, ByLink, Chip, Delivery, Description, Dir, DumpRec, FitsHand, FitsQueue, Hand, HasSize, IfSome}
+use Rattle.mesh_core.proofs.Common.{IsInside, IsMesh, IsSite, List, Local, McCopy, None, Option, Port, Setup, Some, State, [], ap, arith, cases_eq, dir_number_below, drop_front, empty_mesh, false}
+use Rattle.mesh_core.proofs.Common.{get_or-replicate, index_below, index_of, is_live_chip, is_live_link, length, length-replicate, length-set, lit<, live_inside, port_number, queue_at, refl}
+use Rattle.mesh_core.proofs.Common.{replicate, same_index, set, slice_get, slice_get-get_or, slice_get-set_other, slice_get-set_same, true, ℕ, ◌*◌, ◌<◌, ◌^◌, ◌∙◌, ◌∷◌, ◌≡◌, ◌≢◌, ◌≤◌}
 
 -- what a port's number is below
 pub port_below : (port : Port) → port_number port < 7

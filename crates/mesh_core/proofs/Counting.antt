@@ -1,10 +1,6 @@
 -- Counts of a list by tests of which each item passes one.
-use Rattle.std.proofs.Common.{◌≡◌, ◌≢◌, ℕ, ◌+◌, ◌*◌, ◌<◌, ◌≤◌, suc, zero, List, [], ◌∷◌, Bool, true, false, ◌==◌, ◌&&◌, not, if◌then◌else◌, Some, refl, ap, sym, ◌∙◌, subst, arith, inl, inr, length}
-use Rattle.std.proofs.Common.{count_by}
-use Rattle.std.proofs.lemmas.Bool.{cases_order, eq-eqb}
-use Rattle.std.specs.List.{slice_get}
-use Rattle.spin_base.proofs.{Counts.count_by-append, Counts.count_by-cons, Counts.count_by-agree, Members.Among, Members.contains_among, Places.All-each}
-use Rattle.spin_base.specs.Gathered.{gathered}
+use Rattle.mesh_core.proofs.Common.{All-each, Among, Bool, List, Some, [], ap, arith, cases_order, contains_among, count_by, count_by-agree, count_by-append, count_by-cons, eq-eqb, false, gathered}
+use Rattle.mesh_core.proofs.Common.{if◌then◌else◌, inl, inr, length, not, refl, slice_get, subst, suc, sym, true, zero, ℕ, ◌&&◌, ◌*◌, ◌+◌, ◌<◌, ◌==◌, ◌∙◌, ◌∷◌, ◌≡◌, ◌≢◌, ◌≤◌}
 
 -- a test that all pass counts all
 pub count_all : {X : Type 0} (p : X → Bool) (xs : List X) → ((x : X) → Among x xs → p x ≡ true) → count_by p xs ≡ length xs

@@ -1,14 +1,9 @@
 -- A mesh at rest that meets the ledger of a job, without a dump, has delivered what the job asks for.
-use Rattle.std.proofs.Common.{◌≡◌, ℕ, ◌+◌, ◌/◌, ◌%◌, suc, List, [], ◌∷◌, map, Bool, true, ◌==◌, ◌&&◌, Option, Some, None, refl, ap, sym, ◌∙◌, subst, arith, append-nil, inl, inr, length, count_by}
-use Rattle.std.proofs.lemmas.{List.Elements.All-contains, Bool.and_parts, Bool.eqb-true, Bool.eq-eqb, Bool.and_from, Option.slice_get_within}
-use Rattle.std.specs.{Cmp.both_ways, List.slice_get, List.Contains}
-use Rattle.spin_base.proofs.{Counts.count_by-map, Members.Among, Members.among_contains, Members.contains_among, Members.map_among, Gathering.gathered_of_none, Places.slice_get_there}
-use Rattle.spin_base.specs.declared.{chips.Spot.Spot, copies.McCopy.McCopy, copies.Delivery.Delivery, copies.Packet.Packet}
-use Rattle.machine_desc.specs.{Live.chip_of, RoutingTree.IsRoutingTree, Branch.Exit, Branch.IsBranch, declared.nets.NetPlan.NetPlan, RightTables.IsKeyOf, NetsOn.IsWayOn}
-use Rattle.machine_desc.proofs.Branches.{same_place, exit_leads, ExitLeads}
-use Rattle.mesh_core.specs.{State.State, Trail.Mark, Trail.unsent, Trail.in_queue, Trail.at_core, Trail.delivered, Trail.is_packet_on_trail, Ledger.marks_of, Ledger.marks_at, Ledger.hand_marks}
-use Rattle.mesh_core.specs.{Ledger.port_of, Ledger.delivered_marks, Ledger.Label, Ledger.Asked, Ledger.label_of, Opened.label_in, Opened.asked_by, Opened.MeetsJobLedger, Expected.IsAskedFor}
-use Rattle.mesh_core.specs.Expected.{AreAsExpected, IsAtRest}
+use Rattle.mesh_core.proofs.Common.{All-contains, Among, AreAsExpected, Asked, Bool, Contains, Delivery, Exit, ExitLeads, IsAskedFor, IsAtRest, IsBranch, IsKeyOf, IsRoutingTree, IsWayOn, Label, List}
+use Rattle.mesh_core.proofs.Common.{Mark, McCopy, MeetsJobLedger, NetPlan, None, Option, Packet, Some, Spot, State, [], among_contains, and_from, and_parts, ap, append-nil, arith, asked_by, at_core}
+use Rattle.mesh_core.proofs.Common.{both_ways, chip_of, contains_among, count_by, count_by-map, delivered, delivered_marks, eq-eqb, eqb-true, exit_leads, gathered_of_none, hand_marks, in_queue, inl}
+use Rattle.mesh_core.proofs.Common.{inr, is_packet_on_trail, label_in, label_of, length, map, map_among, marks_at, marks_of, port_of, refl, same_place, slice_get, slice_get_there, slice_get_within}
+use Rattle.mesh_core.proofs.Common.{subst, suc, sym, true, unsent, ℕ, ◌%◌, ◌&&◌, ◌+◌, ◌/◌, ◌==◌, ◌∙◌, ◌∷◌, ◌≡◌}
 use Rattle.mesh_core.proofs.{AskedPackets.asks, AskedPackets.asked_parts, AskedPackets.asked_from, AskedPackets.net_in_list, AskedPackets.key_of_net, Moves.mark, Counting.count_agree}
 use Rattle.mesh_core.proofs.{LedgerLaw.one_net, Ways.vertex_at_stands}
 

@@ -1,18 +1,10 @@
 -- Each event that is enabled is one move of a copy that is under way.
-use Rattle.std.proofs.Common.{arith, ◌≡◌, ℕ, List, [], ◌∷◌, ◌++◌, map, Bool, true, false, ◌&&◌, not, if◌then◌else◌, Option, Some, None, refl, ap, sym, ◌∙◌, subst, inl, inr, ◌||◌, append-nil}
-use Rattle.std.proofs.lemmas.{Option.slice_get_within, Option.get_or_from_slice_get, Bool.and_parts}
-use Rattle.std.specs.List.{slice_get, slice_set, list_any}
-use Rattle.spin_base.proofs.{Exchange.TakenOut, Exchange.PutIn, Exchange.taken_out_after, Equality.out_eq_true}
-use Rattle.spin_base.specs.declared.{chips.Chip.Chip, chips.Dir.Dir, chips.Spot.Spot, chips.Port.Port, chips.Port.TheVariants.Local, routes.Out.Out, routes.Out.TheVariants.Link}
-use Rattle.spin_base.specs.declared.{routes.Out.TheVariants.Core, copies.McCopy.McCopy, copies.Event.Event, copies.Event.TheVariants.Inject, copies.Event.TheVariants.Take}
-use Rattle.spin_base.specs.{declared.copies.Event.TheVariants.Send, declared.copies.Event.TheVariants.Dump, declared.copies.Event.TheVariants.Collect, Links.opposite_of, Equality.out_eq, Hops.onward}
-use Rattle.spin_base.specs.declared.chips.Port.TheVariants.{Link as ByLink}
-use Rattle.machine_desc.specs.Live.{far_of, index_of, is_live_chip, is_live_link, IsInside}
-use Rattle.machine_desc.proofs.{Far.live_ends, Far.live_inside, Far.far_inside, Sites.site_parts}
-use Rattle.mesh_core.specs.State.{State, Hand, IsMesh, Queue, input, core, behind, behind_link, core_queue_of, queue_at, vertex_behind}
-use Rattle.mesh_core.specs.Step.{step_of, inject_of, take_of, send_of, dump_of, collect_of, has_room, has_room_behind, push_behind, push_at, outs_without, serves, after_serving, outputs}
-use Rattle.mesh_core.specs.{Trail.unsent, Trail.in_queue, Trail.in_hand, Trail.at_core, Trail.delivered, Trail.dumped, Trail.Mark, Trail.IsUnderWayAt, Ledger.marks_of, Ledger.hand_marks}
-use Rattle.mesh_core.specs.Step.{in_hand as held_for}
+use Rattle.mesh_core.proofs.Common.{Bool, ByLink, Chip, Collect, Core, Dir, Dump, Event, Hand, Inject, IsInside, IsMesh, IsUnderWayAt, Link, List, Local, Mark, McCopy, None, Option, Out, Port, PutIn}
+use Rattle.mesh_core.proofs.Common.{Queue, Send, Some, Spot, State, Take, TakenOut, [], after_serving, and_parts, ap, append-nil, arith, at_core, behind, behind_link, collect_of, core, core_queue_of}
+use Rattle.mesh_core.proofs.Common.{delivered, dump_of, dumped, false, far_inside, far_of, get_or_from_slice_get, hand_marks, has_room, has_room_behind, held_for, if◌then◌else◌, in_hand, in_queue}
+use Rattle.mesh_core.proofs.Common.{index_of, inject_of, inl, input, inr, is_live_chip, is_live_link, list_any, live_ends, live_inside, map, marks_of, not, onward, opposite_of, out_eq, out_eq_true}
+use Rattle.mesh_core.proofs.Common.{outputs, outs_without, push_at, push_behind, queue_at, refl, send_of, serves, site_parts, slice_get, slice_get_within, slice_set, step_of, subst, sym, take_of}
+use Rattle.mesh_core.proofs.Common.{taken_out_after, true, unsent, vertex_behind, ℕ, ◌&&◌, ◌++◌, ◌||◌, ◌∙◌, ◌∷◌, ◌≡◌}
 use Rattle.mesh_core.proofs.{Fixed.push_behind_leaves, Moves.mark, Moves.Crosses, Moves.Exchange, Moves.unsent_out, Moves.input_out, Moves.input_in, Moves.hand_out, Moves.hand_in, Moves.core_out}
 use Rattle.mesh_core.proofs.Moves.{core_in, delivered_in, dumped_in, hand_marks-held}
 

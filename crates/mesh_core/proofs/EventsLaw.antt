@@ -1,13 +1,8 @@
 -- The ledger of copies is kept by every event, by every list of events and by putting a copy back: for a list of nets, for
 -- asked packets and for a job.
-use Rattle.std.proofs.Common.{◌≡◌, ℕ, List, [], ◌∷◌, Bool, true, false, Option, Some, None, refl, sym, ◌∙◌, subst, unwrap_or, if◌then◌else◌}
-use Rattle.std.specs.List.{Contains}
-use Rattle.spin_base.proofs.{Exchange.among_taken_out, Members.among_contains}
-use Rattle.spin_base.specs.{declared.copies.DumpRec.DumpRec, declared.copies.Event.Event, declared.copies.Packet.Packet, Hops.onward}
-use Rattle.machine_desc.specs.{declared.nets.NetPlan.NetPlan, RightTables.AreRight}
-use Rattle.mesh_core.specs.{State.Setup, State.State, State.IsMesh, State.Queue, State.input, State.core, State.nowhere, State.behind, Step.step_of, Step.after_event, Step.after_events}
-use Rattle.mesh_core.specs.{Step.has_room_behind, Step.push_behind, PutBack.put_back_of, PutBack.after_put_back, Trail.Mark, Trail.dumped, Ledger.marks_of, Ledger.Label, Ledger.Asked, Ledger.label_of}
-use Rattle.mesh_core.specs.{Ledger.MeetsLedger, Ledger.MeetsLedgerFor, Opened.asked_by, Opened.MeetsJobLedger}
+use Rattle.mesh_core.proofs.Common.{AreRight, Asked, Bool, Contains, DumpRec, Event, IsMesh, Label, List, Mark, MeetsJobLedger, MeetsLedger, MeetsLedgerFor, NetPlan, None, Option, Packet, Queue}
+use Rattle.mesh_core.proofs.Common.{Setup, Some, State, [], after_event, after_events, after_put_back, among_contains, among_taken_out, asked_by, behind, core, dumped, false, has_room_behind}
+use Rattle.mesh_core.proofs.Common.{if◌then◌else◌, input, label_of, marks_of, nowhere, onward, push_behind, put_back_of, refl, step_of, subst, sym, true, unwrap_or, ℕ, ◌∙◌, ◌∷◌, ◌≡◌}
 use Rattle.mesh_core.proofs.{Changes.IsMesh-dumped, Events.event_exchange, Events.arrives, Fixed.push_behind_leaves, Keeping.IsMesh-step_of, Keeping.IsMesh-push_behind, Keeping.onward_below}
 use Rattle.mesh_core.proofs.{Keeping.may_wait-behind, LedgerLaw.Bag, LedgerLaw.bag_of_event, LedgerLaw.bag_keeps_ledger, LedgerLaw.bag_adds_no_packet, LedgerLaw.bag_keeps_packets}
 use Rattle.mesh_core.proofs.{LedgerLaw.right_before, LedgerLaw.right_small, Moves.mark, Moves.Exchange, Moves.dumped_out}

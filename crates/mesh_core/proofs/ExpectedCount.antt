@@ -1,13 +1,8 @@
 -- The deliveries of a mesh that has delivered what its job asks for are as many as the targets of the packets' nets.
-use Rattle.std.proofs.Common.{◌≡◌, ◌≢◌, ℕ, ◌+◌, ◌≤◌, List, [], ◌∷◌, Bool, true, false, if◌then◌else◌, Option, Some, None, refl, ap, sym, ◌∙◌, arith, inl, inr, length, count_by}
-use Rattle.std.proofs.lemmas.List.{length-append, Elements.All-contains, Sums.length-filter, Sums.sum_by-cons}
-use Rattle.std.specs.List.{slice_get, AllPairs, Contains, All, list_any, filter}
-use Rattle.spin_base.specs.{Gathered.gathered, declared.chips.Spot.Spot, declared.copies.Delivery.Delivery, declared.copies.Packet.Packet, Equality.spot_eq}
-use Rattle.spin_base.proofs.{Counts.count_by-cons, Members.Among, Members.among_contains, Members.contains_among, Members.any_among, Members.among_any, Members.Contains-filter, Equality.spot_eq_same}
-use Rattle.spin_base.proofs.Equality.{spot_eq_true}
-use Rattle.machine_desc.specs.{declared.nets.NetPlan.NetPlan, NetsOn.AreNetsOn}
-use Rattle.mesh_core.specs.{State.State, State.IsMesh, Expected.AreAsExpected, Expected.without_hop, Expected.delivery_at, Expected.deliveries_of, Expected.expected_deliveries}
-use Rattle.mesh_core.specs.Expected.{targets_of_net, expected_count}
+use Rattle.mesh_core.proofs.Common.{All, All-contains, AllPairs, Among, AreAsExpected, AreNetsOn, Bool, Contains, Contains-filter, Delivery, IsMesh, List, NetPlan, None, Option, Packet, Some, Spot}
+use Rattle.mesh_core.proofs.Common.{State, [], among_any, among_contains, any_among, ap, arith, contains_among, count_by, count_by-cons, deliveries_of, delivery_at, expected_count}
+use Rattle.mesh_core.proofs.Common.{expected_deliveries, false, filter, gathered, if◌then◌else◌, inl, inr, length, length-append, length-filter, list_any, refl, slice_get, spot_eq, spot_eq_same}
+use Rattle.mesh_core.proofs.Common.{spot_eq_true, sum_by-cons, sym, targets_of_net, true, without_hop, ℕ, ◌+◌, ◌∙◌, ◌∷◌, ◌≡◌, ◌≢◌, ◌≤◌}
 use Rattle.mesh_core.proofs.{AskedPackets.net_in_list, Counting.count_all, Counting.count_covered, ExpectedList.ComesBefore, ExpectedList.is_of, ExpectedList.is_of_from, ExpectedList.is_of_parts}
 use Rattle.mesh_core.proofs.{ExpectedList.bare, ExpectedList.in_order, ExpectedList.is_listed, ExpectedList.listed_once, ExpectedList.listed_made, Ordered.ordered_from, Ordered.at_most_one}
 

@@ -1,15 +1,9 @@
 -- The deliveries of a mesh that has delivered what its job asks for, in their order, are the list that the job asks for.
-use Rattle.std.proofs.Common.{◌≡◌, ℕ, ◌+◌, ◌<◌, ◌≤◌, List, [], ◌∷◌, map, Bool, true, false, ◌==◌, ◌&&◌, if◌then◌else◌, Option, Some, None, refl, ap, sym, ◌∙◌, subst, arith, inl, inr, ◌⊎◌, count_by}
-use Rattle.std.proofs.Common.{cond}
-use Rattle.std.proofs.lemmas.{Bool.and_parts, Bool.and_from, Bool.eqb-true, Bool.eq-eqb, Bool.cases_order, List.Elements.All-contains, List.Sorted.Contains-permutation, List.Sorted.IsPermutation-sym}
-use Rattle.std.proofs.lemmas.List.Sorted.{sum_by-IsPermutation}
-use Rattle.std.specs.List.{slice_get, AllPairs, Contains, list_any, Sorted.IsPermutation}
-use Rattle.spin_base.proofs.{Counts.count_by-cons, Gathering.among_gathered, Gathering.gathered_among, Members.Among, Members.among_contains, Members.contains_among, Members.among_map}
-use Rattle.spin_base.proofs.{Members.map_among, Members.any_among, Members.among_any, Pairs.AllPairs-head, Pairs.AllPairs-tail, Pairs.AllPairs-apart, Equality.spot_eq_same, Equality.spot_eq_true}
-use Rattle.spin_base.specs.{declared.chips.Spot.Spot, declared.copies.McCopy.McCopy, declared.copies.Delivery.Delivery, declared.copies.Packet.Packet, Equality.spot_eq}
-use Rattle.machine_desc.specs.{declared.nets.NetPlan.NetPlan, NetsOn.AreNetsOn}
-use Rattle.mesh_core.specs.{State.State, State.IsMesh, Opened.first_copy, Expected.IsAskedFor, Expected.AreAsExpected, Expected.without_hop, Expected.delivery_at, Expected.deliveries_of}
-use Rattle.mesh_core.specs.Expected.{expected_deliveries, IsDeliveryNotAfter}
+use Rattle.mesh_core.proofs.Common.{All-contains, AllPairs, AllPairs-apart, AllPairs-head, AllPairs-tail, Among, AreAsExpected, AreNetsOn, Bool, Contains, Contains-permutation, Delivery, IsAskedFor}
+use Rattle.mesh_core.proofs.Common.{IsDeliveryNotAfter, IsMesh, IsPermutation, IsPermutation-sym, List, McCopy, NetPlan, None, Option, Packet, Some, Spot, State, [], among_any, among_contains}
+use Rattle.mesh_core.proofs.Common.{among_gathered, among_map, and_from, and_parts, any_among, ap, arith, cases_order, cond, contains_among, count_by, count_by-cons, deliveries_of, delivery_at}
+use Rattle.mesh_core.proofs.Common.{eq-eqb, eqb-true, expected_deliveries, false, first_copy, gathered_among, if◌then◌else◌, inl, inr, list_any, map, map_among, refl, slice_get, spot_eq, spot_eq_same}
+use Rattle.mesh_core.proofs.Common.{spot_eq_true, subst, sum_by-IsPermutation, sym, true, without_hop, ℕ, ◌&&◌, ◌+◌, ◌<◌, ◌==◌, ◌∙◌, ◌∷◌, ◌≡◌, ◌≤◌, ◌⊎◌}
 use Rattle.mesh_core.proofs.{AskedPackets.net_in_list, Counting.count_some, Counting.counted, Ordered.Ordered, Ordered.ordered_gathered, Ordered.same_ordered, Ways.vertex_at_stands, Ways.some_way}
 
 -- by the packet's number, then by the position of the vertex, and not the same in both

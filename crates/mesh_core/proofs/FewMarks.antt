@@ -1,15 +1,9 @@
 -- A mesh that meets the ledger of a job has few marks: at most one for each packet and each target of its net.
-use Rattle.std.proofs.Common.{◌≡◌, ◌≢◌, ℕ, ◌+◌, ◌*◌, ◌^◌, ◌<◌, ◌≤◌, suc, nat_lt, cond, List, [], ◌∷◌, ◌++◌, map, get_or, Bool, true, false, ◌==◌, Some, None, refl, ap, sym, ◌∙◌, subst, arith, inl}
-use Rattle.std.proofs.Common.{inr, length, count_by}
-use Rattle.std.proofs.lemmas.{List.Quantifiers.position-Some, List.length-append, List.length-map, List.get_or-map, List.get_or_default, List.Elements.All-contains, Option.slice_get_within}
-use Rattle.std.proofs.{Math.Nat.mul-le-mul_left, lemmas.Bool.eqb-true, lemmas.Bool.and_from}
-use Rattle.std.specs.{Prelude.AllPairs, Prelude.position, List.slice_index_or, List.position_or_len, List.All, List.Contains}
-use Rattle.spin_base.proofs.{Members.Among, Members.among_contains, Members.contains_among, Places.slice_get_there, Equality.spot_eq_true}
-use Rattle.spin_base.specs.{declared.chips.Spot.Spot, declared.copies.Delivery.Delivery, declared.copies.DumpRec.DumpRec, declared.copies.Packet.Packet, Equality.spot_eq}
-use Rattle.machine_desc.specs.{Branch.Exit, declared.nets.NetPlan.NetPlan, NetsOn.AreNetsOn, NetsOn.IsWayOn, RightTables.IsKeyOf}
-use Rattle.machine_desc.proofs.Branches.{length_le_from_apart}
-use Rattle.mesh_core.specs.{State.State, Trail.Mark, Trail.delivered, Trail.dumped, Trail.is_on_trail, Trail.is_packet_on_trail, Ledger.marks_of, Ledger.unsent_marks, Ledger.input_marks}
-use Rattle.mesh_core.specs.{Ledger.all_hand_marks, Ledger.core_marks, Ledger.delivered_marks, Ledger.dumped_marks, Ledger.Asked, Ledger.label_of, Opened.asked_by, Opened.MeetsJobLedger}
+use Rattle.mesh_core.proofs.Common.{All, All-contains, AllPairs, Among, AreNetsOn, Asked, Bool, Contains, Delivery, DumpRec, Exit, IsKeyOf, IsWayOn, List, Mark, MeetsJobLedger, NetPlan, None, Packet}
+use Rattle.mesh_core.proofs.Common.{Some, Spot, State, [], all_hand_marks, among_contains, and_from, ap, arith, asked_by, cond, contains_among, core_marks, count_by, delivered, delivered_marks}
+use Rattle.mesh_core.proofs.Common.{dumped, dumped_marks, eqb-true, false, get_or, get_or-map, get_or_default, inl, input_marks, inr, is_on_trail, is_packet_on_trail, label_of, length, length-append}
+use Rattle.mesh_core.proofs.Common.{length-map, length_le_from_apart, map, marks_of, mul-le-mul_left, nat_lt, position, position-Some, position_or_len, refl, slice_get_there, slice_get_within}
+use Rattle.mesh_core.proofs.Common.{slice_index_or, spot_eq, spot_eq_true, subst, suc, sym, true, unsent_marks, ℕ, ◌*◌, ◌++◌, ◌+◌, ◌<◌, ◌==◌, ◌^◌, ◌∙◌, ◌∷◌, ◌≡◌, ◌≢◌, ◌≤◌}
 use Rattle.mesh_core.proofs.{AskedPackets.asks, AskedPackets.asked_parts, AskedPackets.asked_from, AskedPackets.net_in_list, Counting.count_all, Counting.count_covered, Counting.count_numbered}
 use Rattle.mesh_core.proofs.{LedgerLaw.one_net, Moves.mark, OneWay.AWay, OneWay.one_way, Ways.vertex_there, Ways.some_way}
 

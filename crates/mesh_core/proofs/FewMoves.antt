@@ -1,10 +1,8 @@
 -- Few marks come where one leaves: a copy leaves a router by 24 outputs at most.
-use Rattle.std.proofs.Common.{◌≡◌, ◌≤◌, ◌==◌, refl, ap, ◌∙◌, arith, inl, inr, List, [], ◌∷◌, length, Bool, true, false, if◌then◌else◌}
-use Rattle.std.proofs.lemmas.List.{length-map, Sums.length-filter, Sums.count_by-le-length}
-use Rattle.spin_base.specs.{declared.chips.Chip.Chip, declared.chips.Port.Port, declared.routes.Out.Out, declared.routes.Route.Route, declared.copies.McCopy.McCopy, Lookup.lookup, Outputs.has}
-use Rattle.spin_base.specs.{Outputs.outs_of, Outputs.all_outs, Outputs.link_outs, Outputs.core_outs, Hops.last_hop}
-use Rattle.machine_desc.specs.RightTables.{table_at}
-use Rattle.mesh_core.specs.{State.State, Step.outputs, Trail.Station, Trail.unsent, Trail.in_queue, Trail.in_hand, Trail.at_core, Trail.delivered, Trail.dumped, Trail.Mark}
+use Rattle.mesh_core.proofs.Common.{Bool, Chip, List, Mark, McCopy, Out, Port, Route, State, Station, [], all_outs, ap, arith, at_core, count_by-le-length, delivered, dumped, false, has}
+use Rattle.mesh_core.proofs.Common.{if◌then◌else◌, in_hand, in_queue, inl, inr, last_hop, length, length-filter, length-map, lookup, outputs, outs_of, refl, table_at, true, unsent, ◌==◌, ◌∙◌, ◌∷◌}
+use Rattle.mesh_core.proofs.Common.{◌≡◌, ◌≤◌}
+use Rattle.spin_base.specs.Outputs.{core_outs, link_outs}
 use Rattle.mesh_core.proofs.Moves.{mark, IsMove, IsMoveOf, Crosses}
 
 all_few : length all_outs ≡ 24

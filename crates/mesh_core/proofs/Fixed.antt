@@ -1,12 +1,7 @@
 -- A step leaves what a mesh never changes, and so does a list of events.
-use Rattle.std.proofs.Common.{arith, ◌≡◌, ℕ, refl, ◌∙◌, Bool, true, false, ◌&&◌, if◌then◌else◌, List, [], ◌∷◌, ◌++◌, Option, Some, None}
-use Rattle.std.specs.{Prelude.unwrap_or, Prelude.slice_set, List.slice_get}
-use Rattle.spin_base.specs.declared.{chips.Chip.Chip, chips.Spot.Spot, chips.Port.Port, chips.Port.TheVariants.Local, routes.Out.Out, copies.McCopy.McCopy, copies.Delivery.Delivery}
-use Rattle.spin_base.specs.declared.copies.{DumpRec.DumpRec, Event.Event, Event.TheVariants.Inject, Event.TheVariants.Take, Event.TheVariants.Send, Event.TheVariants.Dump, Event.TheVariants.Collect}
-use Rattle.spin_base.specs.Hops.{onward}
-use Rattle.machine_desc.specs.Live.{index_of}
-use Rattle.mesh_core.specs.{HasRun.DropsNone, State.State, State.Hand, State.Queue, State.input, State.core, State.nowhere, State.behind, State.queue_at, Step.has_room_behind, Step.serves}
-use Rattle.mesh_core.specs.Step.{after_serving, push_behind, inject_of, take_of, send_of, dump_of, collect_of, after_event, after_events}
+use Rattle.mesh_core.proofs.Common.{Bool, Chip, Collect, Delivery, DropsNone, Dump, DumpRec, Event, Hand, Inject, List, Local, McCopy, None, Option, Out, Port, Queue, Send, Some, Spot, State, Take}
+use Rattle.mesh_core.proofs.Common.{[], after_event, after_events, after_serving, arith, behind, collect_of, core, dump_of, false, has_room_behind, if◌then◌else◌, index_of, inject_of, input, nowhere}
+use Rattle.mesh_core.proofs.Common.{onward, push_behind, queue_at, refl, send_of, serves, slice_get, slice_set, take_of, true, unwrap_or, ℕ, ◌&&◌, ◌++◌, ◌∙◌, ◌∷◌, ◌≡◌}
 
 -- a copy that comes into a queue leaves the setup, the unsent copies and the dump records
 pub push_behind_leaves : (s : State) (b : Queue) (k : McCopy) →

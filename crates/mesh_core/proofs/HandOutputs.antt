@@ -1,9 +1,6 @@
 -- What is left of the outputs of a hand.
-use Rattle.std.proofs.Common.{◌≡◌, ℕ, suc, ◌+◌, ◌<◌, refl, sym, ap, ◌∙◌, arith, Bool, true, false, List, [], ◌∷◌, length, cond, if◌then◌else◌, Some, None}
-use Rattle.std.proofs.lemmas.Iterator.Adapters.{position_from-zero}
-use Rattle.std.specs.{Prelude.position, Prelude.remove, List.position_from}
-use Rattle.spin_base.specs.{Equality.out_eq, declared.routes.Out.Out}
-use Rattle.mesh_core.specs.Step.{outs_without}
+use Rattle.mesh_core.proofs.Common.{Bool, List, None, Out, Some, [], ap, arith, cond, false, if◌then◌else◌, length, out_eq, outs_without, position, position_from, position_from-zero, refl, remove}
+use Rattle.mesh_core.proofs.Common.{suc, sym, true, ℕ, ◌+◌, ◌<◌, ◌∙◌, ◌∷◌, ◌≡◌}
 
 -- the place of an output, as it is found, and what is left without it
 abbrev IsFound : Out → List Out → ℕ → ℕ → Type 0

@@ -1,9 +1,6 @@
 -- Weights that are powers of 25.
-use Rattle.std.proofs.Common.{ℕ, zero, suc, ◌*◌, ◌≤◌, refl, arith, inl, inr, List, [], ◌∷◌, length}
-use Rattle.std.proofs.lemmas.List.Sums.{sum_by-cons}
-use Rattle.std.specs.List.{sum_by}
-use Rattle.spin_base.proofs.Members.{Among}
-use Rattle.mesh_core.specs.{Trail.Mark, Heavy.heavy}
+use Rattle.mesh_core.proofs.Common.{Among, List, Mark, [], arith, inl, inr, length, refl, suc, sum_by, sum_by-cons, zero, ℕ, ◌*◌, ◌∷◌, ◌≤◌}
+use Rattle.mesh_core.specs.Heavy.{heavy}
 
 pub one_heavy : (n : ℕ) → 1 ≤ heavy n
 unfolding heavy

@@ -1,18 +1,11 @@
 -- Whatever happens, a mesh keeps what every mesh has.
-use Rattle.std.proofs.Common.{◌≡◌, ◌≢◌, ℕ, ◌+◌, ◌==◌, ◌^◌, ◌<◌, ◌≤◌, refl, sym, ap, ◌∙◌, subst, arith, Bool, true, false, not, ◌&&◌, if◌then◌else◌, List, [], ◌∷◌, ◌++◌, length, set, Option, Some}
-use Rattle.std.proofs.Common.{None}
-use Rattle.std.proofs.lemmas.{List.length_push, List.Elements.All-head, List.Elements.All-tail, List.Elements.All-push, Bool.and_parts, Bool.ltb-true, Bool.eqb-false}
-use Rattle.std.specs.{Prelude.IfSome, List.All, List.slice_get, List.list_any}
-use Rattle.spin_base.proofs.{Places.All-at, Equality.port_number_injective}
-use Rattle.spin_base.specs.declared.{chips.Chip.Chip, chips.Spot.Spot, chips.Dir.Dir, chips.Port.Port, chips.Port.TheVariants.Local, routes.Out.Out, routes.Out.TheVariants.Link}
-use Rattle.spin_base.specs.declared.{routes.Out.TheVariants.Core, copies.McCopy.McCopy, copies.Event.Event, copies.Event.TheVariants.Inject, copies.Event.TheVariants.Take}
-use Rattle.spin_base.specs.{declared.copies.Event.TheVariants.Send, declared.copies.Event.TheVariants.Dump, declared.copies.Event.TheVariants.Collect, Equality.out_eq, Lookup.lookup, Outputs.outs_of}
-use Rattle.spin_base.specs.{Links.opposite_of, Links.port_number, Hops.last_hop, Hops.onward}
-use Rattle.spin_base.specs.declared.chips.Port.TheVariants.{Link as ByLink}
-use Rattle.machine_desc.specs.{Description.Description, Live.index_of, Live.far_of, Live.is_live_chip, Live.is_live_link, Live.IsInside, Live.IsSite, RightTables.table_at}
-use Rattle.machine_desc.proofs.{Sites.site_parts, Far.same_index, Far.live_inside, Far.live_ends, Far.live_back}
-use Rattle.mesh_core.specs.State.{Setup, State, Hand, FitsQueue, FitsHand, IsMesh, queue_at, vertex_behind, Queue, input, core, nowhere, core_queue_of, behind_link, behind}
-use Rattle.mesh_core.specs.Step.{outputs, in_hand, outs_without, has_room, has_room_behind, push_at, push_behind, inject_of, take_of, serves, after_serving, send_of, dump_of, collect_of, step_of}
+use Rattle.mesh_core.proofs.Common.{All, All-at, All-head, All-push, All-tail, Bool, ByLink, Chip, Collect, Core, Description, Dir, Dump, Event, FitsHand, FitsQueue, Hand, IfSome, Inject, IsInside}
+use Rattle.mesh_core.proofs.Common.{IsMesh, IsSite, Link, List, Local, McCopy, None, Option, Out, Port, Queue, Send, Setup, Some, Spot, State, Take, [], after_serving, and_parts, ap, arith, behind}
+use Rattle.mesh_core.proofs.Common.{behind_link, collect_of, core, core_queue_of, dump_of, eqb-false, false, far_of, has_room, has_room_behind, if◌then◌else◌, index_of, inject_of, input, is_live_chip}
+use Rattle.mesh_core.proofs.Common.{is_live_link, last_hop, length, length_push, list_any, live_back, live_ends, live_inside, lookup, ltb-true, not, nowhere, onward, opposite_of, out_eq, outputs}
+use Rattle.mesh_core.proofs.Common.{outs_of, outs_without, port_number, port_number_injective, push_at, push_behind, queue_at, refl, same_index, send_of, serves, set, site_parts, slice_get, step_of}
+use Rattle.mesh_core.proofs.Common.{subst, sym, table_at, take_of, true, vertex_behind, ℕ, ◌&&◌, ◌++◌, ◌+◌, ◌<◌, ◌==◌, ◌^◌, ◌∙◌, ◌∷◌, ◌≡◌, ◌≢◌, ◌≤◌}
+use Rattle.mesh_core.specs.Step.{in_hand}
 use Rattle.mesh_core.proofs.Changes.{port_below, IsMesh-unsent, IsMesh-cores, IsMesh-hands, IsMesh-delivered, IsMesh-dumped, IsMesh-inputs}
 
 -- what was chosen is there

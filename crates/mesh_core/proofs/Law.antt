@@ -1,22 +1,12 @@
 -- A move keeps what the ledger says of one net: what comes in the place of a mark stands on the same trails.
-use Rattle.std.proofs.Common.{◌≡◌, ℕ, ◌+◌, ◌<◌, ◌≤◌, suc, List, [], ◌∷◌, map, ◌∙◌, Bool, true, false, ◌==◌, ◌&&◌, if◌then◌else◌, Option, Some, None, refl, ap, sym, subst, arith, inl, inr, length, min}
-use Rattle.std.proofs.Common.{count_by, nat_lt}
-use Rattle.std.proofs.{Math.Nat.add-zero, lemmas.Bool.ltb-true, lemmas.Bool.ltb-false, lemmas.Bool.and_parts, lemmas.Bool.eqb-true, lemmas.Bool.eq-eqb, lemmas.Bool.and_from}
-use Rattle.std.proofs.lemmas.{List.Elements.All-contains, Option.slice_get_within, Option.get_or_from_slice_get}
-use Rattle.std.specs.{Cmp.both_ways, List.slice_get, List.Contains, Int.bit_at}
-use Rattle.spin_base.proofs.{Counts.count_by-map, Counts.count_by-cons, Counts.count_by-none, Members.Among, Members.among_filter, Members.among_only, Pairs.AllPairs-apart, Places.slice_get_there}
-use Rattle.spin_base.proofs.{Equality.chip_eq_same, Equality.chip_eq_true, Equality.port_eq_same, Equality.port_eq_true, Equality.out_eq_same, Equality.out_eq_true, Once.outs_once}
-use Rattle.spin_base.proofs.Outputs.{no_high_bit}
-use Rattle.spin_base.specs.declared.{chips.Chip.Chip, chips.Dir.Dir, chips.Spot.Spot, chips.Port.Port, chips.Port.TheVariants.Local, routes.Out.Out, routes.Out.TheVariants.Link}
-use Rattle.spin_base.specs.{declared.routes.Out.TheVariants.Core, declared.routes.Route.Route, declared.copies.McCopy.McCopy, Links.opposite_of, Equality.chip_eq, Equality.port_eq, Equality.out_eq}
-use Rattle.spin_base.specs.{Lookup.lookup, Outputs.has, Outputs.outs_of, Outputs.all_outs, Outputs.out_of, Outputs.IsOutput, Hops.last_hop, Hops.onward}
-use Rattle.spin_base.specs.declared.chips.Port.TheVariants.{Link as ByLink}
-use Rattle.machine_desc.specs.{declared.trees.Edge.Edge, Live.far_of, Live.is_live_link, Live.IsLiveLink, Live.IsSite, Branch.Exit, Branch.IsBranch, Branch.arrival_at, declared.nets.NetPlan.NetPlan}
-use Rattle.machine_desc.specs.{Outputs.is_wanted, Outputs.ComesIn, RightTables.IsKeyOf, RightTables.table_at, NetsOn.IsWayOn}
-use Rattle.machine_desc.proofs.{Branches.same_exit, Branches.ComesBy, Branches.comes_by, Branches.exit_leads, Branches.ExitLeads, Branches.exit_of, TreeLemmas.one_edge_into, Sites.end_is_no_live_link}
-use Rattle.machine_desc.proofs.Sites.{same_site}
-use Rattle.mesh_core.specs.{State.State, State.vertex_behind, Step.outputs, Trail.Station, Trail.unsent, Trail.in_queue, Trail.in_hand, Trail.at_core, Trail.delivered, Trail.dumped, Trail.Mark}
-use Rattle.mesh_core.specs.Trail.{comes_in_there, leaves_there, on_trail, is_on_trail}
+use Rattle.mesh_core.proofs.Common.{All-contains, AllPairs-apart, Among, Bool, ByLink, Chip, ComesBy, ComesIn, Contains, Core, Dir, Edge, Exit, ExitLeads, IsBranch, IsKeyOf, IsLiveLink, IsOutput}
+use Rattle.mesh_core.proofs.Common.{IsSite, IsWayOn, Link, List, Local, Mark, McCopy, NetPlan, None, Option, Out, Port, Route, Some, Spot, State, Station, [], add-zero, all_outs, among_filter}
+use Rattle.mesh_core.proofs.Common.{among_only, and_from, and_parts, ap, arith, arrival_at, at_core, bit_at, both_ways, chip_eq, chip_eq_same, chip_eq_true, comes_by, comes_in_there, count_by}
+use Rattle.mesh_core.proofs.Common.{count_by-cons, count_by-map, count_by-none, delivered, dumped, end_is_no_live_link, eq-eqb, eqb-true, exit_leads, exit_of, false, far_of, get_or_from_slice_get}
+use Rattle.mesh_core.proofs.Common.{has, if◌then◌else◌, in_hand, in_queue, inl, inr, is_live_link, is_on_trail, is_wanted, last_hop, leaves_there, length, lookup, ltb-false, ltb-true, map, min}
+use Rattle.mesh_core.proofs.Common.{nat_lt, no_high_bit, on_trail, one_edge_into, onward, opposite_of, out_eq, out_eq_same, out_eq_true, out_of, outputs, outs_of, outs_once, port_eq, port_eq_same}
+use Rattle.mesh_core.proofs.Common.{port_eq_true, refl, same_exit, same_site, slice_get, slice_get_there, slice_get_within, subst, suc, sym, table_at, true, unsent, vertex_behind, ℕ, ◌&&◌, ◌+◌, ◌<◌}
+use Rattle.mesh_core.proofs.Common.{◌==◌, ◌∙◌, ◌∷◌, ◌≡◌, ◌≤◌}
 use Rattle.mesh_core.proofs.{Moves.mark, Moves.Crosses, Moves.IsMove, Moves.IsMoveOf, Ways.Stands, Ways.vertex_at_stands, Ways.vertex_there, Ways.vertex_behind_stands, Ways.target_site}
 use Rattle.mesh_core.proofs.Ways.{short_branch, onward_hop, one_place, branch_comes_in, exit_wanted, exit_is_output, wanted_on_branch}
 

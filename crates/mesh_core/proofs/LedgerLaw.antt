@@ -1,13 +1,9 @@
 -- The ledger of copies is kept by every bag of moves, of which an event is one move.
-use Rattle.std.proofs.Common.{◌≡◌, ℕ, ◌+◌, ◌<◌, ◌≤◌, List, [], ◌∷◌, Bool, true, false, ◌==◌, ◌&&◌, if◌then◌else◌, refl, ap, sym, ◌∙◌, subst, arith, inl, inr, ◌⊎◌, length, count_by, suc, zero}
-use Rattle.std.proofs.lemmas.{List.Elements.All-contains, Bool.cases_order, Bool.and_parts, Bool.eqb-true, List.get_or_default, Option.slice_get_within}
-use Rattle.std.specs.List.{slice_index_or, All, Contains}
-use Rattle.spin_base.proofs.{Counts.count_by-cons, Counts.count_by-none, Exchange.count_taken_out, Exchange.count_put_in, Members.Among, Members.among_contains, Members.contains_among}
-use Rattle.spin_base.specs.{declared.chips.Spot.Spot, Hops.last_hop}
-use Rattle.machine_desc.specs.{RoutingTree.IsRoutingTree, Branch.Exit, declared.nets.NetPlan.NetPlan, RightTables.IsKeyOf, RightTables.RoutesByTree, RightTables.AreRight, NetsOn.HaveDisjointBlocks}
-use Rattle.machine_desc.specs.NetsOn.{AreNetsOn, IsWayOn}
-use Rattle.mesh_core.specs.{State.Setup, State.State, State.IsMesh, Trail.Station, Trail.unsent, Trail.in_queue, Trail.in_hand, Trail.at_core, Trail.delivered, Trail.dumped, Trail.Mark}
-use Rattle.mesh_core.specs.{Trail.on_trail, Trail.is_on_trail, Trail.is_packet_on_trail, Ledger.marks_of, Ledger.Label, Ledger.MeetsLedger}
+use Rattle.mesh_core.proofs.Common.{All, All-contains, Among, AreNetsOn, AreRight, Bool, Contains, Exit, HaveDisjointBlocks, IsKeyOf, IsMesh, IsRoutingTree, IsWayOn, Label, List, Mark, MeetsLedger}
+use Rattle.mesh_core.proofs.Common.{NetPlan, RoutesByTree, Setup, Spot, State, Station, [], among_contains, and_parts, ap, arith, at_core, cases_order, contains_among, count_by, count_by-cons}
+use Rattle.mesh_core.proofs.Common.{count_by-none, count_put_in, count_taken_out, delivered, dumped, eqb-true, false, get_or_default, if◌then◌else◌, in_hand, in_queue, inl, inr, is_on_trail}
+use Rattle.mesh_core.proofs.Common.{is_packet_on_trail, last_hop, length, marks_of, on_trail, refl, slice_get_within, slice_index_or, subst, suc, sym, true, unsent, zero, ℕ, ◌&&◌, ◌+◌, ◌<◌, ◌==◌, ◌∙◌}
+use Rattle.mesh_core.proofs.Common.{◌∷◌, ◌≡◌, ◌≤◌, ◌⊎◌}
 use Rattle.mesh_core.proofs.{Counting.counts_one, Counting.count_some, Counting.counted, Counting.count_agree, Moves.Exchange, Moves.IsMove, MarkTests.mark_eq, MarkTests.mark_eq_same}
 use Rattle.mesh_core.proofs.{MarkTests.mark_eq_true, MarkTests.rank, MarkTests.move_raises, Ways.Stands, Ways.short_branch, Law.OnSomeTrail, Law.move_comes, Law.move_counts, Law.comes_parts}
 use Rattle.mesh_core.proofs.Law.{leaves_parts}

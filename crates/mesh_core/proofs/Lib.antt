@@ -1,3 +1,4 @@
+mod Common
 pub mod AskedPackets
 pub mod Changes
 pub mod Counting

@@ -1,12 +1,8 @@
 -- A test of equality on marks, and a number that each move raises.
-use Rattle.std.proofs.Common.{◌≡◌, ℕ, ◌+◌, ◌*◌, ◌<◌, ◌≤◌, List, [], ◌∷◌, map, Bool, true, false, ◌==◌, ◌&&◌, if◌then◌else◌, Option, Some, None, refl, ap, sym, arith, inl, inr, min, subst}
-use Rattle.std.proofs.lemmas.Bool.{and_parts, eqb-true, eq-eqb, and_from}
-use Rattle.spin_base.proofs.{Members.Among, Members.among_only, Equality.chip_eq_same, Equality.chip_eq_true, Equality.port_eq_same, Equality.port_eq_true, Equality.out_eq_same, Equality.out_eq_true}
-use Rattle.spin_base.specs.{declared.chips.Chip.Chip, declared.chips.Port.Port, declared.chips.Port.TheVariants.Local, declared.routes.Out.Out, declared.copies.McCopy.McCopy, Links.opposite_of}
-use Rattle.spin_base.specs.{Lookup.lookup, Outputs.outs_of, Equality.chip_eq, Equality.port_eq, Equality.out_eq, Hops.onward, Hops.last_hop}
-use Rattle.spin_base.specs.declared.chips.Port.TheVariants.{Link as ByLink}
-use Rattle.machine_desc.specs.RightTables.{table_at}
-use Rattle.mesh_core.specs.{State.State, Trail.Station, Trail.unsent, Trail.in_queue, Trail.in_hand, Trail.at_core, Trail.delivered, Trail.dumped, Trail.Mark}
+use Rattle.mesh_core.proofs.Common.{Among, Bool, ByLink, Chip, List, Local, Mark, McCopy, None, Option, Out, Port, Some, State, Station, [], among_only, and_from, and_parts, ap, arith, at_core}
+use Rattle.mesh_core.proofs.Common.{chip_eq, chip_eq_same, chip_eq_true, delivered, dumped, eq-eqb, eqb-true, false, if◌then◌else◌, in_hand, in_queue, inl, inr, last_hop, lookup, map, min, onward}
+use Rattle.mesh_core.proofs.Common.{opposite_of, out_eq, out_eq_same, out_eq_true, outs_of, port_eq, port_eq_same, port_eq_true, refl, subst, sym, table_at, true, unsent, ℕ, ◌&&◌, ◌*◌, ◌+◌, ◌<◌, ◌==◌}
+use Rattle.mesh_core.proofs.Common.{◌∷◌, ◌≡◌, ◌≤◌}
 use Rattle.mesh_core.proofs.Moves.{mark, IsMove, IsMoveOf, Crosses}
 
 payload_eq : Option ℕ → Option ℕ → Bool

@@ -1,20 +1,10 @@
 -- What one event does to the marks of a mesh: one mark leaves, and others come in its place.
-use Rattle.std.proofs.Common.{◌≡◌, ℕ, ◌+◌, ◌*◌, ◌/◌, ◌%◌, false, List, [], ◌∷◌, ◌++◌, map, Option, Some, refl, ap, sym, ◌∙◌, subst, arith, zero-add, append-nil, ◌⊎◌}
-use Rattle.std.proofs.lemmas.List.{map-append}
-use Rattle.std.specs.List.{slice_get, slice_set}
-use Rattle.spin_base.proofs.Exchange.{TakenOut, PutIn, taken_out_after, taken_out_before, put_in_after, put_in_before, taken_out_gathered, put_in_gathered}
-use Rattle.spin_base.specs.declared.chips.{Chip.Chip, Dir.Dir}
-use Rattle.spin_base.specs.declared.chips.Dir.TheVariants.{East, NorthEast, North, West, SouthWest, South}
-use Rattle.spin_base.specs.declared.chips.{Spot.Spot, Port.Port, Port.TheVariants.Link as ByLink, Port.TheVariants.Local}
-use Rattle.spin_base.specs.declared.{routes.Out.Out, routes.Out.TheVariants.Link, copies.McCopy.McCopy, copies.Delivery.Delivery, copies.DumpRec.DumpRec}
-use Rattle.spin_base.specs.{Links.opposite_of, Links.port_number, Hops.onward}
-use Rattle.machine_desc.specs.Description.{Description}
-use Rattle.machine_desc.specs.Live.{far_of, index_of, chip_of, is_live_link, IsInside, IsLiveLink}
+use Rattle.mesh_core.proofs.Common.{ByLink, Chip, Delivery, Description, Dir, DumpRec, East, Hand, IsInside, IsLiveLink, Link, List, Local, Mark, McCopy, North, NorthEast, Option, Out, Port, PutIn}
+use Rattle.mesh_core.proofs.Common.{Some, South, SouthWest, Spot, State, Station, TakenOut, West, [], all_hand_marks, ap, append-nil, arith, at_core, chip_of, core_marks, delivered, delivered_marks}
+use Rattle.mesh_core.proofs.Common.{dumped, dumped_marks, false, far_of, hand_marks, held_for, in_hand, in_queue, index_of, input_marks, is_live_link, map, map-append, marks_at, marks_of, onward}
+use Rattle.mesh_core.proofs.Common.{opposite_of, outputs, port_number, port_of, put_in_after, put_in_before, put_in_gathered, queue_at, refl, slice_get, slice_set, subst, sym, taken_out_after}
+use Rattle.mesh_core.proofs.Common.{taken_out_before, taken_out_gathered, unsent, unsent_marks, vertex_behind, zero-add, ℕ, ◌%◌, ◌*◌, ◌++◌, ◌+◌, ◌/◌, ◌∙◌, ◌∷◌, ◌≡◌, ◌⊎◌}
 pub use Rattle.machine_desc.proofs.Live.{chip_of-index_of}
-use Rattle.mesh_core.specs.State.{State, Hand, queue_at, vertex_behind}
-use Rattle.mesh_core.specs.Step.{in_hand as held_for, outputs}
-use Rattle.mesh_core.specs.Trail.{Station, unsent, in_queue, in_hand, at_core, delivered, dumped, Mark}
-use Rattle.mesh_core.specs.Ledger.{marks_of, marks_at, hand_marks, port_of, unsent_marks, input_marks, all_hand_marks, core_marks, delivered_marks, dumped_marks}
 use Rattle.mesh_core.proofs.Changes.{port_below}
 
 abbrev pub mark : McCopy → Station → Mark

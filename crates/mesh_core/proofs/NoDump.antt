@@ -1,16 +1,9 @@
 -- Where a queue has room for a copy of each packet that is under way, no copy is dumped.
-use Rattle.std.proofs.Common.{◌≡◌, ◌≢◌, ℕ, ◌+◌, ◌<◌, ◌≤◌, List, ◌∷◌, Bool, true, false, not, ◌==◌, ◌&&◌, if◌then◌else◌, Option, Some, None, is_some, refl, ap, sym, ◌∙◌, subst, arith, inl, inr, length}
-use Rattle.std.proofs.Common.{count_by}
-use Rattle.std.proofs.lemmas.{Bool.lt-ltb, Bool.and_parts, Bool.eq-eqb, Bool.eqb-true, List.Elements.All-contains, List.FromFn.length-range_with_len, List.Folds.Any-from_list_any}
-use Rattle.std.specs.{Prelude.Result, Prelude.Ok, Prelude.Err, Prelude.IfOk, List.slice_get, List.list_any, List.range_with_len, List.Contains}
-use Rattle.spin_base.proofs.{Counts.count_by-cons, Counts.count_by-none, Members.Among, Members.among_contains, Members.contains_among, Equality.out_eq_true}
-use Rattle.spin_base.specs.declared.{chips.Chip.Chip, routes.Out.Out, copies.McCopy.McCopy, copies.Packet.Packet, copies.Event.Event, copies.Event.TheVariants.Dump}
-use Rattle.spin_base.specs.Equality.{out_eq}
-use Rattle.machine_desc.specs.{Live.index_of, Live.is_live_chip, Live.IsInside, declared.nets.NetPlan.NetPlan}
-use Rattle.machine_desc.proofs.Far.{live_inside}
-use Rattle.mesh_core.specs.{declared.places.Did.Did, declared.places.Did.TheVariants.Moved, declared.places.Did.TheVariants.Idle, State.State, State.Hand, State.IsMesh, State.Queue, State.input}
-use Rattle.mesh_core.specs.{State.core, State.nowhere, State.behind, Step.dump_of, Step.serves, Step.has_room, Step.has_room_behind, Step.answer, Trail.in_hand, Trail.Mark, Ledger.marks_of}
-use Rattle.mesh_core.specs.{Ledger.label_of, Ledger.Label, Ledger.MeetsLedger, Ledger.OnlyUnderWay, Opened.asked_by, Opened.MeetsJobLedger, Waiting.queue_of}
+use Rattle.mesh_core.proofs.Common.{All-contains, Among, Any-from_list_any, Bool, Chip, Contains, Did, Dump, Err, Event, Hand, Idle, IfOk, IsInside, IsMesh, Label, List, Mark, McCopy, MeetsJobLedger}
+use Rattle.mesh_core.proofs.Common.{MeetsLedger, Moved, NetPlan, None, Ok, OnlyUnderWay, Option, Out, Packet, Queue, Result, Some, State, among_contains, and_parts, answer, ap, arith, asked_by}
+use Rattle.mesh_core.proofs.Common.{behind, contains_among, core, count_by, count_by-cons, count_by-none, dump_of, eq-eqb, eqb-true, false, has_room, has_room_behind, if◌then◌else◌, in_hand, index_of}
+use Rattle.mesh_core.proofs.Common.{inl, input, inr, is_live_chip, is_some, label_of, length, length-range_with_len, list_any, live_inside, lt-ltb, marks_of, not, nowhere, out_eq, out_eq_true}
+use Rattle.mesh_core.proofs.Common.{queue_of, range_with_len, refl, serves, slice_get, subst, sym, true, ℕ, ◌&&◌, ◌+◌, ◌<◌, ◌==◌, ◌∙◌, ◌∷◌, ◌≡◌, ◌≢◌, ◌≤◌}
 use Rattle.mesh_core.proofs.{Counting.count_all, Counting.count_covered, Counting.count_le, Moves.mark, OnlyUnderWay.of_job, Queued.FreeBehind, Queued.free_behind, Queued.once_in_queue}
 use Rattle.mesh_core.proofs.{Queued.waiting_mark, Standing.held_mark}
 

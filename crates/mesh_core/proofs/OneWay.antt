@@ -1,13 +1,7 @@
 -- A net that stands on a machine has one way to each target.
-use Rattle.std.proofs.Common.{◌≡◌, ℕ, ◌+◌, ◌<◌, suc, zero, List, [], ◌∷◌, map, Some, refl, ap, sym, ◌∙◌, arith, inl, inr, length}
-use Rattle.std.proofs.lemmas.{List.Elements.All-contains, Option.slice_get_within}
-use Rattle.std.specs.List.{slice_get, Contains}
-use Rattle.spin_base.proofs.Places.{slice_get_there}
-use Rattle.spin_base.specs.declared.chips.{Port.TheVariants.Local, Spot.Spot}
-use Rattle.machine_desc.specs.{declared.trees.Edge.Edge, Description.Description, RoutingTree.IsRoutingTree, Branch.Exit, Branch.IsBranch, declared.nets.NetPlan.NetPlan, NetsOn.AreNetsOn}
-use Rattle.machine_desc.specs.NetsOn.{IsWayOn}
-use Rattle.machine_desc.proofs.Branches.{same_exit, ComesBy, comes_by, exit_leads, ExitLeads, same_place, exit_of, last_exit}
-use Rattle.machine_desc.proofs.TreeLemmas.{one_edge_into}
+use Rattle.mesh_core.proofs.Common.{All-contains, AreNetsOn, ComesBy, Contains, Description, Edge, Exit, ExitLeads, IsBranch, IsRoutingTree, IsWayOn, List, Local, NetPlan, Some, Spot, [], ap, arith}
+use Rattle.mesh_core.proofs.Common.{comes_by, exit_leads, exit_of, inl, inr, last_exit, length, map, one_edge_into, refl, same_exit, same_place, slice_get, slice_get_there, slice_get_within, suc, sym}
+use Rattle.mesh_core.proofs.Common.{zero, ℕ, ◌+◌, ◌<◌, ◌∙◌, ◌∷◌, ◌≡◌}
 
 same_items : {X : Type 0} (xs ys : List X) → length xs ≡ length ys → ((i : ℕ) → i < length xs → slice_get xs i ≡ slice_get ys i) → xs ≡ ys
 same_items [] [] long same = refl

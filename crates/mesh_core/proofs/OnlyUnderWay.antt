@@ -1,13 +1,8 @@
 -- Which packets are under way: no event brings one that was not, and the packets of a job have the numbers below their number.
-use Rattle.std.proofs.Common.{◌≡◌, ℕ, ◌+◌, List, [], ◌∷◌, ◌++◌, map, length, Option, Some, None, ap, sym, refl, ◌∙◌, subst, arith, inl, inr, ◌⊎◌}
-use Rattle.std.proofs.lemmas.List.{Elements.Contains-get_or, FromFn.length-range_with_len, FromFn.get_or-range_with_len}
-use Rattle.std.specs.{Prelude.unwrap_or, List.Contains, List.range_with_len}
-use Rattle.spin_base.proofs.{Exchange.TakenOut, Exchange.PutIn, Exchange.among_taken_out, Members.Among, Members.among_contains, Members.contains_among, Members.among_either, Members.among_left}
-use Rattle.spin_base.proofs.Members.{among_only, among_right}
-use Rattle.spin_base.specs.declared.{chips.Chip.Chip, copies.Event.Event, copies.McCopy.McCopy, copies.Packet.Packet, routes.Out.Out}
-use Rattle.machine_desc.specs.declared.nets.NetPlan.{NetPlan}
-use Rattle.mesh_core.specs.{State.State, State.IsMesh, Step.outputs, Step.step_of, Step.after_event, Trail.Station, Trail.unsent, Trail.in_queue, Trail.in_hand, Trail.at_core, Trail.delivered}
-use Rattle.mesh_core.specs.{Trail.dumped, Trail.Mark, Ledger.marks_of, Ledger.OnlyUnderWay, Opened.MeetsJobLedger}
+use Rattle.mesh_core.proofs.Common.{Among, Chip, Contains, Contains-get_or, Event, IsMesh, List, Mark, McCopy, MeetsJobLedger, NetPlan, None, OnlyUnderWay, Option, Out, Packet, PutIn, Some, State}
+use Rattle.mesh_core.proofs.Common.{Station, TakenOut, [], after_event, among_contains, among_either, among_left, among_only, among_right, among_taken_out, ap, arith, at_core, contains_among}
+use Rattle.mesh_core.proofs.Common.{delivered, dumped, get_or-range_with_len, in_hand, in_queue, inl, inr, length, length-range_with_len, map, marks_of, outputs, range_with_len, refl, step_of, subst}
+use Rattle.mesh_core.proofs.Common.{sym, unsent, unwrap_or, ℕ, ◌++◌, ◌+◌, ◌∙◌, ◌∷◌, ◌≡◌, ◌⊎◌}
 use Rattle.mesh_core.proofs.{Events.event_exchange, Events.MovesOn, FewMarks.number_below, Moves.mark, Moves.Crosses, Moves.IsMove, Moves.IsMoveOf}
 
 -- what comes is of the packet that leaves

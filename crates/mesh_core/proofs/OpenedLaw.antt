@@ -1,19 +1,11 @@
 -- The opened mesh of a job meets the ledger of the job.
-use Rattle.std.proofs.Common.{◌≡◌, ◌≢◌, ℕ, ◌+◌, ◌<◌, List, [], ◌∷◌, Bool, true, false, ◌==◌, ◌&&◌, IsTrue, if◌then◌else◌, Option, Some, None, refl, ap, sym, ◌∙◌, subst, arith, append-nil, inl, inr}
-use Rattle.std.proofs.Common.{length, count_by}
-use Rattle.std.proofs.lemmas.{List.Elements.All-contains, List.Elements.All-map, List.FromFn.length-map-range_with_len, List.length-map, Bool.eqb-true, Bool.eq-eqb, Bool.ne_eqb, Bool.and_from}
-use Rattle.std.proofs.{Math.Bool.and-false, lemmas.Option.slice_get_within}
-use Rattle.std.specs.{List.slice_get, List.slice_index_or, List.range_with_len, List.All, List.Contains, Option.option_map_or}
-use Rattle.spin_base.proofs.{Counts.count_by-map, Gathering.gathered_nothing, Gathering.among_made, Gathering.made_among, Gathering.count_made_one, Gathering.among_chosen, Gathering.chosen_among}
-use Rattle.spin_base.proofs.{Gathering.count_chosen_one, Gathering.count_chosen_none, Members.Among, Members.among_contains, Members.contains_among, Members.among_map, Members.map_among}
-use Rattle.spin_base.proofs.Places.{All-each}
-use Rattle.spin_base.specs.declared.{chips.Spot.Spot, copies.McCopy.McCopy, copies.Packet.Packet}
-use Rattle.machine_desc.specs.{Description.Description, RoutingTree.IsRoutingTree, Branch.Exit, Branch.IsBranch, declared.nets.NetPlan.NetPlan, RightTables.IsKeyOf, NetsOn.vertex_at, NetsOn.AreNetsOn}
-use Rattle.machine_desc.specs.NetsOn.{IsWayOn}
-use Rattle.machine_desc.proofs.Branches.{end_on_branch, link_on_branch}
-use Rattle.mesh_core.specs.{State.Setup, State.State, State.IsMesh, Trail.Mark, Trail.unsent, Trail.on_trail, Trail.is_on_trail, Trail.is_packet_on_trail, Ledger.marks_of, Ledger.marks_at}
-use Rattle.mesh_core.specs.{Ledger.unsent_marks, Ledger.Label, Ledger.label_of, Opened.label_in, Opened.asked_by, Opened.first_copy, Opened.copy_from, Opened.unsent_of, Opened.empty_mesh}
-use Rattle.mesh_core.specs.Opened.{opened_mesh, AreOfNets, MeetsJobLedger}
+use Rattle.mesh_core.proofs.Common.{All, All-contains, All-each, All-map, Among, AreNetsOn, AreOfNets, Bool, Contains, Description, Exit, IsBranch, IsKeyOf, IsMesh, IsRoutingTree, IsTrue, IsWayOn}
+use Rattle.mesh_core.proofs.Common.{Label, List, Mark, McCopy, MeetsJobLedger, NetPlan, None, Option, Packet, Setup, Some, Spot, State, [], among_chosen, among_contains, among_made, among_map}
+use Rattle.mesh_core.proofs.Common.{and-false, and_from, ap, append-nil, arith, asked_by, chosen_among, contains_among, copy_from, count_by, count_by-map, count_chosen_none, count_chosen_one}
+use Rattle.mesh_core.proofs.Common.{count_made_one, empty_mesh, end_on_branch, eq-eqb, eqb-true, false, first_copy, gathered_nothing, if◌then◌else◌, inl, inr, is_on_trail, is_packet_on_trail}
+use Rattle.mesh_core.proofs.Common.{label_in, label_of, length, length-map, length-map-range_with_len, link_on_branch, made_among, map_among, marks_at, marks_of, ne_eqb, on_trail, opened_mesh}
+use Rattle.mesh_core.proofs.Common.{option_map_or, range_with_len, refl, slice_get, slice_get_within, slice_index_or, subst, sym, true, unsent, unsent_marks, unsent_of, vertex_at, ℕ, ◌&&◌, ◌+◌, ◌<◌}
+use Rattle.mesh_core.proofs.Common.{◌==◌, ◌∙◌, ◌∷◌, ◌≡◌, ◌≢◌}
 use Rattle.mesh_core.proofs.{AskedPackets.asked_parts, AskedPackets.asked_from, AskedPackets.asked_of_net, AskedPackets.net_in_list, AskedPackets.key_of_net, Moves.mark, LedgerLaw.one_net}
 use Rattle.mesh_core.proofs.Ways.{vertex_at_stands, vertex_there}
 

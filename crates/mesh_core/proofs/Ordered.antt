@@ -1,9 +1,6 @@
 -- Lists in an order that is never both ways.
-use Rattle.std.proofs.Common.{◌≡◌, ℕ, ◌+◌, ◌<◌, ◌≤◌, List, [], ◌∷◌, ◌++◌, Bool, true, false, if◌then◌else◌, refl, ap, sym, ◌∙◌, subst, arith, inl, inr, count_by}
-use Rattle.std.proofs.lemmas.{Bool.cases_order, List.Elements.All-contains}
-use Rattle.std.specs.List.{AllPairs}
-use Rattle.spin_base.specs.Gathered.{gathered}
-use Rattle.spin_base.proofs.{Gathering.among_gathered_from, Counts.count_by-cons, Members.Among, Members.among_contains, Members.among_either, Pairs.AllPairs-head, Pairs.AllPairs-tail}
+use Rattle.mesh_core.proofs.Common.{All-contains, AllPairs, AllPairs-head, AllPairs-tail, Among, Bool, List, [], among_contains, among_either, among_gathered_from, ap, arith, cases_order, count_by}
+use Rattle.mesh_core.proofs.Common.{count_by-cons, false, gathered, if◌then◌else◌, inl, inr, refl, subst, sym, true, ℕ, ◌++◌, ◌+◌, ◌<◌, ◌∙◌, ◌∷◌, ◌≡◌, ◌≤◌}
 use Rattle.mesh_core.proofs.Counting.{counted}
 
 module _ {X : Type 0} (R : X → X → Type 0) where

@@ -1,9 +1,5 @@
 -- Laws of lists of queues, by the options that a look at a place gives.
-use Rattle.std.proofs.Common.{arith, ◌≡◌, ℕ, List, [], ◌++◌, set, Option, Some, None, ◌↔◌, IsNone, option_to_list}
-use Rattle.std.specs.List.{slice_get}
-use Rattle.spin_base.proofs.Places.{set-slice_get}
-use Rattle.spin_base.specs.declared.copies.McCopy.{McCopy}
-use Rattle.mesh_core.specs.Queues.{drop_front}
+use Rattle.mesh_core.proofs.Common.{IsNone, List, McCopy, None, Option, Some, [], arith, drop_front, option_to_list, set, set-slice_get, slice_get, ℕ, ◌++◌, ◌↔◌, ◌≡◌}
 
 -- what a queue is after its front left
 pub drop_front-popped : (lists : List (List McCopy)) (i : ℕ) (old new : List McCopy) (front : Option McCopy) → slice_get lists i ≡ Some old →

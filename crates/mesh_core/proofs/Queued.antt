@@ -1,22 +1,12 @@
 -- Where a packet waits, in a mesh that meets the ledger: behind each output that a hand still has to serve there is a queue
 -- without a copy of the hand's packet, and no queue has two copies of one packet.
-use Rattle.std.proofs.Common.{◌≡◌, ◌≢◌, ℕ, ◌+◌, ◌/◌, ◌%◌, ◌<◌, ◌≤◌, suc, List, ◌++◌, map, Bool, true, false, ◌==◌, Some, refl, ap, sym, ◌∙◌, subst, arith, inl, inr}
-use Rattle.std.proofs.Common.{length, count_by}
-use Rattle.std.proofs.lemmas.{Bool.cases_order, Bool.and_parts, Bool.eqb-true, Bool.eq-eqb, Bool.and_from, List.Elements.All-contains, Option.slice_get_within, Option.get_or_from_slice_get}
-use Rattle.std.specs.List.{slice_get, All, Contains}
-use Rattle.spin_base.proofs.{Counts.count_by-map, Counts.count_by-append, Gathering.gathered_among, Members.Among, Members.among_left, Members.among_right, Members.among_contains}
-use Rattle.spin_base.proofs.{Members.contains_among, Members.map_among, Pairs.AllPairs-apart, Places.All-each, Places.slice_get_there}
-use Rattle.spin_base.specs.declared.{chips.Chip.Chip, chips.Dir.Dir, chips.Spot.Spot, chips.Port.Port, routes.Out.Out, routes.Out.TheVariants.Link, routes.Out.TheVariants.Core, copies.McCopy.McCopy}
-use Rattle.spin_base.specs.{Links.opposite_of, Outputs.out_of}
-use Rattle.spin_base.specs.declared.chips.Port.TheVariants.{Link as ByLink}
-use Rattle.machine_desc.specs.{Live.far_of, Live.chip_of, Live.is_live_link, Live.IsInside, Live.IsLiveLink, Live.IsSite, Branch.Exit, Branch.arrival_at, declared.nets.NetPlan.NetPlan, NetsOn.IsWayOn}
-use Rattle.machine_desc.specs.{RightTables.IsKeyOf, RoutingTree.IsRoutingTree}
-use Rattle.machine_desc.proofs.Branches.{exit_leads, ExitLeads, last_exit, same_place}
-use Rattle.machine_desc.proofs.{Far.live_inside, Far.live_ends, Far.far_inside, Sites.end_is_no_live_link, Sites.same_site}
-use Rattle.mesh_core.specs.State.{Setup, State, IsMesh, Queue, input, core, nowhere, queue_at, core_queue_of, behind, behind_link, vertex_behind}
-use Rattle.mesh_core.specs.Trail.{Station, in_queue, in_hand, at_core, Mark, on_trail, is_on_trail, is_packet_on_trail}
-use Rattle.mesh_core.specs.Ledger.{marks_of, marks_at, port_of, unsent_marks, input_marks, all_hand_marks, core_marks, delivered_marks, dumped_marks, Label, MeetsLedger}
-use Rattle.mesh_core.specs.Waiting.{queue_of}
+use Rattle.mesh_core.proofs.Common.{All, All-contains, All-each, AllPairs-apart, Among, Bool, ByLink, Chip, Contains, Core, Dir, Exit, ExitLeads, IsInside, IsKeyOf, IsLiveLink, IsMesh, IsRoutingTree}
+use Rattle.mesh_core.proofs.Common.{IsSite, IsWayOn, Label, Link, List, Mark, McCopy, MeetsLedger, NetPlan, Out, Port, Queue, Setup, Some, Spot, State, Station, all_hand_marks, among_contains}
+use Rattle.mesh_core.proofs.Common.{among_left, among_right, and_from, and_parts, ap, arith, arrival_at, at_core, behind, behind_link, cases_order, chip_of, contains_among, core, core_marks}
+use Rattle.mesh_core.proofs.Common.{core_queue_of, count_by, count_by-append, count_by-map, delivered_marks, dumped_marks, end_is_no_live_link, eq-eqb, eqb-true, exit_leads, false, far_inside, far_of}
+use Rattle.mesh_core.proofs.Common.{gathered_among, get_or_from_slice_get, in_hand, in_queue, inl, input, input_marks, inr, is_live_link, is_on_trail, is_packet_on_trail, last_exit, length, live_ends}
+use Rattle.mesh_core.proofs.Common.{live_inside, map, map_among, marks_at, marks_of, nowhere, on_trail, opposite_of, out_of, port_of, queue_at, queue_of, refl, same_place, same_site, slice_get}
+use Rattle.mesh_core.proofs.Common.{slice_get_there, slice_get_within, subst, suc, sym, true, unsent_marks, vertex_behind, ℕ, ◌%◌, ◌++◌, ◌+◌, ◌/◌, ◌<◌, ◌==◌, ◌∙◌, ◌≡◌, ◌≢◌, ◌≤◌}
 use Rattle.mesh_core.proofs.{Changes.queue_at-below, Counting.count_two, Counting.count_le, Counting.counted, Counting.count_gathered_part, Law.ComesThere, Law.comes_from, Law.comes_parts}
 use Rattle.mesh_core.proofs.{Law.leaves_parts, LedgerLaw.one_net, Moves.behind_inputs, Moves.behind_unsent, Moves.mark, OneWay.last_place, Standing.queued_mark, Standing.core_mark}
 use Rattle.mesh_core.proofs.Ways.{vertex_at_stands, vertex_behind_there, vertex_behind_stands, leads_to}

@@ -1,12 +1,8 @@
 -- Where a queue has room for a copy of each packet that is under way, no list of events makes a dump record. So a run that comes
 -- to rest has delivered all, where it has room for a copy of each packet of the job.
-use Rattle.std.proofs.Common.{◌≡◌, ◌≤◌, ℕ, refl, ap, sym, ◌∙◌, subst, arith, List, [], ◌∷◌, length, Option}
-use Rattle.std.proofs.lemmas.List.FromFn.{length-range_with_len}
-use Rattle.std.specs.{Prelude.unwrap_or, List.slice_get, List.range_with_len}
-use Rattle.spin_base.specs.declared.copies.{Event.Event, Event.TheVariants.Inject, Event.TheVariants.Take, Event.TheVariants.Send, Event.TheVariants.Dump, Event.TheVariants.Collect, Packet.Packet}
-use Rattle.machine_desc.specs.{Live.index_of, declared.nets.NetPlan.NetPlan, NetsOn.AreNetsOn, RightTables.AreRight}
-use Rattle.mesh_core.specs.{State.Setup, State.State, State.IsMesh, Step.after_event, Step.after_events, Ledger.label_of, Ledger.Label, Ledger.MeetsLedger, Ledger.OnlyUnderWay, Opened.asked_by}
-use Rattle.mesh_core.specs.{Opened.opened_mesh, Opened.AreOfNets, Opened.MeetsJobLedger, Expected.IsAtRest, Expected.AreAsExpected}
+use Rattle.mesh_core.proofs.Common.{AreAsExpected, AreNetsOn, AreOfNets, AreRight, Collect, Dump, Event, Inject, IsAtRest, IsMesh, Label, List, MeetsJobLedger, MeetsLedger, NetPlan, OnlyUnderWay}
+use Rattle.mesh_core.proofs.Common.{Option, Packet, Send, Setup, State, Take, [], after_event, after_events, ap, arith, asked_by, index_of, label_of, length, length-range_with_len, opened_mesh}
+use Rattle.mesh_core.proofs.Common.{range_with_len, refl, slice_get, subst, sym, unwrap_or, ℕ, ◌∙◌, ◌∷◌, ◌≡◌, ◌≤◌}
 use Rattle.mesh_core.proofs.{DeliveredLaw.delivered_as_expected, EventsLaw.event_keeps, EventsLaw.events_keep_job, Fixed.after_event_setup, Fixed.dumped_stays, NoDump.dump_none, OnlyUnderWay.of_job}
 use Rattle.mesh_core.proofs.{OnlyUnderWay.only_after, OpenedLaw.opened_meets_ledger}
 

@@ -1,17 +1,10 @@
 -- Serving an output: the hands after it, and the queue behind it.
-use Rattle.std.proofs.Common.{◌≡◌, ℕ, ◌<◌, ◌≤◌, ◌+◌, ◌-◌, refl, sym, ap, ◌∙◌, subst, arith, Bool, true, false, cond, List, [], ◌∷◌, length, get_or, set, Option, Some, None, ◌==◌, if◌then◌else◌}
-use Rattle.std.proofs.Common.{is_some}
-use Rattle.std.proofs.lemmas.{List.set-set, List.Elements.All-head, List.Elements.All-tail, List.Quantifiers.position-Some, Iterator.Adapters.position_from-zero, Bool.and_parts, Bool.and_from}
-use Rattle.std.proofs.lemmas.{Bool.false_from_ne_true, Option.slice_get-get_or, Option.get_or_from_slice_get}
-use Rattle.std.specs.{Cmp.both_ways, List.All, List.slice_get, List.position_from}
-use Rattle.spin_base.specs.{declared.chips.Chip.Chip, declared.chips.Port.Port, declared.chips.Spot.Spot, declared.blocks.Entry.Entry, declared.copies.McCopy.McCopy, Lookup.lookup, Links.dir_number}
-use Rattle.spin_base.specs.{Links.dir_at, Outputs.outs_of, Outputs.out_of, declared.chips.Dir.Dir, declared.routes.Out.Out, declared.routes.Out.TheVariants.Link, declared.routes.Out.TheVariants.Core}
-use Rattle.spin_base.specs.{Equality.spot_eq, Hops.last_hop}
-use Rattle.spin_base.proofs.{Equality.chip_eq_true, Equality.chip_eq_same, Equality.spot_eq_true, Equality.spot_eq_same, Equality.out_eq_true, Equality.out_eq_same, Spots.dir_at-dir_number}
-use Rattle.spin_base.proofs.{Spots.out_of-core, Spots.out_of-device, Spots.spot_of_core, Spots.spot_of_link, Places.set-slice_get}
-use Rattle.machine_desc.specs.{Description.Description, Live.index_of, Live.IsSite, NetsOn.vertex_at, Outputs.leads_to_spot}
-use Rattle.machine_desc.proofs.{Same.same_spot, Sites.site_parts}
-use Rattle.mesh_core.specs.{State.State, State.Hand, State.vertex_behind, Step.in_hand, Step.outputs, Step.outs_without, Serving.hands_after}
+use Rattle.mesh_core.proofs.Common.{All, All-head, All-tail, Bool, Chip, Core, Description, Dir, Entry, Hand, IsSite, Link, List, McCopy, None, Option, Out, Port, Some, Spot, State, [], and_from}
+use Rattle.mesh_core.proofs.Common.{and_parts, ap, arith, both_ways, chip_eq_same, chip_eq_true, cond, dir_at, dir_at-dir_number, dir_number, false, false_from_ne_true, get_or, get_or_from_slice_get}
+use Rattle.mesh_core.proofs.Common.{hands_after, if◌then◌else◌, index_of, is_some, last_hop, leads_to_spot, length, lookup, out_eq_same, out_eq_true, out_of, out_of-core, out_of-device, outputs}
+use Rattle.mesh_core.proofs.Common.{outs_of, outs_without, position-Some, position_from, position_from-zero, refl, same_spot, set, set-set, set-slice_get, site_parts, slice_get, slice_get-get_or}
+use Rattle.mesh_core.proofs.Common.{spot_eq, spot_eq_same, spot_eq_true, spot_of_core, spot_of_link, subst, sym, true, vertex_at, vertex_behind, ℕ, ◌+◌, ◌-◌, ◌<◌, ◌==◌, ◌∙◌, ◌∷◌, ◌≡◌, ◌≤◌}
+use Rattle.mesh_core.specs.Step.{in_hand}
 use Rattle.mesh_core.proofs.VertexTableLaws.{vertex_at-from, no_place}
 
 -- a hand served an output

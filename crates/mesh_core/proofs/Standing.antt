@@ -1,13 +1,8 @@
 -- Which marks a mesh has, by their stations: those of the lists' items there.
-use Rattle.std.proofs.Common.{◌≡◌, ℕ, ◌+◌, ◌/◌, ◌%◌, ◌<◌, suc, zero, List, ◌++◌, Option, Some, None, refl, sym, subst, arith, inl, inr, ◌⊎◌}
-use Rattle.std.specs.List.{slice_get}
-use Rattle.spin_base.proofs.{Members.Among, Members.among_left, Members.among_right, Members.among_either, Members.among_map, Members.map_among, Gathering.among_gathered}
-use Rattle.spin_base.proofs.Gathering.{gathered_among_from, gathered_among}
-use Rattle.spin_base.specs.declared.{chips.Chip.Chip, chips.Port.Port, routes.Out.Out, copies.McCopy.McCopy, copies.Delivery.Delivery, copies.DumpRec.DumpRec}
-use Rattle.spin_base.specs.Links.{port_number}
-use Rattle.machine_desc.specs.Live.{chip_of, index_of, IsInside}
-use Rattle.mesh_core.specs.{State.State, State.Hand, State.queue_at, Trail.Station, Trail.unsent, Trail.in_queue, Trail.in_hand, Trail.at_core, Trail.delivered, Trail.dumped, Trail.Mark}
-use Rattle.mesh_core.specs.Ledger.{marks_of, marks_at, hand_marks, port_of, unsent_marks, input_marks, all_hand_marks, core_marks, delivered_marks, dumped_marks}
+use Rattle.mesh_core.proofs.Common.{Among, Chip, Delivery, DumpRec, Hand, IsInside, List, Mark, McCopy, None, Option, Out, Port, Some, State, Station, all_hand_marks, among_either, among_gathered}
+use Rattle.mesh_core.proofs.Common.{among_left, among_map, among_right, arith, at_core, chip_of, core_marks, delivered, delivered_marks, dumped, dumped_marks, gathered_among, gathered_among_from}
+use Rattle.mesh_core.proofs.Common.{hand_marks, in_hand, in_queue, index_of, inl, input_marks, inr, map_among, marks_at, marks_of, port_number, port_of, queue_at, refl, slice_get, subst, suc, sym}
+use Rattle.mesh_core.proofs.Common.{unsent, unsent_marks, zero, ℕ, ◌%◌, ◌++◌, ◌+◌, ◌/◌, ◌<◌, ◌≡◌, ◌⊎◌}
 use Rattle.mesh_core.proofs.Moves.{behind_hands, behind_inputs, behind_unsent, mark, chip_of-index_of, station_of_queue}
 
 -- ---- chips and ports by number

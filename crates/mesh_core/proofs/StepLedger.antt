@@ -1,9 +1,5 @@
 -- A step keeps the ledger of copies, whether it was refused or not.
-use Rattle.std.proofs.Common.{◌≡◌, ℕ, List, sym, subst}
-use Rattle.std.specs.Prelude.{Result, Ok, Err, OnOk, OnErr}
-use Rattle.spin_base.specs.declared.copies.Event.{Event}
-use Rattle.machine_desc.specs.{declared.nets.NetPlan.NetPlan, RightTables.AreRight}
-use Rattle.mesh_core.specs.{State.State, State.IsMesh, Step.after_event, Ledger.Label, Ledger.MeetsLedger}
+use Rattle.mesh_core.proofs.Common.{AreRight, Err, Event, IsMesh, Label, List, MeetsLedger, NetPlan, Ok, OnErr, OnOk, Result, State, after_event, subst, sym, ℕ, ◌≡◌}
 use Rattle.mesh_core.proofs.EventsLaw.{event_keeps}
 
 -- the ledger of any nets for which the tables are right stays

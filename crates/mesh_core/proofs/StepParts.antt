@@ -1,14 +1,9 @@
 -- Where an event is enabled, and the mesh after it, by what the code looks at.
-use Rattle.std.proofs.Common.{arith, ◌≡◌, ℕ, refl, sym, ap, ◌∙◌, true, false, not, ◌&&◌, if◌then◌else◌, List, [], ◌∷◌, ◌++◌, set, Option, Some, None, is_some}
-use Rattle.std.proofs.lemmas.Bool.{and_from}
-use Rattle.std.specs.{Prelude.unwrap_or, List.slice_get}
-use Rattle.spin_base.specs.declared.{chips.Chip.Chip, chips.Spot.Spot, chips.Port.Port, chips.Port.TheVariants.Local, routes.Out.Out, copies.McCopy.McCopy, copies.Delivery.Delivery}
-use Rattle.spin_base.specs.declared.copies.{DumpRec.DumpRec, Event.Event, Event.TheVariants.Inject, Event.TheVariants.Take, Event.TheVariants.Send, Event.TheVariants.Dump, Event.TheVariants.Collect}
-use Rattle.spin_base.specs.Hops.{onward}
-use Rattle.machine_desc.specs.Live.{index_of, is_live_chip}
-use Rattle.mesh_core.specs.{declared.places.Did.TheVariants.Moved, declared.places.Did.TheVariants.Idle, Queues.front_of, Queues.drop_front, Serving.copy_served, Serving.inputs_after}
-use Rattle.mesh_core.specs.{Serving.cores_after, Serving.hands_after, State.State, State.Hand, State.Queue, State.input, State.core, State.nowhere, State.behind, State.queue_at, Step.outputs}
-use Rattle.mesh_core.specs.Step.{in_hand, has_room, has_room_behind, push_at, push_behind, inject_of, take_of, serves, after_serving, send_of, dump_of, collect_of, step_of, answer, after_event}
+use Rattle.mesh_core.proofs.Common.{Chip, Collect, Delivery, Dump, DumpRec, Event, Hand, Idle, Inject, List, Local, McCopy, Moved, None, Option, Out, Port, Queue, Send, Some, Spot, State, Take, []}
+use Rattle.mesh_core.proofs.Common.{after_event, after_serving, and_from, answer, ap, arith, behind, collect_of, copy_served, core, cores_after, drop_front, dump_of, false, front_of, hands_after}
+use Rattle.mesh_core.proofs.Common.{has_room, has_room_behind, if◌then◌else◌, index_of, inject_of, input, inputs_after, is_live_chip, is_some, not, nowhere, onward, outputs, push_at, push_behind}
+use Rattle.mesh_core.proofs.Common.{queue_at, refl, send_of, serves, set, slice_get, step_of, sym, take_of, true, unwrap_or, ℕ, ◌&&◌, ◌++◌, ◌∙◌, ◌∷◌, ◌≡◌}
+use Rattle.mesh_core.specs.Step.{in_hand}
 use Rattle.mesh_core.proofs.Keeping.{if_some}
 
 -- what a step answers and leaves where the event is enabled

@@ -1,14 +1,8 @@
 -- The table of vertices, as it is made.
-use Rattle.std.proofs.Common.{◌≡◌, ◌≢◌, ℕ, ◌+◌, ◌*◌, ◌<◌, refl, sym, ap, ◌∙◌, subst, arith, Bool, true, false, List, [], ◌∷◌, ◌++◌, length, take, get_or, set, replicate, cond, Option, Some, None, inl}
-use Rattle.std.proofs.Common.{inr}
-use Rattle.std.proofs.lemmas.{Iterator.Adapters.position_from-zero, List.take_more, List.length-set, List.length-replicate, List.get_or-replicate, List.length-take-le, List.get_or-take}
-use Rattle.std.proofs.lemmas.{List.get_or_default, Option.slice_get-get_or, Option.get_or_from_slice_get, Bool.cases_eq, List.Elements.All-head, List.Elements.All-tail}
-use Rattle.std.specs.{Prelude.AllPairs, List.position_from, List.slice_get, List.All}
-use Rattle.spin_base.specs.{declared.chips.Spot.Spot, Equality.spot_eq}
-use Rattle.spin_base.proofs.{Equality.spot_eq_true, Equality.spot_eq_same, Places.slice_get-set_same, Places.slice_get-set_other}
-use Rattle.machine_desc.specs.{Description.Description, Live.IsInside, Live.IsSite, NetsOn.vertex_at}
-use Rattle.machine_desc.proofs.{Far.same_index, Far.index_below, Far.live_inside, Same.same_spot, Sites.site_parts}
-use Rattle.mesh_core.specs.VertexTable.{spot_place, IsSpotPlace, TellsVertices}
+use Rattle.mesh_core.proofs.Common.{All, All-head, All-tail, AllPairs, Bool, Description, IsInside, IsSite, IsSpotPlace, List, None, Option, Some, Spot, TellsVertices, [], ap, arith, cases_eq, cond}
+use Rattle.mesh_core.proofs.Common.{false, get_or, get_or-replicate, get_or-take, get_or_default, get_or_from_slice_get, index_below, inl, inr, length, length-replicate, length-set, length-take-le}
+use Rattle.mesh_core.proofs.Common.{live_inside, position_from, position_from-zero, refl, replicate, same_index, same_spot, set, site_parts, slice_get, slice_get-get_or, slice_get-set_other}
+use Rattle.mesh_core.proofs.Common.{slice_get-set_same, spot_eq, spot_eq_same, spot_eq_true, spot_place, subst, sym, take, take_more, true, vertex_at, ℕ, ◌*◌, ◌++◌, ◌+◌, ◌<◌, ◌∙◌, ◌∷◌, ◌≡◌, ◌≢◌}
 
 -- a site is one of the 24 spots of a chip of the grid
 pub site_inside : (m : Description) (s : Spot) → IsSite m s → IsInside m s.chip × (s.core < 24)

@@ -1,15 +1,10 @@
 -- Facts on the ways of a net: their ends are vertices, their places are few, and each wanted output lies on one.
-use Rattle.std.proofs.Common.{◌≡◌, ◌⊎◌, ℕ, ◌+◌, ◌*◌, ◌<◌, ◌≤◌, suc, zero, List, map, Bool, true, Option, Some, None, refl, ap, sym, ◌∙◌, subst, arith, inl, inr, length, min}
-use Rattle.std.proofs.{lemmas.Bool.and_from, lemmas.List.Elements.All-contains, Math.Nat.mul-le-mul_left, lemmas.Option.slice_get-get_or, lemmas.List.Quantifiers.position-Some}
-use Rattle.std.specs.{Prelude.position, List.slice_get, List.slice_index_or, List.All, List.Contains}
-use Rattle.spin_base.proofs.{Members.contains_among, Members.position_nowhere, Spots.out_of-has_bit, Equality.chip_eq_same, Equality.out_eq_same, Equality.spot_eq_same, Equality.spot_eq_true}
-use Rattle.spin_base.specs.declared.{chips.Spot.Spot, chips.Chip.Chip, chips.Dir.Dir, chips.Port.TheVariants.Local, routes.Out.Out, routes.Out.TheVariants.Link}
-use Rattle.spin_base.specs.{Equality.chip_eq, Equality.out_eq, Equality.spot_eq, Outputs.IsOutput, Outputs.out_of, Hops.last_hop}
-use Rattle.machine_desc.specs.{declared.trees.Edge.Edge, Description.Description, Live.IsLiveChip, Live.IsSite, RoutingTree.IsRoutingTree, Branch.Exit, Branch.IsBranch, Branch.arrival_at}
-use Rattle.machine_desc.specs.{declared.nets.NetPlan.NetPlan, Outputs.leads_to_spot, Outputs.is_wanted, Outputs.ComesIn, NetsOn.vertex_at, NetsOn.AreNetsOn, NetsOn.IsWayOn, RightTables.RoutesByTree}
-use Rattle.machine_desc.proofs.{Sites.site_parts, Branches.same_exit, Branches.comes_by, Branches.exit_leads, Branches.way_first, Branches.same_place, Branches.branch_short, Branches.end_on_branch}
-use Rattle.machine_desc.proofs.{Branches.link_on_branch, Branches.exit_of, Branches.last_exit, Branches.ExitLeads, Wanted.spot_of_out, Wanted.wanted_cases, Wanted.edge_wanted, Wanted.end_wanted}
-use Rattle.mesh_core.specs.State.{State, IsMesh, vertex_behind}
+use Rattle.mesh_core.proofs.Common.{All, All-contains, AreNetsOn, Bool, Chip, ComesIn, Contains, Description, Dir, Edge, Exit, ExitLeads, IsBranch, IsLiveChip, IsMesh, IsOutput, IsRoutingTree, IsSite}
+use Rattle.mesh_core.proofs.Common.{IsWayOn, Link, List, Local, NetPlan, None, Option, Out, RoutesByTree, Some, Spot, State, and_from, ap, arith, arrival_at, branch_short, chip_eq, chip_eq_same}
+use Rattle.mesh_core.proofs.Common.{comes_by, contains_among, edge_wanted, end_on_branch, end_wanted, exit_leads, exit_of, inl, inr, is_wanted, last_exit, last_hop, leads_to_spot, length}
+use Rattle.mesh_core.proofs.Common.{link_on_branch, map, min, mul-le-mul_left, out_eq, out_eq_same, out_of, out_of-has_bit, position, position-Some, position_nowhere, refl, same_exit, same_place}
+use Rattle.mesh_core.proofs.Common.{site_parts, slice_get, slice_get-get_or, slice_index_or, spot_eq, spot_eq_same, spot_eq_true, spot_of_out, subst, suc, sym, true, vertex_at, vertex_behind}
+use Rattle.mesh_core.proofs.Common.{wanted_cases, way_first, zero, ℕ, ◌*◌, ◌+◌, ◌<◌, ◌∙◌, ◌≡◌, ◌≤◌, ◌⊎◌}
 
 -- ---- vertices on cores
 

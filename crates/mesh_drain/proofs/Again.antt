@@ -1,19 +1,11 @@
 -- A router looks at a copy's hop number and what its table gives the key alone: so a packet with a key alike goes the same way.
-use Rattle.std.proofs.Common.{◌≡◌, ℕ, cond, inl, inr, subst, suc, zero, ◌*◌, ◌<◌, ◌&&◌, ◌==◌, Bool, true, false, nat_lt, if◌then◌else◌, List, [], ◌∷◌, ◌++◌, length, map, set, get_or, drop, refl, sym}
-use Rattle.std.proofs.Common.{ap, ◌∙◌, Option, None, Some, arith}
-use Rattle.std.proofs.lemmas.{Bool.cases_Bool, Bool.eqb-true, Bool.eq-eqb, List.append_assoc, List.append-nil, List.drop_at, List.length-map, List.map-append, List.map-set, List.Elements.All-cons}
-use Rattle.std.proofs.lemmas.{List.Elements.All-head, List.Elements.All-tail, List.Elements.All-weaker, Option.slice_get-get_or, Option.slice_get-map}
-use Rattle.std.specs.{Prelude.unwrap_or, List.slice_get, List.slice_index_or, List.All, Option.option_map}
-use Rattle.spin_base.specs.declared.{blocks.Entry.Entry, chips.Chip.Chip, chips.Spot.Spot, chips.Port.Port, chips.Port.TheVariants.Local, copies.Delivery.Delivery, copies.DumpRec.DumpRec}
-use Rattle.spin_base.specs.declared.copies.{Event.Event, Event.TheVariants.Inject, Event.TheVariants.Take, Event.TheVariants.Send, Event.TheVariants.Dump, Event.TheVariants.Collect, McCopy.McCopy}
-use Rattle.spin_base.specs.{declared.routes.Out.Out, Hops.last_hop, Hops.onward, Lookup.lookup, Outputs.outs_of}
-use Rattle.spin_base.proofs.Places.{All-at}
-use Rattle.machine_desc.specs.{Live.index_of, Live.is_live_chip, RightTables.table_at}
-use Rattle.mesh_core.specs.{Expected.NothingWaits, State.Setup, State.State, State.Hand, State.IsMesh, State.Queue, State.behind, State.input, State.core, State.nowhere, State.queue_at}
-use Rattle.mesh_core.specs.Step.{after_event, after_events, after_serving, collect_of, has_room, has_room_behind, in_hand, outputs, outs_without, push_at, push_behind, send_of, serves, take_of}
-use Rattle.mesh_core.specs.HasRun.{DropsNone}
-use Rattle.mesh_core.proofs.Fixed.{by_send, by_take, setup_after}
-use Rattle.mesh_drain.specs.Draining.{AreRoutedAlike, HasBrought, IsOnward, IsReachedDropless, IsReachedOnward, MaySend, of_packet}
+use Rattle.mesh_drain.proofs.Common.{All, All-at, All-cons, All-head, All-tail, All-weaker, AreRoutedAlike, Bool, Chip, Collect, Delivery, DropsNone, Dump, DumpRec, Entry, Event, Hand, HasBrought}
+use Rattle.mesh_drain.proofs.Common.{Inject, IsMesh, IsOnward, IsReachedDropless, IsReachedOnward, List, Local, MaySend, McCopy, None, NothingWaits, Option, Out, Port, Queue, Send, Setup, Some, Spot}
+use Rattle.mesh_drain.proofs.Common.{State, Take, [], after_event, after_events, after_serving, ap, append-nil, append_assoc, arith, behind, by_send, by_take, cases_Bool, collect_of, cond, core, drop}
+use Rattle.mesh_drain.proofs.Common.{drop_at, eq-eqb, eqb-true, false, get_or, has_room, has_room_behind, if◌then◌else◌, in_hand, index_of, inl, input, inr, is_live_chip, last_hop, length, length-map}
+use Rattle.mesh_drain.proofs.Common.{lookup, map, map-append, map-set, nat_lt, nowhere, of_packet, onward, option_map, outputs, outs_of, outs_without, push_at, push_behind, queue_at, refl, send_of}
+use Rattle.mesh_drain.proofs.Common.{serves, set, setup_after, slice_get, slice_get-get_or, slice_get-map, slice_index_or, subst, suc, sym, table_at, take_of, true, unwrap_or, zero, ℕ, ◌&&◌, ◌*◌}
+use Rattle.mesh_drain.proofs.Common.{◌++◌, ◌<◌, ◌==◌, ◌∙◌, ◌∷◌, ◌≡◌}
 use Rattle.mesh_drain.proofs.{Frame.kept_reached, Frame.onward_drops_none, Frame.sent_dropless, Frame.setup_reached, Packets.after_inject}
 
 -- ---- a mesh whose copies are all of one packet, with its key in place of an alike one, but otherwise as they were

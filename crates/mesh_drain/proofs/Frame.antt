@@ -1,11 +1,7 @@
 -- Events that drop no copy: what they leave as it is, and that they follow on each other.
-use Rattle.std.proofs.Common.{subst, arith, ◌≡◌, ℕ, refl, sym, ap, ◌∙◌, List, [], ◌∷◌, ◌++◌}
-use Rattle.std.proofs.lemmas.List.Elements.{All-head, All-tail, All-nil, All-cons, All-append, All-weaker}
-use Rattle.std.specs.List.{slice_get, All}
-use Rattle.spin_base.specs.declared.copies.Event.{Event, TheVariants.Inject, TheVariants.Take, TheVariants.Send, TheVariants.Dump, TheVariants.Collect}
-use Rattle.mesh_core.specs.{State.State, Step.after_event, Step.after_events, HasRun.DropsNone}
-use Rattle.mesh_core.proofs.{EventsLaw.events_keep, Fixed.setup_after, Fixed.after_events-append, Fixed.push_behind_leaves, Fixed.by_take, Fixed.by_send, Fixed.by_collect, Fixed.dumped_stays}
-use Rattle.mesh_drain.specs.Draining.{MeetsSomeLedger, IsAfter, IsOnward, IsReachedDropless, IsReachedOnward}
+use Rattle.mesh_drain.proofs.Common.{All, All-append, All-cons, All-head, All-nil, All-tail, All-weaker, Collect, DropsNone, Dump, Event, Inject, IsAfter, IsOnward, IsReachedDropless, IsReachedOnward}
+use Rattle.mesh_drain.proofs.Common.{List, MeetsSomeLedger, Send, State, Take, [], after_event, after_events, after_events-append, ap, arith, by_collect, by_send, by_take, dumped_stays, events_keep}
+use Rattle.mesh_drain.proofs.Common.{push_behind_leaves, refl, setup_after, slice_get, subst, sym, ℕ, ◌++◌, ◌∙◌, ◌∷◌, ◌≡◌}
 
 -- ---- what stays
 

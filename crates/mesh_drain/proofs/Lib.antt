@@ -1,3 +1,4 @@
+mod Common
 mod Again
 pub mod Frame
 pub mod Moving

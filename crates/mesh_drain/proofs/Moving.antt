@@ -1,20 +1,9 @@
 -- A copy that waits can be moved, and is lighter then.
-use Rattle.std.proofs.Common.{◌≡◌, ℕ, ◌<◌, ◌≤◌, arith, length, refl, sym, ap, ◌∙◌, subst, Bool, true, false, ◌&&◌, not, if◌then◌else◌, List, [], ◌∷◌, ◌++◌, Option, Some, None}
-use Rattle.std.proofs.lemmas.{List.Elements.All-append, List.Elements.All-nil, Option.none-some}
-use Rattle.std.specs.{Prelude.unwrap_or, Prelude.is_some, Prelude.OnOk, Prelude.Result, Prelude.Ok, Prelude.Err, List.slice_get}
-use Rattle.spin_base.specs.declared.{wants.Memory.Memory, chips.Chip.Chip, routes.Out.Out, copies.McCopy.McCopy, copies.Event.Event, copies.Event.TheVariants.Send, copies.Event.TheVariants.Dump}
-use Rattle.spin_base.proofs.{Equality.out_eq_same, Members.Among, Members.among_any, Places.All-at}
-use Rattle.mesh_core.proofs.Fixed.{after_events-append}
-use Rattle.mesh_core.proofs.EventsLaw.{IsMesh-after_events}
-use Rattle.mesh_core.specs.State.{Setup, State, Hand, IsMesh, behind, queue_at}
-use Rattle.mesh_core.specs.Step.{has_room_behind, send_of, dump_of, step_of, after_event, after_events, answer}
-use Rattle.mesh_core.specs.declared.places.Did.{Did, TheVariants.Moved, TheVariants.Idle}
-use Rattle.mesh_core.specs.{HasRun.DropsNone, Expected.NothingWaits}
-use Rattle.machine_desc.specs.Live.{index_of, is_live_chip, IsInside}
-use Rattle.mesh_drain.specs.Draining.{MeetsSomeLedger, IsReachedDropless, IsAfter, IsMoved}
-use Rattle.mesh_drain.specs.UnderWay.{weight_in}
-use Rattle.mesh_drain.specs.declared.waiting.Waits.{Waits, TheVariants.InCore, TheVariants.InHand, TheVariants.AtPort}
-use Rattle.mesh_drain.specs.Waiting.{HasCopies, IsNextOut, IsWaiting}
+use Rattle.mesh_drain.proofs.Common.{All-append, All-at, All-nil, Among, AtPort, Bool, Chip, Did, DropsNone, Dump, Err, Event, Hand, HasCopies, Idle, InCore, InHand, IsAfter, IsInside, IsMesh}
+use Rattle.mesh_drain.proofs.Common.{IsMesh-after_events, IsMoved, IsNextOut, IsReachedDropless, IsWaiting, List, McCopy, MeetsSomeLedger, Memory, Moved, None, NothingWaits, Ok, OnOk, Option, Out}
+use Rattle.mesh_drain.proofs.Common.{Result, Send, Setup, Some, State, Waits, [], after_event, after_events, after_events-append, among_any, answer, ap, arith, behind, dump_of, false, has_room_behind}
+use Rattle.mesh_drain.proofs.Common.{if◌then◌else◌, index_of, is_live_chip, is_some, length, none-some, not, out_eq_same, queue_at, refl, send_of, slice_get, step_of, subst, sym, true, unwrap_or}
+use Rattle.mesh_drain.proofs.Common.{weight_in, ℕ, ◌&&◌, ◌++◌, ◌<◌, ◌∙◌, ◌∷◌, ◌≡◌, ◌≤◌}
 pub use Rattle.mesh_drain.proofs.Frame.{after_reached, after_setup, kept_after}
 use Rattle.mesh_drain.proofs.{Frame.dumped_reached, Progress.moved_lighter, Progress.event_lighter}
 
@@ -100,13 +89,6 @@ moved_enabled s e moved = by_test (is_some (step_of s e)) refl moved
     by_test false at on = cc
 
 -- ---- chips where copies wait are live
-
-held_lives : (s : State) → IsMesh s → (c : Chip) (h : Hand) → IsInside s.setup.machine c → slice_get s.hands (index_of s.setup.machine c) ≡ Some (Some h) → is_live_chip s.setup.machine c ≡ true
-held_lives s mesh c h inside at = by_test (is_live_chip s.setup.machine c) refl
-  where
-    by_test : (b : Bool) → is_live_chip s.setup.machine c ≡ b → b ≡ true
-    by_test true is = refl
-    by_test false dead = let both : Some (Some h) ≡ Some None = sym at ∙ mesh.no_hand_on_dead_chips c dead inside in absurd (cc both)
 
 -- ---- what waits can be moved
 

@@ -1,13 +1,7 @@
 -- A packet of a job, its net, and the vertex that sends it.
-use Rattle.std.proofs.Common.{◌≡◌, ℕ, ◌+◌, ◌<◌, sym, ap, ◌∙◌, List, [], ◌∷◌, ◌++◌, map, take, length, get_or, Some, arith}
-use Rattle.std.proofs.lemmas.{List.take_more, List.length-take-le, List.length-map, List.get_or-map, List.Elements.All-contains, Option.slice_get_within, Option.get_or_from_slice_get}
-use Rattle.std.proofs.lemmas.Option.{slice_get-get_or}
-use Rattle.std.specs.{List.slice_get, List.slice_index_or, List.All, List.Contains, Prelude.unwrap_or}
-use Rattle.spin_base.specs.declared.{chips.Spot.Spot, copies.McCopy.McCopy, copies.Packet.Packet}
-use Rattle.machine_desc.specs.{declared.nets.NetPlan.NetPlan, NetsOn.vertex_at}
-use Rattle.mesh_core.specs.{State.Setup, State.State, Step.push_at, Opened.empty_mesh, Opened.opened_mesh, Opened.first_copy, Opened.AreOfNets}
-use Rattle.mesh_core.proofs.{ServingLaws.vertex_at-below, Ways.vertex_there}
-use Rattle.mesh_drain.specs.Opening.{source_vertex_of}
+use Rattle.mesh_drain.proofs.Common.{All, All-contains, AreOfNets, Contains, List, McCopy, NetPlan, Packet, Setup, Some, Spot, State, [], ap, arith, empty_mesh, first_copy, get_or, get_or-map}
+use Rattle.mesh_drain.proofs.Common.{get_or_from_slice_get, length, length-map, length-take-le, map, opened_mesh, push_at, slice_get, slice_get-get_or, slice_get_within, slice_index_or}
+use Rattle.mesh_drain.proofs.Common.{source_vertex_of, sym, take, take_more, unwrap_or, vertex_at, vertex_at-below, vertex_there, ℕ, ◌++◌, ◌+◌, ◌<◌, ◌∙◌, ◌∷◌, ◌≡◌}
 use Rattle.mesh_drain.proofs.Unsent.{opened_more, opened_none}
 
 -- what is known of a packet of a job

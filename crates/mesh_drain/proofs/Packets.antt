@@ -1,15 +1,9 @@
 -- A packet is send_of, and at its end nothing waits.
-use Rattle.std.proofs.Common.{◌≡◌, ℕ, ◌+◌, ◌*◌, ◌<◌, ◌≤◌, ◌==◌, refl, sym, ap, ◌∙◌, subst, arith, List, [], ◌∷◌, length, map, get_or, Option, Some, None, Bool, true, false, if◌then◌else◌, nat_lt}
-use Rattle.std.proofs.{Math.Nat.mul-le-mul_left, lemmas.Bool.lt-ltb, lemmas.Bool.ltb-true, lemmas.Bool.ltb-false, lemmas.List.get_or_default, lemmas.List.get_or_past, lemmas.List.get_or-map}
-use Rattle.std.proofs.lemmas.List.{length-map, Elements.All-nil, Elements.All-cons, Elements.All-set}
-use Rattle.std.specs.List.{slice_get, slice_index_or, slice_set, All}
-use Rattle.spin_base.specs.declared.{chips.Chip.Chip, chips.Spot.Spot, chips.Port.TheVariants.Local, copies.McCopy.McCopy, copies.Event.TheVariants.Inject}
-use Rattle.spin_base.proofs.{Equality.nat_eq_same, Counts.count_by-cons, Places.All-at}
-use Rattle.machine_desc.specs.Live.{index_of, IsLiveChip, IsSite}
-use Rattle.machine_desc.proofs.{Branches.length_le_from_apart, Sites.site_parts}
-use Rattle.mesh_core.specs.{State.State, State.IsMesh, State.Hand, State.queue_at, Step.has_room, Step.inject_of, Step.push_at, Step.after_event, VertexTable.spot_place, Expected.NothingWaits}
-use Rattle.mesh_core.proofs.VertexTableLaws.{site_inside, same_spot_place, spot_place-below}
-use Rattle.mesh_drain.specs.{declared.draining.Waiting.Waiting, Draining.MeetsSomeLedger, UnderWay.times, UnderWay.WaitsAlone, UnderWay.IsServing}
+use Rattle.mesh_drain.proofs.Common.{All, All-at, All-cons, All-nil, All-set, Bool, Chip, Hand, Inject, IsLiveChip, IsMesh, IsServing, IsSite, List, Local, McCopy, MeetsSomeLedger, None, NothingWaits}
+use Rattle.mesh_drain.proofs.Common.{Option, Some, Spot, State, Waiting, WaitsAlone, [], after_event, ap, arith, count_by-cons, false, get_or, get_or-map, get_or_default, get_or_past, has_room}
+use Rattle.mesh_drain.proofs.Common.{if◌then◌else◌, index_of, inject_of, length, length-map, length_le_from_apart, lt-ltb, ltb-false, ltb-true, map, mul-le-mul_left, nat_eq_same, nat_lt, push_at}
+use Rattle.mesh_drain.proofs.Common.{queue_at, refl, same_spot_place, site_inside, site_parts, slice_get, slice_index_or, slice_set, spot_place, spot_place-below, subst, sym, times, true, ℕ, ◌*◌, ◌+◌}
+use Rattle.mesh_drain.proofs.Common.{◌<◌, ◌==◌, ◌∙◌, ◌∷◌, ◌≡◌, ◌≤◌}
 use Rattle.mesh_drain.proofs.Steps.{kept_after, moved, written, queue_there}
 
 -- ---- a packet begins

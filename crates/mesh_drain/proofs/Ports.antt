@@ -1,15 +1,8 @@
 -- What holds at every port, every chip and every vertex.
-use Rattle.std.proofs.Common.{◌≡◌, ◌≢◌, ℕ, ◌*◌, ◌/◌, ◌%◌, ◌<◌, ◌≤◌, refl, sym, ap, ◌∙◌, subst, arith, List, [], ◌∷◌, length, Option, Some, None, IfSome, IfNone}
-use Rattle.std.proofs.lemmas.Option.{get_or_from_slice_get, same_Some}
-use Rattle.std.specs.List.{slice_get, All}
-use Rattle.spin_base.proofs.{Spots.dir_at-dir_number, Outputs.dir_number_below, Places.All-at}
-use Rattle.spin_base.specs.declared.{chips.Chip.Chip, chips.Port.Port, chips.Port.TheVariants.Link, chips.Port.TheVariants.Local, routes.Out.Out, copies.McCopy.McCopy}
-use Rattle.spin_base.specs.Links.{dir_number, dir_at, port_number}
-use Rattle.machine_desc.specs.Live.{index_of, chip_of, IsInside}
-use Rattle.machine_desc.proofs.Live.{index_of-chip_of}
-use Rattle.mesh_core.specs.{State.State, State.Hand, State.FitsHand, State.IsMesh, State.queue_at, Ledger.port_of}
-use Rattle.mesh_core.proofs.Standing.{port_number-port_of}
-use Rattle.mesh_drain.specs.{declared.waiting.Waits.TheVariants.InHand, Waiting.IsNextOut, Waiting.IsWaiting}
+use Rattle.mesh_drain.proofs.Common.{All, All-at, Chip, FitsHand, Hand, IfNone, IfSome, InHand, IsInside, IsMesh, IsNextOut, IsWaiting, List, Local, McCopy, None, Option, Out, Port, Some, State, []}
+use Rattle.mesh_drain.proofs.Common.{ap, arith, chip_of, dir_at, dir_at-dir_number, dir_number, dir_number_below, get_or_from_slice_get, index_of, index_of-chip_of, length, port_number}
+use Rattle.mesh_drain.proofs.Common.{port_number-port_of, port_of, queue_at, refl, same_Some, slice_get, subst, sym, ℕ, ◌%◌, ◌*◌, ◌/◌, ◌<◌, ◌∙◌, ◌∷◌, ◌≡◌, ◌≢◌, ◌≤◌}
+use Rattle.spin_base.specs.declared.chips.Port.TheVariants.{Link}
 
 -- what holds at the chip's own port and at the links by number holds at each port
 pub at_each_port : (P : Port → Type 0) (n : ℕ) → 6 ≤ n → P Local → ((i : ℕ) → i < n → P (Link (dir_at i))) → (port : Port) → P port

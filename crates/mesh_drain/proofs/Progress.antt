@@ -1,16 +1,12 @@
 -- Each event that is enabled makes the marks of a mesh lighter.
-use Rattle.std.proofs.Common.{◌≡◌, ℕ, suc, ◌+◌, ◌*◌, ◌-◌, ◌<◌, ◌≤◌, ◌^◌, min, refl, sym, ap, ◌∙◌, subst, arith, inl, inr, List, [], ◌∷◌, ◌++◌, map, Option, Some, None, unwrap_or}
-use Rattle.std.proofs.{Math.Nat.mul-le-mul_left, lemmas.List.Sums.sum_by-append, lemmas.List.Sums.sum_by-cons}
-use Rattle.std.specs.{List.sum_by, List.All, Prelude.IfSome}
-use Rattle.spin_base.specs.{declared.copies.Event.Event, declared.copies.McCopy.McCopy, declared.chips.Chip.Chip, declared.chips.Port.Port, declared.routes.Out.Out, Links.opposite_of}
-use Rattle.spin_base.specs.{declared.chips.Port.TheVariants.Local, Hops.last_hop, Hops.onward}
-use Rattle.spin_base.specs.declared.chips.Port.TheVariants.{Link as ByLink}
-use Rattle.spin_base.proofs.{Exchange.among_taken_out, Exchange.TakenOut, Exchange.PutIn, Members.Among, Members.among_contains, Members.among_only, Places.All-at}
-use Rattle.mesh_core.specs.{State.State, State.Hand, State.FitsHand, State.FitsQueue, State.IsMesh, Step.outputs, Step.step_of, Step.after_event, Trail.Station, Trail.unsent, Trail.in_queue}
-use Rattle.mesh_core.specs.{Trail.in_hand, Trail.at_core, Trail.delivered, Trail.dumped, Trail.Mark, Trail.IsUnderWayAt, Ledger.marks_of, Heavy.heavy}
-use Rattle.mesh_core.proofs.{Events.event_exchange, FewMoves.few_come, Heavy.one_heavy, Heavy.heavy_grows, Heavy.light, Moves.mark, Moves.IsMove, Moves.IsMoveOf, Moves.Crosses, Standing.StandsAt}
-use Rattle.mesh_core.proofs.Standing.{mark_stands}
-use Rattle.mesh_drain.specs.UnderWay.{stage, advance, advance_weight_of, weight_in}
+use Rattle.mesh_drain.proofs.Common.{All, All-at, Among, ByLink, Chip, Crosses, Event, FitsHand, FitsQueue, Hand, IfSome, IsMesh, IsMove, IsMoveOf, IsUnderWayAt, List, Local, Mark, McCopy, None}
+use Rattle.mesh_drain.proofs.Common.{Option, Out, Port, PutIn, Some, StandsAt, State, Station, TakenOut, [], after_event, among_contains, among_only, among_taken_out, ap, arith, at_core, delivered}
+use Rattle.mesh_drain.proofs.Common.{dumped, event_exchange, few_come, heavy_grows, in_queue, inl, inr, last_hop, light, map, mark, mark_stands, marks_of, min, mul-le-mul_left, one_heavy, onward}
+use Rattle.mesh_drain.proofs.Common.{opposite_of, outputs, refl, stage, step_of, subst, suc, sum_by, sum_by-append, sum_by-cons, sym, unsent, unwrap_or, ℕ, ◌*◌, ◌++◌, ◌+◌, ◌-◌, ◌<◌, ◌^◌, ◌∙◌, ◌∷◌}
+use Rattle.mesh_drain.proofs.Common.{◌≡◌, ◌≤◌}
+use Rattle.mesh_core.specs.Trail.{in_hand}
+use Rattle.mesh_core.specs.Heavy.{heavy}
+use Rattle.mesh_drain.specs.UnderWay.{advance, advance_weight_of, weight_in}
 
 -- ---- weights
 

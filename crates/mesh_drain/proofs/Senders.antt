@@ -1,11 +1,7 @@
 -- Vertices that alone have packets unsent, and send them one after the other.
-use Rattle.std.proofs.Common.{◌≡◌, ℕ, suc, ◌+◌, ◌<◌, ◌≤◌, get_or, drop, refl, sym, ap, ◌∙◌, subst, arith, inl, inr, List, [], ◌∷◌, length, Some}
-use Rattle.std.proofs.{Math.Seq.drop-cons, lemmas.Bool.cases_eq, lemmas.List.drop_all, lemmas.Option.slice_get-get_or, lemmas.Option.same_Some}
-use Rattle.std.specs.List.{slice_get, slice_set, All, Contains}
-use Rattle.spin_base.proofs.{Members.Among, Members.among_contains, Members.contains_among, Places.slice_get-set_other, Places.slice_get-set_same, Places.slice_get_there}
-use Rattle.spin_base.specs.declared.copies.McCopy.{McCopy}
-use Rattle.mesh_core.specs.{State.State, Expected.IsAtRest, Expected.NothingWaits}
-use Rattle.mesh_drain.specs.Draining.{IsMoved, IsReachedDropless, SendAlone}
+use Rattle.mesh_drain.proofs.Common.{All, Among, Contains, IsAtRest, IsMoved, IsReachedDropless, List, McCopy, NothingWaits, SendAlone, Some, State, [], among_contains, ap, arith, cases_eq}
+use Rattle.mesh_drain.proofs.Common.{contains_among, drop, drop-cons, drop_all, get_or, inl, inr, length, refl, same_Some, slice_get, slice_get-get_or, slice_get-set_other, slice_get-set_same}
+use Rattle.mesh_drain.proofs.Common.{slice_get_there, slice_set, subst, suc, sym, ℕ, ◌+◌, ◌<◌, ◌∙◌, ◌∷◌, ◌≡◌, ◌≤◌}
 use Rattle.mesh_drain.proofs.Frame.{dumped_reached, setup_reached}
 
 -- no vertex but these has packets unsent

@@ -1,24 +1,12 @@
 -- What each event of the packet under way does.
-use Rattle.std.proofs.Common.{◌≡◌, ◌≢◌, ℕ, zero, suc, ◌+◌, ◌<◌, ◌≤◌, ◌==◌, ◌&&◌, ◌||◌, refl, sym, ap, ◌∙◌, subst, arith, inl, List, [], ◌∷◌, ◌++◌, set, length, Option, Some, None, Bool, true, false}
-use Rattle.std.proofs.Common.{if◌then◌else◌, unwrap_or, nat_lt}
-use Rattle.std.proofs.lemmas.{Bool.and_from, Bool.eqb-true, Bool.lt-ltb, List.get_or-set_same, List.get_or-set_other, List.Elements.All-head, List.Elements.All-tail, List.Elements.All-nil}
-use Rattle.std.proofs.lemmas.{List.Elements.All-cons, List.Elements.All-append, Option.slice_get-get_or, Option.get_or_from_slice_get}
-use Rattle.std.specs.List.{slice_get, slice_index_or, slice_set, All, list_any, Contains}
-use Rattle.spin_base.specs.declared.{chips.Chip.Chip, chips.Dir.Dir, chips.Port.Port, chips.Port.TheVariants.Local, routes.Out.Out, routes.Out.TheVariants.Link, routes.Out.TheVariants.Core}
-use Rattle.spin_base.specs.declared.copies.{McCopy.McCopy, Event.Event, Event.TheVariants.Take, Event.TheVariants.Send, Event.TheVariants.Collect}
-use Rattle.spin_base.specs.{Equality.out_eq, Links.opposite_of, Hops.onward}
-use Rattle.spin_base.specs.declared.chips.Port.TheVariants.{Link as ByLink}
-use Rattle.spin_base.proofs.{Equality.nat_eq_same, Equality.out_eq_same, Counts.count_by-append, Counts.count_by-cons, Members.among_contains, Pairs.All-left, Pairs.All-right, Places.All-at}
-use Rattle.spin_base.proofs.Places.{slice_get-set_same, set-slice_get, set_put_back}
-use Rattle.machine_desc.specs.{Description.Description, Live.far_of, Live.index_of, Live.IsInside, Live.IsLiveChip, Live.is_live_link}
-use Rattle.machine_desc.proofs.Far.{live_inside, live_ends, index_below}
-use Rattle.mesh_core.specs.State.{Setup, State, Hand, Queue, input, core, nowhere, core_queue_of, behind, behind_link, vertex_behind, queue_at}
-use Rattle.mesh_core.specs.Step.{has_room, has_room_behind, outputs, in_hand, outs_without, push_at, push_behind, after_serving, serves, take_of, send_of, collect_of, step_of, after_event}
-use Rattle.mesh_core.specs.{Ledger.marks_of, Waiting.queue_of}
-use Rattle.mesh_core.specs.Trail.{in_hand as held_at}
-use Rattle.mesh_core.proofs.{Changes.queue_at-below, EventsLaw.event_keeps, Keeping.input_is_somewhere, Moves.mark, Queued.FreeBehind, Queued.free_behind, Standing.held_mark}
-use Rattle.mesh_drain.specs.{declared.draining.Waiting.Waiting, Draining.MeetsSomeLedger, UnderWay.far_port, UnderWay.next_place, UnderWay.outs_in, UnderWay.times, UnderWay.weight_in}
-use Rattle.mesh_drain.specs.UnderWay.{WaitsAlone, IsServing}
+use Rattle.mesh_drain.proofs.Common.{All, All-append, All-at, All-cons, All-head, All-left, All-nil, All-right, All-tail, Bool, ByLink, Chip, Collect, Contains, Core, Description, Dir, Event}
+use Rattle.mesh_drain.proofs.Common.{FreeBehind, Hand, IsInside, IsLiveChip, IsServing, Link, List, Local, McCopy, MeetsSomeLedger, None, Option, Out, Port, Queue, Send, Setup, Some, State, Take}
+use Rattle.mesh_drain.proofs.Common.{Waiting, WaitsAlone, [], after_event, after_serving, among_contains, and_from, ap, arith, behind, behind_link, collect_of, core, core_queue_of, count_by-append}
+use Rattle.mesh_drain.proofs.Common.{count_by-cons, eqb-true, event_keeps, false, far_of, far_port, free_behind, get_or-set_other, get_or-set_same, get_or_from_slice_get, has_room, has_room_behind}
+use Rattle.mesh_drain.proofs.Common.{held_at, held_mark, if◌then◌else◌, in_hand, index_below, index_of, inl, input, input_is_somewhere, is_live_link, length, list_any, live_ends, live_inside, lt-ltb}
+use Rattle.mesh_drain.proofs.Common.{mark, marks_of, nat_eq_same, nat_lt, next_place, nowhere, onward, opposite_of, out_eq, out_eq_same, outputs, outs_in, outs_without, push_at, push_behind, queue_at}
+use Rattle.mesh_drain.proofs.Common.{queue_at-below, queue_of, refl, send_of, serves, set, set-slice_get, set_put_back, slice_get, slice_get-get_or, slice_get-set_same, slice_index_or, slice_set}
+use Rattle.mesh_drain.proofs.Common.{step_of, subst, suc, sym, take_of, times, true, unwrap_or, vertex_behind, weight_in, zero, ℕ, ◌&&◌, ◌++◌, ◌+◌, ◌<◌, ◌==◌, ◌||◌, ◌∙◌, ◌∷◌, ◌≡◌, ◌≢◌, ◌≤◌}
 use Rattle.mesh_drain.proofs.Progress.{moved_lighter}
 
 -- ---- lists

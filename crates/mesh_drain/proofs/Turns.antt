@@ -1,15 +1,8 @@
 -- What the calls of a packet under way leave, as they follow on each other.
-use Rattle.std.proofs.Common.{◌≡◌, ◌≢◌, ◌==◌, true, false, ℕ, suc, ◌+◌, ◌<◌, ◌≤◌, set, get_or, drop, refl, sym, ap, ◌∙◌, subst, arith, List, [], ◌∷◌, ◌++◌, length, Some}
-use Rattle.std.proofs.{Math.Seq.drop-cons, lemmas.List.length-append, lemmas.List.get_or-set_same, lemmas.List.get_or_default, lemmas.List.set-get_or, lemmas.Option.slice_get-get_or}
-use Rattle.std.proofs.lemmas.{Option.slice_get_within, Option.get_or_from_slice_get, Bool.eqb-true}
-use Rattle.std.specs.{List.slice_get, List.All, Option.option_to_list, Prelude.OnOk, Prelude.Result, Prelude.Ok, Prelude.Err}
-use Rattle.spin_base.specs.declared.{chips.Chip.Chip, chips.Spot.Spot, chips.Port.TheVariants.Local, routes.Out.Out, copies.McCopy.McCopy, copies.Event.TheVariants.Inject}
-use Rattle.spin_base.specs.declared.copies.Event.TheVariants.{Take, Send, Collect}
-use Rattle.machine_desc.specs.{Description.Description, Live.index_of}
-use Rattle.mesh_core.specs.{State.Setup, State.State, State.Queue, State.input, State.core, State.nowhere, State.behind, Step.after_event, Expected.IsAtRest, Expected.NothingWaits}
-use Rattle.mesh_core.proofs.Fixed.{after_event_setup}
-use Rattle.mesh_drain.specs.{declared.draining.Waiting.Waiting, Draining.MeetsSomeLedger, Draining.IsReachedDropless, UnderWay.work, UnderWay.weight_in, UnderWay.outs_in, UnderWay.next_place}
-use Rattle.mesh_drain.specs.UnderWay.{WaitsAlone, IsServing}
+use Rattle.mesh_drain.proofs.Common.{All, Chip, Collect, Description, Err, Inject, IsAtRest, IsReachedDropless, IsServing, List, Local, McCopy, MeetsSomeLedger, NothingWaits, Ok, OnOk, Out, Queue}
+use Rattle.mesh_drain.proofs.Common.{Result, Send, Setup, Some, Spot, State, Take, Waiting, WaitsAlone, [], after_event, after_event_setup, ap, arith, behind, core, drop, drop-cons, eqb-true, false}
+use Rattle.mesh_drain.proofs.Common.{get_or, get_or-set_same, get_or_default, get_or_from_slice_get, index_of, input, length, length-append, next_place, nowhere, option_to_list, outs_in, refl, set}
+use Rattle.mesh_drain.proofs.Common.{set-get_or, slice_get, slice_get-get_or, slice_get_within, subst, suc, sym, true, weight_in, work, ℕ, ◌++◌, ◌+◌, ◌<◌, ◌==◌, ◌∙◌, ◌∷◌, ◌≡◌, ◌≢◌, ◌≤◌}
 use Rattle.mesh_drain.proofs.{Frame.setup_reached, Frame.kept_reached, Moving.after_reached, Moving.there_after, Progress.event_lighter, Packets.inject_step, Packets.inject_unsent}
 use Rattle.mesh_drain.proofs.{Packets.packet_done, Steps.kept_after, Steps.written, Steps.set_twice, Steps.take_step, Steps.next, Steps.next_is, Steps.send_link, Steps.send_link_lighter}
 use Rattle.mesh_drain.proofs.Steps.{send_core, send_nowhere}

@@ -1,11 +1,7 @@
 -- What each vertex still has to send, packet by packet.
-use Rattle.std.proofs.Common.{◌≡◌, ◌≢◌, ℕ, zero, suc, ◌+◌, ◌<◌, refl, sym, ap, ◌∙◌, List, [], ◌∷◌, ◌++◌, map, length, replicate, Option, Some, None, arith, append-nil}
-use Rattle.std.proofs.lemmas.{Bool.eq-eqb, Bool.ne_eqb, List.Elements.filter_map-append}
-use Rattle.std.specs.List.{slice_get, range_with_len, filter_map, enumerate_from, cons_option}
-use Rattle.spin_base.specs.declared.{chips.Spot.Spot, copies.McCopy.McCopy, copies.Packet.Packet}
-use Rattle.spin_base.proofs.{Places.enumerate_push, Ranges.slice_get-map_range, Ranges.set-map_range}
-use Rattle.machine_desc.specs.{declared.nets.NetPlan.NetPlan, NetsOn.vertex_at}
-use Rattle.mesh_core.specs.{Opened.copy_from, Opened.first_copy, Step.push_at}
+use Rattle.mesh_drain.proofs.Common.{List, McCopy, NetPlan, None, Option, Packet, Some, Spot, [], ap, append-nil, arith, cons_option, copy_from, enumerate_from, enumerate_push, eq-eqb, filter_map}
+use Rattle.mesh_drain.proofs.Common.{filter_map-append, first_copy, length, map, ne_eqb, push_at, range_with_len, refl, replicate, set-map_range, slice_get, slice_get-map_range, suc, sym, vertex_at}
+use Rattle.mesh_drain.proofs.Common.{zero, ℕ, ◌++◌, ◌+◌, ◌<◌, ◌∙◌, ◌∷◌, ◌≡◌, ◌≢◌}
 
 -- ---- what a vertex has of a list of packets, numbered from i on
 

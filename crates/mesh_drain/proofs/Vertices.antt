@@ -1,20 +1,12 @@
 -- No copy is dropped at an output that leads to a vertex, where none waits for one.
-use Rattle.std.proofs.Common.{◌≡◌, ℕ, ◌+◌, ◌<◌, ◌≤◌, refl, sym, ap, ◌∙◌, subst, arith, Bool, true, false, ◌&&◌, not, if◌then◌else◌, List, [], ◌∷◌, ◌++◌, append_assoc, append-nil, length, set, get_or}
-use Rattle.std.proofs.Common.{Option, Some, None, unwrap_or, inl, inr}
-use Rattle.std.proofs.{Math.Seq.set-get_or, lemmas.Bool.lt-ltb, lemmas.Bool.cases_order, lemmas.List.get_or_default, lemmas.List.get_or_past, lemmas.List.Elements.All-nil}
-use Rattle.std.proofs.lemmas.{List.Elements.All-cons, List.Elements.All-append, Option.slice_get-get_or, Option.slice_get_within}
-use Rattle.std.specs.{List.slice_get, List.All, Prelude.is_some}
-use Rattle.spin_base.specs.declared.{chips.Chip.Chip, chips.Dir.Dir, chips.Port.Port, routes.Out.Out, routes.Out.TheVariants.Link, routes.Out.TheVariants.Core, copies.McCopy.McCopy}
-use Rattle.spin_base.specs.declared.copies.{DumpRec.DumpRec, Event.Event, Event.TheVariants.Inject, Event.TheVariants.Take, Event.TheVariants.Send, Event.TheVariants.Dump, Event.TheVariants.Collect}
-use Rattle.spin_base.specs.Hops.{onward}
-use Rattle.spin_base.proofs.Places.{All-at, slice_get-set_same, set_put_back}
-use Rattle.machine_desc.specs.Live.{index_of, is_live_link, far_of}
-use Rattle.mesh_core.specs.{Expected.NothingWaits, State.Setup, State.State, State.Hand, State.IsMesh, State.Queue, State.input, State.core, State.nowhere, State.core_queue_of, State.behind}
-use Rattle.mesh_core.specs.{State.behind_link, State.vertex_behind, Step.has_room_behind, Step.has_room, Step.push_at, Step.push_behind, Step.after_serving, Step.serves, Step.send_of, Step.dump_of}
-use Rattle.mesh_core.specs.{Step.collect_of, Step.after_event, Step.answer, declared.places.Did.TheVariants.Moved, declared.places.Did.TheVariants.Idle}
-use Rattle.mesh_core.proofs.{Fixed.by_take, Fixed.by_dump, Fixed.by_collect, Fixed.after_event_setup, Fixed.dumped_stays, Keeping.input_is_no_core, Keeping.same_core, Keeping.core_is_somewhere}
-use Rattle.mesh_core.proofs.Ways.{vertex_behind_stands}
-use Rattle.mesh_drain.specs.Draining.{AreCollected, DropsAtNoVertex, IsSameBesidesCores, LeadsToNoVertex, SendsNone, collected_from}
+use Rattle.mesh_drain.proofs.Common.{All, All-append, All-at, All-cons, All-nil, AreCollected, Bool, Chip, Collect, Core, Dir, DropsAtNoVertex, Dump, DumpRec, Event, Hand, Idle, Inject, IsMesh}
+use Rattle.mesh_drain.proofs.Common.{IsSameBesidesCores, LeadsToNoVertex, Link, List, McCopy, Moved, None, NothingWaits, Option, Out, Port, Queue, Send, SendsNone, Setup, Some, State, Take, []}
+use Rattle.mesh_drain.proofs.Common.{after_event, after_event_setup, after_serving, answer, ap, append-nil, append_assoc, arith, behind, behind_link, by_collect, by_dump, by_take, cases_order}
+use Rattle.mesh_drain.proofs.Common.{collect_of, collected_from, core, core_is_somewhere, core_queue_of, dump_of, dumped_stays, false, far_of, get_or, get_or_default, get_or_past, has_room}
+use Rattle.mesh_drain.proofs.Common.{has_room_behind, if◌then◌else◌, index_of, inl, input, input_is_no_core, inr, is_live_link, is_some, length, lt-ltb, not, nowhere, onward, push_at, push_behind}
+use Rattle.mesh_drain.proofs.Common.{refl, same_core, send_of, serves, set, set_put_back, slice_get, slice_get-get_or, slice_get-set_same, slice_get_within, subst, sym, true, unwrap_or, vertex_behind}
+use Rattle.mesh_drain.proofs.Common.{vertex_behind_stands, ℕ, ◌&&◌, ◌++◌, ◌+◌, ◌<◌, ◌∙◌, ◌∷◌, ◌≡◌, ◌≤◌}
+use Rattle.std.proofs.Math.Seq.{set-get_or}
 use Rattle.mesh_drain.proofs.{Steps.set_twice, Turns.one_vertex_more}
 
 -- ---- one after the other

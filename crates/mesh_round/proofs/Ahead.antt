@@ -1,16 +1,9 @@
 -- What is left of a way for a copy on its trail, where some places of the way count: each move leaves at most as much, and less by
 -- what it takes.
-use Rattle.std.proofs.Common.{◌≡◌, ℕ, zero, suc, ◌+◌, ◌*◌, ◌-◌, ◌<◌, ◌≤◌, ◌==◌, cond, min, refl, ap, sym, subst, arith, inl, inr, List, [], ◌∷◌, length, Bool, true, false, count_by}
-use Rattle.std.proofs.Common.{◌∙◌}
-use Rattle.std.proofs.lemmas.{Bool.and_parts, Bool.eqb-true, List.Sums.sum_by-cons, Option.slice_get_within}
-use Rattle.std.specs.List.{sum_by}
-use Rattle.spin_base.proofs.{Counts.count_by-cons, Members.Among, Members.among_map, Members.among_only}
-use Rattle.spin_base.specs.{declared.chips.Chip.Chip, declared.chips.Port.TheVariants.Local, declared.routes.Out.Out, declared.copies.McCopy.McCopy, Links.opposite_of, Hops.last_hop, Hops.onward}
-use Rattle.spin_base.specs.declared.chips.Port.TheVariants.{Link as ByLink}
-use Rattle.machine_desc.specs.Branch.{Exit}
-use Rattle.mesh_core.specs.{State.State, Step.outputs, Trail.Station, Trail.unsent, Trail.in_queue, Trail.in_hand, Trail.at_core, Trail.delivered, Trail.dumped, Trail.Mark, Trail.is_on_trail}
-use Rattle.mesh_core.specs.Trail.{is_packet_on_trail, on_trail}
-use Rattle.mesh_core.proofs.{Law.comes_parts, Law.leaves_parts, Moves.mark, Moves.IsMove, Moves.IsMoveOf, Moves.Crosses}
+use Rattle.mesh_round.proofs.Common.{Among, Bool, ByLink, Chip, Crosses, Exit, IsMove, IsMoveOf, List, Local, Mark, McCopy, Out, State, Station, [], among_map, among_only, and_parts, ap, arith}
+use Rattle.mesh_round.proofs.Common.{at_core, comes_parts, cond, count_by, count_by-cons, delivered, dumped, eqb-true, false, in_hand, in_queue, inl, inr, is_on_trail, is_packet_on_trail, last_hop}
+use Rattle.mesh_round.proofs.Common.{leaves_parts, length, mark, min, on_trail, onward, opposite_of, outputs, refl, slice_get_within, subst, suc, sum_by, sum_by-cons, sym, true, unsent, zero, ℕ, ◌*◌}
+use Rattle.mesh_round.proofs.Common.{◌+◌, ◌-◌, ◌<◌, ◌==◌, ◌∙◌, ◌∷◌, ◌≡◌, ◌≤◌}
 
 -- ---- places that count
 

@@ -1,14 +1,8 @@
 -- What is left of all ways of all packets: a bag of moves leaves less by what its moves take.
-use Rattle.std.proofs.Common.{◌≡◌, ℕ, zero, suc, ◌+◌, ◌*◌, ◌<◌, ◌≤◌, ◌==◌, ◌&&◌, cond, if◌then◌else◌, refl, ap, sym, ◌∙◌, subst, arith, inl, inr, ◌⊎◌, List, [], ◌∷◌, length, Bool, true, false}
-use Rattle.std.proofs.Common.{count_by}
-use Rattle.std.proofs.lemmas.{Bool.cases_order, Bool.eqb-true, List.Sums.sum_by-append, List.Sums.sum_by-cons}
-use Rattle.std.specs.List.{sum_by, Contains}
-use Rattle.spin_base.proofs.Members.{Among, among_contains, among_either}
-use Rattle.spin_base.specs.declared.chips.Spot.{Spot}
-use Rattle.machine_desc.specs.{NetsOn.IsWayOn, declared.nets.NetPlan.NetPlan, RightTables.AreRight, RightTables.IsKeyOf}
-use Rattle.mesh_core.specs.{State.State, State.IsMesh, Trail.Mark, Ledger.Label, Ledger.MeetsLedger, Ledger.marks_of}
-use Rattle.mesh_core.proofs.{Counting.counted, Law.move_comes, Law.move_counts, LedgerLaw.Bag, LedgerLaw.IsRight, LedgerLaw.Moved, LedgerLaw.one_net, LedgerLaw.right_before, LedgerLaw.right_come}
-use Rattle.mesh_core.proofs.{LedgerLaw.stands, MarkTests.mark_eq, MarkTests.mark_eq_same, MarkTests.mark_eq_true, MarkTests.move_raises, MarkTests.rank, Ways.short_branch}
+use Rattle.mesh_round.proofs.Common.{Among, AreRight, Bag, Bool, Contains, IsKeyOf, IsMesh, IsRight, IsWayOn, Label, List, Mark, MeetsLedger, Moved, NetPlan, Spot, State, [], among_contains}
+use Rattle.mesh_round.proofs.Common.{among_either, ap, arith, cases_order, cond, count_by, counted, eqb-true, false, if◌then◌else◌, inl, inr, length, mark_eq, mark_eq_same, mark_eq_true, marks_of}
+use Rattle.mesh_round.proofs.Common.{move_comes, move_counts, move_raises, one_net, rank, refl, right_before, right_come, short_branch, stands, subst, suc, sum_by, sum_by-append, sum_by-cons, sym}
+use Rattle.mesh_round.proofs.Common.{true, zero, ℕ, ◌&&◌, ◌*◌, ◌+◌, ◌<◌, ◌==◌, ◌∙◌, ◌∷◌, ◌≡◌, ◌≤◌, ◌⊎◌}
 use Rattle.mesh_round.proofs.{Ahead.Counted, Ahead.is_on, Ahead.left_for, Ahead.left_of, Ahead.move_takes, Ahead.sum_of_passing, Ahead.taken_for, Ahead.taken_of, CountSums.counts, Lighter.all_come}
 use Rattle.mesh_round.proofs.{Lighter.all_left, Lighter.come_counts, Lighter.even_weights, Lighter.left_counts, Sums.sum_agree, Sums.sum_none}
 

@@ -1,24 +1,14 @@
 -- Where queues have room for a copy of each packet of a job, no round dumps a copy.
-use Rattle.std.proofs.Common.{◌≡◌, ◌≢◌, ℕ, ◌+◌, ◌-◌, ◌*◌, ◌/◌, ◌%◌, ◌<◌, ◌≤◌, ◌==◌, ◌&&◌, nat_lt, zero, suc, Bool, true, false, List, [], ◌∷◌, ◌++◌, map, filter, get_or, Some, length, refl, ap, sym}
-use Rattle.std.proofs.Common.{◌∙◌, subst, arith, inl, inr, count_by, append-nil}
-use Rattle.std.proofs.{Math.Nat.mul-le-mul_left, lemmas.Bool.cases_Bool, lemmas.Bool.cases_lt, lemmas.Bool.and_parts, lemmas.Bool.and_from, lemmas.Bool.eqb-true, lemmas.Bool.eq-eqb}
-use Rattle.std.proofs.lemmas.{Bool.lt-ltb, List.get_or_past, List.length-append, List.Elements.All-contains, List.Elements.All-head, List.Sums.sum_by-cons, Option.slice_get_within}
-use Rattle.std.proofs.lemmas.Option.{get_or_from_slice_get}
-use Rattle.std.specs.List.{All, Contains, slice_get, sum_by, range_with_len}
-use Rattle.spin_base.specs.{Gathered.gathered, declared.chips.Chip.Chip, declared.chips.Spot.Spot, declared.routes.Out.Out, declared.copies.McCopy.McCopy, declared.copies.DumpRec.DumpRec}
-use Rattle.spin_base.specs.{declared.copies.Packet.Packet, Equality.chip_eq, Equality.out_eq, Outputs.IsOutput, Hops.last_hop, Hops.onward}
-use Rattle.spin_base.proofs.{Counts.count_by-append, Members.Among, Members.among_contains, Members.contains_among, Members.map_among, Members.among_left, Members.among_right, Members.among_either}
-use Rattle.spin_base.proofs.{Members.Contains-filter, Places.slice_get_there, Equality.nat_eq_same, Equality.chip_eq_same, Equality.out_eq_same}
-use Rattle.machine_desc.specs.{Description.Description, Live.chip_of, Live.IsLiveChip, Branch.Exit, declared.nets.NetPlan.NetPlan, NetsOn.AreNetsOn, NetsOn.IsWayOn, RightTables.IsKeyOf}
-use Rattle.machine_desc.specs.RightTables.{AreRight}
-use Rattle.mesh_core.specs.{State.Setup, State.State, State.IsMesh, State.Queue, State.input, State.core, State.nowhere, State.behind, Trail.Station, Trail.in_queue, Trail.in_hand, Trail.at_core}
-use Rattle.mesh_core.specs.{Trail.dumped, Trail.Mark, Trail.on_trail, Trail.is_on_trail, Ledger.marks_of, Ledger.marks_at, Ledger.port_of, Ledger.input_marks, Ledger.core_marks, Ledger.label_of}
-use Rattle.mesh_core.specs.{Ledger.Label, Ledger.MeetsLedger, Opened.asked_by, Opened.MeetsJobLedger}
-use Rattle.mesh_core.proofs.{AskedPackets.asked_parts, Law.move_counts, Law.comes_parts, LedgerLaw.Bag, LedgerLaw.one_net, LedgerLaw.stands, Moves.mark, Standing.dumped_mark, Ways.Stands}
-use Rattle.mesh_core.proofs.{Ways.one_place, Ways.vertex_at_stands, Counting.counted}
-use Rattle.mesh_round.specs.RoundFlow.{Flow, Passes, IsRound, WasFullAt, HasRounds, more, held_in, capacity_of, dumped_at}
-use Rattle.mesh_round.specs.Work.{moves_left, to_go}
-use Rattle.mesh_round.specs.RoundFlow.{none as no_rounds}
+use Rattle.mesh_round.proofs.Common.{All, All-contains, All-head, Among, AreNetsOn, AreRight, Bag, Bool, Chip, Contains, Contains-filter, Description, DumpRec, Exit, Flow, HasRounds, IsKeyOf}
+use Rattle.mesh_round.proofs.Common.{IsLiveChip, IsMesh, IsOutput, IsRound, IsWayOn, Label, List, Mark, McCopy, MeetsJobLedger, MeetsLedger, NetPlan, Out, Packet, Passes, Queue, Setup, Some, Spot}
+use Rattle.mesh_round.proofs.Common.{Stands, State, Station, WasFullAt, [], among_contains, among_either, among_left, among_right, and_from, and_parts, ap, append-nil, arith, asked_by, asked_parts}
+use Rattle.mesh_round.proofs.Common.{at_core, behind, capacity_of, cases_Bool, cases_lt, chip_eq, chip_eq_same, chip_of, comes_parts, contains_among, core, core_marks, count_by, count_by-append}
+use Rattle.mesh_round.proofs.Common.{counted, dumped, dumped_at, dumped_mark, eq-eqb, eqb-true, false, filter, gathered, get_or, get_or_from_slice_get, get_or_past, held_in, in_hand, in_queue, inl}
+use Rattle.mesh_round.proofs.Common.{input, input_marks, inr, is_on_trail, label_of, last_hop, length, length-append, lt-ltb, map, map_among, mark, marks_at, marks_of, more, move_counts, moves_left}
+use Rattle.mesh_round.proofs.Common.{mul-le-mul_left, nat_eq_same, nat_lt, no_rounds, nowhere, on_trail, one_net, one_place, onward, out_eq, out_eq_same, port_of, range_with_len, refl, slice_get}
+use Rattle.mesh_round.proofs.Common.{slice_get_there, slice_get_within, stands, subst, suc, sum_by, sum_by-cons, sym, true, vertex_at_stands, zero, ℕ, ◌%◌, ◌&&◌, ◌*◌, ◌++◌, ◌+◌, ◌-◌, ◌/◌, ◌<◌, ◌==◌}
+use Rattle.mesh_round.proofs.Common.{◌∙◌, ◌∷◌, ◌≡◌, ◌≢◌, ◌≤◌}
+use Rattle.mesh_round.specs.Work.{to_go}
 use Rattle.mesh_round.proofs.{Arrivals.Right, Arrivals.held_right, Arrivals.arrived_right, Arrivals.crossing_right, Arrivals.on_behind, Arrivals.somewhere, CountSums.one_if, CountSums.sum_within}
 use Rattle.mesh_round.proofs.{CountSums.part_of_sum_at, CountSums.counts, Entered.station_of, Nearer.move_nears, PassedOnce.here, PassedOnce.before, PassedOnce.passed_once, RoundBag.bag_of_round}
 use Rattle.mesh_round.proofs.{RoundBag.in_parts, RoundBag.crossing_comes, FlowLaw.round_keeps, FlowLaw.rounds_stand, Sources.once_in_range, Sources.range_parts, Sums.sum_agree, Sums.sum_swap}

@@ -1,22 +1,13 @@
 -- Each copy that came into a queue in a round stands right there: on a trail of its net, with the key and payload of its packet.
 -- By induction on its hop number.
-use Rattle.std.proofs.Common.{◌≡◌, ◌≢◌, ℕ, ◌+◌, ◌<◌, ◌≤◌, zero, suc, true, List, [], ◌∷◌, ◌++◌, map, filter, Some, None, length, refl, ap, sym, ◌∙◌, subst, arith, inl, inr}
-use Rattle.std.proofs.lemmas.{Bool.cases_Bool, Bool.cases_lt, List.get_or_past, List.Elements.All-contains, List.Sorted.All-permutation, Option.slice_get_within, Option.get_or_from_slice_get}
-use Rattle.std.proofs.lemmas.Option.{none-some}
-use Rattle.std.specs.List.{slice_index_or, Contains}
-use Rattle.spin_base.proofs.{Gathering.among_gathered, Gathering.gathered_among, Members.Among, Members.among_contains, Members.contains_among, Members.among_map, Members.map_among}
-use Rattle.spin_base.proofs.{Members.among_filter, Members.any_among, Members.among_left, Members.among_either, Places.All-each, Places.slice_get_there, Equality.chip_eq_true, Equality.out_eq_true}
-use Rattle.spin_base.specs.declared.{chips.Chip.Chip, chips.Dir.Dir, chips.Spot.Spot, chips.Port.Port, chips.Port.TheVariants.Local, routes.Out.Out, routes.Out.TheVariants.Link, copies.McCopy.McCopy}
-use Rattle.spin_base.specs.{Links.opposite_of, Equality.chip_eq, Equality.out_eq, Outputs.IsOutput, Hops.last_hop, Hops.onward}
-use Rattle.spin_base.specs.declared.chips.Port.TheVariants.{Link as ByLink}
-use Rattle.machine_desc.specs.{Live.far_of, Live.is_live_chip, Live.is_live_link, Live.IsInside, Live.IsLiveChip, Live.IsLiveLink, declared.nets.NetPlan.NetPlan, RightTables.AreRight}
-use Rattle.machine_desc.proofs.{Branches.exit_leads, Branches.ExitLeads, Far.live_inside, Far.live_ends, Far.live_back, Far.far_back}
-use Rattle.mesh_core.specs.State.{Setup, State, IsMesh, Queue, input, core, nowhere, behind, behind_link, queue_at, vertex_behind}
-use Rattle.mesh_core.specs.{Step.outputs, Trail.unsent, Trail.in_queue, Trail.in_hand, Trail.Mark, Ledger.marks_of, Ledger.marks_at, Ledger.all_ports, Ledger.unsent_marks, Ledger.input_marks}
-use Rattle.mesh_core.specs.Ledger.{all_hand_marks, core_marks, delivered_marks, dumped_marks, Label, MeetsLedger}
-use Rattle.mesh_core.proofs.{Keeping.input_is_somewhere, Keeping.core_is_somewhere, Law.leaves_parts, LedgerLaw.IsRight, LedgerLaw.right_before, LedgerLaw.right_come, LedgerLaw.stands, Moves.mark}
-use Rattle.mesh_core.proofs.{Moves.IsMove, Moves.Crosses, Queued.waiting_mark, Ways.Stands, Ways.vertex_behind_there, Ways.leads_to}
-use Rattle.mesh_round.specs.RoundFlow.{Flow, Passes, at_port, held_in, leaves_by, taken_for, dumped_at, sent_on, of_chip}
+use Rattle.mesh_round.proofs.Common.{All-contains, All-each, All-permutation, Among, AreRight, ByLink, Chip, Contains, Crosses, Dir, ExitLeads, Flow, IsInside, IsLiveChip, IsLiveLink, IsMesh, IsMove}
+use Rattle.mesh_round.proofs.Common.{IsOutput, IsRight, Label, Link, List, Local, Mark, McCopy, MeetsLedger, NetPlan, None, Out, Passes, Port, Queue, Setup, Some, Spot, Stands, State, []}
+use Rattle.mesh_round.proofs.Common.{all_hand_marks, all_ports, among_contains, among_either, among_filter, among_gathered, among_left, among_map, any_among, ap, arith, at_port, behind, behind_link}
+use Rattle.mesh_round.proofs.Common.{cases_Bool, cases_lt, chip_eq, chip_eq_true, contains_among, core, core_is_somewhere, core_marks, delivered_marks, dumped_at, dumped_marks, exit_leads, far_back}
+use Rattle.mesh_round.proofs.Common.{far_of, filter, gathered_among, get_or_from_slice_get, get_or_past, held_in, in_hand, in_queue, inl, input, input_is_somewhere, input_marks, inr, is_live_chip}
+use Rattle.mesh_round.proofs.Common.{is_live_link, last_hop, leads_to, leaves_by, leaves_parts, length, live_back, live_ends, live_inside, map, map_among, mark, marks_at, marks_of, none-some, nowhere}
+use Rattle.mesh_round.proofs.Common.{of_chip, onward, opposite_of, out_eq, out_eq_true, outputs, queue_at, refl, right_before, right_come, sent_on, slice_get_there, slice_get_within, slice_index_or}
+use Rattle.mesh_round.proofs.Common.{stands, subst, suc, sym, taken_for, true, unsent, unsent_marks, vertex_behind, vertex_behind_there, waiting_mark, zero, ℕ, ◌++◌, ◌+◌, ◌<◌, ◌∙◌, ◌∷◌, ◌≡◌, ◌≢◌, ◌≤◌}
 use Rattle.mesh_round.proofs.{Ends.by_link, Ends.to_vertex, Ends.to_none, Ends.leads, Ends.Leads, Entered.station_of, Entered.station_is, Entered.crosses_behind, Entered.behind_far, Weights.back}
 use Rattle.mesh_round.proofs.Weights.{back_onward, not_last}
 

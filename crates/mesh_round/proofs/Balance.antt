@@ -1,10 +1,6 @@
 -- What the queues of a list held, and what entered and left them, as marks.
-use Rattle.std.proofs.Common.{◌≡◌, ℕ, ◌+◌, ◌<◌, suc, List, [], ◌∷◌, ◌++◌, length, Bool, refl, ap, ◌∙◌, subst, arith, count_by, add-one}
-use Rattle.std.proofs.lemmas.List.{map-append, Sums.sum_by-cons}
-use Rattle.std.specs.List.{sum_by, slice_index_or, range_with_len}
-use Rattle.spin_base.specs.{Gathered.gathered, declared.copies.McCopy.McCopy}
-use Rattle.spin_base.proofs.Counts.{count_by-append}
-use Rattle.mesh_core.specs.{Trail.Station, Trail.Mark, Ledger.marks_at}
+use Rattle.mesh_round.proofs.Common.{Bool, List, Mark, McCopy, Station, [], add-one, ap, arith, count_by, count_by-append, gathered, length, map-append, marks_at, range_with_len, refl, slice_index_or}
+use Rattle.mesh_round.proofs.Common.{subst, suc, sum_by, sum_by-cons, ℕ, ◌++◌, ◌+◌, ◌<◌, ◌∙◌, ◌∷◌, ◌≡◌}
 
 module _ (p : Mark → Bool) (station : ℕ → Station) (entered left : ℕ → List McCopy) where
   -- how many marks of a list of copies at a queue's station pass

@@ -1,9 +1,6 @@
 -- Sums and counts over lists: where all tests count as many, all sums are equal.
-use Rattle.std.proofs.Common.{◌≡◌, ℕ, ◌+◌, ◌-◌, ◌≤◌, zero, suc, Bool, true, cond, nat_lt, List, [], ◌∷◌, refl, ◌∙◌, arith, inl, inr, count_by, Some}
-use Rattle.std.proofs.Common.{sym}
-use Rattle.std.proofs.lemmas.{Bool.lt-ltb, List.Sums.sum_by-cons}
-use Rattle.std.specs.List.{sum_by, slice_get}
-use Rattle.spin_base.proofs.Members.{Among}
+use Rattle.mesh_round.proofs.Common.{Among, Bool, List, Some, [], arith, cond, count_by, inl, inr, lt-ltb, nat_lt, refl, slice_get, suc, sum_by, sum_by-cons, sym, true, zero, ℕ, ◌+◌, ◌-◌, ◌∙◌, ◌∷◌}
+use Rattle.mesh_round.proofs.Common.{◌≡◌, ◌≤◌}
 use Rattle.mesh_round.proofs.Sums.{sum_agree, sum_none, sum_plus, sum_at}
 
 abbrev pub one_if : Bool → ℕ

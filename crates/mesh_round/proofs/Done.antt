@@ -1,24 +1,11 @@
 -- What one thing that was done tells of a chip's ports, its vertices and an output of it.
-use Rattle.std.proofs.Common.{◌≡◌, ℕ, ◌+◌, ◌*◌, ◌==◌, ◌&&◌, cond, Bool, true, false, List, [], ◌∷◌, ◌++◌, map, Option, Some, None, refl, sym, ap, ◌∙◌, subst, arith, inl, inr}
-use Rattle.std.proofs.lemmas.{Bool.and_parts, Bool.and_from, Bool.cases_Bool, Bool.cases_eq, Bool.cond-true, Bool.cond-false, Bool.eq-eqb, Bool.false_from_ne_true, Bool.ne_eqb, List.append-nil}
-use Rattle.std.proofs.lemmas.Option.{slice_get_within, same_Some}
-use Rattle.std.specs.List.{slice_get, filter, flat_map}
-use Rattle.spin_base.specs.{Gathered.gathered, declared.chips.Chip.Chip, declared.chips.Dir.Dir, declared.chips.Dir.TheVariants.East, declared.chips.Dir.TheVariants.NorthEast}
-use Rattle.spin_base.specs.declared.chips.{Dir.TheVariants.North, Dir.TheVariants.West, Dir.TheVariants.SouthWest, Dir.TheVariants.South, Port.Port, Port.TheVariants.Local}
-use Rattle.spin_base.specs.{declared.routes.Out.Out, declared.copies.McCopy.McCopy, declared.copies.Delivery.Delivery, declared.copies.DumpRec.DumpRec, Equality.chip_eq, Equality.out_eq}
-use Rattle.spin_base.specs.Links.{port_number}
-use Rattle.spin_base.specs.declared.chips.Port.TheVariants.{Link as ByLink}
-use Rattle.spin_base.proofs.{Tests.answers_none, Equality.chip_eq_same, Equality.chip_eq_true, Equality.out_eq_same, Equality.out_eq_true}
-use Rattle.machine_desc.specs.Live.{chip_of, index_of, IsInside, IsLiveChip, IsLiveLink}
-use Rattle.machine_desc.proofs.{Far.live_inside, Live.chip_of-index_of, Live.index_of-chip_of}
-use Rattle.chip_node.specs.{declared.ends.Served.Served, declared.ends.Served.TheVariants.Sent, declared.ends.Served.TheVariants.Dumped, Items.Item, Items.Service, Items.took, Items.served}
-use Rattle.chip_node.specs.Items.{sent, got, brought, lost, recorded, where_same, where_there, port_place, injection_place, entered_by, left_by, lost_by, sent_in, delivered_of, dumped_of, taking_of}
-use Rattle.chip_node.specs.Items.{service_of, sending_of, getting_of}
-use Rattle.mesh_core.specs.{State.Setup, State.queue_at, Ledger.all_ports}
-use Rattle.mesh_core.proofs.Changes.{port_below}
-use Rattle.mesh_run.specs.Played.{IsDoneOn, IsLiveIndex, IsVertexOn, place_behind, vertex_place}
-use Rattle.mesh_run.proofs.Apart.{here, elsewhere, there, not_there, by_wire, no_injection, one_output, port_is_no_vertex}
-use Rattle.mesh_round.specs.RoundFlow.{of_chip}
+use Rattle.mesh_round.proofs.Common.{Bool, ByLink, Chip, Delivery, Dir, DumpRec, Dumped, East, IsDoneOn, IsInside, IsLiveChip, IsLiveIndex, IsLiveLink, IsVertexOn, Item, List, Local, McCopy, None}
+use Rattle.mesh_round.proofs.Common.{North, NorthEast, Option, Out, Port, Sent, Served, Service, Setup, Some, South, SouthWest, West, [], all_ports, and_from, and_parts, answers_none, ap, append-nil}
+use Rattle.mesh_round.proofs.Common.{arith, brought, by_wire, cases_Bool, cases_eq, chip_eq, chip_eq_same, chip_eq_true, chip_of, chip_of-index_of, cond, cond-false, cond-true, delivered_of}
+use Rattle.mesh_round.proofs.Common.{dumped_of, elsewhere, entered_by, eq-eqb, false, false_from_ne_true, filter, flat_map, gathered, getting_of, got, here, index_of, index_of-chip_of}
+use Rattle.mesh_round.proofs.Common.{injection_place, inl, inr, left_by, live_inside, lost, lost_by, map, ne_eqb, no_injection, not_there, of_chip, one_output, out_eq, out_eq_same, out_eq_true}
+use Rattle.mesh_round.proofs.Common.{place_behind, port_below, port_is_no_vertex, port_number, port_place, queue_at, recorded, refl, same_Some, sending_of, sent, sent_in, served, service_of}
+use Rattle.mesh_round.proofs.Common.{slice_get, slice_get_within, subst, sym, taking_of, there, took, true, vertex_place, where_same, where_there, ℕ, ◌&&◌, ◌*◌, ◌++◌, ◌+◌, ◌==◌, ◌∙◌, ◌∷◌, ◌≡◌}
 use Rattle.mesh_round.proofs.{Ends.one_port, Entered.numbered_port, Joined.gathered_none, Joined.gathered_one, Serving.went_on, Serving.fell}
 
 -- ---- ports by their numbers

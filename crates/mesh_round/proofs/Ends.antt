@@ -1,8 +1,5 @@
 -- Which queue is behind which output: each queue has at most one output that leads to it. And whether two names are of one queue.
-use Rattle.std.proofs.Common.{◌≡◌, Bool, true, false, ◌==◌, refl, ap}
-use Rattle.std.proofs.lemmas.Bool.{eqb-true}
-use Rattle.spin_base.proofs.Equality.{nat_eq_same}
-use Rattle.mesh_core.specs.State.{Queue, input, core, nowhere}
+use Rattle.mesh_round.proofs.Common.{Bool, Queue, ap, core, eqb-true, false, input, nat_eq_same, nowhere, refl, true, ◌==◌, ◌≡◌}
 pub use Rattle.mesh_run.proofs.Ends.{Leads, by_link, to_vertex, to_none, leads, one_end, one_link, one_port}
 
 -- whether two names are of one queue

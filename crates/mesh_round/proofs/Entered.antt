@@ -1,29 +1,12 @@
 -- What entered all queues, counted as marks, is what came from all sources: each queue has one, or nothing entered it.
-use Rattle.std.proofs.Common.{◌≡◌, ◌≢◌, ℕ, ◌*◌, ◌/◌, ◌%◌, ◌<◌, Bool, true, cond, ◌==◌, List, [], ◌∷◌, ◌++◌, map, Option, Some}
-use Rattle.std.proofs.Common.{None, length, refl, ap, ap₂, sym, ◌∙◌, subst, arith, inl, inr, ◌⊎◌, count_by, zero-add}
-use Rattle.std.proofs.lemmas.Bool.{cases_Bool, and_from, and_parts, eqb-true, eq-eqb}
-use Rattle.std.proofs.lemmas.{List.Sums.sum_by-append, Option.slice_get_within}
-use Rattle.std.specs.{Cmp.both_ways, List.slice_get, List.sum_by, List.range_with_len}
-use Rattle.spin_base.proofs.Members.{Among, among_map, among_either, among_at, among_contains}
-use Rattle.spin_base.proofs.{Places.All-at, Places.slice_get_there, Pairs.AllPairs-apart, Gathering.among_gathered, Tests.answers_none}
-use Rattle.spin_base.proofs.Equality.{chip_eq_same, chip_eq_true, link_is_not_local}
-use Rattle.spin_base.proofs.Spots.{out_of-has_bit, dir_number-dir_at}
-use Rattle.spin_base.specs.declared.chips.{Chip.Chip, Spot.Spot, Dir.Dir, Port.Port, Port.TheVariants.Link as ByLink, Port.TheVariants.Local}
-use Rattle.spin_base.specs.declared.{copies.McCopy.McCopy, routes.Out.Out, routes.Out.TheVariants.Link}
-use Rattle.spin_base.specs.Links.{opposite_of, port_number, dir_at}
-use Rattle.spin_base.specs.{Outputs.out_of, Outputs.IsOutput, Outputs.all_outs, Equality.chip_eq, Hops.onward}
-use Rattle.machine_desc.specs.Description.{Description}
-use Rattle.machine_desc.specs.Live.{far_of, chip_of, is_live_link, is_live_chip, IsInside, IsLiveLink, IsLiveChip, IsSite}
-use Rattle.machine_desc.proofs.Far.{far_inside, far_back, live_ends, live_back, live_inside, opposite_of-opposite}
-use Rattle.machine_desc.proofs.Live.{chip_of-inside, index_of-chip_of}
-use Rattle.machine_desc.proofs.Sites.{site_parts, end_is_no_live_link, same_site}
-use Rattle.mesh_core.specs.State.{Setup, State, IsMesh, Queue, input, core, nowhere, behind, behind_link, queue_at}
-use Rattle.mesh_core.specs.Trail.{Station, in_queue, at_core, Mark}
-use Rattle.mesh_core.specs.Ledger.{marks_at, port_of}
-use Rattle.mesh_core.proofs.{Changes.queue_at-below, Moves.mark, Moves.Crosses, Moves.station_of_queue}
-use Rattle.mesh_core.proofs.Keeping.{same_input, input_is_no_core, input_is_somewhere}
-use Rattle.mesh_core.proofs.Ways.{vertex_behind_stands, vertex_behind_there, leads_to}
-use Rattle.mesh_round.specs.RoundFlow.{Flow, Passes, at_port}
+use Rattle.mesh_round.proofs.Common.{All-at, AllPairs-apart, Among, Bool, ByLink, Chip, Crosses, Description, Dir, Flow, IsInside, IsLiveChip, IsLiveLink, IsMesh, IsOutput, IsSite, Link, List, Local}
+use Rattle.mesh_round.proofs.Common.{Mark, McCopy, None, Option, Out, Passes, Port, Queue, Setup, Some, Spot, State, Station, [], all_outs, among_at, among_contains, among_either, among_gathered}
+use Rattle.mesh_round.proofs.Common.{among_map, and_from, and_parts, answers_none, ap, ap₂, arith, at_core, at_port, behind, behind_link, both_ways, cases_Bool, chip_eq, chip_eq_same, chip_eq_true}
+use Rattle.mesh_round.proofs.Common.{chip_of, chip_of-inside, cond, core, count_by, dir_at, dir_number-dir_at, end_is_no_live_link, eq-eqb, eqb-true, far_back, far_inside, far_of, in_queue}
+use Rattle.mesh_round.proofs.Common.{index_of-chip_of, inl, input, input_is_no_core, input_is_somewhere, inr, is_live_chip, is_live_link, leads_to, length, link_is_not_local, live_back, live_ends}
+use Rattle.mesh_round.proofs.Common.{live_inside, map, mark, marks_at, nowhere, onward, opposite_of, opposite_of-opposite, out_of, out_of-has_bit, port_number, port_of, queue_at, queue_at-below}
+use Rattle.mesh_round.proofs.Common.{range_with_len, refl, same_input, same_site, site_parts, slice_get, slice_get_there, slice_get_within, station_of_queue, subst, sum_by, sum_by-append, sym, true}
+use Rattle.mesh_round.proofs.Common.{vertex_behind_stands, vertex_behind_there, zero-add, ℕ, ◌%◌, ◌*◌, ◌++◌, ◌/◌, ◌<◌, ◌==◌, ◌∙◌, ◌∷◌, ◌≡◌, ◌≢◌, ◌⊎◌}
 use Rattle.mesh_round.proofs.Sums.{sum_agree, sum_none, sum_map, carried}
 use Rattle.mesh_round.proofs.Ends.{behind_eq, behind_eq_same, behind_eq_true, Leads, by_link, to_vertex, to_none, leads, one_port, one_link, one_end}
 pub use Rattle.mesh_run.proofs.OutputBits.{has_bit}

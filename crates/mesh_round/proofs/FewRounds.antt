@@ -1,17 +1,10 @@
 -- Of each packet each way has so much left; each round in which a copy moves takes at least one. So there are few such rounds.
-use Rattle.std.proofs.Common.{◌≡◌, ℕ, zero, suc, ◌+◌, ◌*◌, ◌≤◌, ◌==◌, ◌&&◌, cond, refl, ap, sym, ◌∙◌, subst, arith, inl, inr, List, [], ◌∷◌, ◌++◌, length, map, Bool, true, Option, Some, None}
-use Rattle.std.proofs.Common.{count_by}
-use Rattle.std.proofs.lemmas.{Bool.and_from, Bool.eq-eqb, Bool.true≢false, List.Elements.All-contains, List.Sums.sum_by-append, List.Sums.sum_by-cons, Option.none-some, Option.same_Some}
-use Rattle.std.specs.List.{All, Contains, slice_get, sum_by}
-use Rattle.spin_base.proofs.Members.{Among, among_either, among_left, among_map, among_right, map_among}
-use Rattle.spin_base.specs.declared.{chips.Spot.Spot, copies.McCopy.McCopy, copies.Packet.Packet}
-use Rattle.machine_desc.specs.{Branch.Exit, NetsOn.AreNetsOn, NetsOn.IsWayOn, RightTables.AreRight, RightTables.IsKeyOf, RoutingTree.IsRoutingTree, declared.nets.NetPlan.NetPlan}
-use Rattle.mesh_core.specs.{State.Setup, State.State, State.IsMesh, Ledger.Asked, Ledger.Label, Ledger.MeetsLedger, Ledger.label_of, Ledger.marks_of, Opened.MeetsJobLedger, Opened.asked_by}
-use Rattle.mesh_core.specs.Trail.{Mark, Station, at_core, delivered, dumped, in_hand, in_queue, is_on_trail, is_packet_on_trail, on_trail, unsent}
-use Rattle.mesh_core.proofs.{AskedPackets.IsAsked, AskedPackets.asked_from, AskedPackets.asked_of_net, AskedPackets.asked_parts, AskedPackets.asks, AskedPackets.net_in_list, Counting.counted}
-use Rattle.mesh_core.proofs.LedgerLaw.{Bag, IsRight, Moved, one_net}
-use Rattle.mesh_round.specs.{Bound.MoveEach, Bound.most_moves, Bound.moves_of_packet, Bound.rounds_in, RoundFlow.Flow, RoundFlow.HasMoved, RoundFlow.HasRounds, RoundFlow.Passes, RoundFlow.none}
-use Rattle.mesh_round.specs.RoundFlow.{more}
+use Rattle.mesh_round.proofs.Common.{All, All-contains, Among, AreNetsOn, AreRight, Asked, Bag, Bool, Contains, Exit, Flow, HasMoved, HasRounds, IsAsked, IsKeyOf, IsMesh, IsRight, IsRoutingTree}
+use Rattle.mesh_round.proofs.Common.{IsWayOn, Label, List, Mark, McCopy, MeetsJobLedger, MeetsLedger, MoveEach, Moved, NetPlan, None, Option, Packet, Passes, Setup, Some, Spot, State, Station, []}
+use Rattle.mesh_round.proofs.Common.{among_either, among_left, among_map, among_right, and_from, ap, arith, asked_by, asked_from, asked_of_net, asked_parts, asks, at_core, cond, count_by, counted}
+use Rattle.mesh_round.proofs.Common.{delivered, dumped, eq-eqb, in_hand, in_queue, inl, inr, is_on_trail, is_packet_on_trail, label_of, length, map, map_among, marks_of, more, most_moves}
+use Rattle.mesh_round.proofs.Common.{moves_of_packet, net_in_list, none, none-some, on_trail, one_net, refl, rounds_in, same_Some, slice_get, subst, suc, sum_by, sum_by-append, sum_by-cons, sym, true}
+use Rattle.mesh_round.proofs.Common.{true≢false, unsent, zero, ℕ, ◌&&◌, ◌*◌, ◌++◌, ◌+◌, ◌==◌, ◌∙◌, ◌∷◌, ◌≡◌, ◌≤◌}
 use Rattle.mesh_round.proofs.Ahead.{Counted, counted_from, is_step, is_step_at, left_for, left_most, left_of, sum_of_passing, taken_at, taken_for}
 use Rattle.mesh_round.proofs.{Ample.HasOneWay, FlowLaw.rounds_stand, AheadMoves.leaves_right, AheadMoves.left_among, AheadMoves.way_takes, CountSums.part_of_sum, CountSums.sum_within}
 use Rattle.mesh_round.proofs.{Lighter.all_left, Lighter.left_counts, NetWays.each_way, NetWays.few_places, NetWays.many_ways, NetWays.net_ways, NetWays.one_sends, NetWays.some_counts}

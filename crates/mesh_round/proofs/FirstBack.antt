@@ -1,18 +1,11 @@
 -- In a mesh of a job at rest the first dumped copy can be put back: behind its output is a queue, and it is empty.
-use Rattle.std.proofs.Common.{◌≡◌, ◌≢◌, ℕ, ◌<◌, List, [], ◌∷◌, length, true, if◌then◌else◌, Option, Some, None, is_some, refl, ap, sym, ◌∙◌, subst, arith, inl, inr}
-use Rattle.std.proofs.lemmas.{Bool.lt-ltb, List.Elements.All-contains, Option.slice_get_within}
-use Rattle.std.specs.List.{All, Contains, slice_get}
-use Rattle.spin_base.proofs.{Members.Among, Members.among_contains, Places.All-at, Places.slice_get_there}
-use Rattle.spin_base.specs.declared.{chips.Chip.Chip, chips.Spot.Spot, routes.Out.Out, routes.Out.TheVariants.Link, copies.McCopy.McCopy, copies.DumpRec.DumpRec}
-use Rattle.spin_base.specs.Links.{opposite_of}
-use Rattle.spin_base.specs.declared.chips.Port.TheVariants.{Link as ByLink}
-use Rattle.machine_desc.specs.{Description.Description, Live.far_of, Live.IsLiveLink, Branch.Exit, RoutingTree.IsRoutingTree, declared.nets.NetPlan.NetPlan}
-use Rattle.machine_desc.proofs.{Branches.exit_leads, Branches.ExitLeads, Far.live_inside, Far.live_ends, Far.far_inside}
-use Rattle.mesh_core.specs.{declared.places.Did.TheVariants.Moved, declared.places.Did.TheVariants.Idle, State.State, State.IsMesh, State.nowhere, State.behind, State.queue_at, State.vertex_behind}
-use Rattle.mesh_core.specs.{Step.has_room, Step.has_room_behind, Trail.Mark, Trail.dumped, Ledger.marks_of, Ledger.Label, Ledger.MeetsLedger, Expected.IsAtRest}
-use Rattle.mesh_core.proofs.{Changes.queue_at-below, Law.leaves_parts, Moves.mark, Standing.dumped_mark, Ways.leads_to, Ways.vertex_behind_stands, Ways.vertex_behind_there}
+use Rattle.mesh_round.proofs.Common.{All, All-at, All-contains, Among, ByLink, Chip, Contains, Description, DumpRec, Exit, ExitLeads, Idle, IsAtRest, IsLiveLink, IsMesh, IsRoutingTree, Label, Link}
+use Rattle.mesh_round.proofs.Common.{List, Mark, McCopy, MeetsLedger, NetPlan, None, Option, Out, Some, Spot, State, [], among_contains, ap, arith, behind, dumped, dumped_mark, exit_leads, far_inside}
+use Rattle.mesh_round.proofs.Common.{far_of, has_room, has_room_behind, if◌then◌else◌, inl, inr, is_some, leads_to, leaves_parts, length, live_ends, live_inside, lt-ltb, mark, marks_of, nowhere}
+use Rattle.mesh_round.proofs.Common.{opposite_of, put_back_answer, queue_at, queue_at-below, refl, slice_get, slice_get_there, slice_get_within, subst, sym, true, vertex_behind, vertex_behind_stands}
+use Rattle.mesh_round.proofs.Common.{vertex_behind_there, ℕ, ◌<◌, ◌∙◌, ◌∷◌, ◌≡◌, ◌≢◌}
+use Rattle.mesh_core.specs.declared.places.Did.TheVariants.{Moved}
 use Rattle.mesh_round.proofs.{Ends.Leads, Ends.leads, Ends.by_link, Ends.to_vertex, Ends.to_none, PutBackParts.back_some}
-use Rattle.mesh_round.specs.Reinjecting.{put_back_answer}
 
 module _ (s : State) (mesh : IsMesh s) (nets : List NetPlan) (labels : ℕ → Label) (ledger : MeetsLedger s nets labels) where
   abbrev m : Description

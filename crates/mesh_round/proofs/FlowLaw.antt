@@ -1,10 +1,6 @@
 -- Rounds keep the ledger of copies, since each is a bag of moves.
-use Rattle.std.proofs.Common.{◌≡◌, ℕ, List, Option, refl, sym, subst, ◌∙◌, ap}
-use Rattle.spin_base.specs.declared.copies.Packet.{Packet}
-use Rattle.machine_desc.specs.{declared.nets.NetPlan.NetPlan, RightTables.AreRight}
-use Rattle.mesh_core.specs.{State.Setup, State.State, State.IsMesh, Ledger.Asked, Ledger.Label, Ledger.label_of, Ledger.MeetsLedger, Ledger.MeetsLedgerFor, Opened.asked_by, Opened.MeetsJobLedger}
-use Rattle.mesh_core.proofs.LedgerLaw.{bag_keeps_ledger, bag_adds_no_packet, bag_keeps_packets}
-use Rattle.mesh_round.specs.RoundFlow.{Flow, Passes, HasRounds, none, more}
+use Rattle.mesh_round.proofs.Common.{AreRight, Asked, Flow, HasRounds, IsMesh, Label, List, MeetsJobLedger, MeetsLedger, MeetsLedgerFor, NetPlan, Option, Packet, Passes, Setup, State, ap, asked_by}
+use Rattle.mesh_round.proofs.Common.{bag_adds_no_packet, bag_keeps_ledger, bag_keeps_packets, label_of, more, none, refl, subst, sym, ℕ, ◌∙◌, ◌≡◌}
 use Rattle.mesh_round.proofs.RoundBag.{bag_of_round}
 
 module _ (m n : State) (f : Flow) (nets : List NetPlan) (mesh : IsMesh m) (after : IsMesh n) (passes : Passes m f n)

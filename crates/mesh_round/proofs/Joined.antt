@@ -1,11 +1,8 @@
 -- Lists joined of lists: what passes of them, and the same lists joined in another order.
-use Rattle.std.proofs.Common.{◌≡◌, ◌≢◌, ℕ, ◌+◌, zero, suc, Bool, true, List, [], ◌∷◌, ◌++◌, map, length, Some, refl, sym, ap, ap₂, ◌∙◌, subst, arith, inl, inr}
-use Rattle.std.proofs.lemmas.{Grind.flat_map-append, List.append-nil, List.append_assoc, List.length-append, List.map-append, List.Elements.All-head, List.Elements.All-tail}
-use Rattle.std.proofs.lemmas.List.{Elements.filter-append, Sorted.IsPermutation-refl, Sorted.IsPermutation-trans, Sorted.IsPermutation-append_comm, Sorted.IsPermutation-append_left}
-use Rattle.std.proofs.lemmas.List.{Sorted.IsPermutation-append_right, Sums.sum_by-cons}
-use Rattle.std.specs.List.{All, Contains, slice_get, filter, flat_map, sum_by, Sorted.IsPermutation}
-use Rattle.spin_base.specs.Gathered.{gathered}
-use Rattle.spin_base.proofs.Members.{Among, among_either, among_left, among_right, contains_among}
+use Rattle.mesh_round.proofs.Common.{All, All-head, All-tail, Among, Bool, Contains, IsPermutation, IsPermutation-append_comm, IsPermutation-append_left, IsPermutation-append_right}
+use Rattle.mesh_round.proofs.Common.{IsPermutation-refl, IsPermutation-trans, List, Some, [], among_either, among_left, among_right, ap, append-nil, append_assoc, ap₂, arith, contains_among, filter}
+use Rattle.mesh_round.proofs.Common.{filter-append, flat_map, flat_map-append, gathered, inl, inr, length, length-append, map, map-append, refl, slice_get, subst, suc, sum_by, sum_by-cons, sym, true}
+use Rattle.mesh_round.proofs.Common.{zero, ℕ, ◌++◌, ◌+◌, ◌∙◌, ◌∷◌, ◌≡◌, ◌≢◌}
 
 -- ---- one function, then another
 

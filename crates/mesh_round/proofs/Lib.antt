@@ -1,3 +1,4 @@
+mod Common
 mod Joined
 pub mod Sums
 mod Balance

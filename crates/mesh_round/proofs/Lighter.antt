@@ -1,13 +1,9 @@
 -- A round leaves less to be done: each of its moves makes the marks lighter.
-use Rattle.std.proofs.Common.{◌≡◌, ℕ, zero, suc, ◌+◌, ◌*◌, ◌-◌, ◌<◌, ◌≤◌, refl, ap, arith, List, [], ◌∷◌, ◌++◌, length, Bool, count_by}
-use Rattle.std.proofs.{Math.Nat.mul-le-mul_left, lemmas.List.Sums.sum_by-append, lemmas.List.Sums.sum_by-cons}
-use Rattle.std.specs.List.{sum_by}
-use Rattle.spin_base.proofs.{Counts.count_by-append, Members.Among}
-use Rattle.spin_base.specs.declared.copies.McCopy.{McCopy}
-use Rattle.mesh_core.specs.{State.State, State.IsMesh, Trail.Station, Trail.unsent, Trail.in_queue, Trail.in_hand, Trail.at_core, Trail.delivered, Trail.dumped, Trail.Mark, Ledger.marks_of}
+use Rattle.mesh_round.proofs.Common.{Among, Bag, Bool, Flow, HasMoved, IsMesh, IsMoveOf, List, Mark, McCopy, Moved, Passes, State, Station, [], ap, arith, at_core, count_by, count_by-append}
+use Rattle.mesh_round.proofs.Common.{count_come, count_left, delivered, dumped, few_come, heavy_grows, in_hand, in_queue, length, light, marks_of, moves_left, mul-le-mul_left, one_heavy, refl, suc}
+use Rattle.mesh_round.proofs.Common.{sum_by, sum_by-append, sum_by-cons, unsent, zero, ℕ, ◌*◌, ◌++◌, ◌+◌, ◌-◌, ◌<◌, ◌∷◌, ◌≡◌, ◌≤◌}
 use Rattle.mesh_core.specs.Heavy.{heavy}
-use Rattle.mesh_core.proofs.{Moves.IsMoveOf, LedgerLaw.Bag, LedgerLaw.Moved, LedgerLaw.count_left, LedgerLaw.count_come, FewMoves.few_come, Heavy.one_heavy, Heavy.heavy_grows, Heavy.light}
-use Rattle.mesh_round.specs.{RoundFlow.Flow, RoundFlow.Passes, RoundFlow.HasMoved, Work.moves_left, Work.to_go, Work.work_weight_of, Work.work_in}
+use Rattle.mesh_round.specs.Work.{to_go, work_in, work_weight_of}
 use Rattle.mesh_round.proofs.{CountSums.one_if, CountSums.same_sums, Nearer.move_nears, RoundBag.bag_of_round, RoundBag.some_moves}
 
 -- ---- one move

@@ -1,18 +1,8 @@
 -- Each move leaves marks that have less far to go, and few of them.
-use Rattle.std.proofs.Common.{◌≡◌, ℕ, ◌+◌, ◌*◌, ◌-◌, ◌<◌, ◌≤◌, ◌==◌, sym, subst, arith, inl, inr, List, [], ◌∷◌, map, Bool, true, false, if◌then◌else◌}
-use Rattle.machine_desc.specs.RightTables.{table_at}
-use Rattle.spin_base.specs.Outputs.{outs_of}
-use Rattle.spin_base.specs.Lookup.{lookup}
-use Rattle.std.proofs.Common.{refl}
-use Rattle.std.proofs.Common.{min}
-use Rattle.std.proofs.lemmas.Bool.{eq-eqb}
-use Rattle.spin_base.proofs.{Members.Among, Members.among_only, Tests.answers_none}
-use Rattle.spin_base.specs.{declared.chips.Chip.Chip, declared.chips.Port.Port, declared.chips.Port.TheVariants.Local, declared.routes.Out.Out, declared.copies.McCopy.McCopy, Links.opposite_of}
-use Rattle.spin_base.specs.Hops.{last_hop, onward}
-use Rattle.spin_base.specs.declared.chips.Port.TheVariants.{Link as ByLink}
-use Rattle.mesh_core.specs.{State.State, Trail.Station, Trail.unsent, Trail.in_queue, Trail.in_hand, Trail.at_core, Trail.delivered, Trail.dumped, Trail.Mark}
-use Rattle.mesh_core.proofs.Moves.{mark, IsMove, IsMoveOf, Crosses}
-use Rattle.mesh_round.specs.Work.{moves_left, to_go}
+use Rattle.mesh_round.proofs.Common.{Among, Bool, ByLink, Chip, Crosses, IsMove, IsMoveOf, List, Local, Mark, McCopy, Out, Port, State, Station, [], among_only, answers_none, arith, at_core}
+use Rattle.mesh_round.proofs.Common.{delivered, dumped, eq-eqb, false, if◌then◌else◌, in_hand, in_queue, inl, inr, last_hop, lookup, map, mark, min, moves_left, onward, opposite_of, outs_of, refl}
+use Rattle.mesh_round.proofs.Common.{subst, sym, table_at, true, unsent, ℕ, ◌*◌, ◌+◌, ◌-◌, ◌<◌, ◌==◌, ◌∷◌, ◌≡◌, ◌≤◌}
+use Rattle.mesh_round.specs.Work.{to_go}
 
 -- ---- what comes has less far to go
 

@@ -1,16 +1,9 @@
 -- The ways of a net, one for each target. A place counts where no way before it comes in there: so each chip of the tree counts once.
-use Rattle.std.proofs.Common.{◌≡◌, ◌≢◌, ℕ, zero, suc, ◌+◌, ◌-◌, ◌<◌, ◌≤◌, cond, refl, ap, sym, ◌∙◌, subst, arith, inl, inr, ◌⊎◌, List, [], ◌∷◌, ◌++◌, length, map, get_or, Bool, true, false, Option}
-use Rattle.std.proofs.Common.{Some, None}
-use Rattle.std.proofs.lemmas.{Bool.and_from, Bool.true≢false, List.get_or_default, List.length-append, List.Elements.All-contains, List.Sums.sum_by-cons}
-use Rattle.std.specs.List.{All, Contains, list_any, slice_get, sum_by}
-use Rattle.spin_base.proofs.{Equality.chip_eq_same, Equality.port_eq_same, Members.Among, Members.Contains-map, Members.among_any, Members.among_contains, Members.among_either, Members.any_among}
-use Rattle.spin_base.proofs.{Members.contains_among, Tests.answers_none}
-use Rattle.spin_base.specs.{Equality.chip_eq, Equality.port_eq, declared.chips.Chip.Chip, declared.chips.Port.Port, declared.chips.Port.TheVariants.Local, declared.chips.Spot.Spot}
-use Rattle.machine_desc.specs.{Branch.Exit, Branch.IsBranch, Branch.arrival_at, Description.Description, NetsOn.IsWayOn, RoutingTree.IsRoutingTree, RoutingTree.IsTreeChip, RoutingTree.end_of}
-use Rattle.machine_desc.specs.declared.{nets.NetPlan.NetPlan, trees.Edge.Edge}
-use Rattle.machine_desc.proofs.{Branches.ComesBy, Branches.comes_by, Branches.length_le_from_apart, Branches.same_place, Branches.target_on_branch, Branches.way_first, TreeLemmas.tree_end}
-use Rattle.mesh_core.specs.Trail.{comes_in_there}
-use Rattle.mesh_core.proofs.{Law.comes_parts, Ways.vertex_there}
+use Rattle.mesh_round.proofs.Common.{All, All-contains, Among, Bool, Chip, ComesBy, Contains, Contains-map, Description, Edge, Exit, IsBranch, IsRoutingTree, IsTreeChip, IsWayOn, List, Local, NetPlan}
+use Rattle.mesh_round.proofs.Common.{None, Option, Port, Some, Spot, [], among_any, among_contains, among_either, and_from, answers_none, any_among, ap, arith, arrival_at, chip_eq, chip_eq_same}
+use Rattle.mesh_round.proofs.Common.{comes_by, comes_in_there, comes_parts, cond, contains_among, end_of, false, get_or, get_or_default, inl, inr, length, length-append, length_le_from_apart}
+use Rattle.mesh_round.proofs.Common.{list_any, map, port_eq, port_eq_same, refl, same_place, slice_get, subst, suc, sum_by, sum_by-cons, sym, target_on_branch, tree_end, true, true≢false}
+use Rattle.mesh_round.proofs.Common.{vertex_there, way_first, zero, ℕ, ◌++◌, ◌+◌, ◌-◌, ◌<◌, ◌∙◌, ◌∷◌, ◌≡◌, ◌≢◌, ◌≤◌, ◌⊎◌}
 use Rattle.mesh_round.proofs.Ahead.{Counted, counted_from, counted_in}
 
 -- ---- which places count

@@ -1,11 +1,6 @@
 -- Bags of moves put together from parts, of which each says how many marks leave and come.
-use Rattle.std.proofs.Common.{◌≡◌, ℕ, ◌+◌, ◌≤◌, Bool, cond, if◌then◌else◌, List, [], ◌∷◌, ◌++◌, Some, refl, ap, sym, ◌∙◌, subst, arith, inl, inr, count_by, suc}
-use Rattle.std.proofs.lemmas.List.Sums.{sum_by-cons}
-use Rattle.std.specs.List.{sum_by, slice_get}
-use Rattle.spin_base.proofs.Members.{Among}
-use Rattle.spin_base.specs.{declared.copies.McCopy.McCopy, Hops.last_hop}
-use Rattle.mesh_core.specs.{State.State, Trail.Station, Trail.Mark, Ledger.marks_at}
-use Rattle.mesh_core.proofs.{Moves.mark, Moves.IsMoveOf, LedgerLaw.Moved, LedgerLaw.count_left, LedgerLaw.count_come}
+use Rattle.mesh_round.proofs.Common.{Among, Bool, IsMoveOf, List, Mark, McCopy, Moved, Some, State, Station, [], ap, arith, cond, count_by, count_come, count_left, if◌then◌else◌, inl, inr, last_hop}
+use Rattle.mesh_round.proofs.Common.{mark, marks_at, refl, slice_get, subst, suc, sum_by, sum_by-cons, sym, ℕ, ◌++◌, ◌+◌, ◌∙◌, ◌∷◌, ◌≡◌, ◌≤◌}
 use Rattle.mesh_round.proofs.Sums.{sum_at}
 
 -- how many marks of each kind

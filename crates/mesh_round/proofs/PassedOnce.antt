@@ -1,11 +1,7 @@
 -- In a round a packet passes each place of a trail at most once, and a place that it is still before not at all.
-use Rattle.std.proofs.Common.{◌≡◌, ℕ, ◌+◌, ◌≤◌, ◌==◌, ◌&&◌, not, nat_lt, Bool, true, false, List, [], ◌∷◌, refl, ap, sym, ◌∙◌, subst, arith, inl, inr, count_by}
-use Rattle.std.proofs.lemmas.Bool.{cases_Bool, not-true, and_parts, and_from, eqb-true, eq-eqb, ltb-true, ltb-false}
-use Rattle.machine_desc.specs.{declared.nets.NetPlan.NetPlan, NetsOn.IsWayOn, RightTables.IsKeyOf, RightTables.AreRight}
-use Rattle.mesh_core.specs.{State.Setup, State.State, State.IsMesh, Trail.Mark, Trail.is_on_trail, Trail.is_packet_on_trail, Ledger.marks_of, Ledger.Label, Ledger.MeetsLedger}
-use Rattle.mesh_core.proofs.{Law.move_comes, Law.move_counts, LedgerLaw.Bag, LedgerLaw.Moved, LedgerLaw.count_left, LedgerLaw.count_come, LedgerLaw.IsRight, LedgerLaw.stands}
-use Rattle.mesh_core.proofs.{LedgerLaw.bag_keeps_packets, Ways.Stands, Counting.counted}
-use Rattle.mesh_round.specs.Work.{to_go}
+use Rattle.mesh_round.proofs.Common.{AreRight, Bag, Bool, IsKeyOf, IsMesh, IsRight, IsWayOn, Label, List, Mark, MeetsLedger, Moved, NetPlan, Setup, Stands, State, [], and_from, and_parts, ap, arith}
+use Rattle.mesh_round.proofs.Common.{bag_keeps_packets, cases_Bool, count_by, count_come, count_left, counted, eq-eqb, eqb-true, false, inl, inr, is_on_trail, is_packet_on_trail, ltb-false, ltb-true}
+use Rattle.mesh_round.proofs.Common.{marks_of, move_comes, move_counts, nat_lt, not, not-true, refl, stands, subst, sym, to_go, true, ℕ, ◌&&◌, ◌+◌, ◌==◌, ◌∙◌, ◌∷◌, ◌≡◌, ◌≤◌}
 use Rattle.mesh_round.proofs.{Sums.sum_none, Sums.sum_plus, CountSums.one_if, CountSums.sum_within, CountSums.counts, Nearer.move_nears}
 
 -- a test that fails or passes, as numbers

@@ -1,18 +1,7 @@
 -- What holds after rounds and copies put back: the machine is the same, the ledger is kept, and passes may follow each other.
-use Rattle.std.proofs.Common.{◌≡◌, ◌≤◌, ℕ, List, Option, Some, None, refl, sym, subst, unwrap_or, arith}
-use Rattle.spin_base.specs.declared.copies.Packet.{Packet}
-use Rattle.machine_desc.specs.{declared.nets.NetPlan.NetPlan, RightTables.AreRight}
-use Rattle.mesh_core.specs.{State.Setup, State.State, State.IsMesh, PutBack.put_back_of, PutBack.after_put_back, Ledger.Label, Ledger.MeetsLedger, Opened.MeetsJobLedger}
-use Rattle.mesh_core.proofs.EventsLaw.{put_back_is, IsMesh-after_put_back, put_back_keeps, put_back_keeps_job}
-use Rattle.mesh_round.specs.{RoundFlow.Flow, RoundFlow.Passes, RoundFlow.HasRounds, RoundFlow.more, Work.work_in, Reinjecting.HasPasses, Reinjecting.none, Reinjecting.round, Reinjecting.put_back}
-use Rattle.mesh_round.specs.RoundFlow.{none as no_round}
-
-put_back_setup : (s : State) → (after_put_back s).setup ≡ s.setup
-put_back_setup s = by_answer (put_back_of s s.dumped) refl
-  where
-    by_answer : (t : Option State) → put_back_of s s.dumped ≡ t → (unwrap_or t s).setup ≡ s.setup
-    by_answer None is = refl
-    by_answer (Some t) is = (put_back_is s s.dumped refl t is).move.setup
+use Rattle.mesh_round.proofs.Common.{AreRight, Flow, HasPasses, HasRounds, IsMesh, IsMesh-after_put_back, Label, List, MeetsJobLedger, MeetsLedger, NetPlan, Packet, Passes, Setup, State, arith, more}
+use Rattle.mesh_round.proofs.Common.{no_round, put_back, put_back_keeps, put_back_keeps_job, refl, round, subst, sym, work_in, ℕ, ◌≡◌, ◌≤◌}
+use Rattle.mesh_round.specs.Reinjecting.{none}
 
 pub passes_keep_mesh : (patience turns : ℕ) (m n : State) → IsMesh m → HasPasses patience turns m n → IsMesh n × (n.setup ≡ m.setup)
 passes_keep_mesh patience turns m n mesh none = (mesh, refl)

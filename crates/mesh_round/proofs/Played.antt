@@ -1,13 +1,6 @@
 -- Rounds on threads that were played one after the other lead on.
-use Rattle.std.proofs.Common.{arith, ◌≡◌, ◌∙◌, ℕ, Bool, true, false, List, [], sym, subst, inl, inr}
-use Rattle.std.proofs.lemmas.Result.{IfErr-weaker, IfOk-weaker}
-use Rattle.std.specs.Prelude.{IfErr, IfOk, Result, Ok, Err}
-use Rattle.spin_base.specs.declared.wants.Memory.{Memory}
-use Rattle.chip_node.specs.Items.{Item}
-use Rattle.mesh_core.specs.{State.State, State.IsMesh, Expected.IsAtRest}
-use Rattle.mesh_run.specs.{declared.paces.Pace.Pace, declared.raised.RaisedMesh.RaisedMesh, Played.IsPlayedBy, Raised.IsRaisedFrom, Raised.PlaysTo, Shares.IsNoted}
-use Rattle.mesh_round.specs.{RoundFlow.HasNoHand, RoundFlow.IsRound, RoundFlow.none, RoundFlow.more, Bound.HasMovingRounds, OnThreads.LeadsByFlow, OnThreads.LeadsByRound, OnThreads.MayGoOn}
-use Rattle.mesh_round.specs.OnThreads.{has_none}
+use Rattle.mesh_round.proofs.Common.{Bool, Err, HasMovingRounds, HasNoHand, IfErr, IfErr-weaker, IfOk, IfOk-weaker, IsAtRest, IsMesh, IsNoted, IsPlayedBy, IsRaisedFrom, IsRound, Item, LeadsByFlow}
+use Rattle.mesh_round.proofs.Common.{LeadsByRound, List, MayGoOn, Memory, Ok, Pace, PlaysTo, RaisedMesh, Result, State, [], arith, false, has_none, inl, inr, more, none, subst, sym, true, ℕ, ◌∙◌, ◌≡◌}
 use Rattle.mesh_round.proofs.Resting.{none_left, rests}
 
 -- what the law of rounds on threads tells of one of them

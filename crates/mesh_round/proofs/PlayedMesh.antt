@@ -1,18 +1,9 @@
 -- A round on threads leads to a mesh. It moves a copy where anything was done, and else changes nothing.
-use Rattle.std.proofs.Common.{◌≡◌, ◌≢◌, ℕ, ◌+◌, ◌<◌, List, [], ◌∷◌, ◌++◌, length, take, drop, Option, Some, refl, sym, ap, ap₂, ◌∙◌, subst, arith, inl, inr}
-use Rattle.std.proofs.{Math.Seq.drop-append_seam, Math.Seq.take-append_seam, lemmas.List.append-nil, lemmas.List.get_or_append_left, lemmas.List.get_or-append-add, lemmas.List.get_or_default}
-use Rattle.std.proofs.lemmas.{List.length-append, List.same_lists, Option.get_or_from_slice_get, Option.slice_get_within, Option.slice_get-get_or}
-use Rattle.std.specs.{Prelude.IfSome, List.All, List.Contains, List.slice_get, List.slice_index_or}
-use Rattle.spin_base.proofs.{Members.Among, Members.among_contains, Pairs.All-right, Places.both_none}
-use Rattle.spin_base.specs.declared.{chips.Chip.Chip, chips.Port.Port, chips.Port.TheVariants.Local, copies.McCopy.McCopy}
-use Rattle.spin_base.specs.declared.chips.Port.TheVariants.{Link as ByLink}
-use Rattle.machine_desc.specs.Live.{chip_of, index_of, IsInside}
-use Rattle.chip_node.specs.Items.{Item, took, served, sent, got, port_place, entered, left, left_by, sent_by, sent_in, taking_of}
-use Rattle.mesh_core.specs.State.{Setup, State, Hand, FitsQueue, FitsHand, IsMesh, core, queue_at}
-use Rattle.mesh_core.proofs.Changes.{queue_at-below}
-use Rattle.mesh_run.specs.Played.{held_at, vertex_place, IsPlayedBy}
-use Rattle.mesh_run.proofs.Apart.{first_here}
-use Rattle.mesh_round.specs.{RoundFlow.HasMoved, RoundFlow.at_port, RoundFlow.held_in, OnThreads.LeadsByFlow}
+use Rattle.mesh_round.proofs.Common.{All, All-right, Among, ByLink, Chip, Contains, FitsHand, FitsQueue, Hand, HasMoved, IfSome, IsInside, IsMesh, IsPlayedBy, Item, LeadsByFlow, List, Local, McCopy}
+use Rattle.mesh_round.proofs.Common.{Option, Port, Setup, Some, State, [], among_contains, ap, append-nil, ap₂, arith, at_port, both_none, chip_of, core, drop, drop-append_seam, entered, first_here}
+use Rattle.mesh_round.proofs.Common.{get_or-append-add, get_or_append_left, get_or_default, get_or_from_slice_get, got, held_at, held_in, index_of, inl, inr, left, left_by, length, length-append}
+use Rattle.mesh_round.proofs.Common.{port_place, queue_at, queue_at-below, refl, same_lists, sent, sent_by, sent_in, served, slice_get, slice_get-get_or, slice_get_within, slice_index_or, subst, sym}
+use Rattle.mesh_round.proofs.Common.{take, take-append_seam, taking_of, took, vertex_place, ℕ, ◌++◌, ◌+◌, ◌<◌, ◌∙◌, ◌∷◌, ◌≡◌, ◌≢◌}
 use Rattle.mesh_round.proofs.{Done.inside_of, Done.place_is, Joined.among_flat, Joined.among_into, PlayedQueues.done_of, PlayedQueues.fits_after, PlayedQueues.from_taken, PlayedQueues.in_order}
 use Rattle.mesh_round.proofs.{PlayedRound.dead_chips, PlayedRound.dead_ports, PlayedRound.is_input, PlayedRound.is_round, PlayedRound.left_port, TheFlow.Round, TheFlow.flow_of, TheFlow.stands}
 use Rattle.mesh_round.proofs.TheFlow.{told_at}

@@ -1,20 +1,10 @@
 -- What a round on threads does with each queue.
-use Rattle.std.proofs.Common.{◌≡◌, ℕ, ◌+◌, ◌*◌, ◌<◌, ◌≤◌, ◌==◌, min, List, [], ◌∷◌, ◌++◌, length, Option, Some, None, refl, sym, ap, ◌∙◌, subst, arith, inl, inr}
-use Rattle.std.proofs.lemmas.{Bool.cases_lt, Bool.cond_both, List.get_or_past, List.length-append, List.Elements.All-nil, List.Elements.All-append, List.Elements.All-cons, List.Elements.All-contains}
-use Rattle.std.proofs.lemmas.{List.Elements.All-head, List.Elements.All-replicate, Option.slice_get_within}
-use Rattle.std.specs.List.{All, Contains, slice_index_or}
-use Rattle.spin_base.proofs.{Members.Among, Members.among_contains, Pairs.All-flat_map, Pairs.All-from_flat_map, Pairs.All-left, Pairs.All-right, Places.All-each}
-use Rattle.spin_base.specs.{declared.chips.Chip.Chip, declared.chips.Port.Port, declared.copies.McCopy.McCopy, declared.copies.Delivery.Delivery, declared.copies.DumpRec.DumpRec, Hops.last_hop}
-use Rattle.spin_base.specs.{Hops.onward, Outputs.IsOutput}
-use Rattle.machine_desc.specs.Live.{chip_of, IsLiveChip}
-use Rattle.chip_node.specs.{declared.ends.Served.Served, declared.ends.Served.TheVariants.Sent, declared.ends.Served.TheVariants.Dumped, Items.Item, Items.Service, Items.took, Items.served}
-use Rattle.chip_node.specs.Items.{sent, got, brought, recorded, where_same, where_there, port_place, entered, left, entered_by, left_by, sent_in, taking_of, service_of, delivered_of, dumped_of}
-use Rattle.chip_node.specs.Items.{records, sent_by, services, takings}
-use Rattle.mesh_core.specs.State.{Setup, FitsQueue, Queue}
-use Rattle.mesh_core.proofs.Changes.{queue_at-below}
-use Rattle.mesh_run.specs.Played.{held_at, port_count, IsDoneOn, IsLiveIndex}
-use Rattle.mesh_run.proofs.Apart.{first_here, here}
-use Rattle.mesh_round.specs.RoundFlow.{WasFullAt, capacity_of, held_in}
+use Rattle.mesh_round.proofs.Common.{All, All-append, All-cons, All-contains, All-each, All-flat_map, All-from_flat_map, All-head, All-left, All-nil, All-replicate, All-right, Among, Chip, Contains}
+use Rattle.mesh_round.proofs.Common.{Delivery, DumpRec, Dumped, FitsQueue, IsDoneOn, IsLiveChip, IsLiveIndex, IsOutput, Item, List, McCopy, None, Option, Port, Queue, Sent, Served, Service, Setup}
+use Rattle.mesh_round.proofs.Common.{Some, WasFullAt, [], among_contains, ap, arith, brought, capacity_of, cases_lt, chip_of, cond_both, delivered_of, dumped_of, entered, entered_by, first_here}
+use Rattle.mesh_round.proofs.Common.{get_or_past, got, held_at, held_in, here, inl, inr, last_hop, left, left_by, length, length-append, min, onward, port_count, port_place, queue_at-below, recorded}
+use Rattle.mesh_round.proofs.Common.{records, refl, sent, sent_by, sent_in, served, service_of, services, slice_get_within, slice_index_or, subst, sym, taking_of, takings, took, where_same}
+use Rattle.mesh_round.proofs.Common.{where_there, ℕ, ◌*◌, ◌++◌, ◌+◌, ◌<◌, ◌==◌, ◌∙◌, ◌∷◌, ◌≡◌, ◌≤◌}
 use Rattle.mesh_round.proofs.{Done.inside_of, Done.place_is, Joined.among_into, Serving.served_fits, TheFlow.Round, TheFlow.Stands, TheFlow.found, TheFlow.beyond, TheFlow.dark, TheFlow.stands}
 use Rattle.mesh_round.proofs.TheFlow.{by_place, goes, flow_of, nowhere_fulls}
 

@@ -1,21 +1,11 @@
 -- A round on threads is a round.
-use Rattle.std.proofs.Common.{◌≡◌, ℕ, ◌*◌, ◌<◌, ◌≤◌, ◌==◌, ◌&&◌, Bool, true, false, List, [], ◌∷◌, ◌++◌, map, length, Option, Some, None, refl, sym, ap, ap₂, ◌∙◌, subst, arith, inl, inr, ◌⊎◌}
-use Rattle.std.proofs.{Math.Nat.mul-le-mul_left, lemmas.List.length-map, lemmas.List.length-replicate, lemmas.List.Concat.flat_map_single, lemmas.List.Sorted.IsPermutation-map}
-use Rattle.std.proofs.lemmas.{List.Sorted.IsPermutation-trans, List.Sorted.length_permutation, List.Sums.count_by-le-length, List.Sums.length-filter, Option.slice_get_within}
-use Rattle.std.specs.List.{All, filter, flat_map, sum_by, Sorted.IsPermutation}
-use Rattle.spin_base.specs.{Gathered.gathered, declared.chips.Chip.Chip, declared.chips.Dir.Dir, declared.chips.Port.Port, declared.chips.Port.TheVariants.Local, declared.routes.Out.Out}
-use Rattle.spin_base.specs.{declared.copies.McCopy.McCopy, declared.copies.Delivery.Delivery, declared.copies.DumpRec.DumpRec, Equality.chip_eq, Equality.out_eq, Hops.onward, Links.opposite_of}
-use Rattle.spin_base.specs.Outputs.{IsOutput}
-use Rattle.spin_base.specs.declared.chips.Port.TheVariants.{Link as ByLink}
-use Rattle.spin_base.proofs.Tests.{answers_none}
-use Rattle.machine_desc.specs.Live.{chip_of, index_of, is_live_chip, is_live_link, IsInside, IsLiveChip}
-use Rattle.machine_desc.proofs.{Far.far_inside, Far.live_inside, Live.chip_of-index_of}
-use Rattle.chip_node.specs.Items.{Item, Service, brought, delivered_of, dumped_of, entered, entered_by, getting_of, gettings, left, left_by, lost, lost_at, lost_by, records, sending_of, sendings}
-use Rattle.chip_node.specs.Items.{sent_by, sent_in, service_of, services, taking_of, takings}
-use Rattle.mesh_core.specs.{State.Setup, State.Hand, State.core, State.nowhere, State.behind, State.queue_at, Ledger.all_ports}
-use Rattle.mesh_core.proofs.{Changes.queue_at-below, Ways.vertex_behind_stands}
-use Rattle.mesh_run.specs.Played.{queue_place_of, vertex_place, owed_on, IsDoneOn}
-use Rattle.mesh_round.specs.RoundFlow.{Passes, IsRound, IsQueueOf, at_port, delivered_to, dumped_at, got_on, leaves_by, of_chip, sent_on, taken_for}
+use Rattle.mesh_round.proofs.Common.{All, Bool, ByLink, Chip, Delivery, Dir, DumpRec, Hand, IsDoneOn, IsInside, IsLiveChip, IsOutput, IsPermutation, IsPermutation-map, IsPermutation-trans, IsQueueOf}
+use Rattle.mesh_round.proofs.Common.{IsRound, Item, List, Local, McCopy, None, Option, Out, Passes, Port, Service, Setup, Some, [], all_ports, answers_none, ap, ap₂, arith, at_port, behind, brought}
+use Rattle.mesh_round.proofs.Common.{chip_eq, chip_of, chip_of-index_of, core, count_by-le-length, delivered_of, delivered_to, dumped_at, dumped_of, entered, entered_by, false, far_inside, filter}
+use Rattle.mesh_round.proofs.Common.{flat_map, flat_map_single, gathered, getting_of, gettings, got_on, index_of, inl, inr, is_live_chip, is_live_link, leaves_by, left, left_by, length, length-filter}
+use Rattle.mesh_round.proofs.Common.{length-map, length-replicate, length_permutation, live_inside, lost, lost_at, lost_by, map, mul-le-mul_left, nowhere, of_chip, onward, opposite_of, out_eq}
+use Rattle.mesh_round.proofs.Common.{owed_on, queue_at, queue_at-below, queue_place_of, records, refl, sending_of, sendings, sent_by, sent_in, sent_on, service_of, services, slice_get_within, subst}
+use Rattle.mesh_round.proofs.Common.{sum_by, sym, taken_for, taking_of, takings, true, vertex_behind_stands, vertex_place, ℕ, ◌&&◌, ◌*◌, ◌++◌, ◌<◌, ◌==◌, ◌∙◌, ◌∷◌, ◌≡◌, ◌≤◌, ◌⊎◌}
 use Rattle.mesh_round.proofs.Done.{copies_at, copies_to, collected_by, entered_behind, got_by_bank, injected_by, lost_behind, none_went, not_entered, recorded_at, sent_by_bank, service_at, taken_by}
 use Rattle.mesh_round.proofs.{Ends.leads, Ends.by_link, Ends.to_vertex, Ends.to_none, Joined.by_items, Joined.filter-flat, Joined.flat_agree, Joined.flat_none, Joined.flat-flat, Joined.map-flat}
 use Rattle.mesh_round.proofs.{Joined.sum_lengths, PlayedQueues.in_order, PlayedQueues.full, PlayedQueues.hops_left, PlayedQueues.at_outputs, PlayedQueues.to_vertices, Serving.at_out}

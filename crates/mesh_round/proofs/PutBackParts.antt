@@ -1,11 +1,6 @@
 -- What putting the first dumped copy back does to a mesh, and when it does nothing.
-use Rattle.std.proofs.Common.{arith, ◌≡◌, List, [], ◌∷◌, Bool, true, false, if◌then◌else◌, Option, Some, None, refl, ap, sym, ◌∙◌, subst, unwrap_or}
-use Rattle.std.specs.List.{All}
-use Rattle.spin_base.specs.{declared.copies.McCopy.McCopy, declared.copies.DumpRec.DumpRec, Hops.onward}
-use Rattle.mesh_core.specs.{State.State, State.Hand, State.Queue, State.input, State.core, State.nowhere, State.behind, Step.has_room_behind, Step.push_behind, PutBack.put_back_of}
-use Rattle.mesh_core.specs.PutBack.{after_put_back}
-use Rattle.mesh_core.proofs.EventsLaw.{IsMesh-after_put_back}
-use Rattle.mesh_round.specs.{RoundFlow.HasNoHand, OnThreads.MayGoOn}
+use Rattle.mesh_round.proofs.Common.{All, Bool, DumpRec, Hand, HasNoHand, IsMesh-after_put_back, List, MayGoOn, McCopy, None, Option, Queue, Some, State, [], after_put_back, ap, arith, behind, core}
+use Rattle.mesh_round.proofs.Common.{false, has_room_behind, if◌then◌else◌, input, nowhere, onward, push_behind, put_back_of, refl, subst, sym, true, unwrap_or, ◌∙◌, ◌∷◌, ◌≡◌}
 
 -- the mesh with the first record's copy put back
 abbrev pub with_back : State → DumpRec → List DumpRec → State

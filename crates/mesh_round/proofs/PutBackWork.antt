@@ -1,14 +1,10 @@
 -- Putting a copy back leaves less to be done: the copy has less far to go.
-use Rattle.std.proofs.Common.{◌≡◌, ◌⊎◌, ℕ, zero, suc, ◌+◌, ◌<◌, List, [], ◌∷◌, ◌++◌, if◌then◌else◌, Option, Some, None, is_some, refl, ap, ◌∙◌, subst, unwrap_or, arith, inl, inr}
-use Rattle.std.proofs.lemmas.List.Sums.{sum_by-append, sum_by-cons}
-use Rattle.std.specs.List.{sum_by}
-use Rattle.spin_base.proofs.Exchange.{TakenOut, PutIn}
-use Rattle.spin_base.specs.{declared.chips.Chip.Chip, declared.routes.Out.Out, declared.copies.McCopy.McCopy, declared.copies.DumpRec.DumpRec, Links.opposite_of, Hops.onward}
-use Rattle.spin_base.specs.declared.chips.Port.TheVariants.{Link as ByLink}
-use Rattle.mesh_core.specs.{declared.places.Did.TheVariants.Moved, declared.places.Did.TheVariants.Idle, State.State, State.Queue, State.behind, Step.push_behind, PutBack.put_back_of}
-use Rattle.mesh_core.specs.{PutBack.after_put_back, Trail.in_queue, Trail.at_core, Trail.dumped, Trail.Mark, Ledger.marks_of, Heavy.heavy}
-use Rattle.mesh_core.proofs.{EventsLaw.same_room, Events.arrives, Heavy.one_heavy, Heavy.heavy_grows, Moves.mark, Moves.Crosses, Moves.dumped_out}
-use Rattle.mesh_round.specs.{Work.to_go, Work.work_weight_of, Work.work_in, Reinjecting.put_back_answer}
+use Rattle.mesh_round.proofs.Common.{ByLink, Chip, Crosses, DumpRec, Idle, List, Mark, McCopy, None, Option, Out, PutIn, Queue, Some, State, TakenOut, [], after_put_back, ap, arith, arrives, at_core}
+use Rattle.mesh_round.proofs.Common.{behind, dumped, dumped_out, heavy_grows, if◌then◌else◌, in_queue, inl, inr, is_some, mark, marks_of, one_heavy, onward, opposite_of, push_behind, put_back_answer}
+use Rattle.mesh_round.proofs.Common.{put_back_of, refl, same_room, subst, suc, sum_by, sum_by-append, sum_by-cons, unwrap_or, zero, ℕ, ◌++◌, ◌+◌, ◌<◌, ◌∙◌, ◌∷◌, ◌≡◌, ◌⊎◌}
+use Rattle.mesh_core.specs.declared.places.Did.TheVariants.{Moved}
+use Rattle.mesh_core.specs.Heavy.{heavy}
+use Rattle.mesh_round.specs.Work.{to_go, work_in, work_weight_of}
 use Rattle.mesh_round.proofs.PutBackParts.{IsBack, is_back}
 
 -- ---- weights

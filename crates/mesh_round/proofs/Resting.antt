@@ -1,10 +1,6 @@
 -- A mesh without a copy in a queue or unsent is at rest.
-use Rattle.std.proofs.Common.{◌≡◌, ℕ, true, ◌&&◌, List, [], ◌∷◌, length, refl, arith, inl, inr}
-use Rattle.std.proofs.lemmas.{Bool.and_parts, Bool.cases_lt, Bool.eqb-true, List.get_or_past, List.Elements.All-nil, List.Elements.All-cons}
-use Rattle.std.specs.List.{All, list_all, slice_index_or}
-use Rattle.spin_base.specs.declared.copies.McCopy.{McCopy}
-use Rattle.mesh_core.specs.{State.State, State.input, State.core, State.nowhere, Expected.IsAtRest}
-use Rattle.mesh_round.specs.{RoundFlow.HasNoHand, OnThreads.HasSome, OnThreads.holds_none, OnThreads.has_none}
+use Rattle.mesh_round.proofs.Common.{All, All-cons, All-nil, HasNoHand, HasSome, IsAtRest, List, McCopy, State, [], and_parts, arith, cases_lt, core, eqb-true, get_or_past, has_none, holds_none, inl}
+use Rattle.mesh_round.proofs.Common.{input, inr, length, list_all, nowhere, refl, slice_index_or, true, ℕ, ◌&&◌, ◌∷◌, ◌≡◌}
 
 no_copies : (q : List McCopy) → holds_none q ≡ true → q ≡ []
 no_copies [] is = refl

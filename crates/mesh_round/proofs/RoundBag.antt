@@ -1,20 +1,12 @@
 -- What passes the queues of a mesh in a round is a bag of moves.
-use Rattle.std.proofs.Common.{◌≡◌, ◌≢◌, ℕ, ◌+◌, ◌*◌, ◌/◌, ◌%◌, ◌<◌, ◌≤◌, Bool, true, false, cond, ◌==◌, List, [], ◌∷◌, ◌++◌, map, filter, Some, None, length, suc, refl, ap, ap₂, sym, ◌∙◌, subst}
-use Rattle.std.proofs.Common.{arith, inl, inr, count_by, if◌then◌else◌, append-nil, zero-add}
-use Rattle.std.proofs.lemmas.{Bool.cases_Bool, Bool.eqb-true, List.map-append, List.length-map, List.Elements.All-contains, List.Sums.sum_by-cons, List.Sums.sum_by-append, List.Sums.length-filter}
-use Rattle.std.proofs.lemmas.{List.Sums.count_by-le-length, List.Sorted.sum_by-IsPermutation, Option.slice_get_within}
-use Rattle.std.specs.List.{All, sum_by, range_with_len, slice_get, slice_index_or}
-use Rattle.spin_base.specs.{Gathered.gathered, declared.chips.Chip.Chip, declared.chips.Spot.Spot, declared.chips.Port.TheVariants.Local, declared.routes.Out.Out, declared.copies.McCopy.McCopy}
-use Rattle.spin_base.specs.{declared.copies.Delivery.Delivery, declared.copies.DumpRec.DumpRec, Equality.chip_eq, Equality.out_eq, Outputs.all_outs, Outputs.IsOutput, Hops.last_hop, Hops.onward}
-use Rattle.spin_base.proofs.{Counts.count_by-append, Gathering.gathered_of_none, Members.Among, Members.among_contains, Members.among_map, Members.among_left, Members.Contains-filter}
-use Rattle.spin_base.proofs.{Members.map_among, Members.contains_among, Places.All-at, Places.slice_get_there, Equality.nat_eq_same, Equality.chip_eq_true, Equality.out_eq_true, Once.all_once}
-use Rattle.machine_desc.specs.Live.{chip_of, IsLiveChip, IsSite}
-use Rattle.machine_desc.proofs.{Far.live_inside, Sites.site_parts}
-use Rattle.mesh_core.specs.{State.Setup, State.State, State.IsMesh, State.Queue, State.input, State.core, State.nowhere, State.behind, Step.outputs, Trail.Station, Trail.unsent, Trail.in_queue}
-use Rattle.mesh_core.specs.{Trail.in_hand, Trail.at_core, Trail.delivered, Trail.dumped, Trail.Mark, Ledger.marks_of, Ledger.marks_at, Ledger.hand_marks, Ledger.port_of, Ledger.unsent_marks}
-use Rattle.mesh_core.specs.Ledger.{input_marks, all_hand_marks, core_marks, delivered_marks, dumped_marks}
-use Rattle.mesh_core.proofs.{Moves.mark, Moves.IsMoveOf, LedgerLaw.Bag, LedgerLaw.Moved, LedgerLaw.count_left, LedgerLaw.count_come, Counting.counted}
-use Rattle.mesh_round.specs.RoundFlow.{Flow, Passes, at_port, sent_on, of_chip, delivered_to, HasNoHand, HasMoved}
+use Rattle.mesh_round.proofs.Common.{All, All-at, All-contains, Among, Bag, Bool, Chip, Contains-filter, Delivery, DumpRec, Flow, HasMoved, HasNoHand, IsLiveChip, IsMesh, IsMoveOf, IsOutput, IsSite}
+use Rattle.mesh_round.proofs.Common.{List, Local, Mark, McCopy, Moved, None, Out, Passes, Queue, Setup, Some, Spot, State, Station, [], all_hand_marks, all_once, all_outs, among_contains, among_left}
+use Rattle.mesh_round.proofs.Common.{among_map, ap, append-nil, ap₂, arith, at_core, at_port, behind, cases_Bool, chip_eq, chip_eq_true, chip_of, cond, contains_among, core, core_marks, count_by}
+use Rattle.mesh_round.proofs.Common.{count_by-append, count_by-le-length, count_come, count_left, counted, delivered, delivered_marks, delivered_to, dumped, dumped_marks, eqb-true, false, filter}
+use Rattle.mesh_round.proofs.Common.{gathered, gathered_of_none, hand_marks, if◌then◌else◌, in_hand, in_queue, inl, input, input_marks, inr, last_hop, length, length-filter, length-map, live_inside}
+use Rattle.mesh_round.proofs.Common.{map, map-append, map_among, mark, marks_at, marks_of, nat_eq_same, nowhere, of_chip, onward, out_eq, out_eq_true, outputs, port_of, range_with_len, refl, sent_on}
+use Rattle.mesh_round.proofs.Common.{site_parts, slice_get, slice_get_there, slice_get_within, slice_index_or, subst, suc, sum_by, sum_by-IsPermutation, sum_by-append, sum_by-cons, sym, true, unsent}
+use Rattle.mesh_round.proofs.Common.{unsent_marks, zero-add, ℕ, ◌%◌, ◌*◌, ◌++◌, ◌+◌, ◌/◌, ◌<◌, ◌==◌, ◌∙◌, ◌∷◌, ◌≡◌, ◌≢◌, ◌≤◌}
 use Rattle.mesh_round.proofs.{CountSums.part_of_sum, CountSums.part_of_sum_at, Sums.sum_agree, Sums.sum_none, Sums.sum_map, Sums.sum_filter, Sums.sum_swap, Sums.sum_plus, Sums.sum_gathered}
 use Rattle.mesh_round.proofs.{Sums.sum_at, Sums.sum_at-swap, Sums.one_passes, Balance.queues_balance, Balance.passing, Balance.passing_in, Sources.once_in_range, Sources.range_parts}
 use Rattle.mesh_round.proofs.{Sources.live_chips, Sources.live_of_live_chips, Sources.live_chip_once, Sources.choices, Sources.sum_sources, Entered.from, Entered.station_of, Entered.station_is}

@@ -1,17 +1,8 @@
 -- What was served at an output of a chip: each copy went on or was dumped.
-use Rattle.std.proofs.Common.{◌≡◌, ℕ, ◌+◌, ◌<◌, ◌≤◌, Bool, true, false, cond, if◌then◌else◌, ◌||◌, ◌==◌, List, [], ◌∷◌, ◌++◌, map, refl, sym, ap, ◌∙◌, subst, arith, inl, inr, count_by}
-use Rattle.std.proofs.lemmas.{Bool.cases_Bool, List.Sorted.IsPermutation-refl, List.Sorted.IsPermutation-sym, List.Sorted.IsPermutation-cons, List.Sorted.IsPermutation-trans}
-use Rattle.std.proofs.lemmas.List.Sorted.{IsPermutation-middle}
-use Rattle.std.specs.List.{filter, flat_map, list_any, Sorted.IsPermutation}
-use Rattle.spin_base.proofs.{Counts.count_by-cons, Members.Among, Members.among_map, Members.map_among, Once.outs_once}
-use Rattle.spin_base.specs.{declared.chips.Chip.Chip, declared.chips.Port.Port, declared.routes.Out.Out, declared.copies.McCopy.McCopy, Equality.out_eq, Hops.last_hop, Hops.onward, Lookup.lookup}
-use Rattle.spin_base.specs.Outputs.{IsOutput, outs_of}
-use Rattle.machine_desc.specs.RightTables.{table_at}
-use Rattle.chip_node.specs.{declared.ends.Served.Served, declared.ends.Served.TheVariants.Sent, declared.ends.Served.TheVariants.Dumped, Items.Service, Items.brought, Items.lost}
-use Rattle.mesh_core.specs.{State.Setup, Step.outputs}
-use Rattle.mesh_core.proofs.MarkTests.{below_last}
-use Rattle.mesh_run.specs.Played.{owed_on}
-use Rattle.mesh_round.specs.RoundFlow.{leaves_by}
+use Rattle.mesh_round.proofs.Common.{Among, Bool, Chip, Dumped, IsOutput, IsPermutation, IsPermutation-cons, IsPermutation-middle, IsPermutation-refl, IsPermutation-sym, IsPermutation-trans, List}
+use Rattle.mesh_round.proofs.Common.{McCopy, Out, Port, Sent, Served, Service, Setup, [], among_map, ap, arith, below_last, brought, cases_Bool, cond, count_by, count_by-cons, false, filter, flat_map}
+use Rattle.mesh_round.proofs.Common.{if◌then◌else◌, inl, inr, last_hop, leaves_by, list_any, lookup, lost, map, map_among, onward, out_eq, outputs, outs_of, outs_once, owed_on, refl, subst, sym}
+use Rattle.mesh_round.proofs.Common.{table_at, true, ℕ, ◌++◌, ◌+◌, ◌<◌, ◌==◌, ◌||◌, ◌∙◌, ◌∷◌, ◌≡◌, ◌≤◌}
 use Rattle.mesh_round.proofs.Joined.{among_flat, filter-flat, flat_same, map-flat}
 
 -- ---- what became of it

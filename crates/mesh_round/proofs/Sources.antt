@@ -1,18 +1,9 @@
 -- Each queue into which copies come has one source: an output of a live chip, or the cores of one. So what entered the queues
 -- behind all sources is what entered all queues.
-use Rattle.std.proofs.Common.{◌≡◌, ℕ, ◌+◌, ◌*◌, ◌<◌, ◌≤◌, suc, zero, Bool, true, false, cond, ◌==◌, ◌&&◌, List, ◌∷◌, map, Option, Some, None, refl, ap, sym, ◌∙◌, arith, inl, inr, count_by}
-use Rattle.std.proofs.lemmas.{Bool.cases_Bool, Bool.eqb-true, List.Sums.sum_by-cons}
-use Rattle.std.specs.List.{sum_by, filter, range_with_len}
-use Rattle.spin_base.specs.Gathered.{gathered}
-use Rattle.spin_base.specs.declared.{chips.Chip.Chip, routes.Out.Out}
-use Rattle.spin_base.specs.Equality.{chip_eq, out_eq}
-use Rattle.spin_base.specs.Outputs.{all_outs, IsOutput}
-use Rattle.spin_base.proofs.{Members.Among, Members.among_filter, Tests.answers_none}
-use Rattle.spin_base.proofs.Equality.{nat_eq_same, chip_eq_same, chip_eq_true, out_eq_same, out_eq_true}
-use Rattle.spin_base.proofs.Once.{all_once}
-use Rattle.machine_desc.specs.Description.{Description}
-use Rattle.machine_desc.specs.Live.{index_of, chip_of, grid_chips, is_live_chip, IsLiveChip}
-use Rattle.machine_desc.proofs.{Far.live_inside, Far.index_below, Live.index_of-chip_of, Live.chip_of-index_of}
+use Rattle.mesh_round.proofs.Common.{Among, Bool, Chip, Description, IsLiveChip, IsOutput, List, None, Option, Out, Some, all_once, all_outs, among_filter, answers_none, ap, arith, cases_Bool}
+use Rattle.mesh_round.proofs.Common.{chip_eq, chip_eq_same, chip_eq_true, chip_of, chip_of-index_of, cond, count_by, eqb-true, false, filter, gathered, grid_chips, index_below, index_of}
+use Rattle.mesh_round.proofs.Common.{index_of-chip_of, inl, inr, is_live_chip, live_inside, map, nat_eq_same, out_eq, out_eq_same, out_eq_true, range_with_len, refl, suc, sum_by, sum_by-cons, sym}
+use Rattle.mesh_round.proofs.Common.{true, zero, ℕ, ◌&&◌, ◌*◌, ◌+◌, ◌<◌, ◌==◌, ◌∙◌, ◌∷◌, ◌≡◌, ◌≤◌}
 use Rattle.mesh_round.proofs.Sums.{sum_agree, sum_none, sum_filter, sum_map, sum_gathered, sum_at-plain}
 pub use Rattle.mesh_run.proofs.OutputBits.{range_parts}
 

@@ -1,9 +1,6 @@
 -- Sums over lists: exchanged, and carried from one list to another along a test that pairs their items.
-use Rattle.std.proofs.Common.{◌≡◌, ℕ, ◌+◌, List, [], ◌∷◌, map, Bool, true, cond, refl, ap, sym, ◌∙◌, arith, inl, inr, ◌⊎◌, count_by}
-use Rattle.std.proofs.lemmas.{Bool.cases_Bool, List.Sums.sum_by-cons, List.Sums.sum_by-append}
-use Rattle.std.specs.List.{sum_by, filter}
-use Rattle.spin_base.specs.Gathered.{gathered}
-use Rattle.spin_base.proofs.Members.{Among}
+use Rattle.mesh_round.proofs.Common.{Among, Bool, List, [], ap, arith, cases_Bool, cond, count_by, filter, gathered, inl, inr, map, refl, sum_by, sum_by-append, sum_by-cons, sym, true, ℕ, ◌+◌, ◌∙◌}
+use Rattle.mesh_round.proofs.Common.{◌∷◌, ◌≡◌, ◌⊎◌}
 
 pub sum_agree : {X : Type 0} (f g : X → ℕ) (xs : List X) → ((x : X) → Among x xs → f x ≡ g x) → sum_by f xs ≡ sum_by g xs
 sum_agree f g [] same = refl

@@ -1,19 +1,11 @@
 -- What all routers took, output by output: it crossed an output or was dumped there.
-use Rattle.std.proofs.Common.{◌≡◌, ℕ, ◌+◌, ◌*◌, ◌/◌, ◌%◌, ◌<◌, Bool, true, false, cond, ◌==◌, ◌&&◌, List, [], ◌∷◌, ◌++◌, map, filter, refl, ap, ap₂, sym, ◌∙◌, subst, arith, inl, inr, ◌⊎◌, count_by}
-use Rattle.std.proofs.lemmas.{Bool.cases_Bool, Bool.and_from, Bool.and_parts, Bool.eqb-true, Option.get_or_from_slice_get, List.Elements.All-contains}
-use Rattle.std.specs.{Cmp.both_ways, List.sum_by, List.range_with_len}
-use Rattle.spin_base.specs.{Gathered.gathered, declared.chips.Chip.Chip, declared.chips.Dir.Dir, declared.chips.Dir.TheVariants.East, declared.chips.Dir.TheVariants.NorthEast}
-use Rattle.spin_base.specs.declared.chips.{Dir.TheVariants.North, Dir.TheVariants.West, Dir.TheVariants.SouthWest, Dir.TheVariants.South, Port.Port, Port.TheVariants.Local}
-use Rattle.spin_base.specs.{declared.routes.Out.Out, declared.copies.McCopy.McCopy, declared.copies.DumpRec.DumpRec, Links.port_number, Equality.chip_eq, Equality.port_eq, Equality.out_eq}
-use Rattle.spin_base.specs.{Outputs.all_outs, Outputs.IsOutput, Hops.last_hop}
-use Rattle.spin_base.specs.declared.chips.Port.TheVariants.{Link as ByLink}
-use Rattle.spin_base.proofs.{Members.Among, Members.among_contains, Members.among_map, Members.among_at, Gathering.among_gathered, Tests.answers_none, Equality.nat_eq_same, Equality.chip_eq_same}
-use Rattle.spin_base.proofs.{Equality.chip_eq_true, Equality.port_eq_same, Equality.port_eq_true, Equality.out_eq_true, Once.all_once}
-use Rattle.machine_desc.specs.Live.{index_of, chip_of, is_live_chip, is_live_link, IsInside, IsLiveChip}
-use Rattle.machine_desc.proofs.{Far.live_inside, Far.live_ends, Live.chip_of-inside, Live.index_of-chip_of, Live.chip_of-index_of}
-use Rattle.mesh_core.specs.{State.Setup, State.State, State.IsMesh, State.Queue, State.input, State.behind, State.queue_at, Step.outputs, Trail.in_hand, Trail.Mark, Ledger.all_ports, Ledger.port_of}
-use Rattle.mesh_core.proofs.{Changes.port_below, Changes.queue_at-below, Moves.mark, Moves.port_of-port_number}
-use Rattle.mesh_round.specs.RoundFlow.{Flow, Passes, at_port, leaves_by, taken_for, dumped_at, held_in}
+use Rattle.mesh_round.proofs.Common.{All-contains, Among, Bool, ByLink, Chip, Dir, DumpRec, East, Flow, IsInside, IsLiveChip, IsMesh, IsOutput, List, Local, Mark, McCopy, North, NorthEast, Out}
+use Rattle.mesh_round.proofs.Common.{Passes, Port, Queue, Setup, South, SouthWest, State, West, [], all_once, all_outs, all_ports, among_at, among_contains, among_gathered, among_map, and_from}
+use Rattle.mesh_round.proofs.Common.{and_parts, answers_none, ap, ap₂, arith, at_port, behind, both_ways, cases_Bool, chip_eq, chip_eq_same, chip_eq_true, chip_of, chip_of-index_of, chip_of-inside}
+use Rattle.mesh_round.proofs.Common.{cond, count_by, dumped_at, eqb-true, false, filter, gathered, get_or_from_slice_get, held_in, in_hand, index_of, index_of-chip_of, inl, input, inr, is_live_chip}
+use Rattle.mesh_round.proofs.Common.{is_live_link, last_hop, leaves_by, live_ends, live_inside, map, mark, nat_eq_same, out_eq, out_eq_true, outputs, port_below, port_eq, port_eq_same, port_eq_true}
+use Rattle.mesh_round.proofs.Common.{port_number, port_of, port_of-port_number, queue_at, queue_at-below, range_with_len, refl, subst, sum_by, sym, taken_for, true, ℕ, ◌%◌, ◌&&◌, ◌*◌, ◌++◌, ◌+◌, ◌/◌}
+use Rattle.mesh_round.proofs.Common.{◌<◌, ◌==◌, ◌∙◌, ◌∷◌, ◌≡◌, ◌⊎◌}
 use Rattle.mesh_round.proofs.Sums.{sum_agree, sum_none, sum_map, sum_filter, sum_swap, sum_plus, sum_gathered, sum_at-plain, one_passes, carried}
 use Rattle.mesh_round.proofs.{Ends.one_port, Sources.once_in_range, Sources.range_parts, Sources.live_chips, Sources.live_of_live_chips, Sources.live_chip_once, Entered.numbered_port, Entered.has_bit}
 use Rattle.mesh_round.proofs.Weights.{one_where, back, sum_outputs, taken_is}

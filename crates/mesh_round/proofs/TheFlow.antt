@@ -1,11 +1,7 @@
 -- The flow of a round on threads, as what was done tells it.
-use Rattle.std.proofs.Common.{◌≡◌, ℕ, ◌+◌, ◌*◌, ◌<◌, List, [], length, replicate, Some, None, refl, sym, ap, ◌∙◌, arith, inl, inr}
-use Rattle.std.proofs.lemmas.{Bool.cases_lt, List.get_or_append_left, List.get_or-append-add, List.get_or_past, Option.same_Some}
-use Rattle.chip_node.specs.Items.{Item, deliveries, entered, left, records, sent_by}
-use Rattle.mesh_core.specs.State.{Setup, State, IsMesh, Queue, input, core, nowhere}
-use Rattle.mesh_core.proofs.Keeping.{core_is_somewhere, input_is_somewhere}
-use Rattle.mesh_run.specs.Played.{held_at, port_count, queue_place_of, vertex_place, IsPlayedBy, QueueGoes}
-use Rattle.mesh_round.specs.RoundFlow.{Flow, HasNoHand, IsQueueOf, capacity_of, held_in}
+use Rattle.mesh_round.proofs.Common.{Flow, HasNoHand, IsMesh, IsPlayedBy, IsQueueOf, Item, List, None, Queue, QueueGoes, Setup, Some, State, [], ap, arith, capacity_of, cases_lt, core}
+use Rattle.mesh_round.proofs.Common.{core_is_somewhere, deliveries, entered, get_or-append-add, get_or_append_left, get_or_past, held_at, held_in, inl, input, input_is_somewhere, inr, left, length}
+use Rattle.mesh_round.proofs.Common.{nowhere, port_count, queue_place_of, records, refl, replicate, same_Some, sent_by, sym, vertex_place, ℕ, ◌*◌, ◌+◌, ◌<◌, ◌∙◌, ◌≡◌}
 
 -- a round on threads from a mesh without a hand
 pub record Round : Type 0 where

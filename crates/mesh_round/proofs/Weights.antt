@@ -1,14 +1,8 @@
 -- What a router took, by output: each copy that lookup gives an output crosses it or is dumped there.
-use Rattle.std.proofs.Common.{◌≡◌, ℕ, ◌+◌, ◌-◌, ◌<◌, ◌≤◌, Bool, true, false, cond, ◌==◌, if◌then◌else◌, List, [], ◌++◌, map, filter, refl, ap, sym, subst, arith}
-use Rattle.std.proofs.lemmas.List.{Elements.All-contains, Sums.sum_by-append, Sorted.sum_by-IsPermutation, Sorted.All-permutation}
-use Rattle.std.specs.List.{All, sum_by, list_any}
-use Rattle.spin_base.proofs.Members.{Among, among_contains, contains_among, among_map, among_filter, among_any, any_among, among_left, Contains-filter}
-use Rattle.spin_base.proofs.{Places.All-each, Gathering.among_gathered, Tests.answers_none, Equality.out_eq_same, Equality.out_eq_true}
-use Rattle.spin_base.specs.{declared.chips.Chip.Chip, declared.chips.Port.Port, declared.routes.Out.Out, declared.copies.McCopy.McCopy, Equality.out_eq, Lookup.lookup, Outputs.has, Outputs.outs_of}
-use Rattle.spin_base.specs.{Outputs.all_outs, Outputs.IsOutput, Hops.last_hop, Hops.onward}
-use Rattle.machine_desc.specs.{Live.IsLiveChip, RightTables.table_at}
-use Rattle.mesh_core.specs.{State.Setup, State.State, State.behind, Step.outputs, Ledger.all_ports}
-use Rattle.mesh_round.specs.RoundFlow.{Flow, Passes, at_port, leaves_by, taken_for, dumped_at}
+use Rattle.mesh_round.proofs.Common.{All, All-contains, All-each, All-permutation, Among, Bool, Chip, Contains-filter, Flow, IsLiveChip, IsOutput, List, McCopy, Out, Passes, Port, Setup, State, []}
+use Rattle.mesh_round.proofs.Common.{all_outs, all_ports, among_any, among_contains, among_filter, among_gathered, among_left, among_map, answers_none, any_among, ap, arith, at_port, behind, cond}
+use Rattle.mesh_round.proofs.Common.{contains_among, dumped_at, false, filter, has, if◌then◌else◌, last_hop, leaves_by, list_any, lookup, map, onward, out_eq, out_eq_same, out_eq_true, outputs}
+use Rattle.mesh_round.proofs.Common.{outs_of, refl, subst, sum_by, sum_by-IsPermutation, sum_by-append, sym, table_at, taken_for, true, ℕ, ◌++◌, ◌+◌, ◌-◌, ◌<◌, ◌==◌, ◌≡◌, ◌≤◌}
 use Rattle.mesh_round.proofs.Sums.{sum_agree, sum_none, sum_map, sum_filter}
 
 abbrev pub one_where : Bool → ℕ

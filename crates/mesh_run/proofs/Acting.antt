@@ -1,20 +1,11 @@
 -- What one turn of the actor at a place does to a share, and turns one after the other.
-use Rattle.std.proofs.Common.{◌≡◌, ◌≢◌, ◌⊎◌, ℕ, ◌+◌, ◌*◌, ◌/◌, ◌%◌, ◌<◌, ◌≤◌, Bool, true, false, List, [], ◌++◌, length, Option, None, Some, refl, sym, ap, ◌∙◌, subst, arith, inl, inr}
-use Rattle.std.proofs.lemmas.{List.Elements.All-append, List.Elements.All-nil, List.Elements.All-weaker, Bool.cases_eq, Nat.div-add-mod', Nat.mod_below, Option.slice_get_within}
-use Rattle.std.specs.List.{All, slice_get}
-use Rattle.spin_base.proofs.Places.{All-each, both_none}
-use Rattle.spin_base.specs.{declared.routes.Out.Out, declared.routes.Out.TheVariants.Link, declared.routes.Out.TheVariants.Core, Links.port_number, Outputs.out_number, Outputs.IsOutput}
-use Rattle.machine_desc.specs.Live.{chip_of, index_of}
-use Rattle.machine_desc.proofs.{Far.live_inside, Live.index_of-chip_of}
-use Rattle.link_queue.specs.declared.links.Link.{Link as QueueLink}
-use Rattle.chip_node.specs.declared.holdings.{Holdings.Holdings, Turn.Turn, Turn.TheVariants.Moved, Turn.TheVariants.Nothing, Turn.TheVariants.Waits}
-use Rattle.chip_node.specs.{declared.nodes.Behind.Behind, declared.nodes.CoreBank.CoreBank, declared.nodes.RouterNode.RouterNode, Acting.place_in, Acting.BankActs, Acting.IsReadyBank}
-use Rattle.chip_node.specs.{Acting.IsReadyRouter, Acting.RouterActs, Acting.place_at_router, Going.AreEndsOf, Going.Goes, Going.HoldsSender, Going.Stays, Items.Item, Items.injection_place}
-use Rattle.chip_node.specs.Items.{port_place}
-use Rattle.chip_node.proofs.{Flows.goes_none, Flows.goes_on, Flows.holds_sender_on, Stays.stays_same}
-use Rattle.mesh_core.specs.State.{Setup}
-use Rattle.mesh_run.specs.{declared.shares.Share.Share, Floors.grid_size, Floors.IsBankOf, Floors.IsRouterOf, Played.place_behind, Played.IsLiveIndex, Shares.actor_of, Shares.bank_place}
-use Rattle.mesh_run.specs.Shares.{router_place, ActsAt, AreOf, DoesAt, IsInRun, IsNoted, IsShareOf, MovesAt, PlaysOne, PlaysRound, PlaysTurns, SharePlays}
+use Rattle.mesh_run.proofs.Common.{ActsAt, All, All-append, All-each, All-nil, All-weaker, AreEndsOf, AreOf, BankActs, Bool, Core, CoreBank, DoesAt, Goes, Holdings, HoldsSender, IsBankOf, IsInRun}
+use Rattle.mesh_run.proofs.Common.{IsLiveIndex, IsNoted, IsOutput, IsReadyBank, IsReadyRouter, IsRouterOf, IsShareOf, Item, List, Moved, MovesAt, Nothing, Out, PlaysOne, PlaysRound, PlaysTurns}
+use Rattle.mesh_run.proofs.Common.{QueueLink, RouterActs, RouterNode, Setup, Share, SharePlays, Some, Stays, Turn, Waits, [], actor_of, ap, arith, bank_place, both_none, cases_eq, chip_of}
+use Rattle.mesh_run.proofs.Common.{div-add-mod', false, goes_none, goes_on, grid_size, holds_sender_on, index_of, index_of-chip_of, injection_place, inl, inr, length, live_inside, mod_below}
+use Rattle.mesh_run.proofs.Common.{out_number, place_at_router, place_behind, port_number, port_place, refl, router_place, slice_get_within, stays_same, subst, sym, true, ℕ, ◌%◌, ◌*◌, ◌++◌, ◌+◌, ◌/◌}
+use Rattle.mesh_run.proofs.Common.{◌<◌, ◌∙◌, ◌≡◌, ◌≢◌, ◌≤◌, ◌⊎◌}
+use Rattle.spin_base.specs.declared.routes.Out.TheVariants.{Link}
 use Rattle.mesh_run.proofs.{Apart.not_to_itself, Apart.one_output, Turns.IsNotOf, Turns.bank_by, Turns.bank_turns, Turns.routed_by, Turns.routed_some, Turns.routed_turns, Turns.turns_beside}
 use Rattle.mesh_run.proofs.Turns.{turns_none, turns_on}
 
@@ -27,13 +18,6 @@ pub odd_place : (at : ℕ) → at % 2 ≢ 0 → bank_place (at / 2) ≡ at
 odd_place at odd = omega (arith, odd, div-add-mod' at 2, mod_below at 2 (omega arith))
 
 -- ---- what a share has for an actor
-
-something : (x : Option (Option Behind)) (q : ℕ) → place_in x ≡ Some q → (y : Option Behind) × (x ≡ Some y)
-something None q is = absurd (none_some is)
-  where
-    none_some : None ≡ Some q → ⊥
-    none_some same = cc
-something (Some y) q is = (y, refl)
 
 bit_within : (o : Out) → out_number o < 24 → IsOutput o
 bit_within (Link d) below = tt
@@ -84,9 +68,6 @@ module _ (u : Setup) (links : List QueueLink) (s : Share) where
     banks = λ i live within. holds_sender_on cap patience s.hold t.hold items (injection_place i) goes (share.banks i live (was_in t from to within));
     ends = ends;
   }
-
-  pub share_same : (t : Share) → t.from ≡ s.from → t.to ≡ s.to → t.hold ≡ s.hold → IsShareOf u links s → IsShareOf u links t
-  share_same t from to hold share = grind (arith, was_in)
 
 -- ---- what a turn does
 
@@ -202,13 +183,7 @@ module _ (u : Setup) (patience : ℕ) where
         | inr other ↦ inr (All-weaker (λ x. actor_of x ≡ at) (λ x. actor_of x ≢ a) (λ x is same. other (sym same ∙ is)) k.items k.of_it)
       ]
 
-  pub each_turns : (start now : Share) (at : ℕ) → OneEach start at now → PlaysTurns u patience 1 start now
-  each_turns start now at h = record { items = h.items; plays = h.plays; noted = h.noted }
-
   -- ---- turns of a round
-
-  pub round_none : (s t : Share) → t.from ≡ s.from → t.to ≡ s.to → t.hold ≡ s.hold → t.moved ≡ false → PlaysRound u patience 0 s t
-  round_none s t from to hold moved = record { items = []; plays = plays_none 0 s t from to hold; noted = noted_none false t.moved moved }
 
   pub round_more : (n : ℕ) (a b c : Share) → PlaysRound u patience n a b → PlaysTurns u patience 1 b c → PlaysRound u patience (n + 1) a c
   round_more n a b c h k = record {

@@ -1,19 +1,10 @@
 -- The shares of a split mesh, with the ends of the links between them dealt: each share holds what its actors need.
-use Rattle.std.proofs.Common.{◌≡◌, ◌≢◌, ℕ, ◌*◌, ◌<◌, ◌≤◌, List, [], ◌++◌, length, map, get_or, Option, Some, refl, sym, ap, ◌∙◌, subst, arith, inl, inr, zero, suc}
-use Rattle.std.proofs.lemmas.{Bool.cases_eq, List.length-map, Option.get_or_from_slice_get, Option.slice_get_within, Option.slice_get-get_or, Option.same_Some}
-use Rattle.std.specs.List.{All, slice_get, slice_index_or}
-use Rattle.spin_base.proofs.{Places.one_item_at, Places.slice_get-mapped, Places.slice_get_there, Spots.out_of-has_bit}
-use Rattle.spin_base.specs.{Outputs.IsOutput, WithRoom.WithRoom, declared.copies.McCopy.McCopy, declared.routes.Out.Out}
+use Rattle.mesh_run.proofs.Common.{All, AreCuts, AreShareRuns, Away, Cut, Deals, End, HoldsSender, Home, IsEndOf, IsInRun, IsMesh, IsOutput, IsRaisedFrom, IsShareOf, IsUncut, Link, LinkEnds, List}
+use Rattle.mesh_run.proofs.Common.{McCopy, Option, Out, Own, RaisedMesh, Sends, Setup, Share, Some, State, Takes, WasUp, WithRoom, [], ap, arith, bank_place, cases_eq, chip_of, end_at, end_in, get_or}
+use Rattle.mesh_run.proofs.Common.{get_or_from_slice_get, grid_size, injection_place, inl, inr, length, length-map, live_inside, map, one_item_at, out_of-has_bit, refl, router_place, run_start}
+use Rattle.mesh_run.proofs.Common.{same_Some, slice_get, slice_get-get_or, slice_get-mapped, slice_get_there, slice_get_within, slice_index_or, subst, suc, sym, zero, ℕ, ◌*◌, ◌++◌, ◌<◌, ◌∙◌, ◌≡◌, ◌≢◌}
+use Rattle.mesh_run.proofs.Common.{◌≤◌}
 use Rattle.spin_base.specs.declared.routes.Out.TheVariants.{Link as ByLink}
-use Rattle.machine_desc.specs.Live.{chip_of}
-use Rattle.machine_desc.proofs.Far.{live_inside}
-use Rattle.link_queue.specs.declared.links.{Link.Link, LinkEnds.LinkEnds}
-use Rattle.chip_node.specs.declared.ends.End.{End, TheVariants.Away, TheVariants.Own, TheVariants.Sends, TheVariants.Takes}
-use Rattle.chip_node.specs.{Going.HoldsSender, Going.IsEndOf, Items.injection_place}
-use Rattle.mesh_core.specs.State.{IsMesh, Setup, State}
-use Rattle.mesh_run.specs.{declared.homes.Cut.Cut, declared.homes.Home.Home, declared.raised.RaisedMesh.RaisedMesh, declared.shares.Share.Share, Crossing.AreCuts, Crossing.Deals, Crossing.IsUncut}
-use Rattle.mesh_run.specs.{Floors.grid_size, Homes.AreShareRuns, Homes.run_start, Queues.WasUp, Raised.IsRaisedFrom, Shares.bank_place, Shares.router_place, Shares.IsInRun, Shares.IsShareOf}
-use Rattle.mesh_run.specs.Split.{end_at, end_in}
 use Rattle.mesh_run.proofs.{Feeding.LeadsTo, Feeding.by_link, Feeding.leads, Feeding.place_below, Feeding.to_vertex, FloorLaws.live_below}
 
 -- an output that leads somewhere has a bit

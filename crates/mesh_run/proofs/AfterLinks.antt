@@ -1,11 +1,6 @@
 -- After a whole round the links are up for the queues of the cuts, and nothing is logged in the shares.
-use Rattle.std.proofs.Common.{◌≡◌, ℕ, ◌<◌, List, [], ◌++◌, length, map, get_or, refl, sym, ◌∙◌, arith}
-use Rattle.mesh_run.specs.Queues.{IsUp}
-use Rattle.std.proofs.Common.{subst}
-use Rattle.std.proofs.lemmas.{List.get_or_default, List.length-map, Option.get_or_from_slice_get, Option.slice_get_within, Option.slice_get-get_or}
-use Rattle.spin_base.proofs.Places.{slice_get-mapped, slice_get_there}
-use Rattle.spin_base.specs.declared.copies.McCopy.{McCopy}
-use Rattle.mesh_run.specs.{declared.homes.Cut.Cut, Queues.queue_of_link, Queues.AreUp, Split.cut_queues, Split.HaveNoLogs}
+use Rattle.mesh_run.proofs.Common.{AreUp, Cut, HaveNoLogs, IsUp, List, McCopy, [], arith, cut_queues, get_or, get_or_default, get_or_from_slice_get, length, length-map, map, queue_of_link, refl}
+use Rattle.mesh_run.proofs.Common.{slice_get-get_or, slice_get-mapped, slice_get_there, slice_get_within, subst, sym, ℕ, ◌++◌, ◌<◌, ◌∙◌, ◌≡◌}
 use Rattle.mesh_run.proofs.{AfterMesh.mesh, AfterMesh.queue_there, Resting.fewer, WholeRound.Whole}
 
 module _ (w : Whole) where

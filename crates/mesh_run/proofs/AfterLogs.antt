@@ -1,6 +1,5 @@
 -- What all shares logged in a round is what their items tell.
-use Rattle.std.proofs.Common.{◌≡◌, ℕ, suc, ◌<◌, List, [], ◌∷◌, ◌++◌, length, get_or, refl, ap₂, arith}
-use Rattle.std.specs.List.{flat_map}
+use Rattle.mesh_run.proofs.Common.{List, [], ap₂, arith, flat_map, get_or, length, refl, suc, ℕ, ◌++◌, ◌<◌, ◌∷◌, ◌≡◌}
 
 -- lists with the same at each place make the same list
 pub flat_same : {X Z Y : Type 0} (f : X → List Y) (g : Z → List Y) (xs : List X) (zs : List Z) → length xs ≡ length zs →

@@ -1,11 +1,7 @@
 -- The mesh to which a whole round leads, and that it was played to it.
-use Rattle.std.proofs.Common.{◌≡◌, ℕ, ◌+◌, ◌-◌, ◌<◌, ◌≤◌, List, [], ◌∷◌, ◌++◌, length, get_or, refl, sym, ap, ◌∙◌, subst, arith, inl, inr}
-use Rattle.std.proofs.lemmas.{Bool.cases_lt, List.get_or_append_left, List.get_or-append_right, List.get_or_past, List.Elements.All-head, List.Elements.All-tail, Option.slice_get_within}
-use Rattle.std.specs.List.{All, slice_index_or}
-use Rattle.spin_base.specs.declared.copies.McCopy.{McCopy}
-use Rattle.chip_node.specs.Items.{Item, took, served, sent, got, deliveries, records, sent_by, sent_in}
-use Rattle.mesh_core.specs.State.{Setup, State}
-use Rattle.mesh_run.specs.Played.{port_count, IsDoneOn, IsPlayedBy}
+use Rattle.mesh_run.proofs.Common.{All, All-head, All-tail, IsDoneOn, IsPlayedBy, Item, List, McCopy, Setup, State, [], ap, arith, cases_lt, deliveries, get_or, get_or-append_right}
+use Rattle.mesh_run.proofs.Common.{get_or_append_left, get_or_past, got, inl, inr, length, port_count, records, refl, sent, sent_by, sent_in, served, slice_get_within, slice_index_or, subst, sym}
+use Rattle.mesh_run.proofs.Common.{took, ℕ, ◌++◌, ◌+◌, ◌-◌, ◌<◌, ◌∙◌, ◌∷◌, ◌≡◌, ◌≤◌}
 use Rattle.mesh_run.proofs.{Apart.elsewhere, EachQueue.AfterRound, EachQueue.queue_after, EachVertex.VertexAfter, EachVertex.vertex_after, Together.joined, Together.listed, WholeRound.Whole}
 use Rattle.mesh_run.proofs.WholeRound.{parts, whole_turns}
 

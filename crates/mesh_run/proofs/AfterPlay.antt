@@ -1,14 +1,8 @@
 -- The shares after the turns of a round: the ends that they hold can be collected, and there is room for what they logged.
-use Rattle.std.proofs.Common.{◌≡◌, ℕ, ◌<◌, ◌≤◌, List, [], ◌∷◌, length, map, get_or, Some, sym, ap, ◌∙◌, subst, arith, suc}
-use Rattle.std.proofs.lemmas.{List.get_or_default, List.Sums.sum_by-cons, Option.get_or_from_slice_get, Option.slice_get_within, Option.slice_get-get_or, Option.same_Some}
-use Rattle.std.specs.List.{All, slice_get, sum_by}
-use Rattle.spin_base.proofs.Places.{All-at, slice_get-mapped, slice_get_there}
-use Rattle.link_queue.specs.{declared.links.Link.Link, declared.links.LinkEnds.LinkEnds, Ends.cap_of, Ends.IsRx, Ends.IsTx}
-use Rattle.chip_node.specs.{declared.ends.End.End, declared.ends.End.TheVariants.Sends, declared.ends.End.TheVariants.Takes, declared.ends.InEnd.InEnd, declared.ends.OutEnd.OutEnd, Going.Goes}
-use Rattle.chip_node.specs.{Going.IsEndOf, Items.Item}
-use Rattle.mesh_core.specs.State.{IsMesh, State}
-use Rattle.mesh_run.specs.{declared.gathering.MeshLogs.MeshLogs, declared.raised.RaisedMesh.RaisedMesh, declared.shares.Share.Share, declared.standing.Standing.Standing, Crossing.AreLaid}
-use Rattle.mesh_run.specs.{Crossing.Deals, Crossing.HoldsCollected, Gathering.FitsLogs, Gathering.HasRoomForLogs, Queues.WasUp, Raised.IsRaisedFrom, Shares.PlaysAndStays, Split.end_at}
+use Rattle.mesh_run.proofs.Common.{All, All-at, AreLaid, Deals, End, FitsLogs, Goes, HasRoomForLogs, HoldsCollected, InEnd, IsEndOf, IsMesh, IsRaisedFrom, IsRx, IsTx, Item, Link, LinkEnds, List}
+use Rattle.mesh_run.proofs.Common.{MeshLogs, OutEnd, PlaysAndStays, RaisedMesh, Sends, Share, Some, Standing, State, Takes, WasUp, [], ap, arith, cap_of, end_at, get_or, get_or_default}
+use Rattle.mesh_run.proofs.Common.{get_or_from_slice_get, length, map, same_Some, slice_get, slice_get-get_or, slice_get-mapped, slice_get_there, slice_get_within, subst, suc, sum_by, sum_by-cons}
+use Rattle.mesh_run.proofs.Common.{sym, ℕ, ◌<◌, ◌∙◌, ◌∷◌, ◌≡◌, ◌≤◌}
 use Rattle.mesh_run.proofs.{AfterDeal.link_at, AfterDeal.link_up_at, AfterDeal.links_many, Together.PlayedParts, Together.listed, Together.sender_passes, Together.stood, Together.taker_passes}
 
 -- a sum of terms each of which is at most another one is at most the sum of these

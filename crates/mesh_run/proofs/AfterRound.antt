@@ -1,12 +1,6 @@
 -- What a whole round logged is what its items tell, and the mesh to which it leads is split as it was.
-use Rattle.std.proofs.Common.{◌≡◌, ℕ, ◌<◌, Bool, false, List, [], ◌∷◌, ◌++◌, length, get_or, refl, sym, ap, ap₂, ◌∙◌, subst, arith}
-use Rattle.std.proofs.Common.{suc}
-use Rattle.std.proofs.Common.{◌||◌}
-use Rattle.std.proofs.lemmas.{List.get_or_default, Option.slice_get-get_or}
-use Rattle.std.specs.{List.flat_map, List.list_any, Global.Vec}
-use Rattle.chip_node.specs.{Going.Goes, Items.Item, Items.deliveries, Items.delivered_of, Items.dumped_of, Items.records}
-use Rattle.mesh_run.specs.{declared.gathering.MeshLogs.MeshLogs, declared.raised.RaisedMesh.RaisedMesh, declared.shares.Share.Share, Gathering.IsAnyMoved, Raised.IsRaisedFrom, Raised.PlaysTo}
-use Rattle.mesh_run.specs.{Shares.IsNoted, Split.AreShared, Split.HaveNoLogs, Split.HoldLanes, Split.HoldUnsent}
+use Rattle.mesh_run.proofs.Common.{Bool, Goes, IsAnyMoved, IsRaisedFrom, Item, List, MeshLogs, PlaysTo, RaisedMesh, Share, Vec, [], ap, ap₂, arith, delivered_of, deliveries, dumped_of, flat_map}
+use Rattle.mesh_run.proofs.Common.{get_or, get_or_default, length, list_any, records, refl, slice_get-get_or, suc, sym, ℕ, ◌++◌, ◌<◌, ◌||◌, ◌∙◌, ◌∷◌, ◌≡◌}
 use Rattle.mesh_run.proofs.{AfterLinks.whole_no_logs, AfterLinks.whole_up, AfterLogs.flat_same, AfterMesh.mesh, AfterMesh.whole_played, AfterRuns.whole_shared, AfterSplit.whole_lanes}
 use Rattle.mesh_run.proofs.{AfterSplit.whole_unsent, Together.flat_map_joined, Together.joined, WholeRound.Whole, WholeRound.dealt_long, WholeRound.parts, WholeRound.played_parts}
 use Rattle.mesh_run.proofs.WholeRound.{whole_noted}

@@ -1,9 +1,5 @@
 -- After a whole round the shares have the runs that they had, and lists as long.
-use Rattle.std.proofs.Common.{◌≡◌, ℕ, length, get_or, Some, ◌∙◌, subst, arith}
-use Rattle.std.proofs.lemmas.Option.{get_or_from_slice_get, slice_get_within}
-use Rattle.std.specs.List.{slice_get}
-use Rattle.spin_base.proofs.Places.{slice_get_there}
-use Rattle.mesh_run.specs.{declared.shares.Share.Share, Shares.PlaysRound, Split.AreShared}
+use Rattle.mesh_run.proofs.Common.{AreShared, PlaysRound, Share, Some, arith, get_or, get_or_from_slice_get, length, slice_get, slice_get_there, slice_get_within, subst, ℕ, ◌∙◌, ◌≡◌}
 use Rattle.mesh_run.proofs.WholeRound.{Whole, dealt_long}
 
 same_unsent_long : (s t : Share) → t.hold.unsent ≡ s.hold.unsent → length t.hold.unsent.items ≡ length s.hold.unsent.items

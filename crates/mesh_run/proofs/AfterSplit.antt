@@ -1,10 +1,6 @@
 -- The mesh to which a whole round leads is split as it was: lanes, and what is unsent, stand in the shares of their homes.
-use Rattle.std.proofs.Common.{◌≡◌, ◌≢◌, ◌⊎◌, ℕ, zero, suc, ◌<◌, ◌≤◌, List, [], ◌∷◌, ◌++◌, length, Option, None, Some, refl, sym, ap, ◌∙◌, subst, arith, inl, inr}
-use Rattle.std.proofs.lemmas.{Bool.cases_eq, Bool.cases_lt, Option.slice_get_within}
-use Rattle.std.specs.List.{slice_get}
-use Rattle.chip_node.specs.declared.ends.End.TheVariants.{Away}
-use Rattle.mesh_run.specs.{declared.homes.Cut.Cut, declared.homes.Home.Home, declared.shares.Share.Share, Crossing.IsUncut, Played.vertex_place, Split.end_at, Split.unsent_in, Split.HoldLanes}
-use Rattle.mesh_run.specs.Split.{HoldUnsent}
+use Rattle.mesh_run.proofs.Common.{Away, Cut, HoldLanes, HoldUnsent, Home, IsUncut, List, None, Option, Share, Some, [], ap, arith, cases_eq, cases_lt, end_at, inl, inr, length, refl, slice_get}
+use Rattle.mesh_run.proofs.Common.{slice_get_within, subst, suc, sym, unsent_in, vertex_place, zero, ℕ, ◌++◌, ◌<◌, ◌∙◌, ◌∷◌, ◌≡◌, ◌≢◌, ◌≤◌, ◌⊎◌}
 use Rattle.mesh_run.proofs.{AfterMesh.after_unsent, AfterMesh.mesh, AfterMesh.queue_there, EachQueue.cleared_end, EachQueue.elsewhere, Together.none_passes, WholeRound.Whole, WholeRound.dealt_long}
 use Rattle.mesh_run.proofs.WholeRound.{parts, played_parts, uncut}
 

@@ -1,17 +1,9 @@
 -- Places of queues: behind an output of a chip stands a queue that no other output leads to, and that no chip injects into.
-use Rattle.std.proofs.Common.{◌≡◌, ℕ, ◌<◌, true, false, List, [], length, Option, Some, None, refl, sym, ap, ◌∙◌, subst, arith, ◌∷◌, inl}
-use Rattle.std.proofs.lemmas.Option.{slice_get_within, same_Some}
-use Rattle.spin_base.proofs.{Members.Among, Equality.chip_eq_same}
-use Rattle.spin_base.specs.declared.chips.{Chip.Chip, Dir.Dir, Port.Port, Port.TheVariants.Link as ByLink, Port.TheVariants.Local}
-use Rattle.spin_base.specs.declared.routes.Out.{Out, TheVariants.Link}
-use Rattle.spin_base.specs.{Links.opposite_of, Outputs.out_of, Equality.chip_eq}
-use Rattle.machine_desc.specs.Live.{far_of, IsInside, IsLiveLink}
-use Rattle.machine_desc.proofs.Far.{far_inside, far_parts, live_back}
-use Rattle.chip_node.specs.Items.{where_same, where_there}
-use Rattle.mesh_core.specs.State.{Setup, input, core, behind, queue_at}
-use Rattle.mesh_core.proofs.Ways.{vertex_behind_stands}
+use Rattle.mesh_run.proofs.Common.{Among, ByLink, Chip, Dir, IsInside, IsLiveLink, List, Local, None, Option, Out, Port, Setup, Some, [], ap, arith, behind, chip_eq, chip_eq_same, core, false}
+use Rattle.mesh_run.proofs.Common.{far_inside, far_of, far_parts, inl, input, length, live_back, opposite_of, out_of, place_behind, queue_at, queue_place_of, refl, same_Some, slice_get_within, subst}
+use Rattle.mesh_run.proofs.Common.{sym, true, vertex_behind_stands, vertex_place, where_same, where_there, ℕ, ◌<◌, ◌∙◌, ◌∷◌, ◌≡◌}
+use Rattle.spin_base.specs.declared.routes.Out.TheVariants.{Link}
 pub use Rattle.chip_node.proofs.Placing.{where_here as here, where_other as elsewhere}
-use Rattle.mesh_run.specs.Played.{place_behind, queue_place_of, vertex_place}
 pub use Rattle.mesh_run.proofs.Feeding.{port_is_no_vertex}
 use Rattle.mesh_run.proofs.Ends.{leads, by_link, to_vertex, to_none, one_end, one_link, one_port}
 

@@ -1,9 +1,6 @@
 -- Links brought up, from the first list on.
-use Rattle.std.proofs.Common.{◌≡◌, ℕ, ◌+◌, ◌-◌, ◌<◌, ◌≤◌, List, [], ◌∷◌, ◌++◌, length, get_or, sym, ap, ◌∙◌, subst, arith, inl, inr}
-use Rattle.std.proofs.lemmas.{Bool.cases_eq, List.length-append, List.get_or_default, List.get_or_push, List.get_or_append_left}
-use Rattle.spin_base.specs.declared.copies.McCopy.{McCopy}
-use Rattle.link_queue.specs.declared.links.LinkEnds.{LinkEnds}
-use Rattle.mesh_run.specs.{declared.standing.Rising.Rising, Standing.RisenTo, Queues.AreUp, Queues.HasPlaces, Queues.IsUp, Queues.places_for}
+use Rattle.mesh_run.proofs.Common.{AreUp, HasPlaces, IsUp, LinkEnds, List, McCopy, RisenTo, Rising, [], ap, arith, cases_eq, get_or, get_or_append_left, get_or_default, get_or_push, inl, inr, length}
+use Rattle.mesh_run.proofs.Common.{length-append, places_for, subst, sym, ℕ, ◌++◌, ◌+◌, ◌-◌, ◌<◌, ◌∙◌, ◌∷◌, ◌≡◌, ◌≤◌}
 
 -- a link has the places with which it is made
 pub made_with : (cap turns held places : ℕ) → held ≤ cap → places ≡ places_for cap turns held → HasPlaces cap (turns + 1) held places

@@ -1,12 +1,8 @@
 -- Ends of links, dealt to shares and collected from them.
-use Rattle.std.proofs.Common.{◌≡◌, ℕ, ◌+◌, ◌<◌, ◌≤◌, List, map, length, get_or, set, Option, None, Some, refl, sym, ap, ◌∙◌, subst, arith, inl, inr}
-use Rattle.std.proofs.lemmas.{Bool.cases_eq, Option.get_or_from_slice_get, Option.none-some, Option.same_Some, Option.slice_get_within, List.length-map, List.length-set, List.map-set, List.same_lists}
-use Rattle.std.specs.List.{slice_get}
-use Rattle.spin_base.proofs.Places.{slice_get_there, slice_get-mapped, slice_get-set_same, slice_get-set_other, set-slice_get}
-use Rattle.link_queue.specs.declared.links.{LinkEnds.LinkEnds, Tx.Tx, Rx.Rx}
-use Rattle.chip_node.specs.declared.ends.End.{End, TheVariants.Away, TheVariants.Sends, TheVariants.Takes}
-use Rattle.mesh_run.specs.{declared.homes.Cut.Cut, declared.shares.Share.Share, declared.standing.Standing.Standing, Crossing.AreCuts, Crossing.AreLaid, Crossing.AreSameButEnds, Crossing.Deals}
-use Rattle.mesh_run.specs.{Crossing.HoldsCollected, Crossing.HoldsNoEnds, Crossing.IsLaid, Crossing.IsOfCut, Crossing.PutsEnd, Crossing.SameButEnds, Split.end_at, Split.end_in, Standing.HoldsAll}
+use Rattle.mesh_run.proofs.Common.{AreCuts, AreLaid, AreSameButEnds, Away, Cut, Deals, End, HoldsAll, HoldsCollected, HoldsNoEnds, IsLaid, IsOfCut, LinkEnds, List, None, Option, PutsEnd, Rx}
+use Rattle.mesh_run.proofs.Common.{SameButEnds, Sends, Share, Some, Standing, Takes, Tx, ap, arith, cases_eq, end_at, end_in, get_or, get_or_from_slice_get, inl, inr, length, length-map, length-set}
+use Rattle.mesh_run.proofs.Common.{map, map-set, none-some, refl, same_Some, same_lists, set, set-slice_get, slice_get, slice_get-mapped, slice_get-set_other, slice_get-set_same, slice_get_there}
+use Rattle.mesh_run.proofs.Common.{slice_get_within, subst, sym, ℕ, ◌+◌, ◌<◌, ◌∙◌, ◌≡◌, ◌≤◌}
 use Rattle.mesh_run.proofs.Holding.{only_ends}
 
 -- ---- lists of which each item is as the one at its place

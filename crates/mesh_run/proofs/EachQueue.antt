@@ -1,14 +1,7 @@
 -- What a whole round makes of each queue: a lane goes on in its share, and a link rests with what is left of its queue.
-use Rattle.std.proofs.Common.{◌≡◌, ◌≢◌, ℕ, ◌+◌, ◌<◌, ◌≤◌, min, List, [], ◌++◌, length, map, get_or, Option, Some, refl, sym, ap, ◌∙◌, subst, arith, inl, inr}
-use Rattle.std.proofs.lemmas.{Bool.cases_eq, List.length-map, List.Elements.All-append, Option.get_or_from_slice_get, Option.slice_get_within, Option.same_Some}
-use Rattle.std.specs.List.{slice_get}
-use Rattle.spin_base.proofs.Places.{slice_get-mapped, slice_get_there}
-use Rattle.spin_base.specs.{declared.copies.McCopy.McCopy, WithRoom.WithRoom}
-use Rattle.link_queue.specs.{declared.links.Link.Link, declared.links.LinkEnds.LinkEnds, Ends.cap_of}
-use Rattle.chip_node.specs.declared.ends.{End.End, End.TheVariants.Own, End.TheVariants.Sends, End.TheVariants.Takes, InEnd.InEnd, OutEnd.OutEnd}
-use Rattle.mesh_core.specs.State.{FitsQueue}
-use Rattle.mesh_run.specs.{declared.homes.Cut.Cut, declared.homes.Home.Home, declared.shares.Share.Share, Crossing.IsUncut, Played.held_at, Played.QueueGoes, Queues.queue_of_link, Queues.IsDown}
-use Rattle.mesh_run.specs.{Queues.IsUp, Split.cut_queues, Split.end_at, Split.end_in}
+use Rattle.mesh_run.proofs.Common.{All-append, Cut, End, FitsQueue, Home, InEnd, IsDown, IsUncut, IsUp, Link, LinkEnds, List, McCopy, Option, OutEnd, Own, QueueGoes, Sends, Share, Some, Takes}
+use Rattle.mesh_run.proofs.Common.{WithRoom, [], ap, arith, cap_of, cases_eq, cut_queues, end_at, end_in, get_or, get_or_from_slice_get, held_at, inl, inr, length, length-map, map, min, queue_of_link}
+use Rattle.mesh_run.proofs.Common.{refl, same_Some, slice_get, slice_get-mapped, slice_get_there, slice_get_within, subst, sym, ℕ, ◌++◌, ◌+◌, ◌<◌, ◌∙◌, ◌≡◌, ◌≢◌, ◌≤◌}
 use Rattle.mesh_run.proofs.{AfterDeal.homes_below, AfterDeal.no_end_of_cut, Filling.few_entered, Passing.lane_queue, Passing.link_queue, PlanLaws.fits_at, Together.joined, Together.lane_passes}
 use Rattle.mesh_run.proofs.{Together.sender_passes, Together.stood, Together.taker_passes, WholeRound.Whole, WholeRound.collected_same, WholeRound.dealt_long, WholeRound.dealt_same, WholeRound.parts}
 use Rattle.mesh_run.proofs.WholeRound.{played_parts, uncut, whole_turns}

@@ -1,11 +1,6 @@
 -- What a whole round makes of what is unsent: what a vertex sent was unsent before, where its queue is received.
-use Rattle.std.proofs.Common.{◌≡◌, ◌≢◌, ℕ, ◌<◌, List, [], ◌++◌, length, get_or, Option, Some, sym, ap, ◌∙◌, arith}
-use Rattle.std.proofs.lemmas.Option.{slice_get-get_or, same_Some}
-use Rattle.std.specs.List.{slice_get, slice_index_or}
-use Rattle.spin_base.proofs.Places.{both_none, slice_get_there}
-use Rattle.spin_base.specs.declared.copies.McCopy.{McCopy}
-use Rattle.chip_node.specs.Items.{sent_by, sent_in}
-use Rattle.mesh_run.specs.{declared.homes.Home.Home, declared.shares.Share.Share, Played.vertex_place, Split.unsent_at, Split.unsent_in}
+use Rattle.mesh_run.proofs.Common.{Home, List, McCopy, Option, Share, Some, [], ap, arith, both_none, get_or, length, same_Some, sent_by, sent_in, slice_get, slice_get-get_or, slice_get_there}
+use Rattle.mesh_run.proofs.Common.{slice_index_or, sym, unsent_at, unsent_in, vertex_place, ℕ, ◌++◌, ◌<◌, ◌∙◌, ◌≡◌, ◌≢◌}
 use Rattle.mesh_run.proofs.{EachQueue.home_below, Together.joined, Together.told_by_one, WholeRound.Whole, WholeRound.dealt_long, WholeRound.parts, WholeRound.played_parts}
 
 same_lists_unsent : (s t : Share) (v : ℕ) → t.hold.unsent ≡ s.hold.unsent → slice_index_or t.hold.unsent.items v [] ≡ slice_index_or s.hold.unsent.items v []

@@ -1,17 +1,9 @@
 -- Which queue is behind which output: each queue has at most one output that leads to it.
-use Rattle.std.proofs.Common.{arith}
-use Rattle.std.proofs.Common.{◌≡◌, ℕ, Bool, true, false, Option, Some, None, refl, ap, sym, ◌∙◌}
-use Rattle.std.specs.List.{slice_get}
-use Rattle.spin_base.specs.declared.chips.{Chip.Chip, Spot.Spot, Dir.Dir, Port.TheVariants.Link as ByLink}
-use Rattle.spin_base.specs.declared.routes.Out.{Out, TheVariants.Link, TheVariants.Core}
-use Rattle.spin_base.specs.{Links.opposite_of, Outputs.out_of}
-use Rattle.machine_desc.specs.Live.{far_of, is_live_link, IsInside, IsLiveLink}
-use Rattle.machine_desc.proofs.Far.{far_inside, far_back, live_ends, opposite_of-opposite}
-use Rattle.mesh_core.specs.State.{Setup, input, core, nowhere, behind, behind_link, core_queue_of, queue_at, vertex_behind}
+use Rattle.mesh_run.proofs.Common.{Bool, ByLink, Chip, Core, Dir, IsInside, IsLiveLink, None, Option, Out, Setup, Some, Spot, ap, arith, behind, behind_link, core, core_is_somewhere, core_queue_of}
+use Rattle.mesh_run.proofs.Common.{false, far_back, far_inside, far_of, input, input_is_no_core, input_is_somewhere, is_live_link, live_ends, nowhere, opposite_of, opposite_of-opposite, out_of}
+use Rattle.mesh_run.proofs.Common.{queue_at, refl, same_core, same_input, same_link, slice_get, sym, true, vertex_behind, vertex_behind_stands, ℕ, ◌∙◌, ◌≡◌}
+use Rattle.spin_base.specs.declared.routes.Out.TheVariants.{Link}
 pub use Rattle.mesh_core.proofs.Keeping.{same_queue as one_port}
-use Rattle.mesh_core.proofs.Keeping.{same_input, same_core, input_is_no_core, input_is_somewhere, core_is_somewhere}
-use Rattle.mesh_core.proofs.Ways.{vertex_behind_stands}
-use Rattle.spin_base.proofs.Spots.{same_link}
 
 -- Where an output leads: by a live link to the port at the far end, to a vertex, or nowhere.
 pub data Leads (u : Setup) (c : Chip) (o : Out) : Type 0 where

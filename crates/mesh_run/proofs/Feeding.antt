@@ -1,16 +1,8 @@
 -- Which queue is at which place: each place is fed by one output, or by the vertices of one chip, and emptied at one port or by one vertex.
-use Rattle.std.proofs.Common.{◌≡◌, ℕ, ◌<◌, Bool, true, false, length, Option, Some, None, refl, ap, sym, ◌∙◌, arith}
-use Rattle.std.proofs.lemmas.Option.{slice_get_within, none-some, same_Some}
-use Rattle.std.specs.List.{slice_get}
-use Rattle.spin_base.specs.declared.{chips.Chip.Chip, chips.Spot.Spot, chips.Dir.Dir, chips.Port.Port, chips.Port.TheVariants.Local, routes.Out.Out, routes.Out.TheVariants.Link}
-use Rattle.spin_base.specs.{declared.routes.Out.TheVariants.Core, Links.opposite_of, Outputs.out_of}
-use Rattle.spin_base.specs.declared.chips.Port.TheVariants.{Link as ByLink}
-use Rattle.spin_base.proofs.Equality.{link_is_not_local}
-use Rattle.machine_desc.specs.Live.{far_of, is_live_link, IsInside}
-use Rattle.machine_desc.proofs.Far.{far_inside, far_back, live_ends, opposite_of-opposite}
-use Rattle.mesh_core.specs.State.{Setup, behind_link, core_queue_of, queue_at, vertex_behind}
-use Rattle.mesh_core.proofs.{Changes.queue_at-below, Keeping.same_queue, Ways.vertex_behind_stands}
-use Rattle.mesh_run.specs.Played.{queue_place_of, place_behind, vertex_place}
+use Rattle.mesh_run.proofs.Common.{Bool, ByLink, Chip, Core, Dir, IsInside, Local, None, Option, Out, Port, Setup, Some, Spot, ap, arith, behind_link, core_queue_of, false, far_back, far_inside}
+use Rattle.mesh_run.proofs.Common.{far_of, is_live_link, length, link_is_not_local, live_ends, none-some, opposite_of, opposite_of-opposite, out_of, place_behind, queue_at, queue_at-below}
+use Rattle.mesh_run.proofs.Common.{queue_place_of, refl, same_Some, same_queue, slice_get, slice_get_within, sym, true, vertex_behind, vertex_behind_stands, vertex_place, ℕ, ◌<◌, ◌∙◌, ◌≡◌}
+use Rattle.spin_base.specs.declared.routes.Out.TheVariants.{Link}
 
 -- Where an output leads: by a link to the port at the far end, or to a vertex on a spot of the chip.
 pub data LeadsTo (u : Setup) (c : Chip) (o : Out) (p : ℕ) : Type 0 where

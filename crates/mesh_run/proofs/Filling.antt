@@ -1,16 +1,8 @@
 -- How many copies enter a queue in a round: at most one for each turn of the one actor that sends to it.
-use Rattle.std.proofs.Common.{◌≡◌, ℕ, ◌+◌, ◌*◌, ◌≤◌, ◌==◌, Bool, true, false, List, [], ◌∷◌, ◌++◌, length, map, None, Some, refl, sym, ap, ◌∙◌, subst, arith, inl, inr, count_by, if◌then◌else◌}
-use Rattle.std.proofs.lemmas.{Bool.cases_eq, Bool.cond_both, List.length-append, List.map-append, List.Elements.All-head, List.Elements.All-tail}
-use Rattle.std.specs.List.{All, flat_map}
-use Rattle.spin_base.proofs.{Counts.count_by-append, Counts.count_by-map, Equality.out_eq_same, Once.outs_once}
-use Rattle.spin_base.specs.{declared.chips.Chip.Chip, declared.chips.Port.Port, declared.routes.Out.Out, declared.copies.McCopy.McCopy, Equality.out_eq, Hops.last_hop, Lookup.lookup, Outputs.has}
-use Rattle.spin_base.specs.Outputs.{outs_of, IsOutput}
-use Rattle.machine_desc.specs.{Live.chip_of, Live.index_of, RightTables.table_at}
-use Rattle.machine_desc.proofs.Far.{live_inside}
-use Rattle.chip_node.specs.{declared.ends.Served.Served, declared.ends.Served.TheVariants.Sent, declared.ends.Served.TheVariants.Dumped, Items.Item, Items.Service, Items.took, Items.served}
-use Rattle.chip_node.specs.Items.{sent, got, brought, entered, entered_by, injection_place, sending_of, service_of, services, takings}
-use Rattle.mesh_core.specs.{State.Setup, Step.outputs}
-use Rattle.mesh_run.specs.Played.{owed_on, place_behind, AreTurns, IsDoneOn, IsLiveIndex}
+use Rattle.mesh_run.proofs.Common.{All, All-head, All-tail, AreTurns, Bool, Chip, Dumped, IsDoneOn, IsLiveIndex, IsOutput, Item, List, McCopy, None, Out, Port, Sent, Served, Service, Setup, Some, []}
+use Rattle.mesh_run.proofs.Common.{ap, arith, brought, cases_eq, chip_of, cond_both, count_by, count_by-append, count_by-map, entered, entered_by, false, flat_map, got, has, if◌then◌else◌, index_of}
+use Rattle.mesh_run.proofs.Common.{injection_place, inl, inr, last_hop, length, length-append, live_inside, lookup, map, map-append, out_eq, out_eq_same, outputs, outs_of, outs_once, owed_on}
+use Rattle.mesh_run.proofs.Common.{place_behind, refl, sending_of, sent, served, service_of, services, subst, sym, table_at, takings, took, true, ℕ, ◌*◌, ◌++◌, ◌+◌, ◌==◌, ◌∙◌, ◌∷◌, ◌≡◌, ◌≤◌}
 use Rattle.mesh_run.proofs.Apart.{elsewhere, here, no_injection, not_there, one_output}
 
 module _ (u : Setup) where

@@ -1,20 +1,11 @@
 -- Floors chip by chip: the vertices on a chip, the queues behind its outputs, and that there are few vertices.
-use Rattle.std.proofs.Common.{◌≡◌, ◌≢◌, ℕ, zero, suc, ◌+◌, ◌*◌, ◌<◌, ◌≤◌, Bool, true, false, List, [], ◌∷◌, ◌++◌, map, take, drop, length, get_or, Option, Some, None, refl, sym, ap, ◌∙◌, subst, arith}
-use Rattle.std.proofs.Common.{append_assoc, length-append, inl, inr}
-use Rattle.std.proofs.lemmas.{Bool.cases_eq, Bool.cases_lt, Option.get_or_from_slice_get, Option.none-some, Option.same_Some, Option.slice_get-get_or, Option.slice_get_within, List.get_or-map}
-use Rattle.std.proofs.{lemmas.List.length-drop, lemmas.List.length-map, lemmas.List.length_push, lemmas.List.length-take, Math.Nat.mul-le-mul_left}
-use Rattle.std.specs.{List.All, List.AllPairs, List.slice_get, List.slice_index_or, Option.option_to_list}
-use Rattle.spin_base.specs.{declared.chips.Chip.Chip, declared.chips.Spot.Spot, declared.routes.Out.Out, Outputs.out_number, Outputs.IsOutput}
-use Rattle.spin_base.proofs.Members.{Among, Contains-at, among_contains, among_either, among_left, among_only, among_right, contains_among}
-use Rattle.spin_base.proofs.{Places.All-at, Places.slice_get_there, Places.slice_get-append_left, Places.slice_get-push_cases, Places.slice_get-pushed, Outputs.out_number_below}
-use Rattle.spin_base.proofs.Outputs.{out_number_injective}
-use Rattle.machine_desc.specs.{Description.Description, Description.HasSize, Live.chip_of, Live.is_live_chip, Live.IsSite, NetsOn.vertex_at}
-use Rattle.machine_desc.proofs.{Branches.length_le_from_apart, Far.index_below, Far.live_inside, Live.index_of-chip_of}
-use Rattle.mesh_core.specs.{State.Setup, VertexTable.spot_place}
-use Rattle.mesh_core.proofs.{VertexTableLaws.same_spot_place, VertexTableLaws.site_inside, VertexTableLaws.spot_place-below, Ways.vertex_at_stands, Ways.vertex_there}
-use Rattle.chip_node.specs.{Acting.place_in, declared.nodes.Behind.Behind, declared.nodes.CoreBank.CoreBank, declared.nodes.RouterNode.RouterNode}
-use Rattle.mesh_run.specs.{declared.floors.Floor.Floor, Floors.AddsBehind, Floors.AreVerticesOn, Floors.AreVerticesOf, Floors.IsBankOf, Floors.IsFloorOf, Floors.IsFloorSoFar, Floors.IsRouterOf}
-use Rattle.mesh_run.specs.{Floors.grid_size, Floors.live_if, Floors.live_one, Floors.place_of_slot, Played.place_behind, Played.port_count, Played.IsLiveIndex, Played.IsVertexOn}
+use Rattle.mesh_run.proofs.Common.{AddsBehind, All, All-at, AllPairs, Among, AreVerticesOf, AreVerticesOn, Behind, Chip, Contains-at, CoreBank, Description, Floor, HasSize, IsBankOf, IsFloorOf}
+use Rattle.mesh_run.proofs.Common.{IsFloorSoFar, IsLiveIndex, IsOutput, IsSite, IsVertexOn, List, None, Option, Out, Setup, Some, Spot, [], among_contains, among_either, among_left, among_only}
+use Rattle.mesh_run.proofs.Common.{among_right, ap, append_assoc, arith, cases_eq, cases_lt, chip_of, contains_among, get_or, get_or-map, get_or_from_slice_get, grid_size, index_below, inl, inr}
+use Rattle.mesh_run.proofs.Common.{length, length-append, length-map, length_le_from_apart, length_push, live_inside, live_one, map, mul-le-mul_left, none-some, option_to_list, out_number}
+use Rattle.mesh_run.proofs.Common.{out_number_below, out_number_injective, place_behind, place_in, place_of_slot, port_count, refl, same_spot_place, site_inside, slice_get, slice_get-append_left}
+use Rattle.mesh_run.proofs.Common.{slice_get-get_or, slice_get-push_cases, slice_get-pushed, slice_get_there, slice_get_within, spot_place, spot_place-below, subst, suc, sym, vertex_at}
+use Rattle.mesh_run.proofs.Common.{vertex_at_stands, vertex_there, ℕ, ◌*◌, ◌++◌, ◌+◌, ◌<◌, ◌∙◌, ◌∷◌, ◌≡◌, ◌≢◌, ◌≤◌}
 
 -- ---- few vertices
 
@@ -67,17 +58,6 @@ slice_get-first xs ys i below = let x = slice_get_there xs i below in slice_get-
 pub slice_get-second : {X : Type 0} (xs ys : List X) (n : ℕ) → slice_get (xs ++ ys) (length xs + n) ≡ slice_get ys n
 slice_get-second [] ys n = let e : 0 + n ≡ n = omega arith in ap (slice_get ys) e
 slice_get-second (x ∷ xs) ys n = let e : suc (length xs) + n ≡ suc (length xs + n) = omega arith in ap (slice_get (x ∷ (xs ++ ys))) e ∙ slice_get-second xs ys n
-
-slice_get_take : {X : Type 0} (n k : ℕ) (xs : List X) → k < n → slice_get (take n xs) k ≡ slice_get xs k
-slice_get_take zero k xs below = absurd (omega (arith, below))
-slice_get_take (suc n) k [] below = refl
-slice_get_take (suc n) zero (x ∷ xs) below = refl
-slice_get_take (suc n) (suc k) (x ∷ xs) below = slice_get_take n k xs (omega (arith, below))
-
-slice_get_drop : {X : Type 0} (n k : ℕ) (xs : List X) → slice_get (drop n xs) k ≡ slice_get xs (n + k)
-slice_get_drop zero k xs = let same : k ≡ 0 + k = omega arith in ap (slice_get xs) same
-slice_get_drop (suc n) k [] = refl
-slice_get_drop (suc n) k (x ∷ xs) = let same : suc (n + k) ≡ suc n + k = omega arith in slice_get_drop n k xs ∙ ap (slice_get (x ∷ xs)) same
 
 -- an item stands once in a list whose items differ
 pub one_place : {X : Type 0} (xs : List X) (x : X) (v w : ℕ) → AllPairs (λ a b. a ≢ b) xs → slice_get xs v ≡ Some x → slice_get xs w ≡ Some x → v ≡ w
@@ -214,36 +194,7 @@ floor_more u n f g chip bank so_far chips is_chip adds banks is_bank =
 pub live_below : (u : Setup) (i : ℕ) → IsLiveIndex u i → i < grid_size u
 live_below u i on = subst (λ (n : ℕ). n < grid_size u) on.is (index_below u.machine (chip_of u.machine i) (live_inside u.machine (chip_of u.machine i) on.live))
 
-live_if_some : (b : Bool) (c d : Chip) → live_if b c ≡ Some d → (b ≡ true) × (d ≡ c)
-live_if_some true c d is = (refl, sym (same_Some c d is))
-live_if_some false c d is = absurd (none-some d is)
-
-live_if_none : (b : Bool) (c : Chip) → live_if b c ≡ None → b ≡ true → ⊥
-live_if_none true c is live = none-some c (sym is)
-live_if_none false c is live = absurd (let differ : false ≡ true = live in cc)
-
 module _ (u : Setup) (f : Floor) (of : IsFloorOf u f) (i : ℕ) where
-  -- a chip that stands there is live
-  pub index_live : (c : Chip) → slice_get f.chips.items i ≡ Some (Some c) → IsLiveIndex u i × (c ≡ chip_of u.machine i) × (i < grid_size u)
-  index_live c at = grind (arith, slice_get_within, live_if_some, same_Some, index_of-chip_of)
-
-  -- and each live chip stands there
-  pub index_dead : IsLiveIndex u i → slice_get f.chips.items i ≡ Some None → ⊥
-  index_dead on at = grind (arith, live_if_none, same_Some, live_below)
-
-  pub router_of : (r : RouterNode) → IsLiveIndex u i → i < grid_size u → r.index ≡ i → r.chip ≡ chip_of u.machine i → r.table.now ≡ slice_index_or u.tables i [] →
-      r.behind.now ≡ take 24 (drop (24 * i) f.behind.items) → IsRouterOf u i r
-  router_of r live below index chip table behind = record {
-    live = live;
-    index = index;
-    chip = chip;
-    table = table;
-    behind = λ o output.
-        ap place_in (ap (λ l. slice_get l (out_number o)) behind
-        ∙ (slice_get_take 24 (out_number o) (drop (24 * i) f.behind.items) (out_number_below o output) ∙ slice_get_drop (24 * i) (out_number o) f.behind.items))
-        ∙ of.behind i o below live.live output;
-  }
-
   -- the place of an output of a live chip is there, and what is read there is the queue behind it
   pub behind_inside : (o : Out) → IsLiveIndex u i → IsOutput o → 24 * i + out_number o < length f.behind.items
   behind_inside o live output = omega (arith, live_below u i live, out_number_below o output, of.behind_long)

@@ -1,7 +1,6 @@
 -- A loop that goes over the places of a list, and changes one after the other.
-use Rattle.std.proofs.Common.{◌≡◌, ℕ, ◌+◌, ◌<◌, ◌≤◌, List, length, get_or, set, refl, arith}
-use Rattle.std.proofs.{Math.ListN.length-set, lemmas.Bool.cases_eq, lemmas.List.get_or_default, lemmas.List.get_or-set_same, lemmas.List.get_or-set_other}
-use Rattle.std.specs.List.{All}
+use Rattle.mesh_run.proofs.Common.{List, arith, cases_eq, get_or, get_or-set_other, get_or-set_same, get_or_default, length, refl, set, ℕ, ◌+◌, ◌<◌, ◌≡◌, ◌≤◌}
+use Rattle.std.proofs.Math.ListN.{length-set}
 
 module _ {X : Type 0} (R : X → X → Type 0) where
   -- the items before place k are changed, and the others are as they were
@@ -20,7 +19,3 @@ module _ {X : Type 0} (R : X → X → Type 0) where
 
   pub gone_all : (start now : List X) (k : ℕ) → GoneTo start now k → length now ≤ k → (j : ℕ) (d : X) → j < length start → R (get_or start j d) (get_or now j d)
   gone_all start now k so_far past j d inside = let long = so_far.long in so_far.done j d (omega (arith, past, long, inside)) inside
-
-  -- what holds of all items at the start holds of the next one
-  pub gone_next : (P : X → Type 0) (start now : List X) (k : ℕ) (old : X) → GoneTo start now k → All P start → k < length now → old ≡ get_or now k old → P old
-  gone_next P start now k old so_far all below read = grind arith

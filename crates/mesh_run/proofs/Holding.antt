@@ -1,11 +1,8 @@
 -- Links with all their ends, seen as a list, and brought down from the last one on.
-use Rattle.std.proofs.Common.{◌≡◌, ℕ, suc, zero, ◌+◌, ◌-◌, ◌<◌, ◌≤◌, List, [], ◌∷◌, ◌++◌, length, map, take, get_or, set, Option, Some, refl, sym, ap, ◌∙◌, subst, arith, inl, inr}
-use Rattle.std.proofs.{lemmas.Option.same_Some, Math.ListN.length-set, lemmas.Bool.cases_eq, lemmas.List.map-append, lemmas.List.length-map, lemmas.List.take_all, lemmas.List.take_more}
-use Rattle.std.proofs.lemmas.List.{same_from_push, get_or-set_same, get_or-set_other}
-use Rattle.std.specs.List.{All}
-use Rattle.spin_base.specs.declared.copies.McCopy.{McCopy}
-use Rattle.link_queue.specs.declared.links.{LinkEnds.LinkEnds, Tx.Tx, Rx.Rx}
-use Rattle.mesh_run.specs.{declared.standing.Standing.Standing, Standing.HoldsAll, Queues.AreEnds, Queues.IsDown, Queues.DownTo}
+use Rattle.mesh_run.proofs.Common.{All, AreEnds, DownTo, HoldsAll, IsDown, LinkEnds, List, McCopy, Option, Rx, Some, Standing, Tx, [], ap, arith, cases_eq, get_or, get_or-set_other, get_or-set_same}
+use Rattle.mesh_run.proofs.Common.{inl, inr, length, length-map, map, map-append, refl, same_Some, same_from_push, set, subst, suc, sym, take, take_all, take_more, zero, ℕ, ◌++◌, ◌+◌, ◌-◌, ◌<◌, ◌∙◌}
+use Rattle.mesh_run.proofs.Common.{◌∷◌, ◌≡◌, ◌≤◌}
+use Rattle.std.proofs.Math.ListN.{length-set}
 
 -- ---- the list is the only one
 

@@ -1,19 +1,11 @@
 -- Runs of actors, the numbers of their shares, homes of queues, and cuts.
-use Rattle.std.proofs.Common.{◌≡◌, ◌≢◌, ◌⊎◌, ℕ, ◌+◌, ◌-◌, ◌*◌, ◌^◌, ◌<◌, ◌≤◌, List, [], ◌∷◌, ◌++◌, replicate, length, get_or, set, Option, Some, None, refl, sym, ap, ◌∙◌, subst, arith, suc, zero}
-use Rattle.std.proofs.Common.{length-append, inl, inr}
-use Rattle.std.proofs.lemmas.{Bool.cases_eq, Bool.cases_lt, Option.none-some, Option.same_Some, Option.slice_get_within, Option.slice_get-get_or, List.get_or_append_left, List.get_or_push}
-use Rattle.std.proofs.lemmas.List.{length_push, length-set, Elements.All-append, Elements.All-nil, Elements.All-push}
-use Rattle.std.specs.List.{All, slice_get}
-use Rattle.spin_base.specs.{declared.routes.Out.Out, declared.routes.Out.TheVariants.Link, declared.routes.Out.TheVariants.Core, Links.dir_at, Outputs.out_number, Outputs.IsOutput}
-use Rattle.spin_base.proofs.Places.{All-at, slice_get-append_left, slice_get-push_cases, slice_get-pushed, slice_get-set_same, slice_get-set_other}
-use Rattle.spin_base.proofs.{Outputs.out_number_below, Outputs.out_number_injective, Spots.dir_number-dir_at}
-use Rattle.machine_desc.specs.Live.{chip_of, index_of}
-use Rattle.machine_desc.proofs.{Far.live_inside, Live.chip_of-inside, Live.index_of-chip_of}
-use Rattle.mesh_core.specs.State.{Setup}
-use Rattle.chip_node.specs.Items.{injection_place}
-use Rattle.mesh_run.specs.{declared.homes.Cut.Cut, declared.homes.Home.Home, Floors.grid_size, Homes.AreCutsOf, Homes.AreHomesOf, Homes.AreHomesTo, Homes.AreShareRuns, Homes.HaveSenders}
-use Rattle.mesh_run.specs.{Homes.IsBefore, Homes.IsInTable, Homes.IsShareTable, Homes.MayCut, Homes.MayGrow, Homes.SetsSender, Homes.homes_of_ports, Homes.run_start, Played.IsLiveIndex}
-use Rattle.mesh_run.specs.{Played.place_behind, Shares.IsInRun, Shares.bank_place, Shares.router_place}
+use Rattle.mesh_run.proofs.Common.{All, All-append, All-at, All-nil, All-push, AreCutsOf, AreHomesOf, AreHomesTo, AreShareRuns, Core, Cut, HaveSenders, Home, IsBefore, IsInRun, IsInTable, IsLiveIndex}
+use Rattle.mesh_run.proofs.Common.{IsOutput, IsShareTable, List, MayCut, MayGrow, None, Option, Out, SetsSender, Setup, Some, [], ap, arith, bank_place, cases_eq, cases_lt, chip_of, chip_of-inside}
+use Rattle.mesh_run.proofs.Common.{dir_at, dir_number-dir_at, get_or, get_or_append_left, get_or_push, grid_size, homes_of_ports, index_of, index_of-chip_of, injection_place, inl, inr, length}
+use Rattle.mesh_run.proofs.Common.{length-append, length-set, length_push, live_inside, none-some, out_number, out_number_below, out_number_injective, place_behind, refl, replicate, router_place}
+use Rattle.mesh_run.proofs.Common.{run_start, same_Some, set, slice_get, slice_get-append_left, slice_get-get_or, slice_get-push_cases, slice_get-pushed, slice_get-set_other, slice_get-set_same}
+use Rattle.mesh_run.proofs.Common.{slice_get_within, subst, suc, sym, zero, ℕ, ◌*◌, ◌++◌, ◌+◌, ◌-◌, ◌<◌, ◌^◌, ◌∙◌, ◌∷◌, ◌≡◌, ◌≢◌, ◌≤◌, ◌⊎◌}
+use Rattle.spin_base.specs.declared.routes.Out.TheVariants.{Link}
 use Rattle.mesh_run.proofs.{FloorLaws.live_below, FloorLaws.slice_get-first, FloorLaws.slice_get-second, Feeding.leads, Feeding.no_injection, Feeding.one_output}
 
 -- ---- runs

@@ -1,3 +1,4 @@
+mod Common
 mod Acting
 mod AfterDeal
 mod AfterMesh

@@ -1,14 +1,8 @@
 -- A split mesh put together again.
-use Rattle.std.proofs.Common.{◌≡◌, ◌≢◌, ℕ, ◌+◌, ◌<◌, ◌≤◌, List, [], ◌∷◌, ◌++◌, length, get_or, set, Some, refl, sym, ap, ◌∙◌, subst, arith, inl, inr, length-append}
-use Rattle.std.proofs.lemmas.{Bool.cases_eq, Option.get_or_from_slice_get, Option.same_Some, Option.slice_get_within, Option.slice_get-get_or, List.get_or-map, List.get_or-set_other}
-use Rattle.std.proofs.lemmas.List.{get_or-set_same, length-map, length-set, same_lists}
-use Rattle.std.specs.List.{All, slice_get}
-use Rattle.spin_base.proofs.Places.{slice_get_there}
-use Rattle.spin_base.specs.declared.copies.McCopy.{McCopy}
-use Rattle.link_queue.specs.declared.links.LinkEnds.{LinkEnds}
-use Rattle.mesh_core.specs.State.{IsMesh, State}
-use Rattle.mesh_run.specs.{declared.homes.Cut.Cut, declared.homes.Home.Home, declared.raised.RaisedMesh.RaisedMesh, Played.port_count, Queues.AreEnds, Queues.AreUp, Queues.DownTo, Queues.IsDown}
-use Rattle.mesh_run.specs.{Queues.IsUp, Raised.IsRaisedFrom, Split.cut_queues, Splitting.FitHomes, Splitting.HoldVertices, Splitting.MovesOut, Splitting.SameButCopies, Splitting.SetsQueue}
+use Rattle.mesh_run.proofs.Common.{All, AreEnds, AreUp, Cut, DownTo, FitHomes, HoldVertices, Home, IsDown, IsMesh, IsRaisedFrom, IsUp, LinkEnds, List, McCopy, MovesOut, RaisedMesh, SameButCopies}
+use Rattle.mesh_run.proofs.Common.{SetsQueue, Some, State, [], ap, arith, cases_eq, cut_queues, get_or, get_or-map, get_or-set_other, get_or-set_same, get_or_from_slice_get, inl, inr, length}
+use Rattle.mesh_run.proofs.Common.{length-append, length-map, length-set, port_count, refl, same_Some, same_lists, set, slice_get, slice_get-get_or, slice_get_there, slice_get_within, subst, sym, ℕ}
+use Rattle.mesh_run.proofs.Common.{◌++◌, ◌+◌, ◌<◌, ◌∙◌, ◌∷◌, ◌≡◌, ◌≢◌, ◌≤◌}
 use Rattle.mesh_run.proofs.{Holding.both_same, Holding.first_same, Holding.rest_same, SplitLaws.default_at, SplitLaws.same_state, SplitLaws.state_on}
 
 -- ---- what the calls ask for

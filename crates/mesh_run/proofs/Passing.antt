@@ -1,12 +1,7 @@
 -- What a whole round does with one queue: a lane of one share, or a link between two.
-use Rattle.std.proofs.Common.{◌≡◌, ◌≢◌, ℕ, ◌+◌, ◌-◌, ◌*◌, ◌<◌, ◌≤◌, min, List, [], ◌++◌, length, map, get_or, Some, sym, ap, ◌∙◌, subst, arith, inl, inr}
-use Rattle.std.proofs.lemmas.{Bool.cases_eq, List.length-append, List.length-map, List.Elements.All-map, List.Elements.All-weaker}
-use Rattle.std.specs.List.{All}
-use Rattle.spin_base.specs.{declared.copies.McCopy.McCopy, WithRoom.WithRoom}
-use Rattle.link_queue.specs.{declared.links.LinkEnds.LinkEnds, Ends.cap_of, Ends.sending, Ends.taking, TheRule.put_of, TheRule.IsFullNote, Ups.NoNotes}
-use Rattle.chip_node.specs.{declared.ends.End.TheVariants.Away, declared.ends.InEnd.InEnd, declared.ends.OutEnd.OutEnd, Going.IsFullMoment, Items.Item, Items.entered, Items.entered_by, Items.left}
-use Rattle.chip_node.specs.Items.{left_by, lost_at, lost_by}
-use Rattle.mesh_run.specs.{declared.shares.Share.Share, Played.QueueGoes, Queues.IsDown, Split.end_at}
+use Rattle.mesh_run.proofs.Common.{All, All-map, All-weaker, Away, InEnd, IsDown, IsFullMoment, IsFullNote, Item, LinkEnds, List, McCopy, NoNotes, OutEnd, QueueGoes, Share, Some, WithRoom, [], ap}
+use Rattle.mesh_run.proofs.Common.{arith, cap_of, cases_eq, end_at, entered, entered_by, get_or, inl, inr, left, left_by, length, length-append, length-map, lost_at, lost_by, map, min, put_of}
+use Rattle.mesh_run.proofs.Common.{sending, subst, sym, taking, ℕ, ◌*◌, ◌++◌, ◌+◌, ◌-◌, ◌<◌, ◌∙◌, ◌≡◌, ◌≢◌, ◌≤◌}
 use Rattle.mesh_run.proofs.Together.{LanePasses, PlayedParts, SenderPasses, TakerPasses, joined, none_passes, told_by_one}
 
 module _ (cap patience : ℕ) (before after : List Share) (parts : List (List Item)) (h : PlayedParts cap patience before after parts) where

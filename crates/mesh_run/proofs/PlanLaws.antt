@@ -1,13 +1,7 @@
 -- How a mesh is split.
-use Rattle.std.proofs.Common.{◌≡◌, ℕ, ◌+◌, ◌*◌, ◌<◌, ◌≤◌, List, [], ◌++◌, length, get_or, Some, sym, ap, ◌∙◌, subst, arith}
-use Rattle.std.proofs.lemmas.{Bool.cases_lt, Option.slice_get_within, Option.slice_get-get_or, List.get_or-map, List.get_or_past, List.length-map, List.length-replicate, List.Elements.All-append}
-use Rattle.std.specs.List.{All, slice_get}
-use Rattle.spin_base.specs.declared.copies.McCopy.{McCopy}
-use Rattle.spin_base.proofs.Places.{All-at}
-use Rattle.chip_node.specs.declared.ends.End.TheVariants.{Away}
-use Rattle.mesh_core.specs.State.{FitsQueue, IsMesh, Setup, State}
-use Rattle.mesh_run.specs.{declared.homes.Cut.Cut, declared.homes.Home.Home, declared.shares.Share.Share, Floors.grid_size, Homes.AreCutsOf, Homes.AreHomesOf, Homes.IsShareTable, Played.port_count}
-use Rattle.mesh_run.specs.{Split.AreShared, Split.cut_queues, Splitting.AreInside, Splitting.FitHomes, Splitting.HoldNothing, Splitting.IsEmptyHand}
+use Rattle.mesh_run.proofs.Common.{All, All-append, All-at, AreCutsOf, AreHomesOf, AreInside, AreShared, Away, Cut, FitHomes, FitsQueue, HoldNothing, Home, IsEmptyHand, IsMesh, IsShareTable, List}
+use Rattle.mesh_run.proofs.Common.{McCopy, Setup, Share, Some, State, [], ap, arith, cases_lt, cut_queues, get_or, get_or-map, get_or_past, grid_size, length, length-map, length-replicate, port_count}
+use Rattle.mesh_run.proofs.Common.{slice_get, slice_get-get_or, slice_get_within, subst, sym, ℕ, ◌*◌, ◌++◌, ◌+◌, ◌<◌, ◌∙◌, ◌≡◌, ◌≤◌}
 use Rattle.mesh_run.proofs.FloorLaws.{few_chips, few_vertices}
 
 -- each share has a place for each queue, and for each vertex

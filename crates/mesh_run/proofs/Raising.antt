@@ -1,17 +1,8 @@
 -- A mesh that is split, and a split mesh with more room.
-use Rattle.std.proofs.Common.{◌≡◌, ℕ, ◌<◌, ◌≤◌, List, [], ◌++◌, map, length, get_or, Option, None, Some, refl, sym, ap, ◌∙◌, subst, arith, inl, inr}
-use Rattle.std.proofs.lemmas.{Bool.cases_lt, List.length-map, List.same_lists, List.get_or-map, Option.get_or_from_slice_get, Option.none-some, Option.same_Some, Option.slice_get_within}
-use Rattle.std.proofs.lemmas.Option.{slice_get-get_or}
-use Rattle.std.specs.List.{slice_get}
-use Rattle.spin_base.proofs.Places.{All-at, slice_get_there}
-use Rattle.spin_base.specs.declared.copies.McCopy.{McCopy}
-use Rattle.link_queue.specs.declared.links.LinkEnds.{LinkEnds}
-use Rattle.chip_node.specs.declared.ends.End.{End, TheVariants.Away, TheVariants.Own}
-use Rattle.mesh_core.specs.State.{IsMesh, Setup, State}
-use Rattle.mesh_run.specs.{declared.homes.Home.Home, declared.layout.Layout.Layout, declared.raised.RaisedMesh.RaisedMesh, declared.shares.Share.Share, Layouts.IsLayoutOf, Played.port_count}
-use Rattle.mesh_run.specs.{Queues.AreUp, Queues.StayUp, Queues.queue_of_link, Raised.IsRaisedFrom, Rooms.AreSameCopies, Rooms.SameCopies, Rooms.SameEnd, Split.AreShared, Split.HaveNoLogs}
-use Rattle.mesh_run.specs.{Split.HoldLanes, Split.HoldUnsent, Split.cut_queues, Split.end_at, Split.end_in, Split.unsent_at, Split.unsent_in, Splitting.AreSameRuns, Splitting.HoldVertices}
-use Rattle.mesh_run.specs.{Splitting.MovesIn, Standing.HoldsAll}
+use Rattle.mesh_run.proofs.Common.{All-at, AreSameCopies, AreSameRuns, AreShared, AreUp, Away, End, HaveNoLogs, HoldLanes, HoldUnsent, HoldVertices, HoldsAll, Home, IsLayoutOf, IsMesh, IsRaisedFrom}
+use Rattle.mesh_run.proofs.Common.{Layout, LinkEnds, List, McCopy, MovesIn, None, Option, Own, RaisedMesh, SameCopies, SameEnd, Setup, Share, Some, State, StayUp, [], ap, arith, cases_lt, cut_queues}
+use Rattle.mesh_run.proofs.Common.{end_at, end_in, get_or, get_or-map, get_or_from_slice_get, inl, inr, length, length-map, map, none-some, port_count, queue_of_link, refl, same_Some, same_lists}
+use Rattle.mesh_run.proofs.Common.{slice_get, slice_get-get_or, slice_get_there, slice_get_within, subst, sym, unsent_at, unsent_in, ℕ, ◌++◌, ◌<◌, ◌∙◌, ◌≡◌, ◌≤◌}
 use Rattle.mesh_run.proofs.{BringingUp.fewer_up, CrossingLaws.end_there, Going.GoneTo, RoomLaws.copies_same}
 
 -- ---- the same runs

@@ -1,16 +1,9 @@
 -- Links that rest or are widened, one after the other.
-use Rattle.std.proofs.Common.{◌≡◌, ℕ, ◌+◌, ◌-◌, ◌<◌, ◌≤◌, ◌&&◌, Bool, true, nat_eq, min, List, [], ◌++◌, length, map, take, get_or, set, Some, Result, Ok, Err, OnErr, refl, sym, ap, ap₂, ◌∙◌, subst}
-use Rattle.std.proofs.Common.{arith, inl, inr}
-use Rattle.std.proofs.lemmas.{Bool.cases_Bool, Bool.cases_eq, Bool.cases_lt, Bool.eqb-true, Bool.cond-false, List.append-nil, List.length-set, List.length-map, List.map-set, List.take-set-le}
-use Rattle.std.proofs.lemmas.{List.take_all, List.get_or-map, List.get_or-set_same, List.get_or-set_other, List.Folds.list_all_more, Option.get_or_from_slice_get, Option.slice_get_within}
-use Rattle.std.proofs.lemmas.Option.{same_Some}
-use Rattle.std.specs.List.{All, list_all, slice_get}
-use Rattle.spin_base.proofs.Places.{All-at, slice_get_there, slice_get-set_same}
-use Rattle.spin_base.specs.declared.copies.McCopy.{McCopy}
-use Rattle.link_queue.specs.{declared.links.LinkEnds.LinkEnds, declared.known.Known.Known, declared.links.Link.Link, declared.links.Tx.Tx, declared.links.Rx.Rx, Ends.IsTx, Ends.IsRx, Ends.cap_of}
-use Rattle.link_queue.specs.{Ends.sending, Ends.taking, Ups.NoNotes, Ups.Rests}
-use Rattle.mesh_run.specs.{declared.queues.Rested.Rested, declared.standing.Standing.Standing, Standing.HoldsAll, Standing.LacksEnds, Queues.AreEnds, Queues.AreUp, Queues.HasPlaces, Queues.IsDown}
-use Rattle.mesh_run.specs.Queues.{IsUp, RestAll, RestsAt, StayUp, UpAt, WasUp, free_places_of, is_empty, places_for, queue_of_link}
+use Rattle.mesh_run.proofs.Common.{All, All-at, AreEnds, AreUp, Bool, Err, HasPlaces, HoldsAll, IsDown, IsRx, IsTx, IsUp, Known, LacksEnds, Link, LinkEnds, List, McCopy, NoNotes, Ok, OnErr, RestAll}
+use Rattle.mesh_run.proofs.Common.{Rested, Rests, RestsAt, Result, Rx, Some, Standing, StayUp, Tx, UpAt, WasUp, [], ap, append-nil, ap₂, arith, cap_of, cases_Bool, cases_eq, cases_lt, cond-false}
+use Rattle.mesh_run.proofs.Common.{eqb-true, free_places_of, get_or, get_or-map, get_or-set_other, get_or-set_same, get_or_from_slice_get, inl, inr, is_empty, length, length-map, length-set, list_all}
+use Rattle.mesh_run.proofs.Common.{list_all_more, map, map-set, min, nat_eq, places_for, queue_of_link, refl, same_Some, sending, set, slice_get, slice_get-set_same, slice_get_there, slice_get_within}
+use Rattle.mesh_run.proofs.Common.{subst, sym, take, take-set-le, take_all, taking, true, ℕ, ◌&&◌, ◌++◌, ◌+◌, ◌-◌, ◌<◌, ◌∙◌, ◌≡◌, ◌≤◌}
 use Rattle.mesh_run.proofs.{BringingUp.fewer_fit, BringingUp.made_with, Holding.as_many, Holding.only_ends, Slots.in_links, Slots.set_again, Slots.slot_is}
 
 -- ---- links, of which the first ones are done

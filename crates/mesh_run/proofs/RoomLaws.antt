@@ -1,9 +1,5 @@
 -- Shares with the same copies.
-use Rattle.std.proofs.Common.{◌≡◌, refl, ◌∙◌, subst, arith}
-use Rattle.std.proofs.lemmas.Option.{same_Some, slice_get_within}
-use Rattle.spin_base.proofs.Places.{slice_get_there}
-use Rattle.chip_node.specs.declared.ends.End.{End, TheVariants.Away, TheVariants.Own, TheVariants.Sends, TheVariants.Takes}
-use Rattle.mesh_run.specs.{declared.shares.Share.Share, Rooms.SameCopies, Rooms.SameEnd}
+use Rattle.mesh_run.proofs.Common.{Away, End, Own, SameCopies, SameEnd, Sends, Share, Takes, arith, refl, same_Some, slice_get_there, slice_get_within, subst, ◌∙◌, ◌≡◌}
 
 pub end_same : (e : End) → SameEnd e e
 end_same Away = refl

@@ -1,16 +1,9 @@
 -- The steps of a round, each as far as what its call promises: ends dealt, turns played, ends collected, links at rest, logs gathered.
-use Rattle.std.proofs.Common.{arith, ◌≡◌, ℕ, ◌+◌, ◌<◌, Bool, List, ◌++◌, length, get_or, sym, subst}
-use Rattle.mesh_run.proofs.WholeRound.{Whole}
-use Rattle.std.proofs.Common.{◌∙◌}
-use Rattle.std.proofs.Common.{ap}
-use Rattle.std.proofs.Common.{refl}
-use Rattle.std.specs.{Global.Vec, List.All, List.flat_map}
-use Rattle.link_queue.specs.declared.links.{Link.Link, LinkEnds.LinkEnds}
-use Rattle.mesh_core.specs.State.{IsMesh, Setup, State}
-use Rattle.mesh_run.specs.declared.{gathering.MeshLogs.MeshLogs, homes.Cut.Cut, queues.Rested.Rested, raised.RaisedMesh.RaisedMesh, shares.Share.Share, standing.Standing.Standing}
-use Rattle.mesh_run.specs.{Crossing.AreCuts, Crossing.AreLaid, Crossing.Deals, Crossing.HoldsCollected, Crossing.HoldsNoEnds, Gathering.AreEmptied, Gathering.FitsLogs, Gathering.IsAnyMoved}
-use Rattle.mesh_run.specs.{Queues.RestAll, Queues.WasUp, Raised.IsRoomyFrom, Raised.PlaysTo, Shares.IsShareOf, Shares.PlaysAndStays, Standing.HoldsAll}
-use Rattle.mesh_run.proofs.{AfterDeal.cuts_apart, AfterDeal.dealt_shares, AfterDeal.links_many, AfterPlay.ends_laid, AfterPlay.links_were_up, AfterPlay.logs_fit, AfterRound.whole_plays}
+use Rattle.mesh_run.proofs.Common.{All, AreCuts, AreEmptied, AreLaid, Bool, Cut, Deals, FitsLogs, HoldsAll, HoldsCollected, HoldsNoEnds, IsAnyMoved, IsMesh, IsRoomyFrom, IsShareOf, Link, LinkEnds}
+use Rattle.mesh_run.proofs.Common.{List, MeshLogs, PlaysAndStays, PlaysTo, RaisedMesh, RestAll, Rested, Setup, Share, Standing, State, Vec, WasUp, ap, arith, flat_map, get_or, length, refl, subst}
+use Rattle.mesh_run.proofs.Common.{sym, ℕ, ◌++◌, ◌+◌, ◌<◌, ◌∙◌, ◌≡◌}
+use Rattle.mesh_run.proofs.{WholeRound.Whole, AfterDeal.cuts_apart, AfterDeal.dealt_shares, AfterDeal.links_many, AfterPlay.ends_laid, AfterPlay.links_were_up, AfterPlay.logs_fit}
+use Rattle.mesh_run.proofs.AfterRound.{whole_plays}
 
 -- ends were dealt to the shares of a mesh with room for a round
 pub record IsDealt (m : State) (r : RaisedMesh) (lent : Standing) (dealt : List Share) : Type 0 where

@@ -1,10 +1,6 @@
 -- Links with all their ends, of which one is set.
-use Rattle.std.proofs.Common.{◌≡◌, ℕ, ◌<◌, List, length, map, get_or, set, Option, None, Some, sym, ap, ◌∙◌, subst, arith}
-use Rattle.std.proofs.lemmas.{List.length-map, List.map-set, List.set-set, Option.get_or_from_slice_get, Option.same_Some}
-use Rattle.std.specs.List.{slice_get}
-use Rattle.spin_base.proofs.Places.{slice_get-mapped, set-slice_get}
-use Rattle.link_queue.specs.declared.links.{LinkEnds.LinkEnds, Tx.Tx, Rx.Rx}
-use Rattle.mesh_run.specs.{declared.standing.Standing.Standing, Standing.HoldsAll, Standing.LacksEnds}
+use Rattle.mesh_run.proofs.Common.{HoldsAll, LacksEnds, LinkEnds, List, None, Option, Rx, Some, Standing, Tx, ap, arith, get_or, get_or_from_slice_get, length, length-map, map, map-set, same_Some}
+use Rattle.mesh_run.proofs.Common.{set, set-set, set-slice_get, slice_get, slice_get-mapped, subst, sym, ℕ, ◌<◌, ◌∙◌, ◌≡◌}
 
 -- the place is one of a list that is a map
 pub within_map : {X : Type 0} (f : LinkEnds → X) (ends : List LinkEnds) (slots : List X) (place : ℕ) → slots ≡ map f ends → place < length ends → place < length slots

@@ -1,16 +1,10 @@
 -- Queues and unsent copies that move between a mesh and shares.
-use Rattle.std.proofs.Common.{◌≡◌, ◌≢◌, ◌⊎◌, ℕ, ◌+◌, ◌-◌, ◌<◌, ◌≤◌, List, [], ◌∷◌, ◌++◌, length, replicate, get_or, set, Option, None, Some, refl, sym, ap, ◌∙◌, subst, arith, length-append, inl, inr}
-use Rattle.std.proofs.lemmas.{Bool.cases_eq, Bool.cases_lt, Option.get_or_from_slice_get, Option.none-some, Option.same_Some, Option.slice_get_within, Option.slice_get-get_or, List.get_or_append_left}
-use Rattle.std.proofs.lemmas.List.{get_or-append_right, get_or-replicate, get_or_past, get_or-set_other, get_or-set_same, length-set, length-replicate, length_push, same_lists, set-append_left}
-use Rattle.std.proofs.lemmas.List.{set-append_right, Elements.All-nil, Elements.All-push}
-use Rattle.std.specs.List.{All, slice_get}
-use Rattle.spin_base.specs.{WithRoom.WithRoom, declared.copies.McCopy.McCopy}
-use Rattle.spin_base.proofs.Places.{All-at, slice_get_there, slice_get-push_cases, slice_get-set_same, slice_get-set_other}
-use Rattle.chip_node.specs.declared.ends.End.{End, TheVariants.Away, TheVariants.Own}
-use Rattle.mesh_core.specs.State.{State}
-use Rattle.mesh_run.specs.{declared.homes.Home.Home, declared.shares.Share.Share, Crossing.AreSameButEnds, Crossing.PutsEnd, Homes.run_start, Split.end_at, Split.end_in, Split.unsent_at}
-use Rattle.mesh_run.specs.{Split.unsent_in, Splitting.AreSameButUnsent, Splitting.AreSameHolds, Splitting.FitHomes, Splitting.HoldNothing, Splitting.IsEmptyHand, Splitting.MayPutLane}
-use Rattle.mesh_run.specs.Splitting.{MayTakeLane, MovesIn, MovesOut, PutsUnsent, SameButCopies, SameButUnsent, SetsQueue, SetsUnsent}
+use Rattle.mesh_run.proofs.Common.{All, All-at, All-nil, All-push, AreSameButEnds, AreSameButUnsent, AreSameHolds, Away, End, FitHomes, HoldNothing, Home, IsEmptyHand, List, MayPutLane, MayTakeLane}
+use Rattle.mesh_run.proofs.Common.{McCopy, MovesIn, MovesOut, None, Option, Own, PutsEnd, PutsUnsent, SameButCopies, SameButUnsent, SetsQueue, SetsUnsent, Share, Some, State, WithRoom, [], ap, arith}
+use Rattle.mesh_run.proofs.Common.{cases_eq, cases_lt, end_at, end_in, get_or, get_or-append_right, get_or-replicate, get_or-set_other, get_or-set_same, get_or_append_left, get_or_from_slice_get}
+use Rattle.mesh_run.proofs.Common.{get_or_past, inl, inr, length, length-append, length-replicate, length-set, length_push, none-some, refl, replicate, run_start, same_Some, same_lists, set}
+use Rattle.mesh_run.proofs.Common.{set-append_left, set-append_right, slice_get, slice_get-get_or, slice_get-push_cases, slice_get-set_other, slice_get-set_same, slice_get_there, slice_get_within}
+use Rattle.mesh_run.proofs.Common.{subst, sym, unsent_at, unsent_in, ℕ, ◌++◌, ◌+◌, ◌-◌, ◌<◌, ◌∙◌, ◌∷◌, ◌≡◌, ◌≢◌, ◌≤◌, ◌⊎◌}
 use Rattle.mesh_run.proofs.{CrossingLaws.each_on, CrossingLaws.each_self, CrossingLaws.each_set, CrossingLaws.same_on, CrossingLaws.same_self, HomeLaws.start_more}
 
 -- ---- one queue of a mesh

@@ -1,16 +1,9 @@
 -- What all shares did in a round, one share after the other.
-use Rattle.std.proofs.Common.{◌≡◌, ◌≢◌, ◌⊎◌, ℕ, zero, suc, ◌+◌, ◌<◌, ◌≤◌, Bool, true, false, ◌||◌, List, [], ◌∷◌, ◌++◌, length, take, get_or, Option, None, Some, refl, sym, ap, ◌∙◌, subst, arith, inl}
-use Rattle.std.proofs.Common.{inr, append-nil}
-use Rattle.std.proofs.lemmas.{Bool.cases_lt, List.get_or_default, List.take_all, List.take_more, List.Elements.All-append, List.Elements.All-nil, List.Elements.All-weaker, Grind.flat_map-append}
-use Rattle.std.proofs.lemmas.Option.{get_or_from_slice_get, slice_get_within, slice_get-get_or}
-use Rattle.std.specs.List.{All, flat_map, list_any, slice_get, slice_index_or}
-use Rattle.spin_base.proofs.Places.{both_none}
-use Rattle.spin_base.specs.{declared.copies.McCopy.McCopy, WithRoom.WithRoom}
-use Rattle.chip_node.specs.declared.ends.{End.End, End.TheVariants.Away, End.TheVariants.Own, End.TheVariants.Sends, End.TheVariants.Takes, InEnd.InEnd, OutEnd.OutEnd}
-use Rattle.chip_node.specs.{Going.EndGoes, Going.Goes, Going.LaneGoes, Going.SenderGoes, Going.TakerGoes, Items.Item, Items.entered, Items.left, Items.lost_at}
-use Rattle.chip_node.proofs.Stays.{end_before}
-use Rattle.mesh_core.specs.State.{Setup}
-use Rattle.mesh_run.specs.{declared.shares.Share.Share, Homes.run_start, Homes.AreShareRuns, Played.AreTurns, Shares.actor_of, Shares.AreOf, Shares.IsInRun, Shares.IsNoted, Split.end_at, Split.end_in}
+use Rattle.mesh_run.proofs.Common.{All, All-append, All-nil, All-weaker, AreOf, AreShareRuns, AreTurns, Away, Bool, End, EndGoes, Goes, InEnd, IsInRun, IsNoted, Item, LaneGoes, List, McCopy, None}
+use Rattle.mesh_run.proofs.Common.{Option, OutEnd, Own, SenderGoes, Sends, Setup, Share, Some, TakerGoes, Takes, WithRoom, [], actor_of, ap, append-nil, arith, both_none, cases_lt, end_at, end_before}
+use Rattle.mesh_run.proofs.Common.{end_in, entered, false, flat_map, flat_map-append, get_or, get_or_default, get_or_from_slice_get, inl, inr, left, length, list_any, lost_at, refl, run_start}
+use Rattle.mesh_run.proofs.Common.{slice_get, slice_get-get_or, slice_get_within, slice_index_or, subst, suc, sym, take, take_all, take_more, true, zero, ℕ, ◌++◌, ◌+◌, ◌<◌, ◌||◌, ◌∙◌, ◌∷◌, ◌≡◌, ◌≢◌}
+use Rattle.mesh_run.proofs.Common.{◌≤◌, ◌⊎◌}
 use Rattle.mesh_run.proofs.Turns.{IsNotOf, flat_map_none, turns_beside, turns_none}
 
 -- ---- lists of all shares

@@ -1,18 +1,10 @@
 -- Turns, as a list of what was done: one list after the other, of one actor or of several.
-use Rattle.std.proofs.Common.{◌≡◌, ◌≢◌, ◌⊎◌, ℕ, ◌+◌, ◌≤◌, ◌==◌, List, [], ◌∷◌, ◌++◌, length, map, Option, None, refl, sym, ap, ap₂, ◌∙◌, subst, arith, inl, inr, append-nil}
-use Rattle.std.proofs.lemmas.{Bool.cases_eq, Bool.cond_both, List.map-append, List.length-append, List.Elements.All-append, List.Elements.All-contains, List.Elements.All-cons}
-use Rattle.std.proofs.lemmas.{List.Elements.All-filter, List.Elements.All-head, List.Elements.All-map, List.Elements.All-nil, List.Elements.All-tail, List.Elements.All-weaker, Grind.flat_map-append}
-use Rattle.std.specs.List.{All, flat_map, slice_index_or}
-use Rattle.spin_base.proofs.{Members.contains_among, Pairs.All-from_map, Places.All-each}
-use Rattle.spin_base.specs.{declared.chips.Chip.Chip, declared.chips.Port.Port, declared.routes.Out.Out, declared.blocks.Entry.Entry, declared.copies.McCopy.McCopy, Hops.last_hop, Lookup.lookup}
-use Rattle.spin_base.specs.Outputs.{all_outs, has, outs_of, IsOutput}
-use Rattle.machine_desc.specs.Live.{chip_of, index_of}
-use Rattle.chip_node.specs.{declared.ends.Served.TheVariants.Dumped, declared.nodes.CoreBank.CoreBank, declared.nodes.RouterNode.RouterNode, Acting.service_items, Acting.BankMoves, Acting.GetsOne}
-use Rattle.chip_node.specs.{Acting.RoutesOne, Acting.SendsOne, Acting.place_at_router, Items.Item, Items.Service, Items.took, Items.served, Items.sent, Items.got, Items.where_same, Items.getting_of}
-use Rattle.chip_node.specs.{Items.gettings, Items.sending_of, Items.sendings, Items.service_of, Items.services, Items.taking_of, Items.takings, Routing.outputs_at}
-use Rattle.mesh_core.specs.{State.Setup, Step.outputs}
-use Rattle.mesh_run.specs.{Played.owed_on, Played.place_behind, Played.AreTurns, Played.IsDoneOn, Played.IsLiveIndex, Floors.IsBankOf, Floors.IsRouterOf, Shares.actor_of, Shares.bank_place}
-use Rattle.mesh_run.specs.Shares.{router_place}
+use Rattle.mesh_run.proofs.Common.{All, All-append, All-cons, All-contains, All-each, All-filter, All-from_map, All-head, All-map, All-nil, All-tail, All-weaker, AreTurns, BankMoves, Chip, CoreBank}
+use Rattle.mesh_run.proofs.Common.{Dumped, Entry, GetsOne, IsBankOf, IsDoneOn, IsLiveIndex, IsOutput, IsRouterOf, Item, List, McCopy, None, Option, Out, Port, RouterNode, RoutesOne, SendsOne, Service}
+use Rattle.mesh_run.proofs.Common.{Setup, [], actor_of, all_outs, ap, append-nil, ap₂, arith, bank_place, cases_eq, chip_of, cond_both, contains_among, flat_map, flat_map-append, getting_of, gettings}
+use Rattle.mesh_run.proofs.Common.{got, has, index_of, inl, inr, last_hop, length, length-append, lookup, map, map-append, outputs, outputs_at, outs_of, owed_on, place_at_router, place_behind, refl}
+use Rattle.mesh_run.proofs.Common.{router_place, sending_of, sendings, sent, served, service_items, service_of, services, slice_index_or, subst, sym, taking_of, takings, took, where_same, ℕ, ◌++◌}
+use Rattle.mesh_run.proofs.Common.{◌+◌, ◌==◌, ◌∙◌, ◌∷◌, ◌≡◌, ◌≢◌, ◌≤◌, ◌⊎◌}
 use Rattle.mesh_run.proofs.{Apart.elsewhere, Apart.here, OutputBits.has_bit}
 
 -- ---- lists

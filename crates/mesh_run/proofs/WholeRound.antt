@@ -1,13 +1,7 @@
 -- A whole round of all shares: the ends of links dealt, turns played, ends collected, links at rest and logs gathered.
-use Rattle.std.proofs.Common.{◌≡◌, ℕ, ◌+◌, ◌*◌, ◌<◌, false, List, length, get_or, Some, ◌∙◌, subst, arith}
-use Rattle.std.proofs.lemmas.{List.get_or_default, Option.slice_get-get_or}
-use Rattle.std.specs.List.{list_any, slice_get, slice_index_or}
-use Rattle.spin_base.proofs.Places.{slice_get_there}
-use Rattle.chip_node.specs.Items.{Item}
-use Rattle.mesh_core.specs.State.{Setup, State, IsMesh}
-use Rattle.mesh_run.specs.declared.{homes.Home.Home, queues.Rested.Rested, raised.RaisedMesh.RaisedMesh, shares.Share.Share, standing.Standing.Standing}
-use Rattle.mesh_run.specs.{Crossing.Deals, Crossing.HoldsCollected, Crossing.IsUncut, Gathering.AreEmptied, Homes.run_start, Played.AreTurns, Queues.RestAll, Raised.IsRoomyFrom, Shares.AreOf}
-use Rattle.mesh_run.specs.{Shares.IsNoted, Shares.PlaysRound, Shares.SharePlays, Split.end_at}
+use Rattle.mesh_run.proofs.Common.{AreEmptied, AreOf, AreTurns, Deals, HoldsCollected, Home, IsMesh, IsNoted, IsRoomyFrom, IsUncut, Item, List, PlaysRound, RaisedMesh, RestAll, Rested, Setup, Share}
+use Rattle.mesh_run.proofs.Common.{SharePlays, Some, Standing, State, arith, end_at, false, get_or, get_or_default, length, list_any, run_start, slice_get, slice_get-get_or, slice_get_there}
+use Rattle.mesh_run.proofs.Common.{slice_index_or, subst, ℕ, ◌*◌, ◌+◌, ◌<◌, ◌∙◌, ◌≡◌}
 use Rattle.mesh_run.proofs.{AfterDeal.lane_uncut, Together.PlayedParts, Together.joined, Together.listed, Together.noted_joined, Together.turns_joined}
 
 -- a round, with all that its calls promise

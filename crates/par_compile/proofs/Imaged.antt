@@ -1,19 +1,10 @@
 -- The image of final tables is valid, has the entries of each chip, and loads them.
-use Rattle.std.proofs.Common.{◌≡◌, ℕ, zero, suc, ◌+◌, ◌*◌, ◌/◌, ◌%◌, ◌<◌, ◌≤◌, ◌==◌, false, List, [], ◌∷◌, ◌++◌, length, get_or, take, map, Some, Result, Ok, refl, sym, ap, ◌∙◌, subst, arith, inl}
-use Rattle.std.proofs.Common.{inr}
-use Rattle.std.proofs.lemmas.{Bool.cases_order, Bool.eqb-true, Bool.eq-eqb, Bool.false_from_ne_true, Bool.cond-true, Bool.cond-false, List.append-nil, List.length-append, List.length-map}
-use Rattle.std.proofs.lemmas.List.{take_all, Elements.All-nil, Elements.All-cons, Elements.All-append, Elements.All-head, Elements.All-tail, Kept.AllPairs-cons}
-use Rattle.std.proofs.lemmas.{Nat.mul-le, Nat.mod_below, Option.slice_get_within, Option.slice_get-get_or}
-use Rattle.std.specs.{List.All, List.AllPairs, List.slice_get, Prelude.MatchResult}
-use Rattle.spin_base.proofs.{Gathering.gathered_more, Pairs.AllPairs-nil, Places.slice_get_there, Places.slice_get-mapped}
-use Rattle.spin_base.specs.declared.{blocks.ChipTable.ChipTable, blocks.Entry.Entry, chips.Chip.Chip}
-use Rattle.machine_desc.specs.{Description.Description, Description.HasSize, Live.chip_of, Live.index_of}
-use Rattle.machine_desc.proofs.{Far.inside_parts, Live.chip_of-inside, Live.index_of-chip_of}
-use Rattle.default_routes.specs.declared.stripping.Final.{Final}
-use Rattle.table_load.specs.{declared.tables.Image.Image, declared.faults.ImageErr.ImageErr, Images.IsRow, Images.IsChipBefore, Images.IsTable, Images.IsValid, Images.Spells, Memories.IsLoaded}
-use Rattle.table_load.specs.Memories.{loaded, rows_of_index}
-use Rattle.table_load.specs.declared.faults.ImageErr.TheVariants.{Memory as NoMemory}
-use Rattle.par_compile.specs.{Finals.KeepsRows, Finals.loaded_of, Imaging.CanBeImaged, Imaging.FillTables, Imaging.image_in, Imaging.listed, Imaging.tables_from}
+use Rattle.par_compile.proofs.Common.{All, All-append, All-cons, All-head, All-nil, All-tail, AllPairs, AllPairs-cons, AllPairs-nil, CanBeImaged, Chip, ChipTable, Description, Entry, FillTables}
+use Rattle.par_compile.proofs.Common.{Final, HasSize, Image, ImageErr, IsChipBefore, IsLoaded, IsRow, IsTable, IsValid, KeepsRows, List, MatchResult, NoMemory, Ok, Result, Some, Spells, [], ap}
+use Rattle.par_compile.proofs.Common.{append-nil, arith, cases_order, chip_of, chip_of-inside, cond-false, cond-true, eq-eqb, eqb-true, false, false_from_ne_true, gathered_more, get_or, image_in}
+use Rattle.par_compile.proofs.Common.{index_of, index_of-chip_of, inl, inr, inside_parts, length, length-append, length-map, listed, loaded, loaded_of, map, mod_below, mul-le, refl, rows_of_index}
+use Rattle.par_compile.proofs.Common.{slice_get, slice_get-get_or, slice_get-mapped, slice_get_there, slice_get_within, subst, suc, sym, tables_from, take, take_all, zero, ℕ, ◌%◌, ◌*◌, ◌++◌, ◌+◌, ◌/◌}
+use Rattle.par_compile.proofs.Common.{◌<◌, ◌==◌, ◌∙◌, ◌∷◌, ◌≡◌, ◌≤◌}
 
 abbrev IsShort : Final → Type 0
 IsShort f = length f.entries ≤ 1024

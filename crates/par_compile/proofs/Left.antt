@@ -1,19 +1,10 @@
 -- Original blocks that go straight on may be left out where no table is covered.
-use Rattle.std.proofs.Common.{◌≡◌, ℕ, ◌+◌, ◌≤◌, Bool, true, List, [], ◌∷◌, ◌++◌, length, get_or, map, filter, refl, sym, ap, ◌∙◌, subst, arith, inl, inr, ◌⊎◌}
-use Rattle.std.proofs.lemmas.{Bool.cases_lt, List.Elements.All-cons, List.Elements.All-head, List.Elements.All-tail, List.Elements.All-nil, List.Elements.Contains-get_or}
-use Rattle.std.proofs.lemmas.List.{Filters.length-filter_both, Kept.AllPairs-cons, Kept.AllPairs-filter, Sorted.All-permutation, Sorted.IsPermutation-append_right, Sorted.IsPermutation-cons}
-use Rattle.std.proofs.lemmas.List.Sorted.{IsPermutation-filter_both, IsPermutation-insert, IsPermutation-refl, IsPermutation-trans}
-use Rattle.std.specs.{Prelude.if◌then◌else◌, List.All, List.AllPairs, List.Sorted.IsPermutation}
-use Rattle.spin_base.proofs.{Members.Contains-from_filter, Pairs.AllPairs-from_map, Pairs.AllPairs-head, Pairs.AllPairs-map, Pairs.AllPairs-nil, Pairs.AllPairs-tail}
-use Rattle.spin_base.specs.declared.blocks.Entry.{Entry}
-use Rattle.machine_desc.specs.{Description.Description, declared.nets.NetPlan.NetPlan}
-use Rattle.tern_word.specs.{declared.tables.Row.Row, Entries.entry_of, Ternary.Intersects, Ternary.generality}
-use Rattle.default_routes.specs.{declared.stripping.Final.Final, FinalTable.IsFinalOf}
-use Rattle.default_routes.proofs.Determined.{one_table}
-use Rattle.net_tables.specs.{declared.marks.Mark.Mark, PlainTable.AreRoutedApart, PlainTable.IsRowNotAfter, Marks.AreApart, Marks.AreBlocksOf, Marks.AreTurningBlocksOf, Marks.IsTableOf}
-use Rattle.net_tables.specs.Marks.{goes_straight, row_of_mark, table_of_sorted, turns}
-use Rattle.net_tables.proofs.Whole.{few_marks, marks_apart}
-use Rattle.par_compile.specs.{Finals.AreBlocksFor, Finals.IsFinalFor, ShortTables.kept_entries}
+use Rattle.par_compile.proofs.Common.{All, All-cons, All-head, All-nil, All-permutation, All-tail, AllPairs, AllPairs-cons, AllPairs-filter, AllPairs-from_map, AllPairs-head, AllPairs-map}
+use Rattle.par_compile.proofs.Common.{AllPairs-nil, AllPairs-tail, AreApart, AreBlocksFor, AreBlocksOf, AreRoutedApart, AreTurningBlocksOf, Bool, Contains-from_filter, Contains-get_or, Description}
+use Rattle.par_compile.proofs.Common.{Entry, Final, Intersects, IsFinalFor, IsFinalOf, IsPermutation, IsPermutation-append_right, IsPermutation-cons, IsPermutation-filter_both, IsPermutation-insert}
+use Rattle.par_compile.proofs.Common.{IsPermutation-refl, IsPermutation-trans, IsRowNotAfter, IsTableOf, List, Mark, NetPlan, Row, [], ap, arith, cases_lt, entry_of, few_marks, filter, generality}
+use Rattle.par_compile.proofs.Common.{get_or, goes_straight, if◌then◌else◌, inl, inr, kept_entries, length, length-filter_both, map, marks_apart, one_table, refl, row_of_mark, subst, sym}
+use Rattle.par_compile.proofs.Common.{table_of_sorted, true, turns, ℕ, ◌++◌, ◌+◌, ◌∙◌, ◌∷◌, ◌≡◌, ◌≤◌, ◌⊎◌}
 use Rattle.par_compile.proofs.ShortTables.{final_for, short_for}
 
 abbrev straight : Mark → Bool

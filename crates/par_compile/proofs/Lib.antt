@@ -1,3 +1,4 @@
+mod Common
 mod Imaged
 mod Left
 pub mod Refusing

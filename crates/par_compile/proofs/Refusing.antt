@@ -1,19 +1,9 @@
 -- A graph has one cause of refusal, or a plan.
-use Rattle.std.proofs.Common.{◌≡◌, ℕ, List, refl, ap, subst, arith, inl, inr, Some, Result, Ok, Err, IfOk, IfErr}
-use Rattle.std.proofs.lemmas.Option.{slice_get_within}
-use Rattle.std.specs.List.{slice_get}
-use Rattle.spin_base.specs.declared.chips.{Chip.Chip, Spot.Spot}
-use Rattle.machine_desc.specs.{Description.Description, RoutingTree.IsRoutingTree, declared.nets.NetPlan.NetPlan}
-use Rattle.app_graph.specs.declared.graphs.{Graph.Graph, Net.Net}
-use Rattle.place_fit.specs.declared.placing.Placement.{Placement}
+use Rattle.par_compile.proofs.Common.{All-at, Chip, CompileErr, CutOff, Description, Err, Graph, HasCutOff, HasNoneCutOff, IfErr, IfOk, IsCompileCause, IsFirstNetCutOff, IsPlanOf, IsRefusedWhere}
+use Rattle.par_compile.proofs.Common.{IsRoutingOf, IsRoutingTree, KeysOut, List, Memory, Net, NetPlan, NoRoom, Ok, Placement, Plan, Result, Some, Spot, TableLong, ap, arith, blocks_of, inl, inr}
+use Rattle.par_compile.proofs.Common.{none_cut_off, one_first_net, refl, slice_get, slice_get_there, slice_get_within, subst, ℕ, ◌≡◌}
 use Rattle.place_fit.proofs.Determined as places
 use Rattle.key_alloc.proofs.Determined as blocks
-use Rattle.spin_base.proofs.Places.{All-at, slice_get_there}
-use Rattle.net_plans.specs.CutOffTargets.{HasNoneCutOff, IsFirstNetCutOff}
-use Rattle.net_plans.proofs.CutOffLaws.{none_cut_off, one_first_net}
-use Rattle.par_compile.specs.declared.compiling.{Plan.Plan, CompileErr.CompileErr, CompileErr.TheVariants.NoRoom, CompileErr.TheVariants.KeysOut, CompileErr.TheVariants.CutOff}
-use Rattle.par_compile.specs.{declared.compiling.CompileErr.TheVariants.TableLong, declared.compiling.CompileErr.TheVariants.Memory, Compiled.blocks_of, Compiled.HasCutOff, Compiled.IsCompileCause}
-use Rattle.par_compile.specs.Compiled.{IsPlanOf, IsRefusedWhere, IsRoutingOf}
 use Rattle.par_compile.proofs.Unique.{long_not_planned, one_long}
 
 module _ (m : Description) (graph : Graph) where

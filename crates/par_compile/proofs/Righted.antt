@@ -1,21 +1,10 @@
 -- Final tables that are loaded route every net's packets by its tree.
-use Rattle.std.proofs.Common.{◌≡◌, Bool, ℕ, zero, suc, ◌-◌, ◌*◌, ◌^◌, ◌<◌, ◌≤◌, bit_and, List, [], ◌∷◌, length, get_or, map, replicate, take, Some, sym, ap, ◌∙◌, subst, arith}
-use Rattle.std.proofs.lemmas.{List.Elements.All-nil, List.Elements.All-cons, List.Elements.All-contains, List.Elements.All-map, List.Sorted.Contains-permutation, Nat.mul-le}
-use Rattle.std.proofs.lemmas.{Option.get_or_from_slice_get, Option.slice_get-get_or, Slice.Zip.AllZip-long}
-use Rattle.std.specs.List.{All, AllZip, Contains, slice_get, slice_index_or}
-use Rattle.spin_base.proofs.Places.{AllZip-at_second, slice_get_there, slice_get-mapped}
-use Rattle.spin_base.specs.declared.{blocks.Block.Block, blocks.Entry.Entry, chips.Chip.Chip, chips.Port.Port, routes.Out.Out, routes.Route.Route}
-use Rattle.spin_base.specs.{Lookup.lookup, Outputs.has}
-use Rattle.machine_desc.specs.{Description.Description, Description.HasSize, Live.IsInside, Live.index_of, Live.chip_of, declared.nets.NetPlan.NetPlan, Outputs.is_wanted, RightTables.AreRight}
-use Rattle.machine_desc.proofs.{Far.index_below, Live.chip_of-inside, Live.index_of-chip_of}
-use Rattle.tern_word.specs.{declared.tables.Row.Row, Entries.entry_of, SoundTable.Original, SoundTable.served, Ternary.Matches}
-use Rattle.tcam_find.specs.Memory.{unused}
-use Rattle.tcam_find.proofs.MemoryLemmas.{unused_matches}
-use Rattle.cover_merge.specs.Merge.{rows_at}
-use Rattle.default_routes.specs.{declared.stripping.Final.Final, FinalTable.MatchesNoKey, FinalTable.RoutesAlone}
-use Rattle.net_tables.specs.{declared.marks.Mark.Mark, Marks.AreApart, Marks.original_of, PlainTable.AreOriginals, PlainTable.AreRoutedApart, PlainTable.HasChip}
-use Rattle.net_tables.proofs.{Determined.one_port, Determined.rows_lead, Trees.chips_inside, Trees.comes_in_tree, Whole.few_rows, Whole.has_original, Whole.is_plain, Whole.serves_them}
-use Rattle.par_compile.specs.Finals.{AreBlocksFor, AreCoverable, AreFinals, IsFinalFor, KeepsRows, loaded_of}
+use Rattle.par_compile.proofs.Common.{All, All-cons, All-contains, All-map, All-nil, AllZip, AllZip-at_second, AllZip-long, AreApart, AreBlocksFor, AreCoverable, AreFinals, AreOriginals, AreRight}
+use Rattle.par_compile.proofs.Common.{AreRoutedApart, Block, Bool, Chip, Contains, Contains-permutation, Description, Entry, Final, HasChip, HasSize, IsFinalFor, IsInside, KeepsRows, List, Mark}
+use Rattle.par_compile.proofs.Common.{Matches, MatchesNoKey, NetPlan, Original, Out, Port, Route, RoutesAlone, Row, Some, [], ap, arith, bit_and, chip_of, chip_of-inside, chips_inside, comes_in_tree}
+use Rattle.par_compile.proofs.Common.{entry_of, few_rows, get_or, get_or_from_slice_get, has, has_original, index_below, index_of, index_of-chip_of, is_plain, is_wanted, length, loaded_of, lookup}
+use Rattle.par_compile.proofs.Common.{map, mul-le, one_port, original_of, replicate, rows_at, rows_lead, served, serves_them, slice_get, slice_get-get_or, slice_get-mapped, slice_get_there}
+use Rattle.par_compile.proofs.Common.{slice_index_or, subst, suc, sym, take, unused, unused_matches, zero, ℕ, ◌*◌, ◌-◌, ◌<◌, ◌^◌, ◌∙◌, ◌∷◌, ◌≡◌, ◌≤◌}
 
 -- ---- unused entries
 

@@ -1,19 +1,9 @@
 -- The final table of a short plain table has the entries of the original blocks that do not go straight on.
-use Rattle.std.proofs.Common.{◌≡◌, ℕ, zero, suc, ◌≤◌, Bool, true, false, Some, List, [], ◌∷◌, ◌++◌, length, get_or, drop, map, refl, sym, ap, ◌∙◌, subst, arith, inl, inr}
-use Rattle.std.proofs.lemmas.{Bool.cases_Bool, Bool.eqb-true, Bool.eq-eqb, Bool.false≢true, List.length-map, List.Elements.All-nil, List.Elements.All-cons, List.Elements.All-head}
-use Rattle.std.proofs.lemmas.{List.Elements.All-tail, List.Sorted.length_permutation, Option.slice_get_within}
-use Rattle.std.specs.{Prelude.All, Prelude.slice_get, Prelude.if◌then◌else◌, List.cons_option, List.Sorted.IsPermutation}
-use Rattle.spin_base.proofs.{Pairs.AllPairs-head, Pairs.AllPairs-tail, Pairs.AllPairs-permutation, RouteBits.same_route}
-use Rattle.spin_base.specs.declared.{chips.Dir.Dir, chips.Port.Port, chips.Port.TheVariants.Link, chips.Port.TheVariants.Local, routes.Route.Route}
-use Rattle.spin_base.specs.Lookup.{straight_on}
-use Rattle.tern_word.specs.{declared.tables.Alias.Alias, declared.tables.Row.Row, Entries.entry_of, Ternary.Intersects, SoundTable.IsSound, SoundTable.Misses}
-use Rattle.tern_word.proofs.BlockLaws.{Intersects-sym}
-use Rattle.cover_merge.specs.Merge.{rows_at}
-use Rattle.default_routes.specs.{declared.stripping.Final.Final, FinalTable.IsShortened, KeptRows.IsStrippable, KeptRows.KeptFrom, KeptRows.ends, KeptRows.goes, KeptRows.stays, KeptRows.AreKept}
-use Rattle.default_routes.proofs.ShortTables.{short_final, short_routes, short_serves}
-use Rattle.net_tables.specs.{declared.marks.Mark.Mark, Marks.AreApart, Marks.IsTableOf, Marks.row_of_mark, Marks.table_of_sorted, Marks.goes_straight}
-use Rattle.net_tables.proofs.Whole.{sound_table}
-use Rattle.par_compile.specs.{Finals.IsFinalFor, ShortTables.kept_entries}
+use Rattle.par_compile.proofs.Common.{Alias, All, All-cons, All-head, All-nil, All-tail, AllPairs-head, AllPairs-permutation, AllPairs-tail, AreApart, AreKept, Bool, Dir, Final, Intersects}
+use Rattle.par_compile.proofs.Common.{Intersects-sym, IsFinalFor, IsPermutation, IsShortened, IsSound, IsStrippable, IsTableOf, KeptFrom, Link, List, Local, Mark, Misses, Port, Route, Row, Some, []}
+use Rattle.par_compile.proofs.Common.{ap, arith, cases_Bool, cons_option, drop, ends, entry_of, eq-eqb, eqb-true, false, false≢true, get_or, goes, goes_straight, if◌then◌else◌, inl, inr, kept_entries}
+use Rattle.par_compile.proofs.Common.{length, length-map, length_permutation, map, refl, row_of_mark, rows_at, same_route, short_final, short_routes, short_serves, slice_get, slice_get_within}
+use Rattle.par_compile.proofs.Common.{sound_table, stays, straight_on, subst, suc, sym, table_of_sorted, true, zero, ℕ, ◌++◌, ◌∙◌, ◌∷◌, ◌≡◌, ◌≤◌}
 
 -- ---- one original block
 

@@ -1,20 +1,8 @@
 -- The nets of a plan stand on the machine.
-use Rattle.std.proofs.Common.{◌≡◌, ◌≢◌, ◌<◌, suc, None, List, [], ◌∷◌, length, refl, sym, ap, ◌∙◌, subst, arith}
-use Rattle.std.proofs.lemmas.Option.{slice_get-get_or}
-use Rattle.std.specs.List.{All, AllPairs, AllZip, Contains, slice_index_or}
-use Rattle.spin_base.specs.declared.{chips.Spot.Spot, blocks.Block.Block}
-use Rattle.spin_base.proofs.{Members.Contains-at, Pairs.AllPairs-from_map, Places.All-at, Places.All-each, Places.slice_get_there}
-use Rattle.machine_desc.specs.{Description.Description, Live.IsInside, Live.IsSite, Live.IsUsable, RoutingTree.IsRoutingTree, declared.nets.NetPlan.NetPlan, NetsOn.HaveDisjointBlocks}
-use Rattle.machine_desc.specs.NetsOn.{AreNetsOn}
-use Rattle.machine_desc.proofs.{Far.live_inside, Sites.site_parts}
-use Rattle.app_graph.specs.declared.graphs.{Net.Net, Graph.Graph, Vertex.Vertex}
-use Rattle.tern_word.specs.Ternary.{Intersects}
-use Rattle.net_plans.specs.{NetPlans.IsPlannedNet, NetPlans.IsEachPlanned, NetPlans.ArePlanned, Order.IsBelow, Targets.spot_key}
-use Rattle.net_plans.proofs.Ordering.{not_both}
-use Rattle.net_tables.specs.PlainTable.{AreRoutedApart}
-use Rattle.place_fit.specs.{declared.placing.Placement.Placement, Placement.IsPlacement}
-use Rattle.key_alloc.specs.KeyBlocks.{AreRightBlocks, HasKeys}
-use Rattle.par_compile.specs.Compiled.{blocks_of, IsRoutingOf}
+use Rattle.par_compile.proofs.Common.{All, All-at, All-each, AllPairs, AllPairs-from_map, AllZip, AreNetsOn, ArePlanned, AreRightBlocks, AreRoutedApart, Block, Contains, Contains-at, Description}
+use Rattle.par_compile.proofs.Common.{Graph, HasKeys, HaveDisjointBlocks, Intersects, IsBelow, IsEachPlanned, IsInside, IsPlacement, IsPlannedNet, IsRoutingOf, IsRoutingTree, IsSite, IsUsable, List}
+use Rattle.par_compile.proofs.Common.{Net, NetPlan, None, Placement, Spot, Vertex, [], ap, arith, blocks_of, length, live_inside, not_both, refl, site_parts, slice_get-get_or, slice_get_there}
+use Rattle.par_compile.proofs.Common.{slice_index_or, spot_key, subst, suc, sym, ◌<◌, ◌∙◌, ◌∷◌, ◌≡◌, ◌≢◌}
 
 -- ---- plans side by side with what was given
 

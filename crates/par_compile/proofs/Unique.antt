@@ -1,26 +1,13 @@
 -- A graph has one routing and one list of final tables: so one plan, or one long table.
-use Rattle.std.proofs.Common.{◌≡◌, ℕ, ◌<◌, ◌≤◌, List, length, get_or, nat_lt, true, false, Some, None, inl, inr, sym, ap, ◌∙◌, subst, arith}
-use Rattle.std.proofs.lemmas.{Bool.cases_order, Bool.lt-ltb, Bool.ltb-true, Bool.true≢false, List.Elements.All-contains, List.Quantifiers.position-Some, List.Sums.fails_before_first}
-use Rattle.std.proofs.lemmas.{Grind.common_steps, Option.get_or_from_slice_get, Option.slice_get_within}
-use Rattle.std.specs.List.{All, Contains, position, position_or_len, slice_get}
-use Rattle.spin_base.specs.declared.chips.{Chip.Chip, Spot.Spot}
-use Rattle.spin_base.proofs.Places.{All-at, All-each, slice_get_there}
-use Rattle.machine_desc.specs.{Description.Description, Live.IsInside, Live.IsSite, Live.chip_of, Live.index_of, declared.nets.NetPlan.NetPlan, NetsOn.AreNetsOn}
-use Rattle.machine_desc.proofs.{Far.index_below, Far.live_inside, Far.same_index, Live.chip_of-inside, Live.index_of-chip_of, Sites.site_parts}
-use Rattle.app_graph.specs.declared.graphs.Graph.{Graph}
-use Rattle.place_fit.specs.declared.placing.Placement.{Placement}
+use Rattle.par_compile.proofs.Common.{All, All-at, All-contains, All-each, AreFinals, AreNetsOn, ArePlanned, AreRoutedApart, Chip, Contains, Description, Final, Graph, HasFinal, HasLongTable}
+use Rattle.par_compile.proofs.Common.{HasNoLegalPair, IsFinalOf, IsInside, IsPlanOf, IsRoutingOf, IsSite, List, NetPlan, None, Placement, Plan, Row, Some, Spot, ap, arith, blocks_of, cases_order}
+use Rattle.par_compile.proofs.Common.{chip_of, chip_of-inside, common_steps, ended_where_long, fails_before_first, false, get_or, get_or_from_slice_get, index_below, index_of, index_of-chip_of, inl}
+use Rattle.par_compile.proofs.Common.{inr, is_long, length, live_inside, lt-ltb, ltb-true, nat_lt, one_list_of_plans, position, position-Some, position_or_len, same_index, same_places, site_parts}
+use Rattle.par_compile.proofs.Common.{slice_get, slice_get_there, slice_get_within, subst, sym, true, true≢false, ℕ, ◌<◌, ◌∙◌, ◌≡◌, ◌≤◌}
 use Rattle.place_fit.proofs.Determined as places
 use Rattle.key_alloc.proofs.Determined as keys
-use Rattle.net_plans.specs.NetPlans.{ArePlanned}
-use Rattle.net_plans.proofs.Determined.{one_list_of_plans, same_places}
-use Rattle.net_tables.specs.PlainTable.{AreRoutedApart}
 use Rattle.net_tables.proofs.Determined as plain
-use Rattle.default_routes.specs.{declared.stripping.Final.Final, FinalTable.IsFinalOf}
 use Rattle.default_routes.proofs.Determined as final
-use Rattle.default_routes.proofs.FinalLemmas.{ended_where_long}
-use Rattle.tern_word.specs.declared.tables.Row.{Row}
-use Rattle.par_compile.specs.{declared.compiling.Plan.Plan, Compiled.blocks_of, Compiled.HasLongTable, Compiled.IsPlanOf, Compiled.IsRoutingOf, Finals.AreFinals, Finals.HasFinal, Finals.is_long}
-use Rattle.cover_merge.specs.Covering.{HasNoLegalPair}
 
 -- nets that stand on sites of a machine are what plain tables ask for
 pub routed_of : (m : Description) (spots : List Spot) (nets : List NetPlan) → All (IsSite m) spots → AreNetsOn m spots nets → AreRoutedApart m nets

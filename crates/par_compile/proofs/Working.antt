@@ -1,12 +1,7 @@
 -- Runs of chips whose tables workers cover, chip by chip.
-use Rattle.std.proofs.Common.{◌≡◌, ℕ, suc, ◌+◌, ◌<◌, ◌≤◌, true, None, List, [], ◌∷◌, ◌++◌, length, get_or, take, take_all, refl, sym, ap, ◌∙◌, subst, arith}
-use Rattle.std.proofs.{Math.Seq.take-append_seam, lemmas.Bool.ltb-true, lemmas.List.append_assoc, lemmas.List.get_or_push, lemmas.List.length-append}
-use Rattle.std.proofs.lemmas.Slice.Zip.{AllZip-long, all_zipped_more}
-use Rattle.std.specs.List.{AllZip, position}
-use Rattle.default_routes.specs.declared.stripping.Final.{Final}
-use Rattle.net_tables.specs.declared.marks.Mark.{Mark}
-use Rattle.par_compile.specs.declared.workers.Work.{Work, TheVariants.Plain, TheVariants.Done, TheVariants.Refused}
-use Rattle.par_compile.specs.Finals.{GivesFinal, IsFinalFor, IsStillPlain, IsWorked, is_long}
+use Rattle.par_compile.proofs.Common.{AllZip, AllZip-long, Done, Final, GivesFinal, IsFinalFor, IsStillPlain, IsWorked, List, Mark, None, Plain, Refused, Work, [], all_zipped_more, ap, append_assoc}
+use Rattle.par_compile.proofs.Common.{arith, get_or, get_or_push, is_long, length, length-append, ltb-true, position, refl, subst, suc, sym, take, take-append_seam, take_all, true, ℕ, ◌++◌, ◌+◌, ◌<◌}
+use Rattle.par_compile.proofs.Common.{◌∙◌, ◌∷◌, ◌≡◌, ◌≤◌}
 use Rattle.par_compile.proofs.Unique.{none_long}
 
 -- the tables before place k are worked on, and the others are as they were

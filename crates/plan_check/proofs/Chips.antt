@@ -1,15 +1,9 @@
 -- What is amiss with a net, chip by chip in the order of their indices, and net by net.
-use Rattle.std.proofs.Common.{◌≡◌, ℕ, ◌+◌, ◌*◌, ◌<◌, ◌≤◌, List, [], ◌∷◌, length, get_or, Option, Some, None, refl, sym, ap, ◌∙◌, subst, arith, inl, inr, cond, true, false, Bool, ◌==◌}
-use Rattle.std.specs.Prelude.{All, slice_get}
-use Rattle.std.proofs.lemmas.{Bool.cases_lt, List.get_or_default, List.Elements.All-nil, List.Elements.All-head, List.Elements.All-tail, Option.none-some, Option.slice_get-get_or}
-use Rattle.spin_base.specs.{declared.blocks.ChipTable.ChipTable, declared.blocks.Entry.Entry, declared.chips.Chip.Chip, declared.chips.Port.Port, declared.routes.Route.Route, Outputs.nothing}
-use Rattle.machine_desc.specs.{Description.Description, Live.IsInside, Live.index_of, declared.nets.NetPlan.NetPlan}
-use Rattle.machine_desc.proofs.Far.{index_below}
-use Rattle.table_load.specs.{declared.tables.Image.Image, Images.IsRow, Images.IsTable, Images.IsValid, Memories.rows_of_index, Memories.table_index}
-use Rattle.net_tables.specs.{Marks.IsRouted, Marks.TellsPort, Marks.TellsPorts, Marks.TellsRoutes, PlainTable.HasChip}
-use Rattle.net_tables.proofs.{Trees.chips_inside, Trees.comes_in_tree, Determined.same_outputs}
-use Rattle.plan_check.specs.{declared.flaws.Flaw.Flaw, declared.flaws.Flaw.TheVariants.Wrong, declared.flaws.Flaw.TheVariants.Split, declared.verdicts.Verdict.Verdict, Boards.IsAmissAt, Boards.IsFlaw}
-use Rattle.plan_check.specs.{Boards.IsFineBelow, Boards.IsFirstFlaw, Boards.verdict_on, Verdicts.IsFine, Verdicts.IsFineAll, Verdicts.AreFineBefore, Verdicts.IsVerdict, Verdicts.rows_for}
+use Rattle.plan_check.proofs.Common.{All, All-head, All-nil, All-tail, AreFineBefore, Bool, Chip, ChipTable, Description, Entry, Flaw, HasChip, Image, IsAmissAt, IsFine, IsFineAll, IsFineBelow}
+use Rattle.plan_check.proofs.Common.{IsFirstFlaw, IsFlaw, IsInside, IsRouted, IsRow, IsTable, IsValid, IsVerdict, List, NetPlan, None, Option, Port, Route, Some, Split, TellsPort, TellsPorts}
+use Rattle.plan_check.proofs.Common.{TellsRoutes, Verdict, Wrong, [], ap, arith, cases_lt, chips_inside, comes_in_tree, cond, false, get_or, get_or_default, index_below, index_of, inl, inr, length}
+use Rattle.plan_check.proofs.Common.{none-some, nothing, refl, rows_for, rows_of_index, same_outputs, slice_get, slice_get-get_or, subst, sym, table_index, true, verdict_on, ℕ, ◌*◌, ◌+◌, ◌<◌, ◌==◌}
+use Rattle.plan_check.proofs.Common.{◌∙◌, ◌∷◌, ◌≡◌, ◌≤◌}
 
 -- ---- the rows of a valid image
 

@@ -1,17 +1,9 @@
 -- A covered table is sound where the table was, and what holds of all blocks that it serves holds of all that the table served.
-use Rattle.std.proofs.Common.{◌≡◌, ℕ, suc, ◌+◌, ◌-◌, ◌<◌, ◌≤◌, ◌==◌, Bool, true, false, cond, not, List, [], ◌∷◌, length, get_or, take, drop, refl, sym, ap, ◌∙◌, subst, arith, inl, inr, length-take}
-use Rattle.std.proofs.Common.{length-drop, get_or-take, get_or-drop}
-use Rattle.std.specs.{Prelude.All, List.flat_map}
-use Rattle.std.proofs.lemmas.{Bool.cases_Bool, Bool.cases_lt, Bool.eqb-true, Bool.not_from_false, List.get_or_default, List.Elements.All-nil, List.Elements.All-cons, List.Elements.All-head}
-use Rattle.std.proofs.lemmas.List.Elements.{All-tail, All-map, All-weaker, All-filter}
-use Rattle.spin_base.specs.declared.routes.Route.{Route}
-use Rattle.tern_word.specs.{declared.tables.Alias.Alias, declared.tables.Row.Row, SoundTable.IsSound, SoundTable.Original, SoundTable.served_by, SoundTable.served}
-use Rattle.cover_merge.specs.{Merge.has_row, Merge.kept, Merge.rows_at, Merge.merge_rows, Merge.merged_row, Merge.insert_place, Merge.after, Merge.IsLegal, Refinement.Refines, Refinement.ends_empty}
-use Rattle.cover_merge.specs.{Refinement.ends_legal, Refinement.goes_up, Refinement.goes_down, Refinement.keeps, Covering.places_of, Covering.IsChosen, Covering.Covers, Covering.short, Covering.stuck}
-use Rattle.cover_merge.specs.Covering.{merged}
-use Rattle.cover_merge.proofs.{Legal.legal_from_checks, Lists.All-left, Lists.All-right, Lists.All-from_map, Lists.All-flat_map, Lists.All-from_flat_map, Lists.picked-at, Positions.All-has}
-use Rattle.cover_merge.proofs.Positions.{rows_at-from, rows_at-has}
-use Rattle.spin_base.proofs.RouteBits.{same_route}
+use Rattle.plan_check.proofs.Common.{Alias, All, All-cons, All-filter, All-flat_map, All-from_flat_map, All-from_map, All-has, All-head, All-left, All-map, All-nil, All-right, All-tail, All-weaker}
+use Rattle.plan_check.proofs.Common.{Bool, Covers, IsChosen, IsLegal, IsSound, List, Original, Refines, Route, Row, [], after, ap, arith, cases_Bool, cases_lt, cond, drop, ends_empty, ends_legal}
+use Rattle.plan_check.proofs.Common.{eqb-true, false, flat_map, get_or, get_or-drop, get_or-take, get_or_default, goes_down, goes_up, has_row, inl, inr, insert_place, keeps, kept, legal_from_checks}
+use Rattle.plan_check.proofs.Common.{length, length-drop, length-take, merge_rows, merged, merged_row, not, not_from_false, picked-at, places_of, refl, rows_at, rows_at-from, rows_at-has, same_route}
+use Rattle.plan_check.proofs.Common.{served, served_by, short, stuck, subst, suc, sym, take, true, ℕ, ◌+◌, ◌-◌, ◌<◌, ◌==◌, ◌∙◌, ◌∷◌, ◌≡◌, ◌≤◌}
 
 -- an alias with a route
 abbrev marked : Route → Alias → Original

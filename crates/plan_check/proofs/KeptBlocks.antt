@@ -1,14 +1,7 @@
 -- In the kept rows of a sound table, all keys of an alias get its row's route: by its row, inside which it lies, or by default.
-use Rattle.std.proofs.Common.{◌≡◌, ℕ, zero, suc, ◌<◌, ◌≤◌, List, ◌∷◌, length, get_or, map, Some, refl, sym, ap, ◌∙◌, subst, arith, inl, inr}
-use Rattle.std.specs.{Prelude.slice_get, Prelude.bit_and, List.cons_option}
-use Rattle.std.proofs.lemmas.{Bool.cases_lt, Bool.eqb-true, Bool.eq-eqb, List.Elements.All-cons, List.Elements.All-map, Option.get_or_from_slice_get}
-use Rattle.spin_base.specs.{declared.blocks.Block.Block, declared.blocks.Entry.Entry, declared.chips.Port.Port, declared.routes.Route.Route, Lookup.default_route}
-use Rattle.machine_desc.specs.RightTables.{IsKeyOf}
-use Rattle.tern_word.specs.{declared.tables.Alias.Alias, declared.tables.Row.Row, Entries.entry_of, Ternary.Intersects, Ternary.LiesIn, SoundTable.IsSound}
-use Rattle.tern_word.proofs.BlockLaws.{key_small}
-use Rattle.cover_merge.specs.Merge.{rows_at}
-use Rattle.default_routes.specs.KeptRows.{IsStrippable, KeptFrom, ends, goes, stays, AreKept}
-use Rattle.plan_check.specs.Verdicts.{Meets, LiesInside, GetsRoute}
+use Rattle.plan_check.proofs.Common.{Alias, All-cons, All-map, AreKept, Block, Entry, GetsRoute, Intersects, IsKeyOf, IsSound, IsStrippable, KeptFrom, LiesIn, LiesInside, List, Meets, Port, Route}
+use Rattle.plan_check.proofs.Common.{Row, Some, ap, arith, bit_and, cases_lt, cons_option, default_route, ends, entry_of, eq-eqb, eqb-true, get_or, get_or_from_slice_get, goes, inl, inr, key_small}
+use Rattle.plan_check.proofs.Common.{length, map, refl, rows_at, slice_get, stays, subst, suc, sym, zero, ℕ, ◌<◌, ◌∙◌, ◌∷◌, ◌≡◌, ◌≤◌}
 
 -- a row's entry meets a block where the blocks meet
 entry_meets : (r : Row) (b : Block) → Meets b (entry_of r) → Intersects r.block b

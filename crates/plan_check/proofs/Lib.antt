@@ -1,3 +1,4 @@
+mod Common
 mod Chips
 mod Covering
 mod KeptBlocks

@@ -1,20 +1,10 @@
 -- What lookup gives the keys of a block that get one route, and what a verdict means for the tables that are loaded.
-use Rattle.std.proofs.Common.{◌≡◌, ℕ, zero, suc, ◌-◌, ◌*◌, ◌<◌, Bool, true, false, cond, List, [], ◌∷◌, ◌++◌, length, get_or, Some, replicate, refl, sym, ap, ◌∙◌, subst, arith, inl, inr}
-use Rattle.std.specs.{Prelude.All, Prelude.find, Prelude.slice_get, Option.option_map_or}
-use Rattle.std.proofs.lemmas.{Bool.false_from_ne_true, List.Elements.All-head, List.Elements.All-tail, Option.get_or_from_slice_get, Option.slice_get_within}
-use Rattle.spin_base.proofs.{Places.All-at, Lookups.lookup_hit, Lookups.lookup_miss}
-use Rattle.spin_base.specs.{declared.blocks.Block.Block, declared.blocks.Entry.Entry, declared.chips.Chip.Chip, declared.chips.Port.Port, declared.routes.Route.Route, Lookup.matches}
-use Rattle.spin_base.specs.{Lookup.default_route, Lookup.lookup, Outputs.has}
-use Rattle.machine_desc.specs.{Description.Description, Live.IsInside, Live.index_of, declared.nets.NetPlan.NetPlan, RightTables.IsKeyOf, RightTables.AreRight, RightTables.table_at}
-use Rattle.machine_desc.proofs.Far.{index_below}
-use Rattle.tern_word.proofs.BlockLaws.{key_small}
-use Rattle.tcam_find.specs.Memory.{unused}
-use Rattle.tcam_find.proofs.MemoryLemmas.{unused_matches}
-use Rattle.table_load.specs.{declared.tables.Image.Image, Memories.loaded, Memories.IsLoaded}
-use Rattle.net_tables.specs.{Marks.IsRouted, PlainTable.HasChip}
-use Rattle.net_tables.proofs.{Determined.one_port, Trees.chips_inside, Trees.comes_in_tree}
-use Rattle.plan_check.specs.{declared.verdicts.Verdict.Verdict, declared.verdicts.Verdict.TheVariants.Right, declared.verdicts.Verdict.TheVariants.Wrong, Verdicts.Meets, Verdicts.LiesInside}
-use Rattle.plan_check.specs.Verdicts.{NoneMeets, IsFirstToMeet, GetsRoute, GetsRouteThat, IsFineAll, IsWrong, IsTreeRoute, IsVerdict, IsMisrouted, rows_for}
+use Rattle.plan_check.proofs.Common.{All, All-at, All-head, All-tail, AreRight, Block, Bool, Chip, Description, Entry, GetsRoute, GetsRouteThat, HasChip, Image, IsFineAll, IsFirstToMeet, IsInside}
+use Rattle.plan_check.proofs.Common.{IsKeyOf, IsLoaded, IsMisrouted, IsRouted, IsTreeRoute, IsVerdict, IsWrong, LiesInside, List, Meets, NetPlan, NoneMeets, Port, Right, Route, Some, Verdict, [], ap}
+use Rattle.plan_check.proofs.Common.{arith, chips_inside, comes_in_tree, cond, default_route, false, false_from_ne_true, find, get_or, get_or_from_slice_get, has, index_below, index_of, inl, inr}
+use Rattle.plan_check.proofs.Common.{key_small, length, loaded, lookup, lookup_hit, lookup_miss, matches, one_port, option_map_or, refl, replicate, rows_for, slice_get, slice_get_within, subst, suc}
+use Rattle.plan_check.proofs.Common.{sym, table_at, true, unused, unused_matches, zero, ℕ, ◌*◌, ◌++◌, ◌-◌, ◌<◌, ◌∙◌, ◌∷◌, ◌≡◌}
+use Rattle.plan_check.specs.declared.verdicts.Verdict.TheVariants.{Wrong}
 
 -- ---- lookup, entry by entry
 

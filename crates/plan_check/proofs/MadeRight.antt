@@ -1,21 +1,8 @@
 -- The image of the final tables of nets gets the verdict that all is right.
-use Rattle.std.proofs.Common.{◌≡◌, ℕ, ◌<◌, List, [], get_or, map, refl, sym, subst, arith}
-use Rattle.std.specs.{Prelude.All, Prelude.AllPairs, List.Contains}
-use Rattle.std.proofs.lemmas.List.{Elements.All-nil, Elements.All-cons, Elements.All-head, Elements.All-map, Elements.All-contains, Sorted.All-permutation, Sorted.Contains-permutation}
-use Rattle.spin_base.proofs.{Members.Contains-map, Pairs.AllPairs-map, Pairs.AllPairs-permutation, Places.slice_get_there}
-use Rattle.spin_base.specs.declared.{blocks.Block.Block, blocks.Entry.Entry, chips.Chip.Chip}
-use Rattle.machine_desc.specs.{Description.Description, Live.IsInside, Live.index_of, declared.nets.NetPlan.NetPlan}
-use Rattle.machine_desc.proofs.Far.{index_below}
-use Rattle.tern_word.specs.{declared.tables.Alias.Alias, declared.tables.Row.Row, Entries.entry_of, Ternary.Intersects, Ternary.LiesIn, SoundTable.IsSound, SoundTable.Original, SoundTable.served_by}
-use Rattle.tern_word.specs.SoundTable.{served}
-use Rattle.tern_word.proofs.BlockLaws.{Intersects-sym}
-use Rattle.cover_merge.proofs.Lists.{All-flat_map, All-from_flat_map}
-use Rattle.net_tables.specs.PlainTable.{IsPlainTable, AreRoutedApart, row_of}
-use Rattle.net_tables.proofs.{Trees.chips_inside, Whole.not_after, Whole.originals_apart, Whole.has_original}
-use Rattle.default_routes.specs.declared.stripping.Final.{Final}
-use Rattle.table_load.specs.declared.tables.Image.{Image}
-use Rattle.cover_merge.specs.Merge.{rows_at}
-use Rattle.plan_check.specs.{declared.verdicts.Verdict.TheVariants.Right, MadeImages.IsFinalAt, MadeImages.IsImageOf, Verdicts.GetsRoute, Verdicts.IsVerdict}
+use Rattle.plan_check.proofs.Common.{Alias, All, All-cons, All-contains, All-flat_map, All-from_flat_map, All-head, All-map, All-nil, All-permutation, AllPairs, AllPairs-map, AllPairs-permutation}
+use Rattle.plan_check.proofs.Common.{AreRoutedApart, Block, Chip, Contains, Contains-map, Contains-permutation, Description, Entry, Final, GetsRoute, Image, Intersects, Intersects-sym, IsFinalAt}
+use Rattle.plan_check.proofs.Common.{IsImageOf, IsInside, IsPlainTable, IsSound, IsVerdict, LiesIn, List, NetPlan, Original, Right, Row, [], arith, chips_inside, entry_of, get_or, has_original}
+use Rattle.plan_check.proofs.Common.{index_below, index_of, map, not_after, originals_apart, refl, row_of, rows_at, served, served_by, slice_get_there, subst, sym, ℕ, ◌<◌, ◌≡◌}
 use Rattle.plan_check.proofs.{KeptBlocks.kept_gets, Covering.covered_sound}
 
 -- ---- plain tables are sound

@@ -1,12 +1,7 @@
 -- Marks of chips, one after the other, and what a tree's edges have to be.
-use Rattle.std.proofs.Common.{◌≡◌, ◌≢◌, ℕ, ◌+◌, ◌*◌, ◌<◌, ◌≤◌, ◌↔◌, ◌⊎◌, IsTrue, Bool, true, false, List, length, get_or, set, replicate, Some, refl, sym, ap, ◌∙◌, subst, arith, inl, inr}
-use Rattle.std.proofs.lemmas.{Bool.cases_eq, Bool.cases_lt, Bool.false≢true, List.get_or-set_same, List.get_or-set_other, List.get_or-replicate, List.get_or_default, List.length-replicate}
-use Rattle.std.proofs.lemmas.List.{length-set}
-use Rattle.spin_base.proofs.Tests.{answers_no}
-use Rattle.spin_base.specs.declared.chips.Chip.{Chip}
-use Rattle.machine_desc.specs.{declared.trees.Edge.Edge, Description.Description, Live.IsInside, Live.IsLiveLink, Live.index_of, RoutingTree.end_of}
-use Rattle.machine_desc.proofs.Far.{index_below, same_index, far_inside, live_inside, live_ends}
-use Rattle.plan_check.specs.Marks.{AreMarks, EntersOnce, EntersAnew, EntersNone, mark_at}
+use Rattle.plan_check.proofs.Common.{AreMarks, Bool, Chip, Description, Edge, EntersAnew, EntersNone, EntersOnce, IsInside, IsLiveLink, IsTrue, List, Some, answers_no, ap, arith, cases_eq, cases_lt}
+use Rattle.plan_check.proofs.Common.{end_of, false, false≢true, far_inside, get_or, get_or-replicate, get_or-set_other, get_or-set_same, get_or_default, index_below, index_of, inl, inr, length}
+use Rattle.plan_check.proofs.Common.{length-replicate, length-set, live_ends, live_inside, mark_at, refl, replicate, same_index, set, subst, sym, true, ℕ, ◌*◌, ◌+◌, ◌<◌, ◌↔◌, ◌∙◌, ◌≡◌, ◌≢◌, ◌≤◌, ◌⊎◌}
 
 -- ---- marks
 

@@ -1,11 +1,7 @@
 -- Going over the rows of a chip until one meets a block, and what is amiss with the route that it gives.
-use Rattle.std.proofs.Common.{◌≡◌, ℕ, ◌+◌, ◌<◌, ◌≤◌, ◌↔◌, IsTrue, Bool, true, false, List, length, get_or, Option, Some, None, refl, sym, ap, ◌∙◌, subst, arith, inl, inr}
-use Rattle.std.specs.Prelude.{slice_get}
-use Rattle.std.proofs.lemmas.{Bool.cases_lt, Option.slice_get-get_or, Option.slice_get_within}
-use Rattle.spin_base.proofs.Tests.{fails}
-use Rattle.spin_base.specs.{declared.blocks.Block.Block, declared.blocks.Entry.Entry, declared.chips.Port.Port, declared.routes.Route.Route, Lookup.default_route}
-use Rattle.plan_check.specs.{declared.flaws.Flaw.Flaw, declared.flaws.Flaw.TheVariants.Wrong, declared.flaws.Flaw.TheVariants.Split, Boards.IsAmiss, Boards.IsFlawBy, Verdicts.Meets}
-use Rattle.plan_check.specs.Verdicts.{LiesInside, NoneMeets, IsFirstToMeet}
+use Rattle.plan_check.proofs.Common.{Block, Bool, Entry, Flaw, IsAmiss, IsFirstToMeet, IsFlawBy, IsTrue, LiesInside, List, Meets, None, NoneMeets, Option, Port, Route, Some, Split, Wrong, ap, arith}
+use Rattle.plan_check.proofs.Common.{cases_lt, default_route, fails, false, get_or, inl, inr, length, refl, slice_get, slice_get-get_or, slice_get_within, subst, sym, true, ℕ, ◌+◌, ◌<◌, ◌↔◌, ◌∙◌, ◌≡◌}
+use Rattle.plan_check.proofs.Common.{◌≤◌}
 
 -- no row before place i meets the block
 abbrev pub NoneBefore : Block → List Entry → ℕ → Type 0

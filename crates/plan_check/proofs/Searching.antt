@@ -1,15 +1,9 @@
 -- A search that looks at the links of each chip that it has reached, one after the other.
-use Rattle.std.proofs.Common.{◌≡◌, ℕ, zero, suc, ◌+◌, ◌*◌, ◌/◌, ◌%◌, ◌<◌, ◌≤◌, ◌⊎◌, Bool, true, false, List, [], ◌∷◌, ◌++◌, length, get_or, set, replicate, Option, Some, None, refl, sym, ap, ◌∙◌}
-use Rattle.std.proofs.Common.{subst, arith, inl, inr}
-use Rattle.std.specs.{Prelude.All, Prelude.if◌then◌else◌, List.sum_by}
-use Rattle.std.proofs.lemmas.{Bool.cases_eq, Bool.cases_lt, Bool.cases_Bool, Bool.cond-true, Bool.cond-false, Bool.false≢true, List.get_or-set_same, List.get_or-set_other, List.get_or-replicate}
-use Rattle.std.proofs.lemmas.List.{get_or_append_left, get_or_at, get_or_default, length-append, length-replicate, length-set, Elements.All-nil, Elements.All-cons, Elements.All-push}
-use Rattle.std.proofs.lemmas.{List.Folds.sum_by-replicate, List.Sums.sum_by-set, Option.none-some}
-use Rattle.spin_base.specs.{declared.chips.Chip.Chip, declared.chips.Dir.Dir, Links.dir_number, Links.dir_at}
-use Rattle.spin_base.proofs.Spots.{dir_number-dir_at}
-use Rattle.machine_desc.specs.{Description.Description, Live.IsInside, Live.far_of, Live.index_of, Flags.is_flagged}
-use Rattle.machine_desc.proofs.{Far.index_below, Far.same_index, Far.far_inside, Same.same_dir, Same.below_six}
-use Rattle.plan_check.specs.Marks.{AreMarks, IsReachedChip, at_root, by_link, mark_at}
+use Rattle.plan_check.proofs.Common.{All, All-cons, All-nil, All-push, AreMarks, Bool, Chip, Description, Dir, IsInside, IsReachedChip, List, None, Option, Some, [], ap, arith, at_root, below_six}
+use Rattle.plan_check.proofs.Common.{by_link, cases_Bool, cases_eq, cases_lt, cond-false, cond-true, dir_at, dir_number, dir_number-dir_at, false, false≢true, far_inside, far_of, get_or}
+use Rattle.plan_check.proofs.Common.{get_or-replicate, get_or-set_other, get_or-set_same, get_or_append_left, get_or_at, get_or_default, if◌then◌else◌, index_below, index_of, inl, inr, is_flagged}
+use Rattle.plan_check.proofs.Common.{length, length-append, length-replicate, length-set, mark_at, none-some, refl, replicate, same_dir, same_index, set, subst, suc, sum_by, sum_by-replicate}
+use Rattle.plan_check.proofs.Common.{sum_by-set, sym, true, zero, ℕ, ◌%◌, ◌*◌, ◌++◌, ◌+◌, ◌/◌, ◌<◌, ◌∙◌, ◌∷◌, ◌≡◌, ◌≤◌, ◌⊎◌}
 
 -- how many marks are not set
 abbrev pub free : Bool → ℕ

@@ -1,11 +1,7 @@
 -- The board of the places of tables, written from the last table to the first.
-use Rattle.std.proofs.Common.{◌≡◌, ℕ, suc, ◌+◌, ◌-◌, ◌*◌, ◌<◌, ◌≤◌, ◌==◌, List, [], ◌∷◌, length, get_or, set, drop, replicate, Some, None, refl, sym, ap, ◌∙◌, subst, arith, inl, inr}
-use Rattle.std.specs.{Prelude.slice_get, Option.option_map_or}
-use Rattle.std.proofs.{Math.Seq.drop-cons, lemmas.Bool.cases_eq, lemmas.Bool.cond-true, lemmas.Bool.cond-false, lemmas.Bool.eq-eqb, lemmas.Bool.eqb-true, lemmas.Bool.false_from_ne_true}
-use Rattle.std.proofs.lemmas.{Nat.mul-add-lt, List.get_or-set_same, List.get_or-set_other, List.get_or-replicate, List.drop_all, List.length-replicate, List.length-set, Option.slice_get-get_or}
-use Rattle.spin_base.specs.declared.blocks.ChipTable.{ChipTable}
-use Rattle.table_load.specs.{declared.tables.Image.Image, Images.IsTable, Images.IsValid, Memories.table_index, Memories.rows_of_index}
-use Rattle.plan_check.specs.Boards.{entries_at}
+use Rattle.plan_check.proofs.Common.{ChipTable, Image, IsTable, IsValid, List, None, Some, [], ap, arith, cases_eq, cond-false, cond-true, drop, drop-cons, drop_all, entries_at, eq-eqb, eqb-true}
+use Rattle.plan_check.proofs.Common.{false_from_ne_true, get_or, get_or-replicate, get_or-set_other, get_or-set_same, inl, inr, length, length-replicate, length-set, mul-add-lt, option_map_or, refl}
+use Rattle.plan_check.proofs.Common.{replicate, rows_of_index, set, slice_get, slice_get-get_or, subst, suc, sym, table_index, ℕ, ◌*◌, ◌+◌, ◌-◌, ◌<◌, ◌==◌, ◌∙◌, ◌∷◌, ◌≡◌, ◌≤◌}
 
 -- the board tells of the tables from place n on
 pub record TellsFrom (height : ℕ) (tables : List ChipTable) (places : List ℕ) (size n : ℕ) : Type 0 where

@@ -1,17 +1,11 @@
 -- What was found of edges and targets by marks and flags is what a routing tree has.
-use Rattle.std.proofs.Common.{◌≡◌, ℕ, ◌+◌, ◌*◌, ◌<◌, ◌↔◌, ◌⊎◌, IsTrue, Bool, true, false, List, [], ◌∷◌, ◌++◌, length, get_or, set, take, map, replicate, Some, refl, sym, ap, ◌∙◌, subst, arith, inl}
-use Rattle.std.proofs.Common.{inr}
-use Rattle.std.specs.Prelude.{All, Any, Contains}
-use Rattle.std.proofs.lemmas.{Bool.cases_eq, Bool.false≢true, Nat.same_from_place, List.get_or-set_same, List.get_or-set_other, List.get_or-replicate, List.length-replicate, List.length-set}
-use Rattle.std.proofs.lemmas.List.{length-map, map_push, take_more, Elements.All-nil, Elements.All-head, Elements.All-map, Elements.All-contains, Elements.Contains-append_left, Elements.Contains-push}
-use Rattle.std.proofs.lemmas.List.Elements.{Contains-push_cases}
-use Rattle.spin_base.proofs.{Members.Contains-none, Members.Contains-first, Pairs.All-from_map}
-use Rattle.spin_base.specs.{declared.chips.Chip.Chip, declared.chips.Spot.Spot, Links.dir_number}
-use Rattle.machine_desc.specs.{declared.trees.Edge.Edge, Description.Description, Live.IsInside, Live.is_inside, Live.IsLiveLink, Live.index_of, Live.chip_of, RoutingTree.end_of}
-use Rattle.machine_desc.specs.{RoutingTree.IsTreeChip, RoutingTree.IsPath, RoutingTree.IsRoutingTree, Flags.is_flagged, Flags.link_place}
-use Rattle.machine_desc.proofs.{Far.index_below, Far.same_index, Far.far_inside, Far.live_inside, Far.live_ends, Same.same_dir, Same.same_edge, Same.below_six, Live.index_of-chip_of}
-use Rattle.machine_desc.proofs.{Live.chip_of-inside, TreeLemmas.tree_cases, TreeLemmas.path_more, TreeLemmas.path_in_tree, TreeLemmas.root_lives_with_edge}
-use Rattle.plan_check.specs.Marks.{IsAlone, EntersOnce, IsMarkedChip, AreMarks, AreFlags, IsReachedChip, at_root, by_link, HasEdgeOrTarget, mark_at}
+use Rattle.plan_check.proofs.Common.{All, All-contains, All-from_map, All-head, All-map, All-nil, Any, AreFlags, AreMarks, Bool, Chip, Contains, Contains-append_left, Contains-first, Contains-none}
+use Rattle.plan_check.proofs.Common.{Contains-push, Contains-push_cases, Description, Edge, EntersOnce, HasEdgeOrTarget, IsAlone, IsInside, IsLiveLink, IsMarkedChip, IsPath, IsReachedChip}
+use Rattle.plan_check.proofs.Common.{IsRoutingTree, IsTreeChip, IsTrue, List, Some, Spot, [], ap, arith, at_root, below_six, by_link, cases_eq, chip_of, chip_of-inside, dir_number, end_of, false}
+use Rattle.plan_check.proofs.Common.{false≢true, far_inside, get_or, get_or-replicate, get_or-set_other, get_or-set_same, index_below, index_of, index_of-chip_of, inl, inr, is_flagged, is_inside}
+use Rattle.plan_check.proofs.Common.{length, length-map, length-replicate, length-set, link_place, live_ends, live_inside, map, map_push, mark_at, path_in_tree, path_more, refl, replicate}
+use Rattle.plan_check.proofs.Common.{root_lives_with_edge, same_dir, same_edge, same_from_place, same_index, set, subst, sym, take, take_more, tree_cases, true, ℕ, ◌*◌, ◌++◌, ◌+◌, ◌<◌, ◌↔◌, ◌∙◌, ◌∷◌}
+use Rattle.plan_check.proofs.Common.{◌≡◌, ◌⊎◌}
 use Rattle.plan_check.proofs.Marking.{one_mark}
 
 -- ---- a root outside the grid

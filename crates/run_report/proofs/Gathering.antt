@@ -1,17 +1,7 @@
 -- What is gathered from the items of a list, one item more.
-use Rattle.std.proofs.Common.{◌≡◌, ap₂, subst, ℕ, zero, suc, ◌+◌, ◌-◌, ◌^◌, ◌<◌, ◌≤◌, List, [], ◌∷◌, ◌++◌, take, length, get_or, min, sum_by, sym, ap, ◌∙◌, arith, append_assoc, map, map-id, Some}
-use Rattle.std.specs.List.{slice_get, slice_index_or, range_with_len, flat_map}
-use Rattle.std.proofs.lemmas.{List.flat_map_more, List.map_push, List.take_more, List.take_all, List.FromFn.sum_by-map-range_with_len_more, Option.slice_get-get_or}
-use Rattle.spin_base.specs.{Gathered.gathered, declared.chips.Spot.Spot, declared.copies.McCopy.McCopy}
-use Rattle.spin_base.proofs.Gathering.{gathered_more}
-use Rattle.mesh_core.specs.{declared.places.Did.Did, declared.places.Place.Place, declared.places.Place.TheVariants.CoreQueue, State.State}
-use Rattle.run_report.specs.{ReportText.event_line, RunReport.waits_at, RunReport.copies_at, RunReport.core_waits}
-
--- an item that a loop shows is there
-pub shown_there : {X : Type 0} (xs : List X) (i : ℕ) (x : X) → i < length xs → x ≡ get_or xs i x → slice_get xs i ≡ Some x
-shown_there [] i x low is = absurd (omega arith)
-shown_there (y ∷ ys) zero x low is = ap Some (sym is)
-shown_there (y ∷ ys) (suc i) x low is = shown_there ys i x (omega arith) is
+use Rattle.run_report.proofs.Common.{CoreQueue, Did, List, McCopy, Place, Some, Spot, State, [], ap, append_assoc, ap₂, arith, copies_at, core_waits, event_line, flat_map, flat_map_more, gathered}
+use Rattle.run_report.proofs.Common.{gathered_more, get_or, length, map, map-id, map_push, min, range_with_len, slice_get, slice_get-get_or, slice_index_or, subst, sum_by}
+use Rattle.run_report.proofs.Common.{sum_by-map-range_with_len_more, sym, take, take_all, take_more, waits_at, ℕ, ◌++◌, ◌+◌, ◌-◌, ◌<◌, ◌^◌, ◌∙◌, ◌∷◌, ◌≡◌, ◌≤◌}
 
 -- a sum over the numbers from 0 on, and the next
 pub sum_more : (g : ℕ → ℕ) (n : ℕ) → sum_by g (range_with_len 0 (n + 1)) ≡ sum_by g (range_with_len 0 n) + g n

@@ -1,13 +1,7 @@
 -- The got lines of a report are those of the deliveries that the job asks for.
-use Rattle.std.proofs.Common.{◌≡◌, ℕ, ◌<◌, List, [], ◌∷◌, ◌++◌, map, get_or, false, refl, ap, sym, ◌∙◌, arith, inl, inr, Less, Equal, Greater, Ordering, nat_cmp, is_lt}
-use Rattle.std.specs.{Ordering.ordering_then, Ordering.MatchOrdering, List.AllPairs, List.flat_map}
-use mathlib.Core.Bool.{true≢false}
-use Rattle.std.proofs.lemmas.{Cmp.nat_list_cmp_total, Cmp.ranked, List.Sorted.ranks_by, List.Sorted.sorted_far}
-use Rattle.spin_base.specs.declared.{chips.Spot.Spot, copies.McCopy.McCopy, copies.Delivery.Delivery, copies.Packet.Packet}
-use Rattle.machine_desc.specs.declared.nets.NetPlan.{NetPlan}
-use Rattle.mesh_core.specs.{State.State, State.IsMesh, Opened.MeetsJobLedger, Expected.IsAtRest, Expected.IsDeliveryNotAfter, Expected.without_hop, Expected.expected_deliveries}
-use Rattle.mesh_core.proofs.{DeliveredLaw.delivered_as_expected, ExpectedList.in_order_is_list}
-use Rattle.run_report.specs.{RunReport.IsDeliveredOf, RunReport.delivery_key, RunReport.named_delivery, ReportText.got_line}
+use Rattle.run_report.proofs.Common.{AllPairs, Delivery, Equal, Greater, IsAtRest, IsDeliveredOf, IsDeliveryNotAfter, IsMesh, Less, List, MatchOrdering, McCopy, MeetsJobLedger, NetPlan, Ordering}
+use Rattle.run_report.proofs.Common.{Packet, Spot, State, [], ap, arith, delivered_as_expected, delivery_key, expected_deliveries, false, flat_map, get_or, got_line, in_order_is_list, inl, inr, is_lt}
+use Rattle.run_report.proofs.Common.{map, named_delivery, nat_cmp, nat_list_cmp_total, ordering_then, ranked, ranks_by, refl, sorted_far, sym, true≢false, without_hop, ℕ, ◌++◌, ◌<◌, ◌∙◌, ◌∷◌, ◌≡◌}
 
 -- what the order of keys tells of two deliveries
 not_after : (x y : Delivery) (r t : Ordering) → MatchOrdering r (y.copy.packet < x.copy.packet) (y.copy.packet ≡ x.copy.packet) (x.copy.packet < y.copy.packet) →

@@ -1,7 +1,7 @@
 -- What a hole of fixed width writes: the hexadecimal digits of a number, with leading zeros.
-use Rattle.std.proofs.Common.{◌≡◌, ℕ, zero, suc, ◌+◌, ◌-◌, ◌/◌, ◌%◌, ◌^◌, ◌<◌, ◌≤◌, List, [], ◌∷◌, ◌++◌, length, replicate, false, refl, sym, ap, ◌∙◌, arith, append_assoc, append-nil, inl, inr}
-use Rattle.std.proofs.Common.{eq-zero-or-pos, eq-eqb, ne_eqb, if◌then◌else◌}
-use Rattle.std.specs.Fmt.{digits, digits_onto, digit_glyph, padded_integral, format_spec, char_count}
+use Rattle.run_report.proofs.Common.{List, [], ap, append-nil, append_assoc, arith, digit_glyph, digits_onto, eq-eqb, eq-zero-or-pos, false, format_spec, if◌then◌else◌, inl, inr, length, ne_eqb, refl}
+use Rattle.run_report.proofs.Common.{replicate, suc, sym, zero, ℕ, ◌%◌, ◌++◌, ◌+◌, ◌-◌, ◌/◌, ◌<◌, ◌^◌, ◌∙◌, ◌∷◌, ◌≡◌, ◌≤◌}
+use Rattle.std.specs.Fmt.{char_count, digits, padded_integral}
 use Rattle.run_report.specs.ReportText.{hex}
 
 -- so many zeros

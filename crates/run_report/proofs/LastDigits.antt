@@ -1,9 +1,6 @@
 -- The last digit of a number, those before it, and lines that differ in it alone.
-use Rattle.std.proofs.Common.{◌≡◌, ◌∙◌, refl, sym, ap, arith, ℕ, zero, suc, ◌+◌, ◌/◌, ◌%◌, ◌^◌, ◌<◌, List, [], ◌∷◌, ◌++◌, append_assoc, take, length, codes}
-use Rattle.std.specs.Fmt.{decimal}
-use Rattle.std.proofs.{Math.Seq.take-append-add, lemmas.Fmt.decimal_digit, lemmas.Fmt.decimal_step}
-use Rattle.mesh_core.specs.declared.places.Did.{Did}
-use Rattle.run_report.specs.ReportText.{tens_digits, event_front, event_line, did_word}
+use Rattle.run_report.proofs.Common.{Did, List, [], ap, append_assoc, arith, codes, decimal, decimal_digit, decimal_step, did_word, event_front, event_line, length, refl, suc, sym, take}
+use Rattle.run_report.proofs.Common.{take-append-add, tens_digits, zero, ℕ, ◌%◌, ◌++◌, ◌+◌, ◌/◌, ◌<◌, ◌^◌, ◌∙◌, ◌∷◌, ◌≡◌}
 
 with_tens : (n tens : ℕ) → n < 2 ^ 64 → n / 10 ≡ tens → tens_digits tens ++ (48 + n % 10) ∷ [] ≡ decimal n
 with_tens n zero small is =

@@ -1,9 +1,5 @@
 -- Tables of an image have few rows, all together.
-use Rattle.std.proofs.Common.{◌≡◌, ℕ, suc, ◌+◌, ◌*◌, ◌<◌, ◌≤◌, ◌^◌, List, [], ◌∷◌, length, arith, All}
-use Rattle.std.proofs.lemmas.{List.Elements.All-head, List.Elements.All-tail, List.Sums.sum_by-cons, Nat.mul-le}
-use Rattle.spin_base.specs.declared.blocks.ChipTable.{ChipTable}
-use Rattle.table_load.specs.{declared.tables.Image.Image, Images.IsTable, Images.IsValid}
-use Rattle.run_report.specs.ReportText.{row_total}
+use Rattle.run_report.proofs.Common.{All, All-head, All-tail, ChipTable, Image, IsTable, IsValid, List, [], arith, length, mul-le, row_total, suc, sum_by-cons, ℕ, ◌*◌, ◌+◌, ◌<◌, ◌^◌, ◌∷◌, ◌≡◌, ◌≤◌}
 
 le_by : (all first others n : ℕ) → all ≡ first + others → first ≤ 1024 → others ≤ 1024 * n → all ≤ 1024 * suc n
 le_by all first others n both a b = omega (arith, both, a, b)

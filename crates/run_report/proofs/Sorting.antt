@@ -1,8 +1,6 @@
 -- A sort by keys that are tuples of numbers, as an order of lists of numbers.
-use Rattle.std.proofs.Common.{◌≡◌, ℕ, Bool, List, [], ◌∷◌, refl, subst, Less, Equal, Greater, Ordering, nat_cmp, is_lt}
-use Rattle.std.specs.{Ordering.ordering_then, Cmp.Lexicographic.slice_cmp, List.Sorted.IsPermutation, List.Sorted.IsSortedBy, List.Sorted.IsStableBy, List.Sorted.IsSortedByKey}
-use Rattle.std.specs.List.Sorted.{IsStableByKey}
-use Rattle.run_report.specs.Orders.{IsSortedStably}
+use Rattle.run_report.proofs.Common.{Bool, Equal, Greater, IsPermutation, IsSortedBy, IsSortedByKey, IsSortedStably, IsStableBy, IsStableByKey, Less, List, Ordering, [], is_lt, nat_cmp, ordering_then}
+use Rattle.run_report.proofs.Common.{refl, slice_cmp, subst, ℕ, ◌∷◌, ◌≡◌}
 
 two : (a b : Ordering) → ordering_then a b ≡ ordering_then a (ordering_then b Equal)
 two a Less = refl

@@ -1,18 +1,9 @@
 -- Steps answered one after the other.
-use Rattle.std.proofs.Common.{◌≡◌, ℕ, zero, suc, ◌+◌, ◌≤◌, refl, sym, ap, ◌∙◌, subst, arith, List, [], ◌∷◌, ◌++◌, length, drop, ◌||◌, Option, Some, None, Result, Ok, Err, IfOk, IfSome, OnOk}
-use Rattle.std.proofs.{lemmas.Bool.false≢true, Math.Bool.or_assoc, Math.Bool.or-false, Math.Bool.or-true, lemmas.List.append-nil, lemmas.List.append_assoc, lemmas.List.drop_all}
-use Rattle.std.proofs.lemmas.Option.{same_Some}
-use Rattle.std.specs.{List.list_any, List.slice_get, Prelude.is_some, Prelude.option_map, Prelude.true}
-use Rattle.machine_desc.specs.Description.{Description}
-use Rattle.job_requests.specs.{declared.steps.Step.Step, declared.steps.Step.TheVariants.Load, declared.steps.Step.TheVariants.Unload, declared.steps.Step.TheVariants.Run, Steps.is_load}
-use Rattle.job_requests.specs.{Valid.HasFirstMachine, Valid.IsValidJob, Valid.IsValidStep, declared.steps.AppJob.AppJob}
-use Rattle.app_loads.specs.{Applications.AreApps, Host.Host, declared.answers.LoadRefusal.TheVariants.Loaded, declared.answers.LoadRefusal.TheVariants.MemoryOut}
-use Rattle.app_loads.specs.{declared.answers.LoadRefusal.TheVariants.KeysOut, declared.answers.LoadRefusal.TheVariants.RowsOut, Opening.bare_host}
-use Rattle.spin_apps.specs.declared.hosts.LoadAnswer.{LoadAnswer, TheVariants.Done, TheVariants.NoRoom, TheVariants.CutOff, TheVariants.Refused}
-use Rattle.spin_apps.specs.declared.hosts.UnloadAnswer.{UnloadAnswer, TheVariants.Got, TheVariants.NotLoaded, TheVariants.Waiting}
-use Rattle.spin_apps.specs.{Answers.Answers, Answers.AreAnswered, Answers.AreAnsweredFrom, Answers.IsLoadAnswer, Answers.IsUnloadAnswer, Answers.host_at, Hosting.IsAnsweredBy, Hosting.HasAddedLine}
-use Rattle.spin_apps.specs.{Hosting.FindHosts, Hosting.FindsHost, Hosting.packet_count_of, Lines.load_line, declared.answers.Answered.Answered}
-use Rattle.spin_base.specs.declared.wants.Memory.{Memory}
+use Rattle.spin_apps.proofs.Common.{Answered, Answers, AppJob, AreAnswered, AreAnsweredFrom, AreApps, CutOff, Description, Done, Err, FindHosts, FindsHost, Got, HasAddedLine, HasFirstMachine, Host}
+use Rattle.spin_apps.proofs.Common.{IfOk, IfSome, IsAnsweredBy, IsLoadAnswer, IsUnloadAnswer, IsValidJob, IsValidStep, KeysOut, List, Load, LoadAnswer, Loaded, Memory, MemoryOut, NoRoom, None}
+use Rattle.spin_apps.proofs.Common.{NotLoaded, Ok, OnOk, Option, Refused, Result, RowsOut, Run, Some, Step, Unload, UnloadAnswer, Waiting, [], ap, append-nil, append_assoc, arith, bare_host, drop}
+use Rattle.spin_apps.proofs.Common.{drop_all, false≢true, host_at, is_load, is_some, length, list_any, load_line, option_map, or-false, or-true, or_assoc, packet_count_of, refl, same_Some, slice_get}
+use Rattle.spin_apps.proofs.Common.{subst, suc, sym, true, zero, ℕ, ◌++◌, ◌+◌, ◌||◌, ◌∙◌, ◌∷◌, ◌≡◌, ◌≤◌}
 
 -- What the steps that are left are answered, behind the text so far, is what all steps are answered.
 abbrev pub GoesOn : List Step → Option Host → List Step → List ℕ → Type 0

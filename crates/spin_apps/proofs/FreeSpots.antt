@@ -1,19 +1,10 @@
 -- The cores that are free, as a machine.
-use Rattle.std.proofs.Common.{◌≡◌, ℕ, ◌+◌, ◌-◌, ◌*◌, ◌/◌, ◌%◌, ◌<◌, ◌≤◌, refl, sym, ap, ◌∙◌, subst, arith, inl, inr, List, [], ◌∷◌, ◌++◌, take, Bool, true, false, not, ◌||◌, Option, Some, None}
-use Rattle.std.specs.{Prelude.MatchOption, List.All, List.Contains, List.list_any, List.slice_get}
-use Rattle.std.proofs.lemmas.{Bool.and_from, Bool.and_parts, Bool.both_ways, Bool.cases_Bool, Bool.leb-true, Bool.not-true, Bool.or_from, Bool.or_parts, List.Elements.All-weaker}
-use Rattle.std.proofs.lemmas.{List.Folds.list_any-append, Option.slice_get-get_or}
-use Rattle.spin_base.proofs.Members.{Contains-at, Contains-filter, Contains-from_filter, among_any, among_contains, any_among, contains_among}
-use Rattle.spin_base.proofs.{Places.All-at, Places.All-each, Places.slice_get_there, Ranges.slice_get-map_range, Equality.spot_eq_same, Equality.spot_eq_true}
-use Rattle.spin_base.specs.{declared.chips.Spot.Spot, Equality.spot_eq}
-use Rattle.machine_desc.specs.{declared.trees.Edge.Edge, Description.Description, Live.index_of, Live.chip_of, Live.is_usable, Live.IsInside, Live.IsSite, Live.IsUsable}
-use Rattle.machine_desc.proofs.{Far.index_below, Same.same_spot, Sites.usable_site}
-use Rattle.app_graph.specs.declared.graphs.Vertex.{Vertex}
-use Rattle.mesh_core.proofs.Moves.{chip_of-index_of}
-use Rattle.place_fit.specs.Placement.{HasDeviceRoom, IsCoreFor, IsPlacement, device_spot}
-use Rattle.app_loads.specs.{declared.loaded.LoadedApp.LoadedApp, Host.Host, Host.all_spots, Host.is_free_spot, Host.is_spot_taken, Opening.spot_of, Opening.grid_spots}
-use Rattle.app_loads.proofs.SpotsOf.{same_tests}
-use Rattle.spin_apps.specs.Free.{free_machine, unusable_spots}
+use Rattle.spin_apps.proofs.Common.{All, All-at, All-each, All-weaker, Bool, Contains, Contains-at, Contains-filter, Contains-from_filter, Description, Edge, HasDeviceRoom, Host, IsCoreFor, IsInside}
+use Rattle.spin_apps.proofs.Common.{IsPlacement, IsSite, IsUsable, List, LoadedApp, MatchOption, None, Option, Some, Spot, Vertex, [], all_spots, among_any, among_contains, and_from, and_parts}
+use Rattle.spin_apps.proofs.Common.{any_among, ap, arith, both_ways, cases_Bool, chip_of, chip_of-index_of, contains_among, device_spot, false, free_machine, grid_spots, index_below, index_of, inl}
+use Rattle.spin_apps.proofs.Common.{inr, is_free_spot, is_spot_taken, is_usable, leb-true, list_any, list_any-append, not, not-true, or_from, or_parts, refl, same_spot, same_tests, slice_get}
+use Rattle.spin_apps.proofs.Common.{slice_get-get_or, slice_get-map_range, slice_get_there, spot_eq, spot_eq_same, spot_eq_true, spot_of, subst, sym, take, true, unusable_spots, usable_site, ℕ, ◌%◌}
+use Rattle.spin_apps.proofs.Common.{◌*◌, ◌++◌, ◌+◌, ◌-◌, ◌/◌, ◌<◌, ◌||◌, ◌∙◌, ◌∷◌, ◌≡◌, ◌≤◌}
 
 -- the number of a core gives the core
 spot_is : (m : Description) (s : Spot) → IsInside m s.chip → 1 ≤ s.core → s.core ≤ 17 → spot_of m (17 * index_of m s.chip + (s.core - 1)) ≡ s

@@ -1,15 +1,7 @@
 -- Where a net has a plan, live links lead to each of its targets.
-use Rattle.std.proofs.Common.{◌≡◌, ℕ, zero, suc, List, [], ◌∷◌, ◌++◌, Some, refl, sym, ◌∙◌, subst, inl, inr}
-use Rattle.std.proofs.lemmas.{List.Elements.All-append, List.Elements.All-cons, List.Elements.All-contains, List.Elements.All-nil, Option.same_Some}
-use Rattle.std.specs.List.{All, Contains}
-use Rattle.spin_base.proofs.{Members.Contains-cases, Members.Contains-none, Places.All-each}
-use Rattle.spin_base.specs.declared.{blocks.Block.Block, chips.Chip.Chip, chips.Spot.Spot}
-use Rattle.machine_desc.specs.{declared.trees.Edge.Edge, Description.Description, Live.IsLiveWalk, Live.LeadsTo, RoutingTree.end_of, RoutingTree.IsTreeChip, declared.nets.NetPlan.NetPlan}
-use Rattle.machine_desc.proofs.TreeLemmas.{tree_cases}
-use Rattle.app_graph.specs.declared.graphs.Net.{Net}
-use Rattle.link_detours.specs.{Steps.Steps, Repair.IsDetour, Repair.IsKeptEdge, Repair.IsRepaired, Repair.IsTreeLevel, Repair.IsWalkTo, Repair.Joins, Repair.LiveEdgeStep, Repair.last_of}
-use Rattle.net_plans.specs.{CutOffTargets.HasNoneCutOff, NetPlans.IsPlannedNet, NetPlans.joined_chips}
-use Rattle.net_plans.proofs.Determined.{same_source}
+use Rattle.spin_apps.proofs.Common.{All, All-append, All-cons, All-contains, All-each, All-nil, Block, Chip, Contains, Contains-cases, Contains-none, Description, Edge, HasNoneCutOff, IsDetour}
+use Rattle.spin_apps.proofs.Common.{IsKeptEdge, IsLiveWalk, IsPlannedNet, IsRepaired, IsTreeChip, IsTreeLevel, IsWalkTo, Joins, LeadsTo, List, LiveEdgeStep, Net, NetPlan, Some, Spot, Steps, []}
+use Rattle.spin_apps.proofs.Common.{end_of, inl, inr, joined_chips, last_of, refl, same_Some, same_source, subst, suc, sym, tree_cases, zero, ℕ, ◌++◌, ◌∙◌, ◌∷◌, ◌≡◌}
 
 module _ (m : Description) (root : Chip) where
   -- a walk of live links leads from the root to the chip

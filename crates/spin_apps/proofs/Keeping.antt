@@ -1,16 +1,8 @@
 -- The board of free cores, where cores are taken and given back.
-use Rattle.std.proofs.Common.{◌≡◌, ℕ, refl, sym, ap, ◌∙◌, arith, List, [], ◌∷◌, ◌++◌, append_assoc, append-nil, ap₂, nat_le, Bool, true, false, not, ◌&&◌, ◌||◌, cond}
-use Rattle.std.specs.List.{All, list_any}
-use Rattle.std.proofs.{lemmas.List.Folds.list_any-append, Math.Bool.and-true}
-use Rattle.spin_base.specs.{declared.chips.Spot.Spot, Equality.spot_eq}
-use Rattle.machine_desc.specs.{Description.Description, Live.is_live_chip, Live.is_usable, Live.IsUsable}
-use Rattle.mesh_core.specs.State.{State}
-use Rattle.place_fit.specs.{Boards.AreFreeOn, Boards.HaveOneGrid, Boards.IsWith, Boards.IsWithout, Placement.core_spot, declared.boards.Board.Board}
-use Rattle.place_fit.proofs.UsableSpots.{any_usable}
-use Rattle.app_loads.specs.{Applications.AreApps, declared.answers.Ended.Ended, declared.loaded.LoadedApp.LoadedApp, declared.plans.AppPlan.AppPlan, Host.Host, Host.all_spots, Host.is_spot_taken}
-use Rattle.app_loads.specs.{Loading.HasLoaded, Leaving.others_than, Opening.bare_host, Unloading.HasUnloaded}
-use Rattle.app_loads.proofs.SpotsOf.{spots_beside, spots_usable}
-use Rattle.spin_apps.specs.Free.{free_but, free_machine, unusable_spots}
+use Rattle.spin_apps.proofs.Common.{All, AppPlan, AreApps, AreFreeOn, Board, Bool, Description, Ended, HasLoaded, HasUnloaded, HaveOneGrid, Host, IsUsable, IsWith, IsWithout, List, LoadedApp, Spot}
+use Rattle.spin_apps.proofs.Common.{State, [], all_spots, and-true, any_usable, ap, append-nil, append_assoc, ap₂, arith, bare_host, cond, core_spot, false, free_but, free_machine, is_live_chip}
+use Rattle.spin_apps.proofs.Common.{is_spot_taken, is_usable, list_any, list_any-append, nat_le, not, others_than, refl, spot_eq, spots_beside, spots_usable, sym, true, unusable_spots, ℕ, ◌&&◌, ◌++◌}
+use Rattle.spin_apps.proofs.Common.{◌||◌, ◌∙◌, ◌∷◌, ◌≡◌}
 use Rattle.spin_apps.proofs.FreeSpots.{free_is}
 
 -- a board tells of all machines with the same usable cores

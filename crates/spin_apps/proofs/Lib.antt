@@ -1,3 +1,4 @@
+mod Common
 mod Chain
 mod FreeSpots
 mod Joined

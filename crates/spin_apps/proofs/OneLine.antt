@@ -1,25 +1,12 @@
 -- On machines with the same applications a load or an unload has one answer.
-use Rattle.std.proofs.Common.{◌≡◌, ℕ, ◌≤◌, ◌==◌, ◌++◌, refl, sym, ap, ◌∙◌, subst, arith, inl, inr, List, [], length, get_or, true, false, Some}
-use Rattle.std.proofs.lemmas.{Bool.cases_Bool, Bool.cases_order, Bool.eq-eqb, Bool.true≢false, List.get_or_default, Option.slice_get-get_or, Slice.Zip.AllZip-long}
-use Rattle.std.specs.List.{All, AllZip, Contains, filter, slice_get}
-use Rattle.spin_base.proofs.{Members.among_any, Members.contains_among, Places.AllZip-at_first, Places.AllZip-at_second, Places.one_item_at}
-use Rattle.spin_base.specs.declared.{blocks.Block.Block, chips.Chip.Chip, chips.Spot.Spot}
-use Rattle.machine_desc.specs.{Description.Description, Live.IsSite, declared.nets.NetPlan.NetPlan}
-use Rattle.app_graph.specs.declared.graphs.Net.{Net}
-use Rattle.net_plans.proofs.CutOffLaws.{one_first_net}
+use Rattle.spin_apps.proofs.Common.{All, AllZip, AllZip-at_first, AllZip-at_second, AllZip-long, AppJob, AppNet, AppPlan, AreAlike, AreApps, AreServed, Block, Chip, Contains, CutOff, Description}
+use Rattle.spin_apps.proofs.Common.{Done, Got, HasCutOffOnHost, HasNoRoom, Host, IsFirstNetCutOff, IsLoadAnswer, IsNetFor, IsPlacement, IsPlanFor, IsRefusalDue, IsSite, IsUnloadAnswer, IsValidJob}
+use Rattle.spin_apps.proofs.Common.{KeysOut, List, LoadAnswer, LoadRefusal, Loaded, LoadedApp, MemoryOut, Net, NetPlan, NoRoom, NoneUnderWay, NotLoaded, Range, Refused, RowsOut, Some, Spot}
+use Rattle.spin_apps.proofs.Common.{UnloadAnswer, Waiting, WaitsFor, [], alike_too, all_ranges, all_spots, among_any, ap, arith, cases_Bool, cases_order, claims_of, contains_among, eq-eqb, false}
+use Rattle.spin_apps.proofs.Common.{filter, free_machine, get_or, get_or_default, inl, inr, is_delivery_of, is_loaded, is_record_of, length, net_with, one_first_net, one_item_at, refl, slice_get}
+use Rattle.spin_apps.proofs.Common.{slice_get-get_or, subst, sym, true, true≢false, unusable_spots, waits_too, ℕ, ◌++◌, ◌==◌, ◌∙◌, ◌≡◌, ◌≤◌}
 use Rattle.net_plans.proofs.Determined as plans
-use Rattle.net_plans.specs.CutOffTargets.{IsFirstNetCutOff}
 use Rattle.place_fit.proofs.Determined as places
-use Rattle.place_fit.specs.Placement.{HasNoRoom, IsPlacement}
-use Rattle.job_requests.specs.{declared.steps.AppJob.AppJob, Valid.IsValidJob}
-use Rattle.app_loads.specs.declared.answers.LoadRefusal.{LoadRefusal, TheVariants.Loaded, TheVariants.MemoryOut, TheVariants.KeysOut, TheVariants.RowsOut}
-use Rattle.app_loads.specs.{declared.loaded.LoadedApp.LoadedApp, declared.loaded.Range.Range, declared.plans.AppNet.AppNet, declared.plans.AppPlan.AppPlan, Alike.AreAlike, Applications.AreApps}
-use Rattle.app_loads.specs.{Claims.AreServed, Claims.IsRefusalDue, Claims.claims_of, Host.Host, Host.all_ranges, Host.all_spots, Host.is_loaded, Host.net_with, Leaving.is_delivery_of}
-use Rattle.app_loads.specs.{Leaving.is_record_of, Leaving.NoneUnderWay, Unloading.WaitsFor}
-use Rattle.app_loads.proofs.Alike.{alike_too, waits_too}
-use Rattle.spin_apps.specs.declared.hosts.LoadAnswer.{LoadAnswer, TheVariants.Done, TheVariants.NoRoom, TheVariants.CutOff, TheVariants.Refused}
-use Rattle.spin_apps.specs.declared.hosts.UnloadAnswer.{UnloadAnswer, TheVariants.Got, TheVariants.NotLoaded, TheVariants.Waiting}
-use Rattle.spin_apps.specs.{Answers.IsLoadAnswer, Answers.IsUnloadAnswer, Free.free_machine, Free.unusable_spots, Plans.HasCutOffOnHost, Plans.IsNetFor, Plans.IsPlanFor}
 use Rattle.spin_apps.proofs.{FreeSpots.free_sites, FreeSpots.placed_free, Joined.planned_joined, OneRefusal.one_refusal, OneRefusal.served_not_refused}
 
 same_net : (a b : AppNet) → a.source ≡ b.source → a.targets ≡ b.targets → a.tree ≡ b.tree → a.keys ≡ b.keys → a.fixed ≡ b.fixed → a ≡ b

@@ -1,10 +1,6 @@
 -- Claims get one list of ranges, or one refusal.
-use Rattle.std.proofs.Common.{◌≡◌, ℕ, zero, suc, ◌+◌, ◌<◌, ◌≤◌, refl, sym, ap, ◌∙◌, subst, arith, inl, inr, List, ◌∷◌, [], ◌++◌, length, take}
-use Rattle.std.proofs.lemmas.{Bool.cases_order, List.take_all, Option.slice_get_within}
-use Rattle.spin_base.proofs.Places.{one_item_at, slice_get_there, take_more_at}
-use Rattle.machine_desc.specs.Description.{Description}
-use Rattle.app_loads.specs.{declared.answers.LoadRefusal.LoadRefusal, declared.loaded.Claim.Claim, declared.loaded.Range.Range, Claims.AreFirstServed, Claims.AreServed, Claims.IsLeastOpenRange}
-use Rattle.app_loads.specs.Claims.{IsOpenRange, IsRefusalDue}
+use Rattle.spin_apps.proofs.Common.{AreFirstServed, AreServed, Claim, Description, IsLeastOpenRange, IsOpenRange, IsRefusalDue, List, LoadRefusal, Range, [], ap, arith, cases_order, inl, inr, length}
+use Rattle.spin_apps.proofs.Common.{one_item_at, refl, slice_get_there, slice_get_within, subst, suc, sym, take, take_all, take_more_at, zero, ℕ, ◌++◌, ◌+◌, ◌<◌, ◌∙◌, ◌∷◌, ◌≡◌, ◌≤◌}
 
 module _ (m : Description) (taken : List Range) (claims : List Claim) where
   one_least : (before : List Range) (claim : Claim) (r s : Range) → IsLeastOpenRange m before claim r → IsLeastOpenRange m before claim s → r ≡ s

@@ -1,23 +1,10 @@
 -- Steps have one text: whatever states they lead through, these are states of machines with the same applications.
-use Rattle.std.proofs.Common.{◌≡◌, ℕ, zero, suc, ◌<◌, refl, sym, ap, ◌∙◌, subst, arith, inl, List, [], ◌∷◌, ◌++◌, length, true, false, Bool, Option, Some, None, IfSome}
-use Rattle.std.proofs.lemmas.{Bool.true≢false, List.length-replicate, List.Elements.All-contains, List.Elements.All-cons, List.Elements.All-head, List.Elements.All-nil, List.Elements.All-tail}
-use Rattle.std.proofs.lemmas.Option.{same_Some, slice_get_within}
-use Rattle.std.specs.{Prelude.option_map, Prelude.replicate, List.All, List.Contains, List.slice_get}
-use Rattle.spin_base.proofs.{Members.among_contains, Members.among_right, Places.slice_get_there}
-use Rattle.spin_base.specs.declared.{chips.Spot.Spot, copies.McCopy.McCopy}
-use Rattle.machine_desc.specs.Description.{Description}
-use Rattle.mesh_core.specs.State.{Hand, State}
-use Rattle.net_plans.proofs.Determined.{same_places}
-use Rattle.job_requests.specs.declared.steps.{AppJob.AppJob, Step.Step, Step.TheVariants.Load, Step.TheVariants.Unload, Step.TheVariants.Run}
-use Rattle.job_requests.specs.Valid.{IsValidJob, IsValidStep}
-use Rattle.app_loads.specs.{declared.loaded.LoadedApp.LoadedApp, declared.loaded.Range.Range, declared.plans.AppPlan.AppPlan, Alike.AreAlike, Alike.IsQuiet, Applications.AreApps}
-use Rattle.app_loads.specs.{Applications.IsLoadedOn, Claims.AreBlocks, Claims.AreServed, Claims.claims_of, Host.Host, Host.all_ranges, Loading.sent_by_vertex, Opening.bare_host}
-use Rattle.app_loads.specs.declared.answers.LoadRefusal.TheVariants.{Loaded, MemoryOut, KeysOut, RowsOut}
-use Rattle.app_loads.proofs.{Alike.alike_moved, Alike.alike_unloaded, Alike.same_spots, OneClaim.one_block}
-use Rattle.spin_apps.specs.declared.hosts.LoadAnswer.{LoadAnswer, TheVariants.Done, TheVariants.NoRoom, TheVariants.CutOff, TheVariants.Refused}
-use Rattle.spin_apps.specs.declared.hosts.UnloadAnswer.{UnloadAnswer, TheVariants.Got, TheVariants.NotLoaded, TheVariants.Waiting}
-use Rattle.spin_apps.specs.Answers.{Answers, AreAnsweredFrom, AreAnswered, HasGot, IsDone, IsLoadAnswer, IsUnloadAnswer, host_at}
-use Rattle.spin_apps.specs.Lines.{load_line, unload_line}
+use Rattle.spin_apps.proofs.Common.{All, All-cons, All-contains, All-head, All-nil, All-tail, Answers, AppJob, AppPlan, AreAlike, AreAnswered, AreAnsweredFrom, AreApps, AreBlocks, AreServed, Bool}
+use Rattle.spin_apps.proofs.Common.{Contains, CutOff, Description, Done, Got, Hand, HasGot, Host, IfSome, IsDone, IsLoadAnswer, IsLoadedOn, IsQuiet, IsUnloadAnswer, IsValidJob, IsValidStep, KeysOut}
+use Rattle.spin_apps.proofs.Common.{List, Load, LoadAnswer, Loaded, LoadedApp, McCopy, MemoryOut, NoRoom, None, NotLoaded, Option, Range, Refused, RowsOut, Run, Some, Spot, State, Step, Unload}
+use Rattle.spin_apps.proofs.Common.{UnloadAnswer, Waiting, [], alike_moved, alike_unloaded, all_ranges, among_contains, among_right, ap, arith, bare_host, claims_of, false, host_at, inl, length}
+use Rattle.spin_apps.proofs.Common.{length-replicate, load_line, one_block, option_map, refl, replicate, same_Some, same_places, same_spots, sent_by_vertex, slice_get, slice_get_there}
+use Rattle.spin_apps.proofs.Common.{slice_get_within, subst, suc, sym, true, true≢false, unload_line, zero, ℕ, ◌++◌, ◌<◌, ◌∙◌, ◌∷◌, ◌≡◌}
 use Rattle.spin_apps.proofs.{OneLine.HaveAsManyDeliveries, OneLine.one_load, OneLine.one_plan, OneLine.one_unload, OneLine.plan_there, OneLine.served_there, OneRefusal.one_served}
 
 -- ---- loads

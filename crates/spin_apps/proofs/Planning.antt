@@ -1,27 +1,14 @@
 -- The plan of a job on free cores.
-use Rattle.std.proofs.Common.{◌≡◌, ℕ, ◌+◌, ◌^◌, ◌<◌, refl, sym, ap, ◌∙◌, subst, arith, inl, inr, List, [], ◌∷◌, ◌++◌, length, map, take, false, Some, Result, Ok, Err, IfOk}
-use Rattle.std.specs.List.{All, AllZip, Contains, slice_get}
-use Rattle.std.proofs.lemmas.{Bool.cases_lt, List.length-map, List.Elements.All-push, List.Elements.All-weaker, Slice.Zip.AllZip-long, Slice.Zip.all_zipped_more}
-use Rattle.spin_base.proofs.{Members.Contains-at, Places.All-each, Places.AllZip-at_first, Places.one_item_at, Places.slice_get_there, Places.take_more_at}
-use Rattle.spin_base.specs.declared.{blocks.Block.Block, chips.Spot.Spot, copies.Packet.Packet}
-use Rattle.machine_desc.specs.{Description.Description, RoutingTree.IsRoutingTree, declared.nets.NetPlan.NetPlan}
-use Rattle.app_graph.specs.{declared.graphs.Net.Net, declared.graphs.Vertex.Vertex, RunPart.key_count_of, ValidGraph.IsValidNet}
-use Rattle.app_graph.proofs.Keys.{keys_of-at}
-use Rattle.app_graph.specs.RunPart.{IsPacketOf as IsRunPacket}
-use Rattle.net_plans.specs.{CutOffTargets.HasNoneCutOff, CutOffTargets.IsFirstNetCutOff, NetPlans.IsPlannedNet, Cause.IsNetCause, Cause.IsCauseOne, declared.nets.NetErr.NetErr}
-use Rattle.app_loads.specs.{declared.plans.AppNet.AppNet, declared.plans.AppPlan.AppPlan, Host.Host, Host.is_spot_taken, Plans.IsAppNet, Plans.IsPacketOfApp, Plans.IsPlan, Plans.MayLoad}
-use Rattle.app_loads.specs.declared.answers.LoadRefusal.TheVariants.{Loaded, MemoryOut, KeysOut, RowsOut}
-use Rattle.job_requests.specs.{Valid.IsValidJob, declared.steps.AppJob.AppJob}
-use Rattle.spin_apps.specs.declared.hosts.LoadAnswer.{LoadAnswer, TheVariants.Done, TheVariants.NoRoom, TheVariants.CutOff, TheVariants.Refused}
-use Rattle.spin_apps.specs.{Answers.IsLoadAnswer, Hosting.IsTaken, Free.free_machine, declared.plans.PlanErr.PlanErr, Making.IsNoPlanOn, Making.IsPlaced, Making.unplaced, Making.unrouted}
-use Rattle.spin_apps.specs.{Making.unrouted_net, Plans.IsNetFor, Plans.IsPlanFor, Plans.IsWhyUnplanned}
+use Rattle.spin_apps.proofs.Common.{All, All-each, All-push, All-weaker, AllZip, AllZip-at_first, AllZip-long, AppJob, AppNet, AppPlan, AreFreeOn, Block, Board, Contains, Contains-at, CutOff}
+use Rattle.spin_apps.proofs.Common.{Description, Done, Err, HasNoneCutOff, Host, IfOk, IsAppNet, IsCauseOne, IsFirstNetCutOff, IsLoadAnswer, IsNetCause, IsNetFor, IsNoPlanOn, IsPacketOfApp}
+use Rattle.spin_apps.proofs.Common.{IsPlaceCause, IsPlaced, IsPlan, IsPlanFor, IsPlannedNet, IsRoutingTree, IsRunPacket, IsTaken, IsValidJob, IsValidNet, IsWhyUnplanned, KeysOut, List, LoadAnswer}
+use Rattle.spin_apps.proofs.Common.{Loaded, MayLoad, MemoryOut, Net, NetErr, NetPlan, NoRoom, Ok, Packet, PlaceErr, PlanErr, Refused, RepairErr, Result, RowsOut, Some, Spot, Vertex, []}
+use Rattle.spin_apps.proofs.Common.{all_zipped_more, ap, arith, cases_lt, false, free_machine, inl, inr, is_spot_taken, key_count_of, keys_of-at, length, length-map, map, one_item_at, refl, slice_get}
+use Rattle.spin_apps.proofs.Common.{slice_get_there, subst, sym, take, take_more_at, unplaced, unrouted, unrouted_net, ℕ, ◌++◌, ◌+◌, ◌<◌, ◌^◌, ◌∙◌, ◌∷◌, ◌≡◌}
 use Rattle.spin_apps.specs.declared.plans.PlanErr.TheVariants as plans
 use Rattle.spin_apps.proofs.FreeSpots.{free_usable, placed_free}
-use Rattle.link_detours.specs.declared.repairs.RepairErr.{RepairErr}
 use Rattle.link_detours.specs.declared.repairs.RepairErr.TheVariants as repairs
 use Rattle.net_plans.specs.declared.nets.NetErr.TheVariants as nets
-use Rattle.place_fit.specs.Cause.{IsPlacementCause as IsPlaceCause}
-use Rattle.place_fit.specs.{Boards.AreFreeOn, declared.boards.Board.Board, declared.placing.PlaceErr.PlaceErr}
 use Rattle.place_fit.specs.declared.placing.PlaceErr.TheVariants as places
 
 -- a net with the source, the targets and the tree of a plan

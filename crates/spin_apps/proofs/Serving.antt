@@ -1,11 +1,6 @@
 -- A host after what was done on it.
-use Rattle.std.proofs.Common.{◌≡◌, ℕ, List, ◌++◌, Option, Some, refl, sym, subst, ap, Result, Ok, Err, IfOk, OnOk, OnErr}
-use Rattle.machine_desc.specs.Description.{Description}
-use Rattle.mesh_core.specs.State.{State}
-use Rattle.place_fit.specs.{Boards.AreFreeOn, declared.boards.Board.Board}
-use Rattle.app_loads.specs.{Applications.AreApps, Host.Host, Loading.HasLoaded, Unloading.HasUnloaded, declared.answers.Ended.Ended, declared.plans.AppPlan.AppPlan}
-use Rattle.job_requests.specs.declared.steps.Step.TheVariants.{Run}
-use Rattle.spin_apps.specs.{Answers.HasDrained, Free.free_but, Free.free_machine, Hosting.HasAddedLine, Lines.run_line}
+use Rattle.spin_apps.proofs.Common.{AppPlan, AreApps, AreFreeOn, Board, Description, Ended, Err, HasAddedLine, HasDrained, HasLoaded, HasUnloaded, Host, IfOk, List, Ok, OnErr, OnOk, Option, Result}
+use Rattle.spin_apps.proofs.Common.{Run, Some, State, ap, free_but, free_machine, refl, run_line, subst, sym, ℕ, ◌++◌, ◌≡◌}
 use Rattle.spin_apps.proofs.Keeping.{loaded_free}
 
 loaded_machine : (old new : Host) (number : ℕ) (plan : AppPlan) → HasLoaded old number plan new → new.mesh.setup.machine ≡ old.mesh.setup.machine

@@ -1,23 +1,8 @@
 -- What the compiler makes of a graph is answered right.
-use Rattle.std.proofs.Common.{◌≡◌, ℕ, List, get_or, Some, Result, Ok, Err, IfOk, IfErr, refl, sym, ◌∙◌, subst, arith, inl, inr}
-use Rattle.std.proofs.lemmas.List.{length-map, Sorted.IsPermutation-refl}
-use Rattle.std.specs.{Prelude.MatchResult, List.All, List.AllPairs, List.slice_get}
-use Rattle.spin_base.proofs.Places.{All-at, one_item_at, slice_get-mapped}
-use Rattle.spin_base.specs.declared.blocks.Block.{Block}
-use Rattle.machine_desc.specs.{declared.trees.Edge.Edge, Description.Description, EdgeOrder.IsEdgeBefore, Live.IsInside, RoutingTree.IsRoutingTree, declared.nets.NetPlan.NetPlan}
-use Rattle.machine_desc.proofs.EdgePlaces.{before_place}
-use Rattle.app_graph.specs.declared.graphs.{Graph.Graph, Net.Net}
-use Rattle.link_detours.specs.Repair.{AreInPlaceOrder}
-use Rattle.net_plans.specs.NetPlans.{IsPlannedNet}
-use Rattle.net_tables.proofs.Trees.{edges_inside}
-use Rattle.net_tables.specs.PlainTable.{AreRoutedApart}
-use Rattle.table_load.specs.{declared.tables.Image.Image, Images.Spells}
-use Rattle.par_compile.specs.{declared.compiling.Plan.Plan, Compiled.IsPlanOf, Compiled.blocks_of}
-use Rattle.par_compile.proofs.Unique.{routed_of}
-use Rattle.plan_check.specs.{declared.verdicts.Verdict.TheVariants.Right, MadeImages.IsImageOf, Verdicts.IsVerdict}
-use Rattle.run_report.specs.declared.causes.Refusal.{Refusal, TheVariants.Memory}
-use Rattle.spin_checks.specs.{declared.findings.Finding.TheVariants.Judged, Answers.HasNoAnswer, Answers.IsAnswer, Findings.HasGoodTree, Findings.right_line, Nets.AreNetsWith, Nets.IsNetWith}
-use Rattle.spin_checks.specs.Plans.{HasKeptRows, trees_of}
+use Rattle.spin_checks.proofs.Common.{All, All-at, AllPairs, AreInPlaceOrder, AreNetsWith, AreRoutedApart, Block, Description, Edge, Err, Graph, HasGoodTree, HasKeptRows, HasNoAnswer, IfErr, IfOk}
+use Rattle.spin_checks.proofs.Common.{Image, IsAnswer, IsEdgeBefore, IsImageOf, IsInside, IsNetWith, IsPermutation-refl, IsPlanOf, IsPlannedNet, IsRoutingTree, IsVerdict, Judged, List, MatchResult}
+use Rattle.spin_checks.proofs.Common.{Memory, Net, NetPlan, Ok, Plan, Refusal, Result, Right, Some, Spells, arith, before_place, blocks_of, edges_inside, get_or, inl, inr, length-map, one_item_at}
+use Rattle.spin_checks.proofs.Common.{refl, right_line, routed_of, slice_get, slice_get-mapped, subst, sym, trees_of, ℕ, ◌∙◌, ◌≡◌}
 use Rattle.spin_checks.proofs.Refusing.{none_due}
 
 -- ---- the trees of plans are in order

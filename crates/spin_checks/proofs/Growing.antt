@@ -1,12 +1,6 @@
 -- Nets one by one: each with its plan, and the first with a bad tree.
-use Rattle.std.proofs.Common.{◌≡◌, ℕ, ◌+◌, ◌<◌, ◌≤◌, List, [], ◌∷◌, ◌++◌, length, get_or, Some, sym, ap, ◌∙◌, subst, arith, inl, inr}
-use Rattle.std.proofs.lemmas.{Bool.cases_lt, List.length_push, Option.slice_get-get_or}
-use Rattle.std.specs.List.{All, slice_get}
-use Rattle.spin_base.proofs.Places.{one_item_at, slice_get-push_cases}
-use Rattle.spin_base.specs.declared.{blocks.Block.Block, chips.Spot.Spot}
-use Rattle.machine_desc.specs.{declared.trees.Edge.Edge, Description.Description, declared.nets.NetPlan.NetPlan}
-use Rattle.app_graph.specs.declared.graphs.Net.{Net}
-use Rattle.spin_checks.specs.{Findings.HasGoodTree, Nets.IsEachNetWith, Nets.IsNetWith}
+use Rattle.spin_checks.proofs.Common.{All, Block, Description, Edge, HasGoodTree, IsEachNetWith, IsNetWith, List, Net, NetPlan, Some, Spot, [], ap, arith, cases_lt, get_or, inl, inr, length}
+use Rattle.spin_checks.proofs.Common.{length_push, one_item_at, slice_get, slice_get-get_or, slice_get-push_cases, subst, sym, ℕ, ◌++◌, ◌+◌, ◌<◌, ◌∙◌, ◌∷◌, ◌≡◌, ◌≤◌}
 
 -- one plan more
 module _ (spots : List Spot) (nets : List Net) (blocks : List Block) (trees : List (List Edge)) (old new : List NetPlan) (i : ℕ) (net : Net) (block : Block) (edges : List Edge) (plan : NetPlan)

@@ -1,3 +1,4 @@
+mod Common
 mod Compiled
 mod Growing
 mod Meaning

@@ -1,14 +1,7 @@
 -- What the lines mean: each begins as no other does.
-use Rattle.std.proofs.Common.{◌≡◌, ℕ, List, [], ◌∷◌, Some, refl, sym, ap, ◌∙◌, subst, arith, codes}
-use Rattle.std.specs.List.{slice_get}
-use Rattle.spin_base.specs.declared.{blocks.Entry.Entry, chips.Chip.Chip}
-use Rattle.machine_desc.specs.{declared.trees.Edge.Edge, Description.Description, declared.nets.NetPlan.NetPlan, RightTables.AreRight}
-use Rattle.app_graph.specs.declared.graphs.{Graph.Graph, Net.Net}
-use Rattle.table_load.specs.{declared.tables.Image.Image, Images.Spells, Memories.IsLoaded}
-use Rattle.plan_check.specs.{declared.verdicts.Verdict.TheVariants.Right, declared.verdicts.Verdict.TheVariants.Wrong, declared.verdicts.Verdict.TheVariants.Split, Verdicts.IsMisrouted}
-use Rattle.run_report.specs.ReportText.{line}
-use Rattle.spin_checks.specs.declared.findings.Finding.{Finding, TheVariants.BadTree, TheVariants.BadImage, TheVariants.OtherMachine, TheVariants.Judged}
-use Rattle.spin_checks.specs.{Answers.NamesMisrouted, Answers.RoutesRight, Findings.finding_line, Findings.right_line, Nets.AreNetsWith}
+use Rattle.spin_checks.proofs.Common.{AreNetsWith, AreRight, BadImage, BadTree, Chip, Description, Edge, Entry, Finding, Graph, Image, IsLoaded, IsMisrouted, Judged, List, NamesMisrouted, Net}
+use Rattle.spin_checks.proofs.Common.{NetPlan, OtherMachine, Right, RoutesRight, Some, Spells, Split, Wrong, [], ap, arith, codes, finding_line, line, refl, right_line, slice_get, subst, sym, ℕ, ◌∙◌}
+use Rattle.spin_checks.proofs.Common.{◌∷◌, ◌≡◌}
 use Rattle.spin_checks.proofs.OneNets.{one_list}
 
 -- the first letter

@@ -1,9 +1,5 @@
 -- There is one answer.
-use Rattle.std.proofs.Common.{◌≡◌, List, ℕ, sym, ap, ◌∙◌, subst}
-use Rattle.std.specs.List.{All}
-use Rattle.machine_desc.specs.{declared.trees.Edge.Edge, Description.Description, declared.nets.NetPlan.NetPlan}
-use Rattle.app_graph.specs.declared.graphs.Graph.{Graph}
-use Rattle.spin_checks.specs.{declared.findings.Finding.Finding, Answers.IsAnswer, Findings.IsFinding, Findings.finding_line, Nets.AreNetsWith, Nets.StandsOnSites}
+use Rattle.spin_checks.proofs.Common.{All, AreNetsWith, Description, Edge, Finding, Graph, IsAnswer, IsFinding, List, NetPlan, StandsOnSites, ap, finding_line, subst, sym, ℕ, ◌∙◌, ◌≡◌}
 use Rattle.spin_checks.proofs.{OneFinding.AreLaws, OneFinding.one_finding, OneNets.one_list}
 
 pub one_answer : AreLaws → (m : Description) (graph : Graph) (trees : List (List Edge)) (bytes : List ℕ) (nets : List NetPlan) → All (StandsOnSites m) nets → AreNetsWith m graph trees nets →

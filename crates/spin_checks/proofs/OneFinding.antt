@@ -1,14 +1,7 @@
 -- Nets and bytes have one finding.
-use Rattle.std.proofs.Common.{◌≡◌, ℕ, List, [], ◌++◌, Option, Some, None, refl, sym, ap, subst, inl, inr, append-nil}
-use Rattle.std.proofs.lemmas.Bool.{cases_order}
-use Rattle.std.specs.List.{All}
-use Rattle.spin_base.proofs.Places.{All-at}
-use Rattle.machine_desc.specs.{Description.Description, Live.IsInside, RoutingTree.IsRoutingTree, declared.nets.NetPlan.NetPlan}
-use Rattle.net_tables.specs.Marks.{IsRouted}
-use Rattle.table_load.specs.{declared.tables.Image.Image, Images.Spells, Reading.fault_of}
-use Rattle.plan_check.specs.{declared.verdicts.Verdict.Verdict, Verdicts.IsVerdict}
-use Rattle.spin_checks.specs.declared.findings.Finding.{Finding, TheVariants.BadTree, TheVariants.BadImage, TheVariants.OtherMachine, TheVariants.Judged}
-use Rattle.spin_checks.specs.{Findings.HasGoodTree, Findings.IsFinding, Findings.IsFirstBad, Findings.IsOfGrid, Nets.StandsOnSites}
+use Rattle.spin_checks.proofs.Common.{All, All-at, BadImage, BadTree, Description, Finding, HasGoodTree, Image, IsFinding, IsFirstBad, IsInside, IsOfGrid, IsRouted, IsRoutingTree, IsVerdict, Judged}
+use Rattle.spin_checks.proofs.Common.{List, NetPlan, None, Option, OtherMachine, Some, Spells, StandsOnSites, Verdict, [], ap, append-nil, cases_order, fault_of, inl, inr, refl, subst, sym, ℕ, ◌++◌}
+use Rattle.spin_checks.proofs.Common.{◌≡◌}
 use Rattle.spin_checks.proofs.OneVerdict.{one_verdict}
 
 -- a net with a good tree, on sites, is routed

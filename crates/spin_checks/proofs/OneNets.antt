@@ -1,15 +1,8 @@
 -- Handed-in trees make one list of nets of a graph.
-use Rattle.std.proofs.Common.{◌≡◌, ◌<◌, List, length, Some, sym, ◌∙◌, subst}
-use Rattle.std.proofs.lemmas.Option.{slice_get_within}
-use Rattle.std.specs.List.{slice_get}
-use Rattle.spin_base.proofs.Places.{slice_get_there}
-use Rattle.spin_base.specs.declared.{blocks.Block.Block, chips.Spot.Spot}
-use Rattle.machine_desc.specs.{declared.trees.Edge.Edge, Description.Description, declared.nets.NetPlan.NetPlan}
-use Rattle.app_graph.specs.declared.graphs.{Graph.Graph, Net.Net}
+use Rattle.spin_checks.proofs.Common.{AreNetsWith, Block, Description, Edge, Graph, IsNetWith, IsTreeOf, List, Net, NetPlan, Some, Spot, length, one_targets, same_places, same_source, slice_get}
+use Rattle.spin_checks.proofs.Common.{slice_get_there, slice_get_within, subst, sym, ◌<◌, ◌∙◌, ◌≡◌}
 use Rattle.place_fit.proofs.Determined as places
 use Rattle.key_alloc.proofs.Determined as keys
-use Rattle.net_plans.proofs.Determined.{one_targets, same_places, same_source}
-use Rattle.spin_checks.specs.Nets.{AreNetsWith, IsNetWith, IsTreeOf}
 use Rattle.spin_checks.proofs.OneTree.{one_tree}
 
 same_net : (p q : NetPlan) → p.block ≡ q.block → p.source ≡ q.source → p.targets ≡ q.targets → p.tree ≡ q.tree → p ≡ q

@@ -1,13 +1,7 @@
 -- Edges that are put in order give one tree.
-use Rattle.std.proofs.Common.{◌≡◌, ℕ, ◌+◌, ◌≤◌, Bool, true, false, List, [], ◌∷◌, get_or, refl, sym, ap, ◌∙◌, subst, arith, inl, inr}
-use Rattle.std.proofs.lemmas.List.{Elements.All-cons, Sorted.IsPermutation-sym, Sorted.IsPermutation-trans, Sorted.sum_by-IsPermutation, Sums.sum_by-cons, Sums.sum_by-le}
-use Rattle.std.specs.List.{All, AllPairs, sum_by, Sorted.IsPermutation}
-use Rattle.spin_base.proofs.Pairs.{AllPairs-head, AllPairs-tail}
-use Rattle.spin_base.specs.declared.chips.Chip.{Chip}
-use Rattle.machine_desc.specs.{declared.trees.Edge.Edge, declared.trees.Tree.Tree, Equality.edge_eq, EdgeOrder.IsEdgeBefore, EdgeOrder.edge_key}
-use Rattle.machine_desc.proofs.Same.{edge_eq-true, edge_eq_self, same_chip, same_dir, same_edge}
-use Rattle.net_plans.proofs.Ordering.{same_from_neither}
-use Rattle.spin_checks.specs.Nets.{IsTreeOf}
+use Rattle.spin_checks.proofs.Common.{All, All-cons, AllPairs, AllPairs-head, AllPairs-tail, Bool, Chip, Edge, IsEdgeBefore, IsPermutation, IsPermutation-sym, IsPermutation-trans, IsTreeOf, List}
+use Rattle.spin_checks.proofs.Common.{Tree, [], ap, arith, edge_eq, edge_eq-true, edge_eq_self, edge_key, false, get_or, inl, inr, refl, same_chip, same_dir, same_edge, same_from_neither, subst}
+use Rattle.spin_checks.proofs.Common.{sum_by, sum_by-IsPermutation, sum_by-cons, sum_by-le, sym, true, ℕ, ◌+◌, ◌∙◌, ◌∷◌, ◌≡◌, ◌≤◌}
 
 -- no edge is before itself
 not_before_itself : (e : Edge) → IsEdgeBefore e e → ⊥

@@ -1,16 +1,7 @@
 -- Nets that are routed have one verdict on an image.
-use Rattle.std.proofs.Common.{◌≡◌, ℕ, List, Some, refl, sym, ap, ◌∙◌, subst, inl, inr}
-use Rattle.std.proofs.lemmas.Bool.{cases_order}
-use Rattle.std.specs.List.{All, slice_get}
-use Rattle.spin_base.proofs.Places.{All-at, one_item_at}
-use Rattle.spin_base.specs.declared.{blocks.Block.Block, blocks.Entry.Entry, chips.Chip.Chip, chips.Port.Port, routes.Route.Route}
-use Rattle.machine_desc.specs.{Description.Description, Live.IsInside, Live.index_of, declared.nets.NetPlan.NetPlan}
-use Rattle.machine_desc.proofs.Far.{same_index}
-use Rattle.net_tables.specs.Marks.{IsRouted}
-use Rattle.net_tables.proofs.{Determined.one_port, Trees.chips_inside}
-use Rattle.table_load.specs.declared.tables.Image.{Image}
-use Rattle.plan_check.specs.declared.verdicts.Verdict.{Verdict, TheVariants.Right, TheVariants.Wrong, TheVariants.Split}
-use Rattle.plan_check.specs.Verdicts.{AreFineBefore, GetsRoute, GetsRouteThat, IsFine, IsFineAll, IsFirstToMeet, IsSplitAt, IsTreeRoute, IsVerdict, IsWrong, LiesInside, Meets, rows_for}
+use Rattle.spin_checks.proofs.Common.{All, All-at, AreFineBefore, Block, Chip, Description, Entry, GetsRoute, GetsRouteThat, Image, IsFine, IsFineAll, IsFirstToMeet, IsInside, IsRouted, IsSplitAt}
+use Rattle.spin_checks.proofs.Common.{IsTreeRoute, IsVerdict, IsWrong, LiesInside, List, Meets, NetPlan, Port, Right, Route, Some, Split, Verdict, Wrong, ap, cases_order, chips_inside, index_of, inl}
+use Rattle.spin_checks.proofs.Common.{inr, one_item_at, one_port, refl, rows_for, same_index, slice_get, subst, sym, ℕ, ◌∙◌, ◌≡◌}
 
 -- ---- a block in rows
 

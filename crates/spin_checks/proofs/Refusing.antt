@@ -1,21 +1,11 @@
 -- A graph has at most one refusal that is due, and none where it has nets with trees.
-use Rattle.std.proofs.Common.{◌≡◌, ℕ, List, [], Option, Result, Ok, Err, IfOk, IfErr, sym, ap, ◌∙◌, inl, inr}
-use Rattle.std.specs.Option.{option_map_or}
-use Rattle.spin_base.proofs.Places.{one_item_at}
-use Rattle.spin_base.specs.declared.chips.Spot.{Spot}
-use Rattle.spin_base.specs.declared.wants.Memory.{Memory as WantsMemory}
-use Rattle.machine_desc.specs.{declared.trees.Edge.Edge, Description.Description, declared.nets.NetPlan.NetPlan}
-use Rattle.app_graph.specs.declared.graphs.{Graph.Graph, Net.Net, Vertex.Vertex}
-use Rattle.place_fit.specs.{Cause.IsPlacementCause, declared.placing.PlaceErr.PlaceErr, Placement.IsPlacement}
+use Rattle.spin_checks.proofs.Common.{AreNetsWith, Description, Edge, Err, Graph, HasNoAnswer, IfErr, IfOk, IsAnswer, IsJobRefusal, IsKeysCause, IsPlacement, IsPlacementCause, IsRefusedBy, KeyErr}
+use Rattle.spin_checks.proofs.Common.{KeysOut, List, Memory, Net, NetPlan, NoRoom, Ok, Option, PlaceErr, Refusal, Result, Spot, Vertex, WantsMemory, [], ap, inl, inr, key_refusal, keys_out, net_in}
+use Rattle.spin_checks.proofs.Common.{no_room, one_item_at, option_map_or, place_refusal, sym, vertex_in, ℕ, ◌∙◌, ◌≡◌}
 use Rattle.place_fit.specs.declared.placing.PlaceErr.TheVariants as places
-use Rattle.key_alloc.specs.{Cause.IsKeysCause, declared.alloc.KeyErr.KeyErr}
 use Rattle.key_alloc.specs.declared.alloc.KeyErr.TheVariants as keys
-use Rattle.net_plans.specs.Cause.{IsRefusedBy}
 use Rattle.place_fit.proofs.Determined as placing
 use Rattle.key_alloc.proofs.Determined as keying
-use Rattle.run_report.specs.declared.causes.Refusal.{Refusal, TheVariants.NoRoom, TheVariants.KeysOut, TheVariants.Memory}
-use Rattle.spin_checks.specs.{Answers.HasNoAnswer, Answers.IsAnswer, Answers.IsJobRefusal, Answers.keys_out, Answers.no_room, Nets.AreNetsWith, Naming.key_refusal, Naming.net_in, Naming.place_refusal}
-use Rattle.spin_checks.specs.Naming.{vertex_in}
 
 module _ (m : Description) (graph : Graph) where
   -- one refusal is due

@@ -1,13 +1,6 @@
 -- Nets whose vertices stand on sites begin on the grid and end at cores and devices.
-use Rattle.std.proofs.Common.{◌≡◌, ◌<◌, List, length, get_or, sym, subst}
-use Rattle.std.proofs.lemmas.Option.{slice_get-get_or}
-use Rattle.std.specs.List.{All}
-use Rattle.spin_base.proofs.Places.{All-at, All-each, slice_get_there}
-use Rattle.spin_base.specs.declared.{blocks.Block.Block, chips.Spot.Spot}
-use Rattle.machine_desc.specs.{declared.trees.Edge.Edge, Description.Description, Live.IsSite, declared.nets.NetPlan.NetPlan}
-use Rattle.machine_desc.proofs.{Far.live_inside, Sites.site_parts}
-use Rattle.app_graph.specs.declared.graphs.Net.{Net}
-use Rattle.spin_checks.specs.Nets.{IsEachNetWith, IsNetWith, StandsOnSites}
+use Rattle.spin_checks.proofs.Common.{All, All-at, All-each, Block, Description, Edge, IsEachNetWith, IsNetWith, IsSite, List, Net, NetPlan, Spot, StandsOnSites, get_or, length, live_inside}
+use Rattle.spin_checks.proofs.Common.{site_parts, slice_get-get_or, slice_get_there, subst, sym, ◌<◌, ◌≡◌}
 
 module _ (m : Description) (spots : List Spot) (sites : All (IsSite m) spots) where
   on_sites : (net : Net) (block : Block) (edges : List Edge) (plan : NetPlan) → IsNetWith spots net block edges plan → StandsOnSites m plan

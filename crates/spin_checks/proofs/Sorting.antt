@@ -1,9 +1,6 @@
 -- A sort of edges by their numbers puts them in their order.
-use Rattle.std.proofs.Common.{◌≡◌, ℕ, ◌<◌, List, true, refl, sym, ◌∙◌, arith, inl, inr, Less, Equal, Greater, Ordering, nat_cmp, is_lt}
-use Rattle.std.specs.{Ordering.ordering_then, Ordering.MatchOrdering, Cmp.IsTotalOrder, List.AllPairs, List.Sorted.IsSortedByKey}
-use Rattle.std.proofs.lemmas.{Bool.true≢false, Cmp.ranked, Cmp.nat_cmp_total, Cmp.on_total, Cmp.then_total, List.Sorted.ranks_by, List.Sorted.sorted_far}
-use Rattle.spin_base.specs.Links.{dir_number}
-use Rattle.machine_desc.specs.{declared.trees.Edge.Edge, EdgeOrder.IsEdgeBefore, EdgeOrder.edge_key}
+use Rattle.spin_checks.proofs.Common.{AllPairs, Edge, Equal, Greater, IsEdgeBefore, IsSortedByKey, IsTotalOrder, Less, List, MatchOrdering, Ordering, arith, dir_number, edge_key, inl, inr, is_lt}
+use Rattle.spin_checks.proofs.Common.{nat_cmp, nat_cmp_total, on_total, ordering_then, ranked, ranks_by, refl, sorted_far, sym, then_total, true, true≢false, ℕ, ◌<◌, ◌∙◌, ◌≡◌}
 
 -- how the code compares two triples
 abbrev compared : ℕ × ℕ × ℕ → ℕ × ℕ × ℕ → Ordering

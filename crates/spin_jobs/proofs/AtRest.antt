@@ -1,25 +1,12 @@
 -- The report of a mesh at rest.
-use Rattle.std.proofs.Common.{◌≡◌, ℕ, ◌+◌, ◌^◌, ◌-◌, List, [], ◌∷◌, ◌++◌, map, length, refl, ap, sym, subst, ◌∙◌, Option, Some, None, Result, Ok, Err, IfOk, codes, decimal}
-use Rattle.std.specs.{Prelude.min, List.All, List.flat_map, List.slice_get, List.range_with_len, List.Sorted.IsPermutation}
-use Rattle.std.proofs.lemmas.List.{length-map, nil_from_length, Sorted.length_permutation}
-use Rattle.spin_base.specs.{Gathered.gathered, declared.blocks.Block.Block, declared.blocks.ChipTable.ChipTable, declared.chips.Chip.Chip, declared.chips.Spot.Spot, declared.copies.Delivery.Delivery}
-use Rattle.spin_base.specs.declared.{copies.DumpRec.DumpRec, copies.McCopy.McCopy, copies.Packet.Packet, wants.Memory.Memory}
-use Rattle.spin_base.proofs.Places.{All-at}
-use Rattle.mesh_round.proofs.Sums.{sum_none}
-use Rattle.machine_desc.specs.{Live.grid_chips, Live.index_of, declared.nets.NetPlan.NetPlan}
-use Rattle.mesh_core.specs.{State.Hand, State.Setup, State.State, State.IsMesh, State.queue_at, Ledger.all_ports, Opened.MeetsJobLedger, Expected.AreAsExpected, Expected.IsAtRest}
-use Rattle.mesh_core.specs.{Expected.expected_deliveries, Expected.without_hop, declared.places.Did.Did, declared.places.Place.Place, declared.places.Place.TheVariants.InQueue}
-use Rattle.mesh_core.specs.declared.places.Place.TheVariants.{CoreQueue}
-use Rattle.mesh_core.proofs.{DeliveredLaw.delivered_as_expected, ExpectedList.in_order_is_list}
-use Rattle.job_readers.specs.declared.jobs.Job.{Job}
-use Rattle.run_report.specs.{declared.reports.Report.Report, Listed.placed_of, ReportText.dump_line, ReportText.event_lines, ReportText.got_line, ReportText.keys_line, ReportText.line}
-use Rattle.run_report.specs.{ReportText.place_line, ReportText.report_text, ReportText.table_lines, ReportText.wait_line, RunReport.chip_waits, RunReport.copies_at, RunReport.core_waits}
-use Rattle.run_report.specs.RunReport.{hand_waits, held_waits, named_delivery, queue_waits, unsent_by, unsent_total, waits_at, waits_of, IsDeliveredOf, IsReportOf}
-use Rattle.run_report.proofs.GotLines.{got_lines, none_after}
-use Rattle.par_compile.specs.declared.compiling.Plan.{Plan}
-use Rattle.table_load.specs.declared.tables.Image.{Image}
-use Rattle.spin_jobs.specs.{declared.outcomes.WordOutput.WordOutput, declared.outcomes.Parts.Parts, Parts.parts_with, Planned.IsMeshOf, Planned.JobWithPlan, Planned.tables_image}
-use Rattle.spin_jobs.specs.{Reinjecting.HasKeptPasses, Reinjecting.HasReinjected, Runs.HasLostNothing, Runs.HasRunOut, Runs.IsReachedSoon, Runs.IsRoomy, Runs.full_report, Words.IsRunKept, Words.IsReported, Words.Reports, Words.TellsRun}
+use Rattle.spin_jobs.proofs.Common.{All, All-at, AreAsExpected, Block, Chip, ChipTable, CoreQueue, Delivery, Did, DumpRec, Err, Hand, HasKeptPasses, HasLostNothing, HasReinjected, HasRunOut, IfOk}
+use Rattle.spin_jobs.proofs.Common.{Image, InQueue, IsAtRest, IsDeliveredOf, IsMesh, IsMeshOf, IsPermutation, IsReachedSoon, IsReportOf, IsReported, IsRoomy, IsRunKept, Job, JobWithPlan, List, McCopy}
+use Rattle.spin_jobs.proofs.Common.{MeetsJobLedger, NetPlan, None, Ok, Option, Packet, Parts, Place, Plan, Report, Reports, Result, Setup, Some, Spot, State, TellsRun, WordOutput, [], all_ports, ap}
+use Rattle.spin_jobs.proofs.Common.{chip_waits, codes, copies_at, core_waits, decimal, delivered_as_expected, dump_line, event_lines, expected_deliveries, flat_map, full_report, gathered, got_line}
+use Rattle.spin_jobs.proofs.Common.{got_lines, grid_chips, hand_waits, held_waits, in_order_is_list, index_of, keys_line, length, length-map, length_permutation, line, map, min, named_delivery}
+use Rattle.spin_jobs.proofs.Common.{nil_from_length, none_after, parts_with, place_line, placed_of, queue_at, queue_waits, range_with_len, refl, report_text, slice_get, subst, sum_none, sym}
+use Rattle.spin_jobs.proofs.Common.{table_lines, tables_image, unsent_by, unsent_total, wait_line, waits_at, waits_of, without_hop, ℕ, ◌++◌, ◌+◌, ◌-◌, ◌^◌, ◌∙◌, ◌∷◌, ◌≡◌}
+use Rattle.spin_base.specs.declared.wants.Memory.{Memory}
 
 -- ---- lists
 

@@ -1,21 +1,10 @@
 -- A job has a plan or one reason why it has none, since the compiler has one answer.
-use Rattle.std.proofs.Common.{◌≡◌, ◌⊎◌, ℕ, List, Result, Ok, Err, IfOk, refl, sym, ap, ◌∙◌, subst, inl, inr}
-use Rattle.spin_base.proofs.Places.{one_item_at}
-use Rattle.spin_base.specs.declared.chips.Chip.{Chip}
-use Rattle.spin_base.specs.declared.wants.Memory.{Memory as NoMemory}
-use Rattle.app_graph.specs.declared.graphs.{Graph.Graph, Net.Net, Vertex.Vertex}
-use Rattle.machine_desc.specs.Description.{Description}
+use Rattle.spin_jobs.proofs.Common.{CanBePlanned, Chip, CompileErr, CutOff, Description, Err, Final, Graph, HasBlocks, HasCutOff, HasLongTable, HasNoPlan, HasPlacement, IfOk, IsCompileCause, IsNameIn}
+use Rattle.spin_jobs.proofs.Common.{IsPlanOf, IsPlanOfJob, Job, KeysOut, List, Memory, Names, Net, NoMemory, NoRoom, Ok, Plan, Refusal, Result, TableLong, Vertex, ap, inl, inr, one_item_at, refl}
+use Rattle.spin_jobs.proofs.Common.{refusal_of, refused_where, subst, sym, ℕ, ◌∙◌, ◌≡◌, ◌⊎◌}
 use Rattle.place_fit.proofs.Determined as places
 use Rattle.key_alloc.proofs.Determined as blocks
-use Rattle.job_readers.specs.declared.jobs.Job.{Job}
-use Rattle.par_compile.specs.declared.compiling.{Plan.Plan, CompileErr.CompileErr, CompileErr.TheVariants.NoRoom, CompileErr.TheVariants.KeysOut, CompileErr.TheVariants.CutOff}
-use Rattle.par_compile.specs.{declared.compiling.CompileErr.TheVariants.TableLong, declared.compiling.CompileErr.TheVariants.Memory, Compiled.HasCutOff, Compiled.HasLongTable, Compiled.HasPlacement}
-use Rattle.par_compile.specs.Compiled.{IsCompileCause, IsPlanOf}
-use Rattle.default_routes.specs.declared.stripping.Final.{Final}
-use Rattle.par_compile.proofs.Refusing.{refused_where}
-use Rattle.run_report.specs.declared.causes.Refusal.{Refusal}
 use Rattle.run_report.specs.declared.causes.Refusal.TheVariants as refusals
-use Rattle.spin_jobs.specs.{Planned.IsPlanOfJob, Unplanned.CanBePlanned, Unplanned.HasBlocks, Unplanned.HasNoPlan, Unplanned.IsNameIn, Unplanned.Names, Unplanned.refusal_of}
 
 -- ---- the compiler
 

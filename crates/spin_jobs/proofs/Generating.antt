@@ -1,12 +1,7 @@
 -- Each generated job has a plan.
-use Rattle.std.proofs.Common.{◌≡◌, ℕ, ◌≤◌, length, sym, subst, arith}
-use Rattle.par_compile.specs.declared.compiling.CompileErr.{CompileErr, TheVariants.NoRoom, TheVariants.KeysOut, TheVariants.CutOff, TheVariants.TableLong, TheVariants.Memory}
-use Rattle.par_compile.specs.Compiled.{IsCompileCause}
-use Rattle.run_report.specs.declared.causes.Refusal.{Refusal}
-use Rattle.job_readers.specs.declared.jobs.Job.{Job}
-use Rattle.job_gen.specs.{Draws.drawn, Generated.gen_job, Generated.job_of_drawn, Generated.graph_of, Generated.net_of}
-use Rattle.job_gen.proofs.{DrawnLaws.is_drawn, ListReading.length-numbered, Fitting.gen_room, Fitting.gen_keys, Fitting.gen_joined, Fitting.gen_queue}
-use Rattle.spin_jobs.specs.{Runs.IsRoomy, Unplanned.HasNoPlan, Unplanned.Names}
+use Rattle.spin_jobs.proofs.Common.{CompileErr, CutOff, HasNoPlan, IsCompileCause, IsRoomy, Job, KeysOut, Memory, Names, NoRoom, Refusal, TableLong, arith, drawn, gen_joined, gen_keys, gen_queue}
+use Rattle.spin_jobs.proofs.Common.{gen_room, is_drawn, length, length-numbered, net_of, subst, sym, ℕ, ◌≡◌, ◌≤◌}
+use Rattle.job_gen.specs.Generated.{gen_job, graph_of, job_of_drawn}
 
 -- a generated job has 300 nets
 few_nets : (n : ℕ) → length (gen_job n).graph.nets ≤ 1024

@@ -1,3 +1,4 @@
+mod Common
 mod AtRest
 pub mod Exclusive
 pub mod Generating

@@ -1,18 +1,9 @@
 -- The opened mesh of a job: what it asks of the plan, and what it keeps.
-use Rattle.std.proofs.Common.{◌≡◌, ℕ, ◌+◌, ◌*◌, ◌<◌, List, [], length, map, Option, Some, None, Result, Ok, Err, IfOk, refl, sym, ap, ◌∙◌, subst}
-use Rattle.std.specs.{Option.option_map, List.slice_get, List.slice_index_or}
-use Rattle.std.proofs.lemmas.{List.Elements.All-replicate, Option.slice_get-get_or, Option.get_or_from_slice_get, Option.slice_get-map}
-use Rattle.spin_base.proofs.Places.{All-at, AllZip-at_first}
-use Rattle.spin_base.specs.declared.{blocks.Block.Block, copies.McCopy.McCopy, copies.Packet.Packet}
-use Rattle.machine_desc.specs.{Description.Description, declared.nets.NetPlan.NetPlan, RightTables.IsKeyOf}
-use Rattle.app_graph.specs.{declared.graphs.Net.Net, declared.graphs.Graph.Graph, declared.graphs.RunPart.RunPart, RunPart.IsPacketOf, RunPart.IsRunOf, RunPart.key_count_of}
-use Rattle.key_alloc.specs.KeyBlocks.{HasKeys}
-use Rattle.mesh_core.specs.{State.Hand, State.Setup, State.State, State.IsMesh, Opened.opened_mesh, Opened.AreOfNets, Opened.MeetsJobLedger, Expected.NothingWaits}
-use Rattle.mesh_core.proofs.OpenedLaw.{opened_meets_ledger}
-use Rattle.mesh_round.specs.{RoundFlow.HasNoHand, OnThreads.MayGoOn}
-use Rattle.par_compile.specs.{declared.compiling.Plan.Plan, Compiled.blocks_of, Compiled.IsPlanOf}
-use Rattle.job_readers.specs.declared.jobs.Job.{Job}
-use Rattle.spin_jobs.specs.Planned.{opened_of, setup_of, IsPlanOfJob}
+use Rattle.spin_jobs.proofs.Common.{All-at, All-replicate, AllZip-at_first, AreOfNets, Block, Description, Err, Graph, Hand, HasKeys, HasNoHand, IfOk, IsKeyOf, IsMesh, IsPacketOf, IsPlanOf}
+use Rattle.spin_jobs.proofs.Common.{IsPlanOfJob, IsRunOf, Job, List, MayGoOn, McCopy, MeetsJobLedger, Net, NetPlan, None, NothingWaits, Ok, Option, Packet, Plan, Result, RunPart, Setup, Some, State}
+use Rattle.spin_jobs.proofs.Common.{[], ap, blocks_of, get_or_from_slice_get, length, map, opened_meets_ledger, opened_mesh, opened_of, option_map, refl, setup_of, slice_get, slice_get-get_or}
+use Rattle.spin_jobs.proofs.Common.{slice_get-map, slice_index_or, subst, sym, ℕ, ◌*◌, ◌+◌, ◌<◌, ◌∙◌, ◌≡◌}
+use Rattle.app_graph.specs.RunPart.{key_count_of}
 
 -- how many keys a net has
 key_count : (nets : List Net) (i : ℕ) (net : Net) → slice_get nets i ≡ Some net → key_count_of nets i ≡ net.keys

@@ -1,20 +1,7 @@
 -- Rounds from the opened mesh of a job, and copies put back between them: what is kept after each of these.
-use Rattle.std.proofs.Common.{◌≡◌, ℕ, ◌≤◌, List, [], ap, arith, length, refl, suc}
-use Rattle.spin_base.specs.declared.copies.Packet.{Packet}
-use Rattle.app_graph.specs.RunPart.{IsRunOf}
-use Rattle.machine_desc.specs.{declared.nets.NetPlan.NetPlan, NetsOn.AreNetsOn, RightTables.AreRight}
-use Rattle.mesh_core.specs.{State.Setup, State.State, State.IsMesh, Opened.opened_mesh, Opened.AreOfNets, Opened.MeetsJobLedger, PutBack.after_put_back}
-use Rattle.mesh_round.specs.{Bound.LeadsSoon, Bound.rounds_in, RoundFlow.HasRounds, RoundFlow.none, RoundFlow.more, Reinjecting.HasPasses}
-use Rattle.mesh_round.specs.Reinjecting.{none as no_pass}
-use Rattle.mesh_round.specs.Reinjecting.{round as by_round}
-use Rattle.mesh_round.specs.Reinjecting.{put_back as by_putting_back}
-use Rattle.par_compile.specs.declared.compiling.Plan.{Plan}
-use Rattle.job_readers.specs.declared.jobs.Job.{Job}
-use Rattle.spin_jobs.specs.{Planned.opened_of, Planned.setup_of, Planned.IsMeshOf, Planned.IsPlanOfJob, Reinjecting.HasKeptPasses, Runs.HasKeptRounds, Runs.IsReachedSoon, Runs.IsRoomy, Runs.kept_in}
-use Rattle.spin_jobs.specs.Runs.{opened, round}
-use Rattle.spin_jobs.specs.Reinjecting.{opened as first_opened}
-use Rattle.spin_jobs.specs.Reinjecting.{round as then_round}
-use Rattle.spin_jobs.specs.Reinjecting.{put_back as then_put_back}
+use Rattle.spin_jobs.proofs.Common.{AreNetsOn, AreOfNets, AreRight, HasKeptPasses, HasKeptRounds, HasPasses, HasRounds, IsMesh, IsMeshOf, IsPlanOfJob, IsReachedSoon, IsRoomy, IsRunOf, Job, LeadsSoon}
+use Rattle.spin_jobs.proofs.Common.{List, MeetsJobLedger, NetPlan, Packet, Plan, Setup, State, [], after_put_back, ap, arith, by_putting_back, by_round, first_opened, kept_in, length, more, no_pass}
+use Rattle.spin_jobs.proofs.Common.{none, opened, opened_mesh, opened_of, refl, round, rounds_in, setup_of, suc, then_put_back, then_round, ℕ, ◌≡◌, ◌≤◌}
 use Rattle.spin_jobs.proofs.Opening.{job_of_nets, opened_keeps}
 
 -- the law that what leads from mesh to mesh keeps the ledger of a job

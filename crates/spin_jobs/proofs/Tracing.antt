@@ -1,15 +1,6 @@
 -- Events one by one, and what a trace keeps.
-use Rattle.std.proofs.Common.{◌≡◌, ℕ, ◌+◌, ◌<◌, length, List, [], ◌∷◌, ◌++◌, take, refl, ap, ◌∙◌, sym}
-use Rattle.std.specs.List.{slice_index_or}
-use Rattle.std.proofs.lemmas.Option.{slice_get-get_or}
-use Rattle.spin_base.proofs.Places.{take_more_at}
-use Rattle.spin_base.specs.declared.copies.Event.{Event}
-use Rattle.app_graph.specs.RunPart.{IsRunOf}
-use Rattle.mesh_core.specs.{State.State, State.IsMesh, Step.after_event, Step.after_events, Step.answer, Step.answers_of, Opened.MeetsJobLedger, declared.places.Did.Did}
-use Rattle.mesh_core.proofs.EventsLaw.{events_keep_job}
-use Rattle.job_readers.specs.declared.jobs.Job.{Job}
-use Rattle.par_compile.specs.declared.compiling.Plan.{Plan}
-use Rattle.spin_jobs.specs.Planned.{opened_of, IsPlanOfJob}
+use Rattle.spin_jobs.proofs.Common.{Did, Event, IsMesh, IsPlanOfJob, IsRunOf, Job, List, MeetsJobLedger, Plan, State, [], after_event, after_events, answer, answers_of, ap, events_keep_job, length}
+use Rattle.spin_jobs.proofs.Common.{opened_of, refl, slice_get-get_or, slice_index_or, sym, take, take_more_at, ℕ, ◌++◌, ◌+◌, ◌<◌, ◌∙◌, ◌∷◌, ◌≡◌}
 use Rattle.spin_jobs.proofs.Opening.{opened_keeps}
 
 after_one_more : (s : State) (es : List Event) (e : Event) → after_events s (es ++ e ∷ []) ≡ after_event (after_events s es) e

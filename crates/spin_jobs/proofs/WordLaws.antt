@@ -1,13 +1,7 @@
 -- What holds of the parts that a word makes of a job.
-use Rattle.std.proofs.Common.{◌≡◌, ℕ, List, Result, Ok, Err, IfOk, sym, subst}
-use Rattle.mesh_core.specs.{State.State, Opened.MeetsJobLedger}
-use Rattle.job_readers.specs.declared.jobs.Job.{Job}
-use Rattle.run_report.specs.declared.reports.Report.{Report}
-use Rattle.par_compile.specs.declared.compiling.Plan.{Plan}
-use Rattle.spin_words.specs.declared.commands.JobWord.{JobWord, TheVariants.Run, TheVariants.Reinject, TheVariants.Trace, TheVariants.Gen}
-use Rattle.spin_jobs.specs.{declared.outcomes.Parts.Parts, declared.outcomes.WordOutput.WordOutput, Parts.parts_with, Parts.plan_parts, Parts.run_parts, Parts.WhereGiven, Parts.WhereRun}
-use Rattle.spin_jobs.specs.{Planned.IsThePlan, Reinjecting.HasReinjected, Runs.HasRunOut, Words.IsTraced, Words.IsRunKept, Words.Makes, Words.ran, Words.reinjected, Words.traced, Words.imaged}
-use Rattle.spin_jobs.specs.Words.{listed, generated, IsMadeOf}
+use Rattle.spin_jobs.proofs.Common.{Err, Gen, HasReinjected, HasRunOut, IfOk, IsMadeOf, IsRunKept, IsThePlan, IsTraced, Job, JobWord, List, Makes, MeetsJobLedger, Ok, Parts, Plan, Reinject, Report}
+use Rattle.spin_jobs.proofs.Common.{Result, Run, State, Trace, WhereGiven, WhereRun, WordOutput, generated, imaged, listed, parts_with, plan_parts, ran, reinjected, run_parts, subst, sym, traced, ℕ}
+use Rattle.spin_jobs.proofs.Common.{◌≡◌}
 
 -- what each value has, each value has that has more
 pub ok_weaker : {A E : Type 0} (r : Result A E) (P Q : A → Type 0) → ((x : A) → P x → Q x) → IfOk r P → IfOk r Q

@@ -1,18 +1,9 @@
 -- The table that is made of rows says what they say.
-use Rattle.std.proofs.Common.{◌≡◌, ℕ, ◌-◌, ◌^◌, ◌<◌, inl, inr, List, [], ◌∷◌, ◌++◌, length, get_or, map, Some, None, refl, sym, ap, ◌∙◌, subst, append_assoc, arith}
-use Rattle.std.specs.{Prelude.All, List.Contains, List.Sorted.IsPermutation}
-use Rattle.std.proofs.lemmas.List.{append-nil, get_or-map, length-map, Elements.All-nil, Elements.All-map, Elements.Contains-get_or, Sorted.All-permutation, Sorted.IsPermutation-sym}
-use Rattle.std.proofs.lemmas.Option.{none-some}
-use Rattle.spin_base.proofs.{Members.Contains-map, Pairs.AllPairs-nil}
-use Rattle.spin_base.specs.declared.{blocks.Block.Block, routes.Route.Route, chips.Port.Port}
-use Rattle.tern_word.specs.{declared.tables.Alias.Alias, declared.tables.Row.Row, Ternary.Matches, Ternary.Intersects, Ternary.LiesIn, Ternary.generality, SoundTable.HoldsItsAliases}
-use Rattle.tern_word.specs.SoundTable.{IsSound, Original, served, served_by}
-use Rattle.cover_merge.specs.Merge.{place_for, rows_at}
-use Rattle.block_cuts.specs.Pieces.{ArePieces, HasPiece}
-use Rattle.block_cuts.proofs.PieceLaws.{are_pieces}
-use Rattle.table_rules.specs.{declared.rows.RoutedBlock.RoutedBlock, Made.IsTableFrom, Made.IsTableMadeOf, Made.IsRowAdded, Made.StandsBefore, Made.alias_of, Made.row_blocks, Made.done}
-use Rattle.table_rules.specs.{Made.in_pieces, Made.left_out, Made.more, Made.piece_row, Made.whole, Made.whole_row, Made.with_row, Made.with_rows, Rows.LeaveBy, Rows.KeepsRoutes, Rows.by_row}
-use Rattle.table_rules.specs.{Rows.first_with, Rows.routed, Shortened.AreLeft}
+use Rattle.table_rules.proofs.Common.{Alias, All, All-map, All-nil, All-permutation, AllPairs-nil, AreLeft, ArePieces, Block, Contains, Contains-get_or, Contains-map, HasPiece, HoldsItsAliases}
+use Rattle.table_rules.proofs.Common.{Intersects, IsPermutation, IsPermutation-sym, IsRowAdded, IsSound, IsTableFrom, IsTableMadeOf, KeepsRoutes, LeaveBy, LiesIn, List, Matches, None, Original, Port}
+use Rattle.table_rules.proofs.Common.{Route, RoutedBlock, Row, Some, StandsBefore, [], alias_of, ap, append-nil, append_assoc, are_pieces, arith, by_row, done, first_with, generality, get_or}
+use Rattle.table_rules.proofs.Common.{get_or-map, in_pieces, inl, inr, left_out, length, length-map, map, more, none-some, piece_row, place_for, refl, routed, row_blocks, rows_at, served, served_by}
+use Rattle.table_rules.proofs.Common.{subst, sym, whole, whole_row, with_row, with_rows, ℕ, ◌++◌, ◌-◌, ◌<◌, ◌^◌, ◌∙◌, ◌∷◌, ◌≡◌}
 use Rattle.table_rules.proofs.{FirstRows.first_none, FirstRows.first_of_more, FirstRows.none_before, FirstRows.none_first, FirstRows.not_none, Kept.IsSentOn, Kept.all_sent, Sounds.all_insert}
 use Rattle.table_rules.proofs.Sounds.{all_with_rows, served_keeps, served_keeps_all, served_new, served_news, sound_with, sound_with_pieces}
 

@@ -1,11 +1,6 @@
 -- Which row has a key first.
-use Rattle.std.proofs.Common.{arith, ◌≡◌, ℕ, ◌⊎◌, true, false, cond, inl, inr, List, [], ◌∷◌, ◌++◌, Some, None, refl, sym, ap, ◌∙◌}
-use Rattle.std.specs.Prelude.{bit_and}
-use Rattle.std.proofs.lemmas.{Bool.eq-eqb, Bool.Decides.eqb_tells, List.Elements.All-nil, List.Elements.All-cons, List.Elements.All-head, List.Elements.All-tail, Option.none-some, Option.same_Some}
-use Rattle.spin_base.specs.declared.blocks.Block.{Block}
-use Rattle.tern_word.specs.Ternary.{Matches}
-use Rattle.block_cuts.specs.Pieces.{NoneHas}
-use Rattle.table_rules.specs.{declared.rows.RoutedBlock.RoutedBlock, Rows.takes_key, Rows.first_with, Made.row_blocks}
+use Rattle.table_rules.proofs.Common.{All-cons, All-head, All-nil, All-tail, Block, List, Matches, None, NoneHas, RoutedBlock, Some, [], ap, arith, bit_and, cond, eq-eqb, eqb_tells, false, first_with}
+use Rattle.table_rules.proofs.Common.{inl, inr, none-some, refl, row_blocks, same_Some, sym, takes_key, true, ℕ, ◌++◌, ◌∙◌, ◌∷◌, ◌≡◌, ◌⊎◌}
 
 pub has_tells : (k : ℕ) (r : RoutedBlock) → ((takes_key k r ≡ true) × Matches r.block k) ⊎ ((takes_key k r ≡ false) × (Matches r.block k → ⊥))
 has_tells k r = elim (eqb_tells (bit_and k r.block.mask) r.block.key) [

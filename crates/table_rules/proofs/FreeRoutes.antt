@@ -1,9 +1,6 @@
 -- From which number on all are among sorted ones, and what is free below it.
-use Rattle.std.proofs.Common.{◌≡◌, ℕ, ◌+◌, ◌-◌, ◌<◌, ◌≤◌, min, List, length, get_or, map, subst, arith}
-use Rattle.std.specs.{Prelude.All, Prelude.slice_index, List.Contains, List.Sorted.IsPermutation}
-use Rattle.std.proofs.lemmas.{Bool.cases_lt, List.get_or_default, List.Sorted.All-permutation, List.Sorted.Contains-permutation, List.Sorted.IsPermutation-sym}
-use Rattle.spin_base.proofs.{Members.Contains-unmap, Pairs.All-from_map}
-use Rattle.table_rules.specs.{declared.rows.RoutedBlock.RoutedBlock, Exact.HasAllRoutes, Exact.IsFree}
+use Rattle.table_rules.proofs.Common.{All, All-from_map, All-permutation, Contains, Contains-permutation, Contains-unmap, HasAllRoutes, IsFree, IsPermutation, IsPermutation-sym, List, RoutedBlock}
+use Rattle.table_rules.proofs.Common.{arith, cases_lt, get_or, get_or_default, length, map, min, slice_index, subst, ℕ, ◌+◌, ◌-◌, ◌<◌, ◌≡◌, ◌≤◌}
 
 module _ (bits : List ℕ) (routes full k next : ℕ) (k_in : k < length bits) (is : next ≡ min full (slice_index bits (length bits - 1 - k))) where
   pub next_below : full ≤ routes → next ≤ routes

@@ -1,11 +1,7 @@
 -- One block more, one route more.
-use Rattle.std.proofs.Common.{◌≡◌, ℕ, ◌+◌, ◌<◌, ◌≤◌, Bool, true, false, List, [], ◌∷◌, ◌++◌, length, get_or, map, set, take, drop, refl, sym, ap, ◌∙◌, append_assoc, arith}
-use Rattle.std.specs.Prelude.{if◌then◌else◌}
-use Rattle.std.proofs.lemmas.List.{append-nil, drop_all, drop_more, map-append, map_push, take_more, take_all, Concat.flat_map-append, Edits.sets-eq, Elements.filter-append, Sums.fold-append}
-use Rattle.spin_base.specs.declared.{blocks.Block.Block, routes.Route.Route}
-use Rattle.tern_word.specs.{declared.tables.Alias.Alias, declared.tables.Row.Row, SoundTable.Original, SoundTable.served_by, Ternary.merge_two}
-use Rattle.table_rules.specs.{declared.rows.RoutedBlock.RoutedBlock, Pairs.goes_by, Pairs.joined_blocks, Pairs.meets_one, Pairs.others, Pairs.own_blocks, Pairs.pieces_of, Pairs.row_by}
-use Rattle.table_rules.specs.Pairs.{rows_by_routes, with_block}
+use Rattle.table_rules.proofs.Common.{Alias, Block, Bool, List, Original, Route, RoutedBlock, Row, [], ap, append-nil, append_assoc, arith, drop, drop_all, drop_more, false, filter-append}
+use Rattle.table_rules.proofs.Common.{flat_map-append, fold-append, get_or, goes_by, if◌then◌else◌, joined_blocks, length, map, map-append, map_push, meets_one, merge_two, others, own_blocks}
+use Rattle.table_rules.proofs.Common.{pieces_of, refl, row_by, rows_by_routes, served_by, set, sets-eq, sym, take, take_all, take_more, true, with_block, ℕ, ◌++◌, ◌+◌, ◌<◌, ◌∙◌, ◌∷◌, ◌≡◌, ◌≤◌}
 
 -- ---- a block is put
 

@@ -1,15 +1,8 @@
 -- Blocks that are joined have all keys of the blocks taken in, and none of the pieces behind.
-use Rattle.std.proofs.Common.{arith, ◌≡◌, ℕ, ◌<◌, ◌^◌, ◌⊎◌, Bool, true, false, inl, inr, List, [], ◌∷◌, ◌++◌, map, None, refl, sym, ap, ◌∙◌, subst}
-use Rattle.std.specs.Prelude.{All, filter, fold, if◌then◌else◌}
-use Rattle.std.proofs.lemmas.{Bool.cases_Bool, Bool.eq-eqb, Bool.eqb-true, Bool.false≢true, Bool.Decides.eqb_tells, List.Elements.All-head, List.Elements.All-tail}
-use Rattle.spin_base.proofs.Members.{Among, Contains-filter, Contains-map, among_any, among_contains, among_filter, any_among, contains_among}
-use Rattle.spin_base.proofs.RouteBits.{same_route}
-use Rattle.spin_base.specs.declared.{blocks.Block.Block, routes.Route.Route}
-use Rattle.tern_word.specs.Ternary.{Intersects, LiesIn, Matches, merge_two}
-use Rattle.tern_word.proofs.BlockLaws.{LiesIn-merge}
-use Rattle.block_cuts.proofs.HalfLaws.{meets_tells}
-use Rattle.table_rules.specs.{declared.rows.RoutedBlock.RoutedBlock, Made.row_blocks, Pairs.goes_by, Pairs.joined_blocks, Pairs.meets_one, Pairs.others, Pairs.own_blocks, Pairs.row_by}
-use Rattle.table_rules.specs.{Pairs.rows_by_routes, Pairs.with_block, Rows.GoesBy, Rows.first_with}
+use Rattle.table_rules.proofs.Common.{All, All-head, All-tail, Among, Block, Bool, Contains-filter, Contains-map, GoesBy, Intersects, LiesIn, LiesIn-merge, List, Matches, None, Route, RoutedBlock, []}
+use Rattle.table_rules.proofs.Common.{among_any, among_contains, among_filter, any_among, ap, arith, cases_Bool, contains_among, eq-eqb, eqb-true, eqb_tells, false, false≢true, filter, first_with}
+use Rattle.table_rules.proofs.Common.{fold, goes_by, if◌then◌else◌, inl, inr, joined_blocks, map, meets_one, meets_tells, merge_two, others, own_blocks, refl, row_blocks, row_by, rows_by_routes}
+use Rattle.table_rules.proofs.Common.{same_route, subst, sym, true, with_block, ℕ, ◌++◌, ◌<◌, ◌^◌, ◌∙◌, ◌∷◌, ◌≡◌, ◌⊎◌}
 use Rattle.table_rules.proofs.FirstRows.{first_hit, first_miss, has_tells}
 
 -- one of the blocks has the key

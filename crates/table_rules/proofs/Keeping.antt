@@ -1,13 +1,8 @@
 -- The rows of joined pieces say what the given rows say, and behind a wall no more.
-use Rattle.std.proofs.Common.{◌≡◌, ℕ, ◌<◌, ◌^◌, List, [], ◌∷◌, map, Some, refl, sym, ap, ◌∙◌, subst}
-use Rattle.std.specs.{List.Contains, Option.option_or, List.Sorted.IsPermutation}
-use Rattle.std.proofs.lemmas.{List.Folds.find-append, List.Sorted.IsPermutation-refl, Option.same_Some}
-use Rattle.spin_base.proofs.Members.{Among, among_contains, among_map, contains_among, map_among}
-use Rattle.spin_base.specs.declared.routes.Route.{Route}
-use Rattle.tern_word.specs.{declared.tables.Row.Row, Ternary.Matches, Ternary.all_keys, SoundTable.IsSound, SoundTable.Original, SoundTable.served}
-use Rattle.table_rules.specs.{declared.rows.RoutedBlock.RoutedBlock, Exact.IsFree, Exact.wall_of, Exact.walled, Made.IsTableMadeOf, Pairs.AreJoinedRows, Pairs.AreRoutesOf, Pairs.others}
-use Rattle.table_rules.specs.{Pairs.pieces_of, Pairs.row_by, Rows.GoesBy, Rows.HasNoNewKeys, Rows.KeepsRoutes, Rows.by_row, Rows.first_with, Rows.takes_key, Shortened.AreLeft, Shortened.IsShorterOf}
-use Rattle.table_rules.specs.Shortened.{few, fewer, many, no_fewer}
+use Rattle.table_rules.proofs.Common.{Among, AreJoinedRows, AreLeft, AreRoutesOf, Contains, GoesBy, HasNoNewKeys, IsFree, IsPermutation, IsPermutation-refl, IsShorterOf, IsSound, IsTableMadeOf}
+use Rattle.table_rules.proofs.Common.{KeepsRoutes, List, Matches, Original, Route, RoutedBlock, Row, Some, [], all_keys, among_contains, among_map, ap, by_row, contains_among, few, fewer, find-append}
+use Rattle.table_rules.proofs.Common.{first_with, many, map, map_among, no_fewer, option_or, others, pieces_of, refl, row_by, same_Some, served, subst, sym, takes_key, wall_of, walled, ℕ, ◌<◌, ◌^◌}
+use Rattle.table_rules.proofs.Common.{◌∙◌, ◌∷◌, ◌≡◌}
 use Rattle.table_rules.proofs.{Faithful.is_served, Faithful.keeps, Faithful.made_is_sound, FirstRows.first_hit, FirstRows.first_next, Joins.AreApart, Joins.of_others, Joins.piece_goes}
 use Rattle.table_rules.proofs.{Joins.piece_is_missed, Joins.to_others, Sounds.GoesWhere, Sounds.all_go, Walls.all_match, Walls.found_holds}
 

@@ -1,13 +1,7 @@
 -- The rows that default routing does not replace send the packets of all.
-use Rattle.std.proofs.Common.{◌≡◌, ℕ, suc, ◌^◌, ◌<◌, ◌≤◌, inl, inr, List, ◌∷◌, length, get_or, map, None, sym, ap, ◌∙◌, subst, arith}
-use Rattle.std.specs.{Prelude.All, List.cons_option}
-use Rattle.std.proofs.lemmas.{Bool.cases_lt, List.Elements.All-nil, List.Elements.All-cons, List.Elements.All-map, Option.get_or_from_slice_get, Option.slice_get_within}
-use Rattle.spin_base.proofs.Pairs.{All-flat_map}
-use Rattle.spin_base.specs.declared.{blocks.Block.Block, chips.Port.Port, routes.Route.Route}
-use Rattle.tern_word.specs.{declared.tables.Alias.Alias, declared.tables.Row.Row, Ternary.Matches, SoundTable.IsSound, SoundTable.Original, SoundTable.served, SoundTable.served_by}
-use Rattle.cover_merge.specs.Merge.{rows_at}
-use Rattle.default_routes.specs.KeptRows.{AreKept, IsStrippable, KeptFrom, ends, goes, stays}
-use Rattle.table_rules.specs.{declared.rows.RoutedBlock.RoutedBlock, Rows.LeaveBy, Rows.by_default, Rows.by_row, Rows.first_with, Rows.routed}
+use Rattle.table_rules.proofs.Common.{Alias, All, All-cons, All-flat_map, All-map, All-nil, AreKept, Block, IsSound, IsStrippable, KeptFrom, LeaveBy, List, Matches, None, Original, Port, Route}
+use Rattle.table_rules.proofs.Common.{RoutedBlock, Row, ap, arith, by_default, by_row, cases_lt, cons_option, ends, first_with, get_or, get_or_from_slice_get, goes, inl, inr, length, map, routed}
+use Rattle.table_rules.proofs.Common.{rows_at, served, served_by, slice_get_within, stays, subst, suc, sym, ℕ, ◌<◌, ◌^◌, ◌∙◌, ◌∷◌, ◌≡◌, ◌≤◌}
 use Rattle.table_rules.proofs.FirstRows.{first_hit, first_miss, none_first}
 
 -- where no row has the key, none is the first

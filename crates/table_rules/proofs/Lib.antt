@@ -1,3 +1,4 @@
+mod Common
 mod FirstRows
 mod Kept
 mod Sounds

@@ -1,17 +1,9 @@
 -- A sound table with one row more, and with the pieces of a row, is sound; and a sound table routes its aliases.
-use Rattle.std.proofs.Common.{◌≡◌, ℕ, zero, suc, ◌+◌, ◌^◌, ◌<◌, ◌≤◌, inl, inr, List, [], ◌∷◌, ◌++◌, length, get_or, take, drop, map, refl, sym, ap, ◌∙◌, subst, take-append-drop, get_or-take}
-use Rattle.std.proofs.Common.{get_or-drop, length-take, length-drop, arith}
-use Rattle.std.specs.{Prelude.All, Prelude.AllPairs, Prelude.insert, List.Contains}
-use Rattle.std.proofs.lemmas.{Bool.cases_lt, List.Concat.flat_map-append, List.Elements.All-nil, List.Elements.All-append, List.Elements.All-cons, List.Elements.All-drop, List.Elements.All-head}
-use Rattle.std.proofs.lemmas.List.Elements.{All-map, All-tail, All-take, Contains-append_left, Contains-append_right, Contains-append_cases}
-use Rattle.std.proofs.lemmas.List.Kept.{AllPairs-cons}
-use Rattle.spin_base.proofs.Pairs.{All-flat_map, AllAcross, AllPairs-head, AllPairs-tail, AllPairs-append, AllPairs-left, AllPairs-right, AllPairs-across}
-use Rattle.spin_base.specs.declared.blocks.Block.{Block}
-use Rattle.tern_word.specs.{declared.tables.Alias.Alias, declared.tables.Row.Row, Ternary.Matches, Ternary.Intersects, Ternary.LiesIn, Ternary.generality, SoundTable.HoldsItsAliases}
-use Rattle.tern_word.specs.SoundTable.{IsSound, Misses, Original, served, served_by}
-use Rattle.cover_merge.specs.Merge.{place_for, PassesDown}
-use Rattle.cover_merge.proofs.Positions.{place_for-below, place_for-above}
-use Rattle.table_rules.specs.{declared.rows.RoutedBlock.RoutedBlock, Made.alias_of, Made.piece_row, Made.with_row, Made.with_rows, Rows.GoesBy, Rows.routed}
+use Rattle.table_rules.proofs.Common.{Alias, All, All-append, All-cons, All-drop, All-flat_map, All-head, All-map, All-nil, All-tail, All-take, AllAcross, AllPairs, AllPairs-across, AllPairs-append}
+use Rattle.table_rules.proofs.Common.{AllPairs-cons, AllPairs-head, AllPairs-left, AllPairs-right, AllPairs-tail, Block, Contains, Contains-append_cases, Contains-append_left, Contains-append_right}
+use Rattle.table_rules.proofs.Common.{GoesBy, HoldsItsAliases, Intersects, IsSound, LiesIn, List, Matches, Misses, Original, PassesDown, RoutedBlock, Row, [], alias_of, ap, arith, cases_lt, drop}
+use Rattle.table_rules.proofs.Common.{flat_map-append, generality, get_or, get_or-drop, get_or-take, inl, inr, insert, length, length-drop, length-take, map, piece_row, place_for, place_for-above}
+use Rattle.table_rules.proofs.Common.{place_for-below, refl, routed, served, served_by, subst, suc, sym, take, take-append-drop, with_row, with_rows, zero, ℕ, ◌++◌, ◌+◌, ◌<◌, ◌^◌, ◌∙◌, ◌∷◌, ◌≡◌, ◌≤◌}
 use Rattle.table_rules.proofs.FirstRows.{first_hit, first_miss}
 
 -- ---- lists with one item more

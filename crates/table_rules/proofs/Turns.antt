@@ -1,14 +1,8 @@
 -- One piece more, one row more.
-use Rattle.std.proofs.Common.{◌≡◌, ℕ, ◌+◌, ◌-◌, ◌<◌, ◌≤◌, ◌==◌, true, false, List, [], ◌∷◌, ◌++◌, length, get_or, map, take, drop, Some, None, refl, sym, ap, ◌∙◌, subst, arith}
-use Rattle.std.proofs.lemmas.{Bool.eq-eqb, Bool.Decides.eqb_tells, List.drop_all, List.drop_more, List.map_push, List.take_more, List.Edits.length-insert, Option.slice_get-get_or}
-use Rattle.std.specs.Prelude.{All}
-use Rattle.spin_base.specs.declared.blocks.Block.{Block}
-use Rattle.tern_word.specs.{declared.tables.Row.Row, Ternary.generality}
-use Rattle.cover_merge.specs.{Merge.place_for, Merge.PassesDown, Merge.rows_at, Covering.Covers}
-use Rattle.cover_merge.proofs.Positions.{place_for-le, rows_at-push}
-use Rattle.block_cuts.specs.Cuts.{cut}
-use Rattle.table_rules.specs.{declared.rows.RoutedBlock.RoutedBlock, Rows.routed, Pairs.pieces_of, Shortened.AreLeft, Shortened.IsCoveredFrom, Shortened.IsShortFrom, Shortened.IsShorterOf}
-use Rattle.table_rules.specs.Made.{HasTooManyPieces, IsTableFrom, IsTableMadeOf, IsRowAdded, StandsBefore, row_blocks, done, here, later, more, piece_row, with_row, with_rows}
+use Rattle.table_rules.proofs.Common.{All, AreLeft, Block, Covers, HasTooManyPieces, IsCoveredFrom, IsRowAdded, IsShortFrom, IsShorterOf, IsTableFrom, IsTableMadeOf, List, None, PassesDown}
+use Rattle.table_rules.proofs.Common.{RoutedBlock, Row, Some, StandsBefore, [], ap, arith, cut, done, drop, drop_all, drop_more, eq-eqb, eqb_tells, false, generality, get_or, here, later, length}
+use Rattle.table_rules.proofs.Common.{length-insert, map, map_push, more, piece_row, pieces_of, place_for, place_for-le, refl, routed, row_blocks, rows_at, rows_at-push, slice_get-get_or, subst, sym}
+use Rattle.table_rules.proofs.Common.{take, take_more, true, with_row, with_rows, ℕ, ◌++◌, ◌+◌, ◌-◌, ◌<◌, ◌==◌, ◌∙◌, ◌∷◌, ◌≡◌, ◌≤◌}
 
 -- ---- pieces as rows
 
@@ -21,9 +15,6 @@ module _ (given : RoutedBlock) (pieces : List Block) (i : ℕ) (rows all : List 
       ∙ (ap (λ x. with_rows (with_row rows (piece_row given x)) rest) read
       ∙ (sym (ap (λ l. with_rows rows (map (piece_row given) l)) (drop_more pieces i piece within))
       ∙ so_far))
-
-  pub pieces_all : length pieces ≤ i → with_rows rows (map (piece_row given) (drop i pieces)) ≡ all → rows ≡ all
-  pieces_all past so_far = sym (ap (λ l. with_rows rows (map (piece_row given) l)) (drop_all i pieces past)) ∙ so_far
 
 pub length_with : (rows new : List Row) (row : Row) → new ≡ with_row rows row → length new ≡ length rows + 1
 length_with rows new row put = ap length put ∙ length-insert rows (place_for rows (generality row.block)) row (place_for-le rows (generality row.block))

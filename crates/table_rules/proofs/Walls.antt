@@ -1,22 +1,15 @@
 -- Behind a wall no key is new: the rows of its route have all keys, and those before them have none of the wall's.
-use Rattle.std.proofs.Common.{◌≡◌, ℕ, take-append-drop, length-take, ◌-◌, ◌<◌, ◌≤◌, ◌^◌, ◌==◌, Bool, true, false, cond, inl, inr, List, [], ◌∷◌, ◌++◌, length, get_or, take, drop, map, Option, Some}
-use Rattle.std.proofs.Common.{None, refl, sym, ap, ◌∙◌, subst, length-append, arith}
-use Rattle.std.specs.{Prelude.All, Prelude.AllPairs, Prelude.nat_lt, Prelude.bit_and, Prelude.bit_xor, Prelude.fold, Prelude.nat_le, Prelude.not, Prelude.slice_get, Int.bit_at, Int.bit_not, Int.w32}
-use Rattle.std.specs.{List.Contains, List.cons_option, List.position, List.position_or_len, Option.option_or, List.Sorted.IsPermutation}
-use Rattle.std.proofs.lemmas.{Bool.ltb-false, Bool.Decides.eqb_tells, Bool.Decides.nat_tests, List.take_all, List.Elements.All-nil, List.Elements.All-append, List.Elements.All-cons}
-use Rattle.std.proofs.lemmas.List.Elements.{All-drop, All-head, All-map, All-tail, All-take, Contains-append_cases, Contains-append_left, Contains-append_right}
-use Rattle.std.proofs.lemmas.{List.Folds.find-append, List.Sums.sum_by-append, List.Sums.take_while-cons, Nat.and_le_l, Nat.and_le_r, Nat.Bits.bit_at-zero, Option.none-some, Option.same_Some}
-use Rattle.spin_base.proofs.{Pairs.All-flat_map, Pairs.AllPairs-head, Pairs.AllPairs-left, Places.All-at}
-use Rattle.spin_base.specs.declared.{chips.Port.Port, blocks.Block.Block, routes.Route.Route}
-use Rattle.tern_word.specs.{declared.tables.Row.Row, declared.tables.Alias.Alias, Ternary.Intersects, Ternary.Matches, Ternary.all_keys, Ternary.generality, Ternary.merge_two}
-use Rattle.tern_word.specs.SoundTable.{HoldsItsAliases, IsSound, Misses, Original, served, served_by}
-use Rattle.tern_word.proofs.BlockLaws.{generality-mono}
-use Rattle.cover_merge.specs.{Merge.after, Merge.has_row, Merge.insert_place, Merge.kept, Merge.merge_rows, Merge.merged_row, Merge.place_for, Merge.rows_at, Covering.Covers, Covering.merged}
-use Rattle.cover_merge.specs.Covering.{short, stuck}
-use Rattle.cover_merge.proofs.{Lists.All-picked, Positions.All-has, Positions.rows_at-from}
-use Rattle.table_rules.specs.{declared.rows.RoutedBlock.RoutedBlock, Exact.IsCoveredWithin, Exact.IsFree, Exact.IsShortWithin, Exact.rows_before, Exact.wall_of, Exact.walled, Pairs.others}
-use Rattle.table_rules.specs.{Pairs.pieces_of, Shortened.IsShorterOf, Shortened.AreLeft, Made.IsTableFrom, Made.IsTableMadeOf, Made.IsRowAdded, Made.StandsBefore, Made.done, Made.in_pieces}
-use Rattle.table_rules.specs.{Made.left_out, Made.more, Made.piece_row, Made.whole, Made.whole_row, Rows.HasNoNewKeys, Rows.KeepsRoutes, Rows.first_with, Rows.takes_key}
+use Rattle.table_rules.proofs.Common.{Alias, All, All-append, All-at, All-cons, All-drop, All-flat_map, All-has, All-head, All-map, All-nil, All-picked, All-tail, All-take, AllPairs, AllPairs-head}
+use Rattle.table_rules.proofs.Common.{AllPairs-left, AreLeft, Block, Bool, Contains, Contains-append_cases, Contains-append_left, Contains-append_right, Covers, HasNoNewKeys, HoldsItsAliases}
+use Rattle.table_rules.proofs.Common.{Intersects, IsCoveredWithin, IsFree, IsPermutation, IsRowAdded, IsShortWithin, IsShorterOf, IsSound, IsTableFrom, IsTableMadeOf, KeepsRoutes, List, Matches}
+use Rattle.table_rules.proofs.Common.{Misses, None, Option, Original, Port, Route, RoutedBlock, Row, Some, StandsBefore, [], after, all_keys, and_le_l, and_le_r, ap, arith, bit_and, bit_at}
+use Rattle.table_rules.proofs.Common.{bit_at-zero, bit_not, bit_xor, cond, cons_option, done, drop, eqb_tells, false, find-append, first_with, fold, generality, generality-mono, get_or, has_row}
+use Rattle.table_rules.proofs.Common.{in_pieces, inl, inr, insert_place, kept, left_out, length, length-append, length-take, ltb-false, map, merge_rows, merged, merged_row, more, nat_le, nat_lt}
+use Rattle.table_rules.proofs.Common.{nat_tests, none-some, not, option_or, others, piece_row, pieces_of, place_for, position, position_or_len, refl, rows_at, rows_at-from, rows_before, same_Some}
+use Rattle.table_rules.proofs.Common.{served, served_by, slice_get, stuck, subst, sum_by-append, sym, take, take-append-drop, take_all, take_while-cons, takes_key, true, w32, wall_of, walled, whole}
+use Rattle.table_rules.proofs.Common.{whole_row, ℕ, ◌++◌, ◌-◌, ◌<◌, ◌==◌, ◌^◌, ◌∙◌, ◌∷◌, ◌≡◌, ◌≤◌}
+use Rattle.cover_merge.specs.Covering.{short}
+use Rattle.tern_word.specs.Ternary.{merge_two}
 use Rattle.table_rules.proofs.{Faithful.IsServed, Faithful.is_served, Faithful.sent_on, Kept.kept_within, Kept.none_of, FirstRows.first_hit, FirstRows.first_miss, FirstRows.first_next}
 use Rattle.table_rules.proofs.{FirstRows.has_tells, Sounds.all_insert, Sounds.all_with_rows, Sounds.tail_sound}
 
@@ -206,9 +199,6 @@ module _ (target room : ℕ) (given : List RoutedBlock) (route : Route) (rows : 
       subst (λ l. first_with l k ≡ None) (sym are.are)
       (none_of (rows_at before are.places) k
       (rows_at-from (λ (r : Row). Matches r.block k → ⊥) before are.places (λ s d found. miss s d (All-has (λ n. n < length before) are.places s in_range found))))
-
-pub none_new : (given : List RoutedBlock) → HasNoNewKeys given given
-none_new given k small none = none
 
 -- ---- what the code tests
 

@@ -1,11 +1,7 @@
 -- Routes by their weights are the routes of the pieces, by weight.
-use Rattle.std.proofs.Common.{◌≡◌, ℕ, ◌+◌, ◌<◌, ◌%◌, ◌^◌, ◌↔◌, inl, inr, List, [], ◌∷◌, ◌++◌, length, get_or, map, take, drop, refl, sym, ap, ◌∙◌, subst, arith}
-use Rattle.std.specs.{Prelude.AllPairs, Prelude.count_by, List.Contains}
-use Rattle.std.proofs.lemmas.{List.map_push, List.take_more, Nat.mod_low}
-use Rattle.spin_base.proofs.{Members.Among, Members.Contains-map, Members.Contains-unmap, Members.among_contains, Members.among_map, Members.contains_among, Pairs.AllPairs-from_map, Places.All-each}
-use Rattle.spin_base.proofs.RouteBits.{same_route}
-use Rattle.spin_base.specs.declared.routes.Route.{Route}
-use Rattle.table_rules.specs.{declared.rows.RoutedBlock.RoutedBlock, Pairs.AreRoutesOf, Pairs.goes_by, Pairs.weight_of}
+use Rattle.table_rules.proofs.Common.{All-each, AllPairs, AllPairs-from_map, Among, AreRoutesOf, Contains, Contains-map, Contains-unmap, List, Route, RoutedBlock, [], among_contains, among_map, ap}
+use Rattle.table_rules.proofs.Common.{arith, contains_among, count_by, drop, get_or, goes_by, inl, inr, length, map, map_push, mod_low, refl, same_route, subst, sym, take, take_more, weight_of, ℕ}
+use Rattle.table_rules.proofs.Common.{◌%◌, ◌++◌, ◌+◌, ◌<◌, ◌^◌, ◌↔◌, ◌∙◌, ◌∷◌, ◌≡◌}
 
 module _ (pieces : List RoutedBlock) where
   abbrev weigh : RoutedBlock → ℕ

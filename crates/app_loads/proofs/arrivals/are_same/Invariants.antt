@@ -1,4 +1,4 @@
-use Rattle.std.proofs.Common.{◌≡◌, take}
+use Rattle.app_loads.proofs.Common.{take, ◌≡◌}
 use Rattle.app_loads.proofs.arrivals.are_same.Given as goal
 
 -- the places so far are the same

@@ -1,5 +1,4 @@
-use Rattle.std.proofs.{Common.refl, lemmas.Option.slice_get_read}
-use Rattle.app_loads.specs.{declared.plans.AppNet.AppNet, Claims.key_claim}
+use Rattle.app_loads.proofs.Common.{AppNet, key_claim, refl, slice_get_read}
 use Rattle.app_loads.proofs.Claiming.{one_more, whole_at}
 use Rattle.app_loads.proofs.claims.claim_keys.Goals as goal
 

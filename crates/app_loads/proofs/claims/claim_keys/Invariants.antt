@@ -1,6 +1,4 @@
-use Rattle.std.proofs.Common.{◌≡◌, ◌++◌, take}
-use Rattle.spin_base.specs.Gathered.{gathered}
-use Rattle.app_loads.specs.{declared.plans.AppNet.AppNet, Claims.key_claim}
+use Rattle.app_loads.proofs.Common.{AppNet, gathered, key_claim, take, ◌++◌, ◌≡◌}
 use Rattle.app_loads.proofs.claims.claim_keys.Given as goal
 
 abbrev pub invariant-loop-net : goal.invariant-loop-net

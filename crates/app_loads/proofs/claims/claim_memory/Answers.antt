@@ -1,5 +1,4 @@
-use Rattle.std.specs.Prelude.{zip}
-use Rattle.app_loads.specs.Claims.{memory_claim}
+use Rattle.app_loads.proofs.Common.{memory_claim, zip}
 use Rattle.app_loads.proofs.Claiming.{one_more, whole_at, zip_at, zip_long}
 use Rattle.app_loads.proofs.claims.claim_memory.Goals as goal
 

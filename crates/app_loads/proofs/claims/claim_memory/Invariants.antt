@@ -1,7 +1,4 @@
-use Rattle.std.proofs.Common.{◌≡◌, ◌++◌, take}
-use Rattle.std.specs.Prelude.{zip}
-use Rattle.spin_base.specs.Gathered.{gathered}
-use Rattle.app_loads.specs.Claims.{memory_claim}
+use Rattle.app_loads.proofs.Common.{gathered, memory_claim, take, zip, ◌++◌, ◌≡◌}
 use Rattle.app_loads.proofs.claims.claim_memory.Given as goal
 
 abbrev pub invariant-loop-vertex : goal.invariant-loop-vertex

@@ -1,4 +1,4 @@
-use Rattle.std.proofs.Common.{arith}
+use Rattle.app_loads.proofs.Common.{arith}
 use Rattle.app_loads.proofs.RowClaims.{rows_counted_in, places_inside, trees_inside}
 use Rattle.app_loads.proofs.claims.claim_rows.Goals as goal
 

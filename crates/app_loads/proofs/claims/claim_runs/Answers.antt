@@ -1,4 +1,4 @@
-use Rattle.std.proofs.lemmas.Option.{slice_get-get_or}
+use Rattle.app_loads.proofs.Common.{slice_get-get_or}
 use Rattle.app_loads.proofs.RowClaims.{run_more, all_runs}
 use Rattle.app_loads.proofs.claims.claim_runs.Goals as goal
 

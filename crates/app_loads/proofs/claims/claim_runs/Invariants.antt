@@ -1,4 +1,4 @@
-use Rattle.std.proofs.Common.{◌-◌, ◌≤◌, length}
+use Rattle.app_loads.proofs.Common.{length, ◌-◌, ◌≤◌}
 use Rattle.app_loads.proofs.RowClaims.{HaveRuns}
 use Rattle.app_loads.proofs.claims.claim_runs.Given as goal
 

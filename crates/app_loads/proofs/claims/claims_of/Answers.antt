@@ -1,4 +1,4 @@
-use Rattle.std.proofs.{Common.arith, lemmas.List.Elements.All-weaker}
+use Rattle.app_loads.proofs.Common.{All-weaker, arith}
 use Rattle.app_loads.proofs.{Claiming.claims_joined, FewClaims.few_claims, FewSpots.few_spots}
 use Rattle.app_loads.proofs.claims.claims_of.Goals as goal
 

@@ -1,6 +1,4 @@
-use Rattle.std.proofs.{Common.arith, lemmas.List.take_all, lemmas.Option.slice_get-get_or}
-use Rattle.machine_desc.specs.Live.{index_of}
-use Rattle.app_loads.specs.Counting.{end_places}
+use Rattle.app_loads.proofs.Common.{arith, end_places, index_of, slice_get-get_or, take_all}
 use Rattle.app_loads.proofs.RowClaims.{ends_more}
 use Rattle.app_loads.proofs.claims.push_tree.Goals as goal
 

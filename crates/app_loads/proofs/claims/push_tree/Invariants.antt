@@ -1,7 +1,4 @@
-use Rattle.std.proofs.Common.{◌≡◌, ◌++◌, ◌∷◌, take}
-use Rattle.std.specs.List.{flat_map}
-use Rattle.machine_desc.specs.Live.{index_of}
-use Rattle.app_loads.specs.Counting.{end_places}
+use Rattle.app_loads.proofs.Common.{end_places, flat_map, index_of, take, ◌++◌, ◌∷◌, ◌≡◌}
 use Rattle.app_loads.proofs.claims.push_tree.Given as goal
 
 -- the root, and the ends of the edges so far

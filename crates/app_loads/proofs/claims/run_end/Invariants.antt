@@ -1,5 +1,4 @@
-use Rattle.std.proofs.Common.{◌≡◌, ◌-◌, ◌≤◌, ◌<◌, ℕ, length, Some}
-use Rattle.std.specs.List.{slice_get}
+use Rattle.app_loads.proofs.Common.{Some, length, slice_get, ℕ, ◌-◌, ◌<◌, ◌≡◌, ◌≤◌}
 use Rattle.app_loads.proofs.claims.run_end.Given as goal
 
 -- the items so far are equal

@@ -1,8 +1,5 @@
-use Rattle.std.proofs.Common.{◌∙◌, ap, subst, sym, arith, take, List, [], ◌++◌, Some, ℕ}
-use Rattle.std.proofs.lemmas.{List.flat_map_more, List.take_all, List.Sorted.IsNonDecreasingBy-from_sort, Option.slice_get-get_or}
-use Rattle.std.specs.List.{flat_map}
-use Rattle.spin_base.proofs.Places.{take_more_at}
-use Rattle.app_loads.specs.{Counting.HasTreeInside, Counting.tree_places, declared.plans.AppNet.AppNet}
+use Rattle.app_loads.proofs.Common.{AppNet, HasTreeInside, IsNonDecreasingBy-from_sort, List, Some, [], ap, arith, flat_map, flat_map_more, slice_get-get_or, subst, sym, take, take_all, take_more_at}
+use Rattle.app_loads.proofs.Common.{tree_places, ℕ, ◌++◌, ◌∙◌}
 use Rattle.app_loads.proofs.claims.tree_chips.Goals as goal
 
 pub invariant_of-one : goal.invariant_of-one

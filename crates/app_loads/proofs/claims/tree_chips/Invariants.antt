@@ -1,6 +1,4 @@
-use Rattle.std.proofs.Common.{◌≡◌, take}
-use Rattle.std.specs.List.{flat_map}
-use Rattle.app_loads.specs.Counting.{tree_places}
+use Rattle.app_loads.proofs.Common.{flat_map, take, tree_places, ◌≡◌}
 use Rattle.app_loads.proofs.claims.tree_chips.Given as goal
 
 -- the chips of the nets so far

@@ -1,4 +1,4 @@
-use Rattle.std.proofs.Common.{◌≡◌, ◌++◌, take}
+use Rattle.app_loads.proofs.Common.{take, ◌++◌, ◌≡◌}
 use Rattle.app_loads.proofs.deliveries.push_all.Given as goal
 
 -- those so far

@@ -1,7 +1,5 @@
-use Rattle.std.proofs.Common.{arith, ◌∙◌, refl}
-use Rattle.app_loads.specs.{Earlier.with_earlier, Grouping.all_grouped}
+use Rattle.app_loads.proofs.Common.{all_grouped, arith, moved_of_reached, refl, with_earlier, ◌∙◌}
 use Rattle.app_loads.proofs.Kept.{moved_as, same_mesh}
-use Rattle.mesh_drain.proofs.Senders.{moved_of_reached}
 use Rattle.app_loads.proofs.drains.drain_known_from.Goals as goal
 
 pub send_each-requires-clause-alike : goal.send_each-requires-clause-alike

@@ -1,6 +1,4 @@
-use Rattle.std.proofs.{Common.◌∙◌, Common.sym, lemmas.Option.same_Some}
-use Rattle.mesh_drain.proofs.{Frame.reached_none, Frame.reached_then, Turns.all_sent_there, Turns.as_before, Turns.is_none, Turns.is_some', Turns.one_less, Turns.there_still, Turns.was_there}
-use Rattle.app_loads.specs.{Earlier.with_earlier, Grouping.all_grouped}
+use Rattle.app_loads.proofs.Common.{all_grouped, all_sent_there, as_before, is_none, is_some', one_less, reached_none, reached_then, same_Some, sym, there_still, was_there, with_earlier, ◌∙◌}
 use Rattle.app_loads.proofs.Kept.{none_known}
 use Rattle.app_loads.proofs.drains.send_all.Goals as goal
 

@@ -1,8 +1,4 @@
-use Rattle.std.proofs.Common.{◌≡◌, [], List, length, get_or}
-use Rattle.std.specs.{Prelude.IfSome, List.slice_set}
-use Rattle.spin_base.specs.declared.copies.McCopy.{McCopy}
-use Rattle.mesh_drain.specs.Draining.{IsReachedDropless}
-use Rattle.app_loads.specs.{Earlier.with_earlier, Grouping.all_grouped, Groups.last_arrivals, Running.AreKnown, Running.Comes, Running.IsClean}
+use Rattle.app_loads.proofs.Common.{AreKnown, Comes, IfSome, IsClean, IsReachedDropless, List, McCopy, [], all_grouped, get_or, last_arrivals, length, slice_set, with_earlier, ◌≡◌}
 use Rattle.app_loads.proofs.drains.send_all.Given as goal
 
 -- the vertex has some packets unsent, and all else is as it was

@@ -1,6 +1,5 @@
-use Rattle.std.proofs.Common.{arith, subst, sym}
-use Rattle.mesh_drain.proofs.{Frame.reached_none, Frame.reached_then, Frame.setup_reached, Packets.few_spots, Senders.one_less_sender, Senders.rest_from, Senders.sender_there, Turns.was_there}
-use Rattle.app_loads.specs.{Earlier.with_earlier, Grouping.all_grouped, Running.AreAlikeInBlocks}
+use Rattle.app_loads.proofs.Common.{AreAlikeInBlocks, all_grouped, arith, few_spots, one_less_sender, reached_none, reached_then, rest_from, sender_there, setup_reached, subst, sym, was_there}
+use Rattle.app_loads.proofs.Common.{with_earlier}
 use Rattle.app_loads.proofs.Kept.{alone_with}
 use Rattle.app_loads.proofs.drains.send_each.Goals as goal
 

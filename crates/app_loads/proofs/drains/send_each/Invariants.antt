@@ -1,7 +1,4 @@
-use Rattle.std.proofs.Common.{drop}
-use Rattle.mesh_drain.proofs.Senders.{Unsent}
-use Rattle.mesh_drain.specs.Draining.{IsReachedDropless}
-use Rattle.app_loads.specs.{Earlier.with_earlier, Grouping.all_grouped, Running.IsClean}
+use Rattle.app_loads.proofs.Common.{IsClean, IsReachedDropless, Unsent, all_grouped, drop, with_earlier}
 use Rattle.app_loads.proofs.drains.send_each.Given as goal
 
 -- only the vertices from here on have packets unsent

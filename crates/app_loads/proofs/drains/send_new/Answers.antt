@@ -1,7 +1,4 @@
-use Rattle.mesh_drain.proofs.Frame.{setup_reached}
-use Rattle.std.proofs.Common.{sym, ap, drop, ◌∙◌}
-use Rattle.spin_base.specs.declared.blocks.Block.{Block}
-use Rattle.app_loads.specs.{Earlier.with_earlier, Grouping.all_grouped, Groups.last_arrivals, Running.AreKnown, Running.Comes, Running.IsBlockWith}
+use Rattle.app_loads.proofs.Common.{AreKnown, Block, Comes, IsBlockWith, all_grouped, ap, drop, last_arrivals, setup_reached, sym, with_earlier, ◌∙◌}
 use Rattle.app_loads.proofs.{Kept.comes_again, Kept.known_still, Kept.some_first, drains.send_new.Goals.After-ends_with, drains.send_new.Goals.After-block_of}
 use Rattle.app_loads.proofs.drains.send_new.Goals as goal
 

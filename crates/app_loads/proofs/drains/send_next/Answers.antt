@@ -1,9 +1,4 @@
-use Rattle.std.proofs.Common.{arith, None, subst, sym}
-use Rattle.std.specs.Prelude.{IfSome}
-use Rattle.spin_base.specs.declared.copies.McCopy.{McCopy}
-use Rattle.mesh_core.specs.State.{Setup}
-use Rattle.mesh_drain.proofs.Frame.{reached_none}
-use Rattle.app_loads.specs.{Earlier.with_earlier, Grouping.all_grouped, Groups.last_arrivals, Running.Comes}
+use Rattle.app_loads.proofs.Common.{Comes, IfSome, McCopy, None, Setup, all_grouped, arith, last_arrivals, reached_none, subst, sym, with_earlier}
 use Rattle.app_loads.proofs.{Kept.IsSentAgain, Kept.comes_there, Kept.first_sends, Kept.known_still, Kept.sent_again, Kept.some_there, drains.send_next.Goals.After-drop_unsent}
 use Rattle.app_loads.proofs.drains.send_next.Goals.{After-drop_unsent-in-Some}
 use Rattle.app_loads.proofs.drains.send_next.Goals as goal

@@ -1,5 +1,4 @@
-use Rattle.std.proofs.Common.{arith}
-use Rattle.app_loads.specs.Grouping.{all_grouped}
+use Rattle.app_loads.proofs.Common.{all_grouped, arith}
 use Rattle.app_loads.proofs.{Earlier.reached_with, Kept.brought_more, Kept.may_send, Kept.ok_then, Kept.sent_clean, Kept.sent_reached}
 use Rattle.app_loads.proofs.drains.send_one.Goals as goal
 

@@ -1,5 +1,4 @@
-use Rattle.std.proofs.Common.{◌∙◌, sym}
-use Rattle.app_loads.specs.Groups.{sent_of}
+use Rattle.app_loads.proofs.Common.{sent_of, sym, ◌∙◌}
 use Rattle.app_loads.proofs.GroupLaws.{at_last}
 use Rattle.app_loads.proofs.group.is_last.Goals as goal
 

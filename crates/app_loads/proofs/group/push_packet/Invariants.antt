@@ -1,5 +1,4 @@
-use Rattle.std.proofs.Common.{◌≡◌, ◌++◌, take}
-use Rattle.app_loads.specs.Groups.{deliveries_at}
+use Rattle.app_loads.proofs.Common.{deliveries_at, take, ◌++◌, ◌≡◌}
 use Rattle.app_loads.proofs.group.push_packet.Given as goal
 
 -- those at the places so far

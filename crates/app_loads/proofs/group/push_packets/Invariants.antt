@@ -1,5 +1,4 @@
-use Rattle.std.proofs.Common.{◌≡◌, ◌++◌, take}
-use Rattle.app_loads.specs.Groups.{deliveries_in}
+use Rattle.app_loads.proofs.Common.{deliveries_in, take, ◌++◌, ◌≡◌}
 use Rattle.app_loads.proofs.group.push_packets.Given as goal
 
 -- those of the packets so far

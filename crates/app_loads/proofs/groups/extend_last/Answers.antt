@@ -1,4 +1,4 @@
-use Rattle.std.proofs.Common.{◌∷◌, [], arith}
+use Rattle.app_loads.proofs.Common.{[], arith, ◌∷◌}
 use Rattle.app_loads.proofs.GroupLaws.{last_put_if, last_same_if}
 use Rattle.app_loads.proofs.groups.extend_last.Goals as goal
 

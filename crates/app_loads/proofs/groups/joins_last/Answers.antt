@@ -1,4 +1,4 @@
-use Rattle.std.proofs.Common.{arith}
+use Rattle.app_loads.proofs.Common.{arith}
 use Rattle.app_loads.proofs.GroupLaws.{last_put}
 use Rattle.app_loads.proofs.groups.joins_last.Goals as goal
 

@@ -1,7 +1,4 @@
-use Rattle.std.proofs.{Common.arith, Common.◌≡◌, Common.◌∙◌, Common.List, Common.[], Common.ap, Common.length, Common.not, Common.sym, lemmas.List.append-nil}
-use Rattle.std.specs.List.{filter}
-use Rattle.spin_base.specs.declared.copies.Delivery.{Delivery}
-use Rattle.app_loads.specs.{Grouping.all_grouped, Leaving.is_delivery_of}
+use Rattle.app_loads.proofs.Common.{Delivery, List, [], all_grouped, ap, append-nil, arith, filter, is_delivery_of, length, not, sym, ◌∙◌, ◌≡◌}
 use Rattle.app_loads.proofs.{GroupLaws.all_apart, GroupLaws.grouped_push, GroupLaws.none_apart, GroupLaws.not_own, groups.put_by.Goals.After-is_others-is_others}
 use Rattle.app_loads.proofs.groups.put_by.Goals as goal
 

@@ -1,5 +1,4 @@
-use Rattle.std.proofs.Common.{◌∙◌, refl}
-use Rattle.app_loads.specs.Groups.{last_arrivals}
+use Rattle.app_loads.proofs.Common.{last_arrivals, refl, ◌∙◌}
 use Rattle.app_loads.proofs.Kept.{comes_there, one_known}
 use Rattle.app_loads.proofs.known.remember.Goals as goal
 

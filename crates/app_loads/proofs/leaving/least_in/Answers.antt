@@ -1,4 +1,4 @@
-use Rattle.std.proofs.{Common.arith, Common.sym, lemmas.List.take_all}
+use Rattle.app_loads.proofs.Common.{arith, sym, take_all}
 use Rattle.app_loads.proofs.LeavingLeast.{none_right, copy_more}
 use Rattle.app_loads.proofs.leaving.least_in.Goals as goal
 

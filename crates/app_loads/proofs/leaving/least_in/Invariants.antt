@@ -1,5 +1,4 @@
-use Rattle.std.proofs.Common.{◌≡◌, take}
-use Rattle.app_loads.specs.Leaving.{lesser_of, least_own_packet, packet_numbers_of}
+use Rattle.app_loads.proofs.Common.{least_own_packet, lesser_of, packet_numbers_of, take, ◌≡◌}
 use Rattle.app_loads.proofs.leaving.least_in.Given as goal
 
 -- the least of those so far

@@ -1,5 +1,4 @@
-use Rattle.std.proofs.Common.{arith, sym}
-use Rattle.app_loads.specs.Leaving.{held_packets}
+use Rattle.app_loads.proofs.Common.{arith, held_packets, sym}
 use Rattle.app_loads.proofs.LeavingLeast.{none_right, list_more, all_lists}
 use Rattle.app_loads.proofs.leaving.least_in_hands.Goals as goal
 

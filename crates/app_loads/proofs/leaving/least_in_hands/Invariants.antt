@@ -1,6 +1,4 @@
-use Rattle.std.proofs.Common.{◌≡◌, take}
-use Rattle.std.specs.List.{flat_map}
-use Rattle.app_loads.specs.Leaving.{lesser_of, least_own_packet, held_packets}
+use Rattle.app_loads.proofs.Common.{flat_map, held_packets, least_own_packet, lesser_of, take, ◌≡◌}
 use Rattle.app_loads.proofs.leaving.least_in_hands.Given as goal
 
 -- the least of those so far

@@ -1,5 +1,4 @@
-use Rattle.std.proofs.Common.{◌∙◌, sym, ap}
-use Rattle.app_loads.specs.Leaving.{lesser_of, least_own_packet, packet_numbers_of}
+use Rattle.app_loads.proofs.Common.{ap, least_own_packet, lesser_of, packet_numbers_of, sym, ◌∙◌}
 use Rattle.app_loads.proofs.LeavingLeast.{none_right, list_more, all_lists}
 use Rattle.app_loads.proofs.leaving.least_in_queues.Goals as goal
 

@@ -1,6 +1,4 @@
-use Rattle.std.proofs.Common.{◌≡◌, take}
-use Rattle.std.specs.List.{flat_map}
-use Rattle.app_loads.specs.Leaving.{lesser_of, least_own_packet, packet_numbers_of}
+use Rattle.app_loads.proofs.Common.{flat_map, least_own_packet, lesser_of, packet_numbers_of, take, ◌≡◌}
 use Rattle.app_loads.proofs.leaving.least_in_queues.Given as goal
 
 -- the least of those so far

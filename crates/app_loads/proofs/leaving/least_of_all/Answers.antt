@@ -1,5 +1,4 @@
-use Rattle.std.proofs.Common.{arith, ◌≡◌}
-use Rattle.app_loads.specs.Leaving.{least_own_packet}
+use Rattle.app_loads.proofs.Common.{arith, least_own_packet, ◌≡◌}
 use Rattle.app_loads.proofs.LeavingLeast.{under_way, scanned, least_waits, none_waits}
 use Rattle.app_loads.proofs.leaving.least_of_all.Goals as goal
 

@@ -1,6 +1,4 @@
-use Rattle.std.proofs.Common.{◌≡◌, take}
-use Rattle.std.specs.List.{flat_map}
-use Rattle.app_loads.specs.Leaving.{least_own_packet, unsent_numbers}
+use Rattle.app_loads.proofs.Common.{flat_map, least_own_packet, take, unsent_numbers, ◌≡◌}
 use Rattle.app_loads.proofs.leaving.least_unsent.Given as goal
 
 -- the least of those so far

@@ -1,7 +1,4 @@
-use Rattle.std.proofs.Common.{arith, ◌≡◌, ℕ, List, Option, subst}
-use Rattle.std.specs.{Prelude.IfSome, List.flat_map}
-use Rattle.mesh_drain.specs.Draining.{SendAlone}
-use Rattle.app_loads.specs.Leaving.{least_own_packet, unsent_numbers}
+use Rattle.app_loads.proofs.Common.{IfSome, List, Option, SendAlone, arith, flat_map, least_own_packet, subst, unsent_numbers, ℕ, ◌≡◌}
 use Rattle.app_loads.proofs.LeavingLeast.{least_of_senders, none_of_senders}
 use Rattle.app_loads.proofs.leaving.least_waiting.Goals as goal
 

@@ -1,6 +1,4 @@
-use Rattle.std.proofs.Common.{◌≡◌, not, take}
-use Rattle.std.specs.List.{filter}
-use Rattle.app_loads.specs.Leaving.{is_delivery_of}
+use Rattle.app_loads.proofs.Common.{filter, is_delivery_of, not, take, ◌≡◌}
 use Rattle.app_loads.proofs.leaving.part_deliveries.Given as goal
 
 -- those so far are parted

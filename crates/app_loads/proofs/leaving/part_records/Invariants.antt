@@ -1,6 +1,4 @@
-use Rattle.std.proofs.Common.{◌≡◌, not, take}
-use Rattle.std.specs.List.{filter}
-use Rattle.app_loads.specs.Leaving.{is_record_of}
+use Rattle.app_loads.proofs.Common.{filter, is_record_of, not, take, ◌≡◌}
 use Rattle.app_loads.proofs.leaving.part_records.Given as goal
 
 -- those so far are parted

@@ -1,7 +1,5 @@
-use Rattle.std.proofs.{Common.arith, Common.◌∙◌, Common.◌+◌, Common.sym, Common.ap, Common.subst, Common.length, Common.Vec, Common.Global, Common.None, lemmas.List.length-set}
+use Rattle.app_loads.proofs.Common.{Block, Claim, Global, Keys, Loaded, None, Range, Vec, ap, arith, length, length-set, subst, sym, ◌+◌, ◌∙◌}
 use Rattle.app_loads.proofs.BlockLists.{HaveBlocksBelow, key_range, net_there, block_more, block_skip, all_blocks}
-use Rattle.spin_base.specs.declared.blocks.Block.{Block}
-use Rattle.app_loads.specs.declared.{answers.LoadRefusal.TheVariants.Loaded, places.Region.TheVariants.Keys, loaded.Claim.Claim, loaded.Range.Range}
 use Rattle.app_loads.proofs.loads.app_of.Goals as goal
 
 abbrev no_claim : Claim

@@ -1,4 +1,4 @@
-use Rattle.std.proofs.Common.{◌≡◌, length}
+use Rattle.app_loads.proofs.Common.{length, ◌≡◌}
 use Rattle.app_loads.proofs.BlockLists.{HaveBlocksBelow}
 use Rattle.app_loads.proofs.loads.app_of.Given as goal
 

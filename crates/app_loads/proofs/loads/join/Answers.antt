@@ -1,7 +1,4 @@
-use Rattle.std.proofs.Common.{arith, subst, refl, List, sym}
-use Rattle.app_loads.specs.{Taking.HaveRoom, Taking.AreTaken, Taking.AreFreeAgain, Taking.IsDueAlways, declared.loaded.Range.Range, Claims.claims_of, Grouping.all_grouped, Joining.CanSettle}
-use Rattle.machine_desc.specs.Description.{Description}
-use Rattle.mesh_core.specs.State.{State}
+use Rattle.app_loads.proofs.Common.{AreFreeAgain, AreTaken, CanSettle, Description, HaveRoom, IsDueAlways, List, Range, State, all_grouped, arith, claims_of, refl, subst, sym}
 use Rattle.app_loads.proofs.{JoinLaws.can_settle, JoinLaws.served_on, Kept.can_settle_own}
 use Rattle.app_loads.proofs.loads.join.Goals as goal
 

@@ -1,6 +1,4 @@
-use Rattle.std.proofs.Common.{arith, ◌∙◌, sym, subst, List, length}
-use Rattle.app_loads.specs.{declared.loaded.Claim.Claim, declared.loaded.Range.Range, Claims.AreBlocks, Claims.AreServed, Claims.claims_of, Joining.AreKeyed, Taking.AreServedAlways, Taking.AreTaken}
-use Rattle.app_loads.specs.Taking.{AreTakenAlways}
+use Rattle.app_loads.proofs.Common.{AreBlocks, AreKeyed, AreServed, AreServedAlways, AreTaken, AreTakenAlways, Claim, List, Range, arith, claims_of, length, subst, sym, ◌∙◌}
 use Rattle.app_loads.proofs.Served.{can_serve, keyed_from}
 use Rattle.app_loads.proofs.loads.serve.Goals as goal
 

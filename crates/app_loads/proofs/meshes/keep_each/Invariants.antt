@@ -1,5 +1,4 @@
-use Rattle.std.proofs.Common.{◌≡◌, ◌++◌, take}
-use Rattle.app_loads.specs.Grouping.{all_grouped}
+use Rattle.app_loads.proofs.Common.{all_grouped, take, ◌++◌, ◌≡◌}
 use Rattle.app_loads.proofs.meshes.keep_each.Given as goal
 
 -- those so far are kept

@@ -1,5 +1,4 @@
-use Rattle.std.proofs.Common.{◌≡◌, replicate}
-use Rattle.tcam_find.specs.Memory.{empty_memory}
+use Rattle.app_loads.proofs.Common.{empty_memory, replicate, ◌≡◌}
 use Rattle.app_loads.proofs.opening.empty_tables.Given as goal
 
 -- so many tables stand, all empty

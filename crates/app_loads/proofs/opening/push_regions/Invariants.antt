@@ -1,5 +1,4 @@
-use Rattle.std.proofs.Common.{◌≡◌, ◌++◌, map, replicate}
-use Rattle.app_loads.specs.{Taking.free_places_in, Regions.all_free}
+use Rattle.app_loads.proofs.Common.{all_free, free_places_in, map, replicate, ◌++◌, ◌≡◌}
 use Rattle.app_loads.proofs.opening.push_regions.Given as goal
 
 -- so many regions stand behind those that were there

@@ -1,8 +1,4 @@
-use Rattle.std.proofs.Common.{◌≡◌, ◌≢◌, ◌%◌, ◌+◌, ap, sym, subst, arith, List}
-use Rattle.std.specs.List.{All, AllPairs}
-use Rattle.spin_base.specs.declared.chips.Spot.{Spot}
-use Rattle.machine_desc.specs.Live.{IsSite}
-use Rattle.app_loads.specs.Opening.{usable_spots}
+use Rattle.app_loads.proofs.Common.{All, AllPairs, IsSite, List, Spot, ap, arith, subst, sym, usable_spots, ◌%◌, ◌+◌, ◌≡◌, ◌≢◌}
 use Rattle.app_loads.proofs.Spots.{one_spot_more, usable_sites, usable_different}
 use Rattle.app_loads.proofs.opening.usable_spots.Goals as goal
 

@@ -1,7 +1,4 @@
-use Rattle.std.proofs.Common.{◌≡◌, map}
-use Rattle.std.specs.List.{filter, range_with_len}
-use Rattle.machine_desc.specs.Live.{is_usable}
-use Rattle.app_loads.specs.Opening.{spot_of}
+use Rattle.app_loads.proofs.Common.{filter, is_usable, map, range_with_len, spot_of, ◌≡◌}
 use Rattle.app_loads.proofs.opening.usable_spots.Given as goal
 
 -- the usable ones of the spots before this number

@@ -1,4 +1,4 @@
-use Rattle.std.proofs.Common.{◌≡◌, take}
+use Rattle.app_loads.proofs.Common.{take, ◌≡◌}
 use Rattle.app_loads.proofs.plans.copied_nets.Given as goal
 
 -- the nets so far are copied

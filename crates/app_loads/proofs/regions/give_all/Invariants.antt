@@ -1,6 +1,4 @@
-use Rattle.std.proofs.Common.{drop, List}
-use Rattle.machine_desc.specs.Description.{Description}
-use Rattle.app_loads.specs.{declared.loaded.Range.Range, Taking.HaveRoom, Taking.AreTaken}
+use Rattle.app_loads.proofs.Common.{AreTaken, Description, HaveRoom, List, Range, drop}
 use Rattle.app_loads.proofs.regions.give_all.Given as goal
 
 -- the ranges that are left are taken still

@@ -1,5 +1,4 @@
-use Rattle.std.proofs.{Common.arith, Common.◌∙◌, Common.◌+◌, Common.◌≤◌, Common.ap, lemmas.List.length-set}
-use Rattle.app_loads.specs.declared.loaded.Range.{Range}
+use Rattle.app_loads.proofs.Common.{Range, ap, arith, length-set, ◌+◌, ◌∙◌, ◌≤◌}
 use Rattle.app_loads.proofs.RoomToGive.{count_here, counted_more, few_counted, frees_still, region_there, room_more}
 use Rattle.app_loads.proofs.regions.make_room.Goals.{After-index-count}
 use Rattle.app_loads.proofs.regions.make_room.Goals as goal

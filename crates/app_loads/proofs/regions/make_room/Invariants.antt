@@ -1,6 +1,4 @@
-use Rattle.std.proofs.Common.{◌≡◌, ℕ, Some, length, take}
-use Rattle.std.specs.List.{slice_get}
-use Rattle.app_loads.specs.Taking.{HaveRoom, frees}
+use Rattle.app_loads.proofs.Common.{HaveRoom, Some, frees, length, slice_get, take, ℕ, ◌≡◌}
 use Rattle.app_loads.proofs.Serving.{of_region}
 use Rattle.app_loads.proofs.regions.make_room.Given as goal
 

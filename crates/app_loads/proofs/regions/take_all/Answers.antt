@@ -1,5 +1,4 @@
-use Rattle.std.proofs.Common.{subst, sym, List}
-use Rattle.app_loads.specs.{declared.loaded.Range.Range, Taking.AreTaken, Taking.HaveRoom}
+use Rattle.app_loads.proofs.Common.{AreTaken, HaveRoom, List, Range, subst, sym}
 use Rattle.app_loads.proofs.regions.take_all.Goals as goal
 
 pub give_all-requires : goal.give_all-requires

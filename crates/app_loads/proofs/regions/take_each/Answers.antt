@@ -1,6 +1,4 @@
-use Rattle.std.proofs.{Common.arith, Common.None, Common.◌∙◌, Common.ap, Common.length, Common.refl, Common.sym, lemmas.List.length-replicate, lemmas.List.length-set}
-use Rattle.std.specs.List.{slice_get}
-use Rattle.app_loads.specs.declared.{answers.LoadRefusal.TheVariants.Loaded, places.Region.TheVariants.Keys, loaded.Claim.Claim}
+use Rattle.app_loads.proofs.Common.{Claim, Keys, Loaded, None, ap, arith, length, length-replicate, length-set, refl, slice_get, sym, ◌∙◌}
 use Rattle.app_loads.proofs.Serving.{few_held, pushed_long, claim_fair, claim_served, claim_due, claim_taken, claim_room, count_held, counts_more, none_counted, none_served, of_region, all_served}
 use Rattle.app_loads.proofs.regions.take_each.Goals as goal
 

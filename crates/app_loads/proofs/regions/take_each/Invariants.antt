@@ -1,6 +1,4 @@
-use Rattle.std.proofs.Common.{◌≡◌, ◌≤◌, ℕ, Some, length}
-use Rattle.std.specs.List.{slice_get}
-use Rattle.app_loads.specs.Taking.{HaveServed}
+use Rattle.app_loads.proofs.Common.{HaveServed, Some, length, slice_get, ℕ, ◌≡◌, ◌≤◌}
 use Rattle.app_loads.proofs.Serving.{of_region}
 use Rattle.app_loads.proofs.regions.take_each.Given as goal
 

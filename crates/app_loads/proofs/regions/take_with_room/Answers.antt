@@ -1,4 +1,4 @@
-use Rattle.std.proofs.Common.{◌≡◌, ◌∙◌, ◌%◌, ◌+◌, ◌≤◌, ℕ, sym, subst, Option, None, Some, Ok, IfSome}
+use Rattle.app_loads.proofs.Common.{IfSome, None, Ok, Option, Some, subst, sym, ℕ, ◌%◌, ◌+◌, ◌∙◌, ◌≡◌, ◌≤◌}
 use Rattle.app_loads.proofs.RegionLaws.{by_take, none_by_take, by_fixed, none_by_fixed, serves_same, refuses_same}
 use Rattle.app_loads.proofs.regions.take_with_room.Goals as goal
 

@@ -1,4 +1,4 @@
-use Rattle.app_loads.specs.Writing.{AreUnusedFrom}
+use Rattle.app_loads.proofs.Common.{AreUnusedFrom}
 use Rattle.app_loads.proofs.rows.clear_entries.Given as goal
 
 -- so many entries are unused

@@ -1,5 +1,4 @@
-use Rattle.std.proofs.Common.{◌+◌, sym, subst, take}
-use Rattle.app_loads.specs.Writing.{AreUnused}
+use Rattle.app_loads.proofs.Common.{AreUnused, subst, sym, take, ◌+◌}
 use Rattle.app_loads.proofs.{Copying.of_chip, Copying.place_of_no_rows, Clearing.T_long, Clearing.range_fits, Clearing.unused_more, Clearing.unused_skip}
 use Rattle.app_loads.proofs.rows.clear_rows.Goals as goal
 

@@ -1,5 +1,4 @@
-use Rattle.std.proofs.Common.{take}
-use Rattle.app_loads.specs.Writing.{AreUnused}
+use Rattle.app_loads.proofs.Common.{AreUnused, take}
 use Rattle.app_loads.proofs.rows.clear_rows.Given as goal
 
 -- the entries of the ranges so far are unused

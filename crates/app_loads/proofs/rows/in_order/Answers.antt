@@ -1,5 +1,4 @@
-use Rattle.std.proofs.{Common.arith, Common.◌≡◌, Common.◌∙◌, Common.length, Common.sym, lemmas.Grind.common_steps}
-use Rattle.std.specs.Vec.Iter.{into_iter_items}
+use Rattle.app_loads.proofs.Common.{arith, common_steps, into_iter_items, length, sym, ◌∙◌, ◌≡◌}
 use Rattle.app_loads.proofs.Copying.{all_in_order, one_more_in_order}
 use Rattle.app_loads.proofs.rows.in_order.Goals as goal
 

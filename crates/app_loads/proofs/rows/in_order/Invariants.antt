@@ -1,7 +1,4 @@
-use Rattle.std.proofs.Common.{◌≡◌, drop, length, take}
-use Rattle.std.specs.{List.AllZip, Vec.Iter.into_iter_items}
-use Rattle.net_tables.specs.Marks.{IsTableOf}
-use Rattle.app_loads.specs.Writing.{tables_in}
+use Rattle.app_loads.proofs.Common.{AllZip, IsTableOf, drop, into_iter_items, length, tables_in, take, ◌≡◌}
 use Rattle.app_loads.proofs.rows.in_order.Given as goal
 
 -- the lists so far are in order, and the others are left

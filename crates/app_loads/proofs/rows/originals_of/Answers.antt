@@ -1,9 +1,4 @@
-use Rattle.std.proofs.{Common.arith, Common.◌≡◌, Common.◌∙◌, Common.List, Common.ap, Common.length, Common.subst, Common.sym, lemmas.Option.slice_get_read, lemmas.List.take_all}
-use Rattle.machine_desc.specs.declared.nets.NetPlan.{NetPlan}
-use Rattle.net_tables.specs.{Marks.AreBlocksOf, PlainTable.AreRoutedApart}
-use Rattle.net_tables.proofs.Whole.{all_plain_tables}
-use Rattle.spin_base.proofs.Places.{take_more_at}
-use Rattle.app_loads.specs.{Host.nets_of, Writing.tables_in}
+use Rattle.app_loads.proofs.Common.{AreBlocksOf, AreRoutedApart, List, NetPlan, all_plain_tables, ap, arith, length, nets_of, slice_get_read, subst, sym, tables_in, take_all, take_more_at, ◌∙◌, ◌≡◌}
 use Rattle.app_loads.proofs.{Unsent.nets_with_at, Unsent.nets_with_long, rows.originals_of.Goals.After-loop-at}
 use Rattle.app_loads.proofs.rows.originals_of.Goals as goal
 

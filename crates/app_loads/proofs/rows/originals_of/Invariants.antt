@@ -1,5 +1,4 @@
-use Rattle.std.proofs.Common.{◌≡◌, take}
-use Rattle.app_loads.specs.Host.{nets_of}
+use Rattle.app_loads.proofs.Common.{nets_of, take, ◌≡◌}
 use Rattle.app_loads.proofs.rows.originals_of.Given as goal
 
 -- the nets so far

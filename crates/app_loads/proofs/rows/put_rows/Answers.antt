@@ -1,5 +1,4 @@
-use Rattle.std.proofs.{Common.arith, Common.◌∙◌, Common.refl, Common.ap, Common.set, Common.take-append-drop, Math.Seq.take-length, lemmas.Option.slice_get_read}
-use Rattle.tern_word.specs.Entries.{entry_of}
+use Rattle.app_loads.proofs.Common.{ap, arith, entry_of, refl, set, slice_get_read, take-append-drop, take-length, ◌∙◌}
 use Rattle.app_loads.proofs.Copying.{marks_more}
 use Rattle.app_loads.proofs.rows.put_rows.Goals as goal
 

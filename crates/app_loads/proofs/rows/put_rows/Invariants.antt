@@ -1,6 +1,4 @@
-use Rattle.std.proofs.Common.{◌≡◌, ◌+◌, ◌++◌, take, drop, map}
-use Rattle.tern_word.specs.Entries.{entry_of}
-use Rattle.net_tables.specs.Marks.{row_of_mark}
+use Rattle.app_loads.proofs.Common.{drop, entry_of, map, row_of_mark, take, ◌++◌, ◌+◌, ◌≡◌}
 use Rattle.app_loads.proofs.rows.put_rows.Given as goal
 
 -- the rows so far stand from the place on

@@ -1,4 +1,4 @@
-use Rattle.std.proofs.{Common.arith, lemmas.Result.IfOk-weaker}
+use Rattle.app_loads.proofs.Common.{IfOk-weaker, arith}
 use Rattle.app_loads.proofs.Rooms.{no_room}
 use Rattle.app_loads.proofs.rows.room_for.Goals as goal
 

@@ -1,5 +1,4 @@
-use Rattle.std.proofs.{Common.arith, Common.◌+◌, Common.get_or, Common.subst, Common.sym, lemmas.Option.slice_get-get_or}
-use Rattle.app_loads.specs.declared.loaded.Range.{Range}
+use Rattle.app_loads.proofs.Common.{Range, arith, get_or, slice_get-get_or, subst, sym, ◌+◌}
 use Rattle.app_loads.proofs.Rooms.{HaveRoomTo, room_more, room_none}
 use Rattle.app_loads.proofs.rows.rooms_for.Goals as goal
 

@@ -1,6 +1,4 @@
-use Rattle.std.proofs.Common.{◌≡◌, drop, take}
-use Rattle.std.specs.Vec.Iter.{into_iter_items}
-use Rattle.app_loads.specs.Writing.{AreCopied, tables_in}
+use Rattle.app_loads.proofs.Common.{AreCopied, drop, into_iter_items, tables_in, take, ◌≡◌}
 use Rattle.app_loads.proofs.rows.write_rows.Given as goal
 
 -- the ranges so far have their rows, and the rooms of the others are left

@@ -1,7 +1,4 @@
-use Rattle.std.proofs.Common.{◌≡◌, ◌∙◌, ◌<◌, ap, sym, arith, length, get_or, List, None, Some, ℕ}
-use Rattle.std.proofs.lemmas.Option.{slice_get-get_or}
-use Rattle.std.specs.List.{slice_get, slice_set}
-use Rattle.spin_base.specs.declared.copies.Packet.{Packet}
+use Rattle.app_loads.proofs.Common.{List, None, Packet, Some, ap, arith, get_or, length, slice_get, slice_get-get_or, slice_set, sym, ℕ, ◌<◌, ◌∙◌, ◌≡◌}
 use Rattle.app_loads.proofs.Unsent.{sent_more, others_same, number_fits, net_below, key_fits, source_below, queue_below}
 use Rattle.app_loads.proofs.sends.add_packets.Goals as goal
 

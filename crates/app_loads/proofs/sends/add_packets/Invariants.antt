@@ -1,6 +1,4 @@
-use Rattle.std.proofs.Common.{List}
-use Rattle.spin_base.specs.declared.chips.Spot.{Spot}
-use Rattle.app_loads.specs.{Joining.AreSent, Sending.AreSources, Sending.IsSameBeside}
+use Rattle.app_loads.proofs.Common.{AreSent, AreSources, IsSameBeside, List, Spot}
 use Rattle.app_loads.proofs.sends.add_packets.Given as goal
 
 -- the packets so far are sent

@@ -1,6 +1,4 @@
-use Rattle.std.proofs.Common.{◌≡◌, ℕ, take, [], Some}
-use Rattle.std.specs.List.{Contains, slice_get}
-use Rattle.app_loads.specs.Sending.{IsSameBeside}
+use Rattle.app_loads.proofs.Common.{Contains, IsSameBeside, Some, [], slice_get, take, ℕ, ◌≡◌}
 use Rattle.app_loads.proofs.sends.clear.Given as goal
 
 -- the queues so far are empty

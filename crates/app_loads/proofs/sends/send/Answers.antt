@@ -1,6 +1,4 @@
-use Rattle.std.proofs.Common.{subst, sym, ◌<◌, ℕ, List, length}
-use Rattle.std.specs.List.{All}
-use Rattle.app_loads.specs.Sending.{AreCleared, CanAdd, IsSameBeside}
+use Rattle.app_loads.proofs.Common.{All, AreCleared, CanAdd, IsSameBeside, List, length, subst, sym, ℕ, ◌<◌}
 use Rattle.app_loads.proofs.Unsent.{can_add, put_back, sources_of}
 use Rattle.app_loads.proofs.sends.send.Goals as goal
 

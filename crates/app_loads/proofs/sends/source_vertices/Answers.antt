@@ -1,6 +1,4 @@
-use Rattle.std.proofs.{Common.arith, Common.◌∙◌, Common.ap, Common.sym, Common.Some, lemmas.List.take_all, lemmas.Option.slice_get-get_or}
-use Rattle.spin_base.proofs.Places.{map_more_at}
-use Rattle.app_loads.specs.Sending.{source_at}
+use Rattle.app_loads.proofs.Common.{Some, ap, arith, map_more_at, slice_get-get_or, source_at, sym, take_all, ◌∙◌}
 use Rattle.app_loads.proofs.sends.source_vertices.Goals as goal
 
 pub loop-net-preserved : goal.loop-net-preserved

@@ -1,5 +1,4 @@
-use Rattle.std.proofs.Common.{◌≡◌, map, take}
-use Rattle.app_loads.specs.Sending.{source_at}
+use Rattle.app_loads.proofs.Common.{map, source_at, take, ◌≡◌}
 use Rattle.app_loads.proofs.sends.source_vertices.Given as goal
 
 -- the vertices of the nets so far

@@ -1,6 +1,4 @@
-use Rattle.std.proofs.Common.{◌≡◌, ◌++◌, take}
-use Rattle.std.specs.List.{flat_map}
-use Rattle.app_loads.specs.Sending.{source_vertex}
+use Rattle.app_loads.proofs.Common.{flat_map, source_vertex, take, ◌++◌, ◌≡◌}
 use Rattle.app_loads.proofs.sends.with_sources.Given as goal
 
 -- the vertices of the nets so far came to those that were known

@@ -1,6 +1,4 @@
-use Rattle.std.proofs.Common.{◌∙◌, OnOk, subst}
-use Rattle.mesh_core.specs.State.{State}
-use Rattle.app_loads.specs.{Grouping.all_grouped, Taking.AreGivenBack}
+use Rattle.app_loads.proofs.Common.{AreGivenBack, OnOk, State, all_grouped, subst, ◌∙◌}
 use Rattle.app_loads.proofs.Kept.{same_mesh}
 use Rattle.app_loads.proofs.unloads.leave.Goals as goal
 

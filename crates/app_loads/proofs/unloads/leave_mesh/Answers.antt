@@ -1,6 +1,4 @@
-use Rattle.std.proofs.{Common.arith, Common.◌∙◌, Common.sym, Common.subst, Common.List, lemmas.List.Elements.All-weaker}
-use Rattle.mesh_core.specs.State.{State, IsMesh}
-use Rattle.app_loads.specs.{declared.loaded.Range.Range, Leaving.IsLeastUnderWay, Taking.HaveRoom}
+use Rattle.app_loads.proofs.Common.{All-weaker, HaveRoom, IsLeastUnderWay, IsMesh, List, Range, State, arith, subst, sym, ◌∙◌}
 use Rattle.app_loads.proofs.{LeftMesh.can_clear, LeftMesh.parted_whole, LeftMesh.taken_still, LoadedParts.on_ok}
 use Rattle.app_loads.proofs.unloads.leave_mesh.Goals as goal
 

@@ -1,5 +1,4 @@
-use Rattle.std.proofs.Common.{arith, OnOk, subst, Result}
-use Rattle.app_loads.specs.{Leaving.NoneUnderWay, Grouping.all_grouped, declared.leaving.Left.Left, declared.answers.UnloadErr.UnloadErr}
+use Rattle.app_loads.proofs.Common.{Left, NoneUnderWay, OnOk, Result, UnloadErr, all_grouped, arith, subst}
 use Rattle.app_loads.proofs.Kept.{few_own, none_with, why_with}
 use Rattle.app_loads.proofs.unloads.leave_ready.Goals as goal
 

@@ -1,5 +1,4 @@
-use Rattle.std.proofs.Common.{sym, subst}
-use Rattle.chip_node.specs.Taking.{AreOuts}
+use Rattle.chip_node.proofs.Common.{AreOuts, subst, sym}
 use Rattle.chip_node.proofs.Outputs.{outs_numbered, outs_differ}
 use Rattle.chip_node.proofs.routing.outputs_of.Goals as goal
 

@@ -1,6 +1,5 @@
 -- Each turn adds the aliases of one more row.
-use Rattle.std.proofs.Common.{◌++◌, take, sym, ap, ◌∙◌}
-use Rattle.cover_merge.specs.Merge.{aliases_at}
+use Rattle.cover_merge.proofs.Common.{aliases_at, ap, sym, take, ◌++◌, ◌∙◌}
 use Rattle.cover_merge.proofs.ApplyLemmas.{aliases_more}
 use Rattle.cover_merge.proofs.applying.all_aliases.Goals as goal
 

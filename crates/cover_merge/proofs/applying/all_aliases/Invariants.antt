@@ -1,6 +1,5 @@
 -- So far the aliases of the rows passed.
-use Rattle.std.proofs.Common.{◌≡◌, take}
-use Rattle.cover_merge.specs.Merge.{aliases_at}
+use Rattle.cover_merge.proofs.Common.{aliases_at, take, ◌≡◌}
 use Rattle.cover_merge.proofs.applying.all_aliases.Given as goal
 
 abbrev pub invariant-loop-s : goal.invariant-loop-s

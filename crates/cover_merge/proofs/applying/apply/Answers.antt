@@ -1,7 +1,5 @@
 -- The place is the insertion place, behind all members.
-use Rattle.std.proofs.Common.{◌≡◌, ◌<◌, ap, sym, subst, ◌∙◌, length, arith}
-use Rattle.std.specs.Prelude.{All, AllPairs, insert}
-use Rattle.cover_merge.specs.Merge.{kept, merged_row}
+use Rattle.cover_merge.proofs.Common.{All, AllPairs, ap, arith, insert, kept, length, merged_row, subst, sym, ◌<◌, ◌∙◌, ◌≡◌}
 use Rattle.cover_merge.proofs.ApplyLemmas.{found_before, after_found}
 use Rattle.cover_merge.proofs.applying.apply.Goals as goal
 

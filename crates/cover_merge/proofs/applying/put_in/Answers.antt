@@ -1,5 +1,5 @@
 -- Each turn moves the rows up to the next place down.
-use Rattle.std.proofs.Common.{◌+◌, ◌∙◌, refl, get_or, arith}
+use Rattle.cover_merge.proofs.Common.{arith, get_or, refl, ◌+◌, ◌∙◌}
 use Rattle.cover_merge.proofs.ReplaceLemmas.{all_replaced, none_closed, one_closed, room, starts}
 use Rattle.cover_merge.proofs.applying.put_in.Goals as goal
 

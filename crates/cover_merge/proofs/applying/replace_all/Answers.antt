@@ -1,5 +1,5 @@
 -- Each turn moves the items up to the next place down.
-use Rattle.std.proofs.Common.{◌≡◌, ◌≤◌, ◌+◌, ◌-◌, sym, subst, ◌∙◌, refl, get_or, length, length-set, set, arith}
+use Rattle.cover_merge.proofs.Common.{arith, get_or, length, length-set, refl, set, subst, sym, ◌+◌, ◌-◌, ◌∙◌, ◌≡◌, ◌≤◌}
 use Rattle.cover_merge.proofs.ReplaceLemmas.{all_replaced, copied_down, none_closed, one_closed, room, starts}
 use Rattle.cover_merge.proofs.applying.replace_all.Goals as goal
 

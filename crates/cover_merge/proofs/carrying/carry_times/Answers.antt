@@ -1,6 +1,5 @@
 -- What was tried stays so in the table after the merge, where each row has its times.
-use Rattle.std.proofs.Common.{◌∙◌, ap, sym, subst, length, arith}
-use Rattle.cover_merge.specs.{Merge.after, Tried.AreTriedUpTo, Tried.AreNoLater}
+use Rattle.cover_merge.proofs.Common.{AreNoLater, AreTriedUpTo, after, ap, arith, length, subst, sym, ◌∙◌}
 use Rattle.cover_merge.proofs.PairLemmas.{carried_length, marks_carried, latest_carried}
 use Rattle.cover_merge.proofs.carrying.carry_times.Goals as goal
 

@@ -1,5 +1,5 @@
 -- A row of the set behind that meets the row would be a rival at one of the places.
-use Rattle.std.proofs.Common.{arith}
+use Rattle.cover_merge.proofs.Common.{arith}
 use Rattle.cover_merge.proofs.{PairLemmas.none_lost, RivalLemmas.rivals_read}
 use Rattle.cover_merge.proofs.carrying.loses.Goals as goal
 

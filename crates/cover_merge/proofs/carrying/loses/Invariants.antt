@@ -1,6 +1,5 @@
 -- No rival passed is at one of the places.
-use Rattle.std.proofs.Common.{◌≡◌, ◌<◌, ℕ, false, get_or}
-use Rattle.cover_merge.specs.{declared.rivals.Rival.Rival, Rivals.is_at_one}
+use Rattle.cover_merge.proofs.Common.{Rival, false, get_or, is_at_one, ℕ, ◌<◌, ◌≡◌}
 use Rattle.cover_merge.proofs.carrying.loses.Given as goal
 
 abbrev pub invariant-loop-k : goal.invariant-loop-k

@@ -1,10 +1,6 @@
 -- The rivals of all rows that stay are those after the merge, and those of the merged row are found.
-use Rattle.std.proofs.Common.{◌≡◌, ◌∙◌, ◌+◌, ◌-◌, ◌<◌, [], ℕ, List, sym, ap, subst, length, get_or, arith}
-use Rattle.std.specs.Prelude.{All, AllPairs, insert}
-use Rattle.std.proofs.lemmas.List.{get_or_default}
-use Rattle.tern_word.specs.{declared.tables.Row.Row, SoundTable.IsSound, Ternary.generality}
-use Rattle.cover_merge.specs.{Merge.after, Merge.merged_block, Merge.insert_place, Rivals.AreRivalsAfter, Rivals.AreRivalsAt, Rivals.CanMerge, Rivals.IsRivaled, Spans.AreSpansOf}
-use Rattle.cover_merge.specs.declared.rivals.Rivals.{Rivals}
+use Rattle.cover_merge.proofs.Common.{All, AllPairs, AreRivalsAfter, AreRivalsAt, AreSpansOf, CanMerge, IsRivaled, IsSound, List, Rivals, Row, [], after, ap, arith, generality, get_or, get_or_default}
+use Rattle.cover_merge.proofs.Common.{insert, insert_place, length, merged_block, subst, sym, ℕ, ◌+◌, ◌-◌, ◌<◌, ◌∙◌, ◌≡◌}
 use Rattle.cover_merge.proofs.{ApplyLemmas.left, ApplyLemmas.members_before, KeptLemmasMoved.merged_at, RivalAfter.place_is, RivalAfter.stands_at, RivalAfter.carried_is, RivalAfter.carried_length}
 use Rattle.cover_merge.proofs.{RivalAfter.at_inside, RivalAfter.rivaled_after, carrying.merge_rows.Goals.After-place_in-place, carrying.merge_rows.Goals.After-replace_all}
 use Rattle.cover_merge.proofs.carrying.merge_rows.Goals as goal

@@ -1,6 +1,5 @@
 -- One row more is met, or is not.
-use Rattle.std.proofs.Common.{ap, refl, ◌∙◌, arith}
-use Rattle.tern_word.specs.SoundTable.{Misses}
+use Rattle.cover_merge.proofs.Common.{Misses, ap, arith, refl, ◌∙◌}
 use Rattle.cover_merge.proofs.{Answering.fails, PutInLemmas.met_front, PutInLemmas.missed_behind, PutInLemmas.next_met, PutInLemmas.next_missed}
 use Rattle.cover_merge.proofs.carrying.met_places.Goals.{then-not-is_missed+in_ok-push, else-not-is_missed}
 use Rattle.cover_merge.proofs.carrying.met_places.Goals as goal

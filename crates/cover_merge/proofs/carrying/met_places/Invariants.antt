@@ -1,6 +1,5 @@
 -- So far the places passed of rows of which the block meets an alias.
-use Rattle.std.proofs.Common.{take}
-use Rattle.cover_merge.specs.Rivals.{AreMet}
+use Rattle.cover_merge.proofs.Common.{AreMet, take}
 use Rattle.cover_merge.proofs.carrying.met_places.Given as goal
 
 abbrev pub invariant-loop-s : goal.invariant-loop-s

@@ -1,6 +1,5 @@
 -- Those before place `at` are at most as general.
-use Rattle.std.proofs.Common.{ℕ, ◌<◌, ◌≤◌, ◌-◌, length, get_or}
-use Rattle.cover_merge.specs.declared.rivals.Rival.{Rival}
+use Rattle.cover_merge.proofs.Common.{Rival, get_or, length, ℕ, ◌-◌, ◌<◌, ◌≤◌}
 use Rattle.cover_merge.proofs.carrying.put_rival.Given as goal
 
 abbrev pub invariant-loop-at : goal.invariant-loop-at

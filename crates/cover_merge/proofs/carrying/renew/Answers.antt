@@ -1,8 +1,5 @@
 -- The list of the row is written anew.
-use Rattle.std.proofs.Common.{◌≡◌, ◌≤◌, [], ◌∙◌, get_or, set, rules}
-use Rattle.std.specs.Prelude.{AllPairs}
-use Rattle.std.proofs.lemmas.{Fn.filter_same, List.get_or_default}
-use Rattle.cover_merge.specs.{Rivals.IsPutIn, Rivals.rivals_left, declared.rivals.Rival.Rival}
+use Rattle.cover_merge.proofs.Common.{AllPairs, IsPutIn, Rival, [], filter_same, get_or, get_or_default, rivals_left, rules, set, ◌∙◌, ◌≡◌, ◌≤◌}
 use Rattle.cover_merge.proofs.{ApplyLemmas.on_ok, PutInLemmas.left_is, PutInLemmas.left_ordered, PutInLemmas.put_written}
 use Rattle.cover_merge.proofs.carrying.renew.Goals as goal
 

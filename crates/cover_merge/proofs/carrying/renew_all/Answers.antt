@@ -1,7 +1,5 @@
 -- One row more has its rivals after the merge.
-use Rattle.std.proofs.Common.{◌≡◌, ◌≢◌, ◌∙◌, ◌<◌, ◌≤◌, [], ℕ, List, refl, sym, ap, subst, length, get_or, arith}
-use Rattle.std.specs.Prelude.{AllPairs}
-use Rattle.cover_merge.specs.{Merge.merged_block, Rivals.AreRivalsAt, Rivals.IsPutIn, Rivals.rivals_left, declared.rivals.Rival.Rival}
+use Rattle.cover_merge.proofs.Common.{AllPairs, AreRivalsAt, IsPutIn, List, Rival, [], ap, arith, get_or, length, merged_block, refl, rivals_left, subst, sym, ℕ, ◌<◌, ◌∙◌, ◌≡◌, ◌≢◌, ◌≤◌}
 use Rattle.cover_merge.proofs.RivalAfter.{none_renewed, next_list, one_renewed, all_renewed}
 use Rattle.cover_merge.proofs.carrying.renew_all.Goals as goal
 

@@ -1,6 +1,5 @@
 -- The rows passed have their rivals after the merge.
-use Rattle.std.proofs.Common.{◌≡◌, length}
-use Rattle.cover_merge.specs.Merge.{merged_block}
+use Rattle.cover_merge.proofs.Common.{length, merged_block, ◌≡◌}
 use Rattle.cover_merge.proofs.RivalAfter.{AreRenewed}
 use Rattle.cover_merge.proofs.carrying.renew_all.Given as goal
 

@@ -1,8 +1,6 @@
 -- The row at one place more loses none, or changed now, and nothing is kept of its route. The merge misses all other rows.
-use Rattle.std.proofs.Common.{◌≡◌, ◌+◌, ◌⊎◌, ◌∙◌, ◌<◌, ◌≤◌, ℕ, List, true, inl, inr, sym, ap, subst, get_or, arith}
-use Rattle.std.proofs.lemmas.Bool.{cases_eq, cases_lt}
-use Rattle.cover_merge.specs.{declared.times.Times.Times, Merge.has_row, Known.AreStillKept, Tried.IsFresh, Tried.LosesNone}
-use Rattle.tern_word.specs.{declared.tables.Row.Row, SoundTable.Misses}
+use Rattle.cover_merge.proofs.Common.{AreStillKept, IsFresh, List, LosesNone, Misses, Row, Times, ap, arith, cases_eq, cases_lt, get_or, has_row, inl, inr, subst, sym, true, ℕ, ◌+◌, ◌<◌, ◌∙◌, ◌≡◌}
+use Rattle.cover_merge.proofs.Common.{◌≤◌, ◌⊎◌}
 use Rattle.cover_merge.proofs.{KeepLemmas.left_twice, Legal.narrower_misses, Legal.member_lies, Positions.has-place}
 use Rattle.cover_merge.proofs.carrying.touch.Goals as goal
 

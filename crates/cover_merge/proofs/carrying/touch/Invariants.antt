@@ -1,6 +1,5 @@
 -- The rows at the places passed lose none or changed now, nothing is kept of their routes, and all is still known.
-use Rattle.std.proofs.Common.{◌≡◌, ◌<◌, ◌⊎◌, ℕ, get_or}
-use Rattle.cover_merge.specs.{declared.times.Times.Times, Known.AreStillKept, Known.IsKnownAt, Known.HasSameRoutes, Tried.IsFresh, Tried.LosesNone}
+use Rattle.cover_merge.proofs.Common.{AreStillKept, HasSameRoutes, IsFresh, IsKnownAt, LosesNone, Times, get_or, ℕ, ◌<◌, ◌≡◌, ◌⊎◌}
 use Rattle.cover_merge.proofs.carrying.touch.Given as goal
 
 abbrev pub invariant-loop-k : goal.invariant-loop-k

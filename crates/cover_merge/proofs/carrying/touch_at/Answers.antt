@@ -1,9 +1,6 @@
 -- Nothing is kept of the row's route. Where the row loses one behind it, it changed now, and so did its route.
-use Rattle.std.proofs.Common.{◌≡◌, ◌∙◌, ◌<◌, ℕ, List, inl, inr, refl, sym, ap, subst, set, length, get_or, arith}
-use Rattle.std.specs.Prelude.{None}
-use Rattle.std.proofs.lemmas.{Bool.cases_eq, Grind.get_or-set_at, List.get_or_default, List.get_or-set_other, List.length-set}
-use Rattle.tern_word.specs.declared.tables.Row.{Row}
-use Rattle.cover_merge.specs.{Known.IsKnown, Tried.IsFresh, declared.knowing.Known.Known}
+use Rattle.cover_merge.proofs.Common.{IsFresh, IsKnown, Known, List, None, Row, ap, arith, cases_eq, get_or, get_or-set_at, get_or-set_other, get_or_default, inl, inr, length, length-set, refl, set}
+use Rattle.cover_merge.proofs.Common.{subst, sym, ℕ, ◌<◌, ◌∙◌, ◌≡◌}
 use Rattle.cover_merge.proofs.{KeepLemmas.forgotten, LinkLemmas.as_many, LinkLemmas.number_at, TriedLemmas.fresh_put, TriedLemmas.latest_put, TriedLemmas.times_no_later}
 use Rattle.cover_merge.proofs.carrying.touch_at.Goals as goal
 

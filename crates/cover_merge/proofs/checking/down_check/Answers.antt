@@ -1,5 +1,5 @@
 -- After the up-check this one tells whether the table after the merge is sound.
-use Rattle.std.proofs.Common.{arith}
+use Rattle.cover_merge.proofs.Common.{arith}
 use Rattle.cover_merge.proofs.Legal.{legal_from_checks, down_from_legal}
 use Rattle.cover_merge.proofs.checking.down_check.Goals as goal
 

@@ -1,5 +1,5 @@
 -- A row that misses the aliases is clear, and one that does not where it is of the set.
-use Rattle.tern_word.specs.SoundTable.{Misses}
+use Rattle.cover_merge.proofs.Common.{Misses}
 use Rattle.cover_merge.proofs.Answering.{answer_of}
 use Rattle.cover_merge.proofs.checking.is_clear.Goals as goal
 

@@ -1,6 +1,5 @@
 -- So far the merge is that of the rows at the first place and those passed.
-use Rattle.std.proofs.Common.{◌≡◌, ◌+◌, take}
-use Rattle.cover_merge.specs.Merge.{merged_block}
+use Rattle.cover_merge.proofs.Common.{merged_block, take, ◌+◌, ◌≡◌}
 use Rattle.cover_merge.proofs.checking.merged_block.Given as goal
 
 abbrev pub invariant-loop-place : goal.invariant-loop-place

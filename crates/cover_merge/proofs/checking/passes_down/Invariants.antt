@@ -1,6 +1,5 @@
 -- The block meets no alias of a row that was passed.
-use Rattle.std.proofs.Common.{ℕ, ◌<◌, ◌≤◌, get_or}
-use Rattle.tern_word.specs.{declared.tables.Row.Row, SoundTable.Misses}
+use Rattle.cover_merge.proofs.Common.{Misses, Row, get_or, ℕ, ◌<◌, ◌≤◌}
 use Rattle.cover_merge.proofs.checking.passes_down.Given as goal
 
 abbrev pub invariant-loop-r : goal.invariant-loop-r

@@ -1,8 +1,5 @@
 -- The row passes where no row between meets it.
-use Rattle.std.proofs.Common.{◌<◌, ◌≡◌, false, length, refl, arith}
-use borrow.Author.Count.{below_more}
-use Rattle.tern_word.specs.SoundTable.{Misses}
-use Rattle.cover_merge.specs.Merge.{IsClearOf, PassesUp, has_row}
+use Rattle.cover_merge.proofs.Common.{IsClearOf, Misses, PassesUp, arith, below_more, false, has_row, length, refl, ◌<◌, ◌≡◌}
 use Rattle.cover_merge.proofs.Answering.{answers_no, clear_from, fails, missed_from}
 use Rattle.cover_merge.proofs.checking.passes_up.Goals as goal
 

@@ -1,6 +1,5 @@
 -- No row passed that is outside the set meets an alias of row s.
-use Rattle.std.proofs.Common.{ℕ, ◌<◌}
-use Rattle.cover_merge.specs.Merge.{IsClearOf}
+use Rattle.cover_merge.proofs.Common.{IsClearOf, ℕ, ◌<◌}
 use Rattle.cover_merge.proofs.checking.passes_up.Given as goal
 
 abbrev pub invariant-loop-r : goal.invariant-loop-r

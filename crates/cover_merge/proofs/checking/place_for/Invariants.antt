@@ -1,6 +1,5 @@
 -- So far the place is that for the rows passed.
-use Rattle.std.proofs.Common.{◌≡◌, ◌≤◌, take}
-use Rattle.cover_merge.specs.Merge.{place_for}
+use Rattle.cover_merge.proofs.Common.{place_for, take, ◌≡◌, ◌≤◌}
 use Rattle.cover_merge.proofs.checking.place_for.Given as goal
 
 abbrev pub invariant-loop-row : goal.invariant-loop-row

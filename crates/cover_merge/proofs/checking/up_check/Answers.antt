@@ -1,5 +1,5 @@
 -- The check fails where one place fails it; a merge that is legal on a sound table fails none.
-use Rattle.std.proofs.Common.{refl}
+use Rattle.cover_merge.proofs.Common.{refl}
 use Rattle.cover_merge.proofs.{Answering.up_fails, Answering.up_more, Answering.up_all, Legal.up_from_legal}
 use Rattle.cover_merge.proofs.checking.up_check.Goals as goal
 

@@ -1,6 +1,5 @@
 -- The places passed pass the check.
-use Rattle.std.proofs.Common.{ℕ, ◌<◌, get_or}
-use Rattle.cover_merge.specs.Merge.{PassesUp, insert_place}
+use Rattle.cover_merge.proofs.Common.{PassesUp, get_or, insert_place, ℕ, ◌<◌}
 use Rattle.cover_merge.proofs.checking.up_check.Given as goal
 
 abbrev pub invariant-loop-s : goal.invariant-loop-s

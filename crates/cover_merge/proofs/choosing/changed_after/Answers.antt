@@ -1,7 +1,5 @@
 -- A row that changed no later is passed.
-use Rattle.std.proofs.Common.{◌<◌, suc, [], ap, refl, length, get_or, arith}
-use Rattle.std.proofs.lemmas.List.{get_or_default}
-use Rattle.cover_merge.specs.{Merge.merge_rows, declared.times.Times.Times}
+use Rattle.cover_merge.proofs.Common.{Times, [], ap, arith, get_or, get_or_default, length, merge_rows, refl, suc, ◌<◌}
 use Rattle.cover_merge.proofs.{ChooseLemmas.link_next, TriedLemmas.since_first, TriedLemmas.newer_next, TriedLemmas.since_turn}
 use Rattle.cover_merge.proofs.choosing.changed_after.Goals as goal
 

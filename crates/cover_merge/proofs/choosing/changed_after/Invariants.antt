@@ -1,6 +1,5 @@
 -- The rows passed changed no later.
-use Rattle.std.proofs.Common.{suc, ◌-◌, length}
-use Rattle.cover_merge.specs.Tried.{IsNextSince}
+use Rattle.cover_merge.proofs.Common.{IsNextSince, length, suc, ◌-◌}
 use Rattle.cover_merge.proofs.choosing.changed_after.Given as goal
 
 abbrev pub invariant-loop-place : goal.invariant-loop-place

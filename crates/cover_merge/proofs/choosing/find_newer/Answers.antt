@@ -1,7 +1,5 @@
 -- One row more has its next in the list.
-use Rattle.std.proofs.Common.{◌≡◌, ◌-◌, ◌<◌, ◌∙◌, ℕ, suc, refl, sym, set, subst, length, get_or, arith}
-use Rattle.std.proofs.lemmas.List.{length-set}
-use Rattle.cover_merge.specs.{Links.IsFirstOfRoute, Tried.AreNewerOf, Tried.AreChangesFrom}
+use Rattle.cover_merge.proofs.Common.{AreChangesFrom, AreNewerOf, IsFirstOfRoute, arith, get_or, length, length-set, refl, set, subst, suc, sym, ℕ, ◌-◌, ◌<◌, ◌∙◌, ◌≡◌}
 use Rattle.cover_merge.proofs.{ChooseLemmas.ArePlaces, ChooseLemmas.places_gathered, TriedLemmas.AreNewerAt, TriedLemmas.newer_all, TriedLemmas.newer_behind, TriedLemmas.newer_more}
 use Rattle.cover_merge.proofs.{TriedLemmas.newer_others, choosing.find_newer.Goals.After-as_slice-places}
 use Rattle.cover_merge.proofs.choosing.find_newer.Goals as goal

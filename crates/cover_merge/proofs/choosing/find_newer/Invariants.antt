@@ -1,7 +1,5 @@
 -- For each place of the route passed, the last first, its next stands in the list; other rows have what they had.
-use Rattle.std.proofs.Common.{◌≡◌, ◌≢◌, ◌≤◌, ℕ, length, get_or}
-use Rattle.tern_word.specs.declared.tables.Row.{Row}
-use Rattle.cover_merge.specs.Links.{IsFirstOfRoute}
+use Rattle.cover_merge.proofs.Common.{IsFirstOfRoute, Row, get_or, length, ℕ, ◌≡◌, ◌≢◌, ◌≤◌}
 use Rattle.cover_merge.proofs.TriedLemmas.{AreNewerAt}
 use Rattle.cover_merge.proofs.choosing.find_newer.Given as goal
 

@@ -1,9 +1,6 @@
 -- The first row with a partner is the first of the first pair.
-use Rattle.std.proofs.Common.{◌≡◌, ◌∙◌, ℕ, suc, ◌<◌, refl, sym, ap, set, subst, length, length-set, get_or, arith}
-use Rattle.std.specs.Prelude.{MatchOption}
-use borrow.Author.Count.{below_more}
-use Rattle.std.proofs.lemmas.List.{get_or_default}
-use Rattle.cover_merge.specs.{declared.times.Times.Times, Tried.AreChangesFrom, Tried.AreNoLater, Tried.AreTried, Covering.IsLegalPair, Covering.IsFirstPartner}
+use Rattle.cover_merge.proofs.Common.{AreChangesFrom, AreNoLater, AreTried, IsFirstPartner, IsLegalPair, MatchOption, Times, ap, arith, below_more, get_or, get_or_default, length, length-set, refl}
+use Rattle.cover_merge.proofs.Common.{set, subst, suc, sym, ℕ, ◌<◌, ◌∙◌, ◌≡◌}
 use Rattle.cover_merge.proofs.{ChooseLemmas.first_found, ChooseLemmas.no_pair, LinkLemmas.as_many, LinkLemmas.number_at, TriedLemmas.marked_put, TriedLemmas.times_no_later, TriedLemmas.newer_kept}
 use Rattle.cover_merge.proofs.TriedLemmas.{settled_none}
 use Rattle.cover_merge.proofs.choosing.first_pair.Goals as goal

@@ -1,6 +1,5 @@
 -- No row passed is the first of a legal pair, and all is still known.
-use Rattle.std.proofs.Common.{ℕ, ◌<◌}
-use Rattle.cover_merge.specs.{Covering.IsLegalPair, Known.IsKnownAt, Known.AreChanges}
+use Rattle.cover_merge.proofs.Common.{AreChanges, IsKnownAt, IsLegalPair, ℕ, ◌<◌}
 use Rattle.cover_merge.proofs.choosing.first_pair.Given as goal
 
 abbrev pub invariant-loop-i : goal.invariant-loop-i

@@ -1,7 +1,5 @@
 -- Of one route more something is kept.
-use Rattle.std.proofs.Common.{◌<◌, ◌∙◌, ap, length, refl, sym, arith}
-use Rattle.std.specs.Prelude.{Some, None}
-use Rattle.std.proofs.lemmas.List.{get_or_default, length-set}
+use Rattle.cover_merge.proofs.Common.{None, Some, ap, arith, get_or_default, length, length-set, refl, sym, ◌<◌, ◌∙◌}
 use Rattle.cover_merge.proofs.KeepLemmas.{all_known, all_more, fresh_more, kept_put}
 use Rattle.cover_merge.proofs.choosing.keep_all.Goals as goal
 

@@ -1,7 +1,5 @@
 -- Of each route passed something is kept.
-use Rattle.std.proofs.Common.{◌≡◌, ◌<◌, ℕ, get_or}
-use Rattle.std.specs.Prelude.{Some, None}
-use Rattle.cover_merge.specs.{Known.IsFreshlyRefined, Known.IsLinked, declared.keeping.Kept.Kept}
+use Rattle.cover_merge.proofs.Common.{IsFreshlyRefined, IsLinked, Kept, None, Some, get_or, ℕ, ◌<◌, ◌≡◌}
 use Rattle.cover_merge.proofs.choosing.keep_all.Given as goal
 
 abbrev pub invariant-loop-c : goal.invariant-loop-c

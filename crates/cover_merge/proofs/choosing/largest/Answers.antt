@@ -1,6 +1,5 @@
 -- The route of which most places are kept has the largest set.
-use Rattle.std.proofs.Common.{length, get_or, subst, arith}
-use Rattle.cover_merge.specs.{Covering.places_of, Kept.RefinesWithin, Known.IsMostBefore}
+use Rattle.cover_merge.proofs.Common.{IsMostBefore, RefinesWithin, arith, get_or, length, places_of, subst}
 use Rattle.cover_merge.proofs.{KeepLemmas.none_largest, KeepLemmas.best_largest, choosing.largest.Goals.After-most_of-most}
 use Rattle.cover_merge.proofs.choosing.largest.Goals as goal
 

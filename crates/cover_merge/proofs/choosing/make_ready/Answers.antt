@@ -1,8 +1,5 @@
 -- The changes of one route more are ready, and those of the others stay.
-use Rattle.std.proofs.Common.{◌≡◌, ◌<◌, ◌∙◌, true, sym, ap, subst, length, length-set, get_or, arith}
-use Rattle.std.proofs.lemmas.List.{get_or_default}
-use Rattle.tern_word.specs.declared.tables.Row.{Row}
-use Rattle.cover_merge.specs.{Links.IsFirstOfRoute, Tried.AreNewerOf}
+use Rattle.cover_merge.proofs.Common.{AreNewerOf, IsFirstOfRoute, Row, ap, arith, get_or, get_or_default, length, length-set, subst, sym, true, ◌<◌, ◌∙◌, ◌≡◌}
 use Rattle.cover_merge.proofs.{LinkLemmas.as_many, LinkLemmas.route_of, TriedLemmas.newer_ready, choosing.make_ready.Goals.After-index, choosing.make_ready.Goals.After-index-then-not-index}
 use Rattle.cover_merge.proofs.choosing.make_ready.Goals as goal
 

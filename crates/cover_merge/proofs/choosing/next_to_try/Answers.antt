@@ -1,6 +1,5 @@
 -- The next of the route, or the next that changed after the time before.
-use Rattle.std.proofs.Common.{◌≡◌, ◌-◌, suc, subst, arith}
-use Rattle.cover_merge.specs.Tried.{IsNextSince}
+use Rattle.cover_merge.proofs.Common.{IsNextSince, arith, subst, suc, ◌-◌, ◌≡◌}
 use Rattle.cover_merge.proofs.{ChooseLemmas.link_next, TriedLemmas.since_first}
 use Rattle.cover_merge.proofs.choosing.next_to_try.Goals as goal
 

@@ -1,6 +1,5 @@
 -- The first row of the route that may pair is the first partner.
-use Rattle.std.proofs.Common.{◌<◌, ◌∙◌, ◌∷◌, [], length, refl, arith}
-use Rattle.cover_merge.specs.{Merge.IsLegal, Covering.IsLegalPair}
+use Rattle.cover_merge.proofs.Common.{IsLegal, IsLegalPair, [], arith, length, refl, ◌<◌, ◌∙◌, ◌∷◌}
 use Rattle.cover_merge.proofs.{Answering.fails, ChooseLemmas.pair_made, ChooseLemmas.partner_found, ChooseLemmas.no_partner, TriedLemmas.skipped_none, TriedLemmas.each_on}
 use Rattle.cover_merge.proofs.choosing.partner.Goals as goal
 

@@ -1,7 +1,5 @@
 -- No row passed is a legal pair with row i, and the row at hand has its route.
-use Rattle.std.proofs.Common.{◌≡◌, ◌-◌, ℕ, ◌<◌, length, get_or}
-use Rattle.tern_word.specs.declared.tables.Row.{Row}
-use Rattle.cover_merge.specs.Covering.{IsLegalPair}
+use Rattle.cover_merge.proofs.Common.{IsLegalPair, Row, get_or, length, ℕ, ◌-◌, ◌<◌, ◌≡◌}
 use Rattle.cover_merge.proofs.choosing.partner.Given as goal
 
 abbrev pub invariant-loop-j : goal.invariant-loop-j

@@ -1,5 +1,5 @@
 -- From each row on to the next of its route.
-use Rattle.std.proofs.Common.{◌∙◌, arith}
+use Rattle.cover_merge.proofs.Common.{arith, ◌∙◌}
 use Rattle.cover_merge.proofs.ChooseLemmas.{link_next, places_begin, places_next, places_end}
 use Rattle.cover_merge.proofs.choosing.places_from.Goals as goal
 

@@ -1,7 +1,5 @@
 -- So far the places of the rows of the route before the place at hand, which is of the route too.
-use Rattle.std.proofs.Common.{◌≡◌, ◌-◌, ◌<◌, ℕ, length, get_or, take}
-use Rattle.tern_word.specs.declared.tables.Row.{Row}
-use Rattle.cover_merge.specs.{Covering.places_of, Links.IsFirstOfRoute}
+use Rattle.cover_merge.proofs.Common.{IsFirstOfRoute, Row, get_or, length, places_of, take, ℕ, ◌-◌, ◌<◌, ◌≡◌}
 use Rattle.cover_merge.proofs.choosing.places_from.Given as goal
 
 abbrev pub invariant-loop-place : goal.invariant-loop-place

@@ -1,7 +1,5 @@
 -- The places are those of the route's rows.
-use Rattle.std.proofs.Common.{get_or, sym, subst}
-use Rattle.std.specs.Prelude.{IfOk}
-use Rattle.cover_merge.specs.{Merge.IsOneRoute, Kept.RefinesWithin, declared.refining.Refined.Refined}
+use Rattle.cover_merge.proofs.Common.{IfOk, IsOneRoute, Refined, RefinesWithin, get_or, subst, sym}
 use Rattle.cover_merge.proofs.{ChooseLemmas.places_of-one_route, KeepLemmas.places_read}
 use Rattle.cover_merge.proofs.choosing.refined_of.Goals as goal
 

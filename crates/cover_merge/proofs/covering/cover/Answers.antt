@@ -1,8 +1,6 @@
 -- Each round makes a chosen merge, which is legal.
-use Rattle.std.proofs.Common.{◌≡◌, ◌<◌, ◌≤◌, ◌++◌, ◌∷◌, [], length, length-append, sym, subst, inr, ◌⊎◌, arith}
-use Rattle.std.specs.{Prelude.MatchOption, List.Sorted.IsPermutation}
-use Rattle.tern_word.specs.SoundTable.{IsSound, served}
-use Rattle.cover_merge.specs.{Covering.Covers, Covering.IsChosen, Covering.HasNoChosen, Covering.HasNoLegalPair, Covering.HasRoutesOf, Merges.sets_of, Merge.after, Tried.AreTriedUpTo}
+use Rattle.cover_merge.proofs.Common.{AreTriedUpTo, Covers, HasNoChosen, HasNoLegalPair, HasRoutesOf, IsChosen, IsPermutation, IsSound, MatchOption, [], after, arith, inr, length, length-append}
+use Rattle.cover_merge.proofs.Common.{served, sets_of, subst, sym, ◌++◌, ◌<◌, ◌∷◌, ◌≡◌, ◌≤◌, ◌⊎◌}
 use Rattle.cover_merge.proofs.{TriedLemmas.marked_later, CoverLemmas.IsCoveredSoFar, CoverLemmas.chosen_shorter, CoverLemmas.so_far_first, CoverLemmas.so_far_more, CoverLemmas.covered_short}
 use Rattle.cover_merge.proofs.CoverLemmas.{covered_stuck}
 use Rattle.cover_merge.proofs.covering.cover.Goals as goal

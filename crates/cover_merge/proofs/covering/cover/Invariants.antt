@@ -1,7 +1,6 @@
 -- The merges so far lead from the first table to this one, which is sound and serves the same blocks; what is known of it
 -- is so, and no row was tried later than now.
-use Rattle.std.proofs.Common.{length}
-use Rattle.cover_merge.specs.Known.{IsKnownAt}
+use Rattle.cover_merge.proofs.Common.{IsKnownAt, length}
 use Rattle.cover_merge.proofs.CoverLemmas.{IsCoveredSoFar}
 use Rattle.cover_merge.proofs.covering.cover.Given as goal
 

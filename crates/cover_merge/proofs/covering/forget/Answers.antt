@@ -1,8 +1,5 @@
 -- What is left is of other routes, and apart from the merge.
-use Rattle.std.proofs.Common.{◌≡◌, ◌<◌, ◌∙◌, length, get_or, set, sym, arith}
-use Rattle.std.specs.Prelude.{None}
-use Rattle.std.proofs.lemmas.List.{get_or_default}
-use Rattle.cover_merge.specs.Known.{IsApart}
+use Rattle.cover_merge.proofs.Common.{IsApart, None, arith, get_or, get_or_default, length, set, sym, ◌<◌, ◌∙◌, ◌≡◌}
 use Rattle.cover_merge.proofs.{KeepLemmas.forgotten, KeepLemmas.left_twice, LinkLemmas.as_many}
 use Rattle.cover_merge.proofs.covering.forget.Goals as goal
 

@@ -1,10 +1,7 @@
 -- What is known is carried over to the table after the merge, and its rivals are those that were renewed.
-use Rattle.std.proofs.Common.{◌≡◌, ◌∙◌, ◌<◌, ◌^◌, ℕ, List, refl, ap, sym, subst, length, get_or, arith}
-use Rattle.std.specs.Prelude.{All, AllPairs}
-use Rattle.tern_word.specs.{declared.tables.Row.Row, Ternary.generality, SoundTable.IsSound}
-use Rattle.cover_merge.specs.{declared.knowing.Known.Known, Merge.IsLegal, Merge.IsMergeSet, Merge.after, Merge.insert_place, Merge.merged_block, Merge.place_for, Known.IsCarried, Known.IsKnown, Rivals.AreMet}
-use Rattle.cover_merge.specs.{Known.AreRoutesKept, Known.AreStillKept, Known.IsApart, Links.AreNumbers, Links.IsEachOnce, Links.place_of_route, Rivals.IsRivaled, Tried.AreNoLater, Tried.AreTouched}
-use Rattle.cover_merge.specs.Tried.{AreTriedUpTo}
+use Rattle.cover_merge.proofs.Common.{All, AllPairs, AreMet, AreNoLater, AreNumbers, AreRoutesKept, AreStillKept, AreTouched, AreTriedUpTo, IsApart, IsCarried, IsEachOnce, IsKnown, IsLegal}
+use Rattle.cover_merge.proofs.Common.{IsMergeSet, IsRivaled, IsSound, Known, List, Row, after, ap, arith, generality, get_or, insert_place, length, merged_block, place_for, place_of_route, refl}
+use Rattle.cover_merge.proofs.Common.{subst, sym, ℕ, ◌<◌, ◌^◌, ◌∙◌, ◌≡◌}
 use Rattle.cover_merge.proofs.{ApplyLemmas.both_ok, ApplyLemmas.members_before, KeepLemmas.kept_over, covering.merge_at.Goals.After-carry_times}
 use Rattle.cover_merge.proofs.covering.merge_at.Goals as goal
 

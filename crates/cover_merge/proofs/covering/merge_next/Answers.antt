@@ -1,8 +1,5 @@
 -- The merge that was chosen is legal.
-use Rattle.std.proofs.Common.{List, subst}
-use Rattle.std.specs.Prelude.{MatchOption}
-use Rattle.tern_word.specs.declared.tables.Row.{Row}
-use Rattle.cover_merge.specs.Covering.{IsChosen, HasNoChosen}
+use Rattle.cover_merge.proofs.Common.{HasNoChosen, IsChosen, List, MatchOption, Row, subst}
 use Rattle.cover_merge.proofs.CoverLemmas.{chosen_legal}
 use Rattle.cover_merge.proofs.covering.merge_next.Goals as goal
 

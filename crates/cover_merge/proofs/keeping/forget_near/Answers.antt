@@ -1,8 +1,5 @@
 -- One route more is apart from the block, or nothing is kept of it.
-use Rattle.std.proofs.Common.{◌<◌, ◌+◌, ◌∙◌, refl, sym, length, arith}
-use Rattle.std.specs.Prelude.{None}
-use Rattle.std.proofs.lemmas.List.{get_or_default}
-use Rattle.cover_merge.specs.Known.{IsApart}
+use Rattle.cover_merge.proofs.Common.{IsApart, None, arith, get_or_default, length, refl, sym, ◌+◌, ◌<◌, ◌∙◌}
 use Rattle.cover_merge.proofs.KeepLemmas.{inside_some, left_all, left_more, left_set, less_of, none_some}
 use Rattle.cover_merge.proofs.keeping.forget_near.Goals as goal
 

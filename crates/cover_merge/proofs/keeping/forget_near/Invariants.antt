@@ -1,6 +1,5 @@
 -- What is left of the routes passed is apart from the block.
-use Rattle.std.proofs.Common.{◌<◌}
-use Rattle.cover_merge.specs.Known.{AreStillKept, IsApart}
+use Rattle.cover_merge.proofs.Common.{AreStillKept, IsApart, ◌<◌}
 use Rattle.cover_merge.proofs.keeping.forget_near.Given as goal
 
 abbrev pub invariant-loop-c : goal.invariant-loop-c

@@ -1,5 +1,5 @@
 -- The next route takes the place of the greatest where it beats it.
-use Rattle.std.proofs.Common.{◌∙◌, refl, sym}
+use Rattle.cover_merge.proofs.Common.{refl, sym, ◌∙◌}
 use Rattle.cover_merge.proofs.KeepLemmas.{most_new, most_stays}
 use Rattle.cover_merge.proofs.keeping.greater.Goals as goal
 

@@ -1,7 +1,5 @@
 -- Of no route yet is anything known.
-use Rattle.std.proofs.Common.{◌∙◌, refl, sym, arith}
-use Rattle.std.specs.Prelude.{None}
-use Rattle.std.proofs.lemmas.List.{get_or_default}
+use Rattle.cover_merge.proofs.Common.{None, arith, get_or_default, refl, sym, ◌∙◌}
 use Rattle.cover_merge.proofs.KeepLemmas.{most_first}
 use Rattle.cover_merge.proofs.keeping.most_of.Goals as goal
 

@@ -1,5 +1,5 @@
 -- The greatest of the routes so far.
-use Rattle.cover_merge.specs.Known.{IsMostBefore}
+use Rattle.cover_merge.proofs.Common.{IsMostBefore}
 use Rattle.cover_merge.proofs.keeping.most_of.Given as goal
 
 abbrev pub invariant-loop-c : goal.invariant-loop-c

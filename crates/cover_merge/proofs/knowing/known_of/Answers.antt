@@ -1,8 +1,5 @@
 -- Nothing is kept of any route, and no row changed later than at the start.
-use Rattle.std.proofs.Common.{rules, ◌≡◌, ◌∙◌, length, refl, sym, subst, arith}
-use Rattle.std.specs.Prelude.{All, Option, None}
-use Rattle.std.proofs.lemmas.List.Elements.{All-replicate}
-use Rattle.cover_merge.specs.{declared.keeping.Kept.Kept, Links.AreNumbers, Links.AreRoutes, Tried.IsFresh}
+use Rattle.cover_merge.proofs.Common.{All, All-replicate, AreNumbers, AreRoutes, IsFresh, Kept, None, Option, arith, length, refl, rules, subst, sym, ◌∙◌, ◌≡◌}
 use Rattle.cover_merge.proofs.{KeepLemmas.none_some, KeepLemmas.inside_some, TriedLemmas.fresh_marked}
 use Rattle.cover_merge.proofs.knowing.known_of.Goals as goal
 

@@ -1,5 +1,5 @@
 -- The route comes last, or stands there.
-use Rattle.std.proofs.Common.{arith}
+use Rattle.cover_merge.proofs.Common.{arith}
 use Rattle.cover_merge.proofs.LinkLemmas.{added_again, added_last, place_le}
 use Rattle.cover_merge.proofs.links.add_route.Goals as goal
 

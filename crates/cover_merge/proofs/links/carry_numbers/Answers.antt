@@ -1,6 +1,5 @@
 -- The merge has the number of its first row.
-use Rattle.std.proofs.Common.{sym, subst, arith}
-use Rattle.cover_merge.specs.{Merge.after, Links.AreNumbers}
+use Rattle.cover_merge.proofs.Common.{AreNumbers, after, arith, subst, sym}
 use Rattle.cover_merge.proofs.LinkLemmas.{numbers_after}
 use Rattle.cover_merge.proofs.links.carry_numbers.Goals as goal
 

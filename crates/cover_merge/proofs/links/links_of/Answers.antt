@@ -1,6 +1,5 @@
 -- Equal numbers are equal routes.
-use Rattle.std.proofs.Common.{◌≡◌, get_or, subst, arith}
-use Rattle.cover_merge.specs.Links.{IsAhead}
+use Rattle.cover_merge.proofs.Common.{IsAhead, arith, get_or, subst, ◌≡◌}
 use Rattle.cover_merge.proofs.LinkLemmas.{links_made}
 use Rattle.cover_merge.proofs.links.links_of.Goals as goal
 

@@ -1,6 +1,5 @@
 -- Of the places passed, the last first, the next of each and the first of each number stand in the lists.
-use Rattle.std.proofs.Common.{◌≡◌, ◌<◌, ◌≤◌, ◌+◌, ℕ, length, get_or}
-use Rattle.cover_merge.specs.Links.{IsAhead}
+use Rattle.cover_merge.proofs.Common.{IsAhead, get_or, length, ℕ, ◌+◌, ◌<◌, ◌≡◌, ◌≤◌}
 use Rattle.cover_merge.proofs.links.links_of.Given as goal
 
 abbrev pub invariant-loop-k : goal.invariant-loop-k

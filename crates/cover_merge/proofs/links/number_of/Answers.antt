@@ -1,5 +1,5 @@
 -- The first of the routes that is it, or none.
-use Rattle.std.proofs.Common.{arith}
+use Rattle.cover_merge.proofs.Common.{arith}
 use Rattle.cover_merge.proofs.LinkLemmas.{route_found, route_nowhere}
 use Rattle.cover_merge.proofs.links.number_of.Goals as goal
 

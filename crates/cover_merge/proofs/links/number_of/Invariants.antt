@@ -1,5 +1,5 @@
 -- No route passed is it.
-use Rattle.std.proofs.Common.{◌≡◌, ℕ, ◌<◌, get_or}
+use Rattle.cover_merge.proofs.Common.{get_or, ℕ, ◌<◌, ◌≡◌}
 use Rattle.cover_merge.proofs.links.number_of.Given as goal
 
 abbrev pub invariant-loop-k : goal.invariant-loop-k

@@ -1,5 +1,5 @@
 -- So far the numbers of the rows passed.
-use Rattle.std.proofs.Common.{◌≡◌, take}
+use Rattle.cover_merge.proofs.Common.{take, ◌≡◌}
 use Rattle.cover_merge.proofs.LinkLemmas.{numbers_for}
 use Rattle.cover_merge.proofs.links.numbers_of.Given as goal
 

@@ -1,7 +1,5 @@
 -- The routes of the rows passed, each once.
-use Rattle.std.proofs.Common.{◌<◌, ◌≤◌, ℕ, length, get_or}
-use Rattle.tern_word.specs.declared.tables.Row.{Row}
-use Rattle.cover_merge.specs.Links.{place_of_route, IsEachOnce}
+use Rattle.cover_merge.proofs.Common.{IsEachOnce, Row, get_or, length, place_of_route, ℕ, ◌<◌, ◌≤◌}
 use Rattle.cover_merge.proofs.links.routes_of.Given as goal
 
 abbrev pub invariant-loop-s : goal.invariant-loop-s

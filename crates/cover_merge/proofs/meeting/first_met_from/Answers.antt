@@ -1,7 +1,5 @@
 -- The row that was read is the first with an alias that the block meets.
-use Rattle.std.proofs.Common.{[], get_or}
-use Rattle.std.proofs.lemmas.Option.{slice_get-get_or}
-use Rattle.cover_merge.specs.Merge.{merge_rows}
+use Rattle.cover_merge.proofs.Common.{[], get_or, merge_rows, slice_get-get_or}
 use Rattle.cover_merge.proofs.meeting.first_met_from.Goals as goal
 
 pub returns-in-Some : goal.returns-in-Some

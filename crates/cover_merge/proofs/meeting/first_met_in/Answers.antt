@@ -1,10 +1,5 @@
 -- The spans that were read are those of the row.
-use Rattle.std.proofs.Common.{◌∙◌, get_or, sym, ap, subst, arith}
-use Rattle.std.proofs.{Math.Logic.∥∥₁_elim, Props.props, lemmas.List.get_or_default}
-use Rattle.std.specs.Prelude.{All}
-use Rattle.spin_base.specs.declared.blocks.Block.{Block}
-use Rattle.tern_word.specs.{declared.tables.Alias.Alias, declared.tables.Row.Row, Ternary.Intersects}
-use Rattle.cover_merge.specs.{Refinement.IsFirstMet, Spans.AreSpansOf}
+use Rattle.cover_merge.proofs.Common.{Alias, All, AreSpansOf, Block, Intersects, IsFirstMet, Row, ap, arith, get_or, get_or_default, props, subst, sym, ∥∥₁_elim, ◌∙◌}
 use Rattle.cover_merge.proofs.{Answering.fails, SpanLemmas.met_at, SpanLemmas.row_missed, SpanLemmas.spans_read, SpanLemmas.spans_there}
 use Rattle.cover_merge.proofs.meeting.first_met_in.Goals as goal
 

@@ -1,7 +1,5 @@
 -- The row stands at the place of its generality or behind it, so the block would have to miss it.
-use Rattle.std.proofs.Common.{◌∙◌, ◌<◌, ap, length, subst, sym, arith}
-use Rattle.std.specs.Prelude.{All}
-use Rattle.tern_word.specs.{declared.tables.Alias.Alias, declared.tables.Row.Row, Ternary.Intersects}
+use Rattle.cover_merge.proofs.Common.{Alias, All, Intersects, Row, ap, arith, length, subst, sym, ◌<◌, ◌∙◌}
 use Rattle.cover_merge.proofs.RivalLemmas.{behind_place}
 use Rattle.cover_merge.proofs.meeting.meets_at.Goals as goal
 

@@ -1,6 +1,5 @@
 -- The block meets the alias that was found, so it does not pass.
-use Rattle.std.proofs.Common.{subst, sym}
-use Rattle.cover_merge.specs.Merge.{PassesDown, place_for}
+use Rattle.cover_merge.proofs.Common.{PassesDown, place_for, subst, sym}
 use Rattle.cover_merge.proofs.{Answering.answers_no, Determined.met_fails}
 use Rattle.cover_merge.proofs.meeting.passes_behind.Goals as goal
 

@@ -1,8 +1,5 @@
 -- One place more does not fail.
-use Rattle.std.proofs.Common.{◌≡◌, ◌<◌, ◌+◌, ℕ, true, length, refl, sym, subst, arith}
-use Rattle.std.specs.Prelude.{All}
-use Rattle.std.proofs.lemmas.List.{take_rest, Elements.All-drop}
-use Rattle.cover_merge.specs.Merge.{has_row, place_for}
+use Rattle.cover_merge.proofs.Common.{All, All-drop, arith, has_row, length, place_for, refl, subst, sym, take_rest, true, ℕ, ◌+◌, ◌<◌, ◌≡◌}
 use Rattle.cover_merge.proofs.{RefineLemmas.none_fails, SiftLemmas.member_alike, SiftLemmas.member_inside, SiftLemmas.member_passes}
 use Rattle.cover_merge.proofs.refining.all_pass.Goals as goal
 

@@ -1,6 +1,5 @@
 -- The places passed do not fail.
-use Rattle.std.proofs.Common.{◌<◌, ℕ, get_or}
-use Rattle.cover_merge.specs.Merge.{PassesUp, place_for}
+use Rattle.cover_merge.proofs.Common.{PassesUp, get_or, place_for, ℕ, ◌<◌}
 use Rattle.cover_merge.proofs.refining.all_pass.Given as goal
 
 abbrev pub invariant-loop-k : goal.invariant-loop-k

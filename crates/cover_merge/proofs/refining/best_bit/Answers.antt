@@ -1,6 +1,5 @@
 -- One place more, and at the end the greatest count.
-use Rattle.std.proofs.Common.{◌<◌, ◌^◌, ℕ, List, length, replicate, refl, rules}
-use Rattle.std.proofs.lemmas.List.{get_or-replicate}
+use Rattle.cover_merge.proofs.Common.{List, get_or-replicate, length, refl, replicate, rules, ℕ, ◌<◌, ◌^◌}
 use Rattle.cover_merge.proofs.BitCounts.{best_of, kept_more, none_counted, room_for}
 use Rattle.cover_merge.proofs.refining.best_bit.Goals as goal
 

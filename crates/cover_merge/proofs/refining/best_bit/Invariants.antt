@@ -1,5 +1,5 @@
 -- So far the places passed are counted for each bit.
-use Rattle.std.proofs.Common.{take}
+use Rattle.cover_merge.proofs.Common.{take}
 use Rattle.cover_merge.proofs.BitCounts.{AreKeptCounts}
 use Rattle.cover_merge.proofs.refining.best_bit.Given as goal
 

@@ -1,7 +1,5 @@
 -- The lowest bit is counted and goes.
-use Rattle.std.proofs.Common.{◌≡◌, ◌+◌, ◌∙◌, ap, get_or, length-set, refl, arith}
-use Rattle.std.specs.Int.{bit_at, trailing_zeros, w32}
-use Rattle.std.proofs.lemmas.Nat.Bits.{bit_at-zero}
+use Rattle.cover_merge.proofs.Common.{ap, arith, bit_at, bit_at-zero, get_or, length-set, refl, trailing_zeros, w32, ◌+◌, ◌∙◌, ◌≡◌}
 use Rattle.cover_merge.proofs.BitCounts.{count_fits, fewer_bits, one_counted}
 use Rattle.cover_merge.proofs.refining.count_bits.Goals as goal
 

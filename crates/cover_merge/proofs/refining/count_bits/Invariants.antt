@@ -1,5 +1,5 @@
 -- What is counted, with the bits that are left, is what was counted and all bits.
-use Rattle.std.proofs.Common.{◌≡◌, length}
+use Rattle.cover_merge.proofs.Common.{length, ◌≡◌}
 use Rattle.cover_merge.proofs.BitCounts.{AreCounted}
 use Rattle.cover_merge.proofs.refining.count_bits.Given as goal
 

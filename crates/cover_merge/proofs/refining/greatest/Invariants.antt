@@ -1,5 +1,5 @@
 -- The best of the places passed, the higher first.
-use Rattle.std.proofs.Common.{◌≡◌, ◌<◌, ◌≤◌, ℕ, get_or}
+use Rattle.cover_merge.proofs.Common.{get_or, ℕ, ◌<◌, ◌≡◌, ◌≤◌}
 use Rattle.cover_merge.proofs.refining.greatest.Given as goal
 
 abbrev pub invariant-loop-bit : goal.invariant-loop-bit

@@ -1,6 +1,5 @@
 -- `retain` keeps what its closure keeps.
-use Rattle.std.proofs.Common.{rules}
-use Rattle.std.proofs.lemmas.Fn.{filter_same}
+use Rattle.cover_merge.proofs.Common.{filter_same, rules}
 use Rattle.cover_merge.proofs.refining.keep.Goals as goal
 
 pub returns : goal.returns

@@ -1,5 +1,5 @@
 -- One place more.
-use Rattle.std.proofs.Common.{length, ◌<◌, arith}
+use Rattle.cover_merge.proofs.Common.{arith, length, ◌<◌}
 use Rattle.cover_merge.proofs.SiftLemmas.{merge_behind, behind_within}
 use Rattle.cover_merge.proofs.refining.merge_from.Goals as goal
 

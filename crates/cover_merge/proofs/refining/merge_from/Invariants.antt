@@ -1,6 +1,5 @@
 -- The merge of the places passed.
-use Rattle.std.proofs.Common.{◌≡◌, ◌+◌, ◌++◌, length, take}
-use Rattle.cover_merge.specs.Merge.{merged_block}
+use Rattle.cover_merge.proofs.Common.{length, merged_block, take, ◌++◌, ◌+◌, ◌≡◌}
 use Rattle.cover_merge.proofs.refining.merge_from.Given as goal
 
 abbrev pub invariant-loop-k : goal.invariant-loop-k

@@ -1,6 +1,5 @@
 -- One place more.
-use Rattle.std.proofs.Common.{◌≡◌, ◌+◌, ◌-◌, ◌++◌, ◌∷◌, [], ◌<◌, ◌∙◌, ap, length, length-append, subst, sym, take, get_or, arith}
-use Rattle.cover_merge.specs.Merge.{merged_block}
+use Rattle.cover_merge.proofs.Common.{[], ap, arith, get_or, length, length-append, merged_block, subst, sym, take, ◌++◌, ◌+◌, ◌-◌, ◌<◌, ◌∙◌, ◌∷◌, ◌≡◌}
 use Rattle.cover_merge.proofs.SiftLemmas.{merge_next, merges_more}
 use Rattle.cover_merge.proofs.refining.merges_of.Goals as goal
 

@@ -1,7 +1,5 @@
 -- So far the merges up to the places passed.
-use Rattle.std.proofs.Common.{◌≡◌, ◌+◌, ◌<◌, ℕ, length, get_or, take}
-use Rattle.spin_base.specs.declared.blocks.Block.{Block}
-use Rattle.cover_merge.specs.Merge.{merged_block}
+use Rattle.cover_merge.proofs.Common.{Block, get_or, length, merged_block, take, ℕ, ◌+◌, ◌<◌, ◌≡◌}
 use Rattle.cover_merge.proofs.refining.merges_of.Given as goal
 
 abbrev pub invariant-loop-k : goal.invariant-loop-k

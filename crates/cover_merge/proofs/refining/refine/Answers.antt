@@ -1,6 +1,5 @@
 -- A refinement within bounds is a refinement.
-use Rattle.std.proofs.Common.{arith, ◌≡◌, ◌⊎◌, [], sym, subst}
-use Rattle.cover_merge.specs.Merge.{IsOneRoute, IsMergeSet, IsLegal}
+use Rattle.cover_merge.proofs.Common.{IsLegal, IsMergeSet, IsOneRoute, [], arith, subst, sym, ◌≡◌, ◌⊎◌}
 use Rattle.cover_merge.proofs.KeptLemmas.{forgets}
 use Rattle.cover_merge.proofs.refining.refine.Goals as goal
 

@@ -1,8 +1,5 @@
 -- Each round is a step of the refinement.
-use Rattle.std.proofs.Common.{◌≡◌, ◌<◌, ◌≤◌, ◌∙◌, length, inr, sym, subst, arith}
-use Rattle.std.specs.Prelude.{MatchOption}
-use Rattle.spin_base.specs.declared.blocks.Block.{Block}
-use Rattle.cover_merge.specs.{Merge.IsOneRoute, Merge.PassesUpCheck, Merge.merged_block, Kept.IsGone, Kept.RefinesWithin}
+use Rattle.cover_merge.proofs.Common.{Block, IsGone, IsOneRoute, MatchOption, PassesUpCheck, RefinesWithin, arith, inr, length, merged_block, subst, sym, ◌<◌, ◌∙◌, ◌≡◌, ◌≤◌}
 use Rattle.cover_merge.proofs.{KeptLemmasSteps.gone_empty, KeptLemmasSteps.gone_start, KeptLemmasSteps.gone_up, KeepLemmas.turn_down, KeepLemmas.turn_legal, RefineLemmas.one_route_after}
 use Rattle.cover_merge.proofs.RefineLemmas.{legal_here}
 use Rattle.cover_merge.proofs.refining.refine_within.Goals as goal

@@ -1,6 +1,5 @@
 -- Steps within the bounds lead from the places at the start to those now.
-use Rattle.std.proofs.Common.{length}
-use Rattle.cover_merge.specs.{Merge.IsOneRoute, Kept.IsGone}
+use Rattle.cover_merge.proofs.Common.{IsGone, IsOneRoute, length}
 use Rattle.cover_merge.proofs.refining.refine_within.Given as goal
 
 abbrev pub invariant-refining : goal.invariant-refining

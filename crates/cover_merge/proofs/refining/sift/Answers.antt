@@ -1,13 +1,10 @@
 -- Each place taken out is a step, and those behind it still pass the up-check.
-use Rattle.std.proofs.Common.{◌≡◌, ◌<◌, ◌≤◌, ◌+◌, ◌-◌, ◌++◌, ◌↔◌, ℕ, List, IsTrue, true, take, drop, ap, sym, subst, refl, ◌∙◌, length, length-drop, length-set, length-take, get_or, set, arith}
-use Rattle.std.specs.Prelude.{All}
-use Rattle.std.proofs.lemmas.List.{take_all, take-append-drop, take_rest, take-set-le, Edits.take-paste}
+use Rattle.cover_merge.proofs.Common.{All, AreMerges, IsLastFailing, IsOneRoute, IsTrue, LeadsWithin, List, PassesUp, PassesUpCheck, ap, arith, drop, generality, get_or, has_row, length, length-drop}
+use Rattle.cover_merge.proofs.Common.{length-set, length-take, merged_block, place_for, refl, set, subst, sym, take, take-append-drop, take-paste, take-set-le, take_all, take_rest, true, ℕ, ◌++◌, ◌+◌}
+use Rattle.cover_merge.proofs.Common.{◌-◌, ◌<◌, ◌↔◌, ◌∙◌, ◌≡◌, ◌≤◌}
 use Rattle.cover_merge.proofs.{Lists.All-right, KeptLemmasSteps.leads_on, KeptLemmasSteps.sift_leads, RefineLemmas.last_more, RefineLemmas.none_fails, SiftLemmas.all_pass, SiftLemmas.alike_behind}
 use Rattle.cover_merge.proofs.SiftLemmas.{begins_less, begins_twice, kept_now, last_within, left_many, out_count, out_in_range, out_last, out_now, sift_behind, sift_one, up_of}
 use Rattle.cover_merge.proofs.refining.sift.Goals.{After-truncate, then-loop-i-test+else-i-len-ge2, else-loop-i-test}
-use Rattle.tern_word.specs.Ternary.{generality}
-use Rattle.cover_merge.specs.{Merge.IsOneRoute, Merge.PassesUp, Merge.PassesUpCheck, Merge.has_row, Merge.merged_block, Merge.place_for, Kept.LeadsWithin, Refinement.AreMerges}
-use Rattle.cover_merge.specs.Refinement.{IsLastFailing}
 use Rattle.cover_merge.proofs.refining.sift.Goals as goal
 
 -- the slice of what stands from a place on

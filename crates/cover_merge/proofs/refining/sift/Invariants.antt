@@ -1,8 +1,5 @@
 -- The places left are those before `i` and those from `kept` on, which pass the up-check; the first stand as they did.
-use Rattle.std.proofs.Common.{◌≡◌, ◌<◌, ◌≤◌, ◌++◌, ℕ, length, get_or, take, drop}
-use Rattle.spin_base.specs.declared.blocks.Block.{Block}
-use Rattle.tern_word.specs.Ternary.{generality}
-use Rattle.cover_merge.specs.{Merge.IsOneRoute, Merge.PassesUp, Merge.merged_block, Merge.place_for, Kept.LeadsWithin}
+use Rattle.cover_merge.proofs.Common.{Block, IsOneRoute, LeadsWithin, PassesUp, drop, generality, get_or, length, merged_block, place_for, take, ℕ, ◌++◌, ◌<◌, ◌≡◌, ◌≤◌}
 use Rattle.cover_merge.proofs.refining.sift.Given as goal
 
 abbrev pub invariant-loop-i : goal.invariant-loop-i

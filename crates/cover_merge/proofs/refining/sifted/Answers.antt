@@ -1,7 +1,5 @@
 -- Where none fails, the set stays.
-use Rattle.std.proofs.Common.{◌≡◌, ◌<◌, ◌∙◌, ℕ, true, length, sym, subst, ap, arith}
-use Rattle.std.specs.Prelude.{All}
-use Rattle.cover_merge.specs.{Merge.IsOneRoute, Merge.PassesUp, Merge.has_row, Merge.merged_block, Merge.place_for, Kept.LeadsWithin}
+use Rattle.cover_merge.proofs.Common.{All, IsOneRoute, LeadsWithin, PassesUp, ap, arith, has_row, length, merged_block, place_for, subst, sym, true, ℕ, ◌<◌, ◌∙◌, ◌≡◌}
 use Rattle.cover_merge.proofs.SiftLemmas.{all_pass}
 use Rattle.cover_merge.proofs.refining.sifted.Goals as goal
 

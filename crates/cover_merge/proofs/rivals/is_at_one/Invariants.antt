@@ -1,6 +1,5 @@
 -- None of the places that were passed is that of the row.
-use Rattle.std.proofs.Common.{◌≡◌, false, take}
-use Rattle.cover_merge.specs.Rivals.{is_at_one}
+use Rattle.cover_merge.proofs.Common.{false, is_at_one, take, ◌≡◌}
 use Rattle.cover_merge.proofs.rivals.is_at_one.Given as goal
 
 abbrev pub invariant-loop-s : goal.invariant-loop-s

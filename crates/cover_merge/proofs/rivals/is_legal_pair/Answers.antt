@@ -1,5 +1,5 @@
 -- A pair is legal where both rows pass the up-check, and the merge the down-check.
-use Rattle.std.proofs.Common.{◌∷◌, [], arith}
+use Rattle.cover_merge.proofs.Common.{[], arith, ◌∷◌}
 use Rattle.cover_merge.proofs.{Positions.has-at, RivalLemmas.one_route, RivalLemmas.pair_refused, RivalLemmas.pair_told}
 use Rattle.cover_merge.proofs.rivals.is_legal_pair.Goals as goal
 

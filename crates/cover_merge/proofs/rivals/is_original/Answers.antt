@@ -1,7 +1,5 @@
 -- The first alias that was read has the row's key and mask.
-use Rattle.std.proofs.Common.{◌≡◌, ◌∙◌, ◌==◌, ◌&&◌, true, ap, sym}
-use Rattle.std.specs.{Option.option_copied, Prelude.slice_get}
-use Rattle.std.proofs.lemmas.Bool.{and_parts, eqb-true}
+use Rattle.cover_merge.proofs.Common.{and_parts, ap, eqb-true, option_copied, slice_get, sym, true, ◌&&◌, ◌==◌, ◌∙◌, ◌≡◌}
 use Rattle.cover_merge.proofs.rivals.is_original.Goals as goal
 
 pub returns-in-Some : goal.returns-in-Some

@@ -1,5 +1,5 @@
 -- One row more.
-use Rattle.std.proofs.Common.{◌+◌, ◌∙◌, arith, ap, sym, subst}
+use Rattle.cover_merge.proofs.Common.{ap, arith, subst, sym, ◌+◌, ◌∙◌}
 use Rattle.cover_merge.proofs.RivalLemmas.{AreJoinedTo, joined_all, joined_more, joined_none, joined_stay}
 use Rattle.cover_merge.proofs.rivals.joined_of.Goals.{then-not-is_original+in_ok-push, else-not-is_original}
 use Rattle.cover_merge.proofs.rivals.joined_of.Goals as goal

@@ -1,7 +1,5 @@
 -- Rivals decide, in order of generality.
-use Rattle.std.proofs.Common.{◌∙◌, get_or, refl, sym, ap}
-use Rattle.std.proofs.{Math.Logic.∥∥₁_elim, Props.props}
-use Rattle.cover_merge.specs.{declared.rivals.Rival.Rival, Merge.PassesUp, Merge.place_for, Rivals.AreRivalsAt, Rivals.IsRivaled, Rivals.is_at_one}
+use Rattle.cover_merge.proofs.Common.{AreRivalsAt, IsRivaled, PassesUp, Rival, ap, get_or, is_at_one, place_for, props, refl, sym, ∥∥₁_elim, ◌∙◌}
 use Rattle.cover_merge.proofs.{Answering.answers_no, RivalLemmas.all_passed, RivalLemmas.away_refuses, RivalLemmas.other_refuses, RivalLemmas.passed_more, RivalLemmas.rest_pass}
 use Rattle.cover_merge.proofs.{RivalLemmas.rivals_read, rivals.passes.Goals.After-as_slice-list, rivals.passes.Goals.then-rival-bits-via-then-rival-bits}
 use Rattle.cover_merge.proofs.rivals.passes.Goals.{then-rival-bits-via-else-rival-bits+then-not-is_at_one}

@@ -1,6 +1,5 @@
 -- Each rival that was passed is at one of the places.
-use Rattle.std.proofs.Common.{◌≡◌, ◌<◌, ℕ, true, get_or}
-use Rattle.cover_merge.specs.{declared.rivals.Rival.Rival, Rivals.is_at_one}
+use Rattle.cover_merge.proofs.Common.{Rival, get_or, is_at_one, true, ℕ, ◌<◌, ◌≡◌}
 use Rattle.cover_merge.proofs.rivals.passes.Given as goal
 
 abbrev pub invariant-loop-k : goal.invariant-loop-k

@@ -1,5 +1,5 @@
 -- The row in the middle tells of all on one side of it.
-use Rattle.std.proofs.Common.{◌+◌, ◌-◌, ◌/◌, ◌<◌, ◌≤◌, ◌≡◌, arith, subst}
+use Rattle.cover_merge.proofs.Common.{arith, subst, ◌+◌, ◌-◌, ◌/◌, ◌<◌, ◌≡◌, ◌≤◌}
 use Rattle.cover_merge.proofs.RivalLemmas.{general_before, general_behind, place_found}
 use Rattle.cover_merge.proofs.rivals.place_in.Goals as goal
 

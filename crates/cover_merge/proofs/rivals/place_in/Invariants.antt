@@ -1,6 +1,5 @@
 -- The rows before `low` are of at most the generality, those from `high` on above it.
-use Rattle.std.proofs.Common.{ℕ, ◌<◌, ◌≤◌, ◌-◌, length, get_or}
-use Rattle.tern_word.specs.{declared.tables.Row.Row, Ternary.generality}
+use Rattle.cover_merge.proofs.Common.{Row, generality, get_or, length, ℕ, ◌-◌, ◌<◌, ◌≤◌}
 use Rattle.cover_merge.proofs.rivals.place_in.Given as goal
 
 abbrev pub invariant-loop-low : goal.invariant-loop-low

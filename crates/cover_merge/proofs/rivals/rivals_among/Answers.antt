@@ -1,5 +1,5 @@
 -- One place more: the rows between are original, and so meet no alias.
-use Rattle.std.proofs.Common.{◌<◌, ◌∙◌, ◌+◌, ℕ, arith, get_or, length, sym, subst}
+use Rattle.cover_merge.proofs.Common.{arith, get_or, length, subst, sym, ℕ, ◌+◌, ◌<◌, ◌∙◌}
 use Rattle.cover_merge.proofs.RivalLemmas.{AreRivalsTo, among_all, among_more, among_none, among_stay, met_read, missed_read, rival_read}
 use Rattle.cover_merge.proofs.rivals.rivals_among.Goals.{then-s-r+then-not-is_missed+in_ok-push, else-s-r, else-s-r-via-then-s-r+else-not-is_missed, else-s-r-via-else-s-r}
 use Rattle.cover_merge.proofs.rivals.rivals_among.Goals as goal

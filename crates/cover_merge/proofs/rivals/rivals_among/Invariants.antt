@@ -1,5 +1,5 @@
 -- The list has the rivals before the next place.
-use Rattle.std.proofs.Common.{◌≡◌, ◌<◌, ℕ, List, length, get_or}
+use Rattle.cover_merge.proofs.Common.{List, get_or, length, ℕ, ◌<◌, ◌≡◌}
 use Rattle.cover_merge.proofs.RivalLemmas.{AreRivalsTo}
 use Rattle.cover_merge.proofs.rivals.rivals_among.Given as goal
 

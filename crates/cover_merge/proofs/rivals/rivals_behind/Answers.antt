@@ -1,6 +1,5 @@
 -- One row more.
-use Rattle.std.proofs.Common.{◌≡◌, ◌+◌, ◌∙◌, ◌<◌, arith, sym, subst}
-use Rattle.cover_merge.specs.Rivals.{MeetsNone}
+use Rattle.cover_merge.proofs.Common.{MeetsNone, arith, subst, sym, ◌+◌, ◌<◌, ◌∙◌, ◌≡◌}
 use Rattle.cover_merge.proofs.RivalLemmas.{AreRivalsTo, met_read, missed_read, rival_read, rivals_all, rivals_more, rivals_none, rivals_stay}
 use Rattle.cover_merge.proofs.rivals.rivals_behind.Goals.{then-not-is_missed+in_ok-push, else-not-is_missed}
 use Rattle.cover_merge.proofs.rivals.rivals_behind.Goals as goal

@@ -1,5 +1,5 @@
 -- One row more.
-use Rattle.std.proofs.Common.{arith}
+use Rattle.cover_merge.proofs.Common.{arith}
 use Rattle.cover_merge.proofs.RivalLemmas.{numbered_all, numbered_more, numbered_none}
 use Rattle.cover_merge.proofs.rivals.rivals_of.Goals as goal
 

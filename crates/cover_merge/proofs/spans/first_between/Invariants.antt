@@ -1,5 +1,5 @@
 -- The block meets no alias that was passed.
-use Rattle.cover_merge.specs.Spans.{IsFreeUpTo}
+use Rattle.cover_merge.proofs.Common.{IsFreeUpTo}
 use Rattle.cover_merge.proofs.spans.first_between.Given as goal
 
 abbrev pub invariant-loop-i : goal.invariant-loop-i

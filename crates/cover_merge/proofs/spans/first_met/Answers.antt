@@ -1,8 +1,5 @@
 -- A span that is missed has no alias that is met.
-use Rattle.std.proofs.Common.{◌+◌, ◌*◌, length, subst, arith}
-use Rattle.std.specs.Prelude.{MatchOption}
-use Rattle.tern_word.specs.Ternary.{Intersects}
-use Rattle.cover_merge.specs.Spans.{IsFirstAt, IsFreeUpTo}
+use Rattle.cover_merge.proofs.Common.{Intersects, IsFirstAt, IsFreeUpTo, MatchOption, arith, length, subst, ◌*◌, ◌+◌}
 use Rattle.cover_merge.proofs.{Answering.fails, SpanLemmas.first_behind, SpanLemmas.free_more, SpanLemmas.free_span, SpanLemmas.rest_tells}
 use Rattle.cover_merge.proofs.spans.first_met.Goals as goal
 

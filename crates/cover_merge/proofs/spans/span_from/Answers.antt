@@ -1,6 +1,5 @@
 -- One alias more lies in the span.
-use Rattle.std.proofs.Common.{sym, subst, arith, get_or}
-use Rattle.tern_word.specs.Ternary.{LiesIn}
+use Rattle.cover_merge.proofs.Common.{LiesIn, arith, get_or, subst, sym}
 use Rattle.cover_merge.proofs.SpanLemmas.{lies_itself, span_more}
 use Rattle.cover_merge.proofs.spans.span_from.Goals as goal
 

@@ -1,6 +1,5 @@
 -- The aliases that were taken lie in the span.
-use Rattle.std.proofs.Common.{ℕ, ◌<◌, ◌≤◌, get_or}
-use Rattle.tern_word.specs.{declared.tables.Alias.Alias, Ternary.LiesIn}
+use Rattle.cover_merge.proofs.Common.{Alias, LiesIn, get_or, ℕ, ◌<◌, ◌≤◌}
 use Rattle.cover_merge.proofs.spans.span_from.Given as goal
 
 abbrev pub invariant-loop-i : goal.invariant-loop-i

@@ -1,6 +1,5 @@
 -- One span more.
-use Rattle.std.proofs.Common.{◌+◌, ◌∙◌, ap, length, arith}
-use Rattle.std.proofs.lemmas.List.{length_push}
+use Rattle.cover_merge.proofs.Common.{ap, arith, length, length_push, ◌+◌, ◌∙◌}
 use Rattle.cover_merge.proofs.SpanLemmas.{no_spans, spans_more}
 use Rattle.cover_merge.proofs.spans.spans_of.Goals as goal
 

@@ -1,6 +1,5 @@
 -- Each span so far holds its aliases.
-use Rattle.std.proofs.Common.{◌≡◌, length}
-use Rattle.cover_merge.specs.Spans.{AreSpansOf}
+use Rattle.cover_merge.proofs.Common.{AreSpansOf, length, ◌≡◌}
 use Rattle.cover_merge.proofs.spans.spans_of.Given as goal
 
 abbrev pub invariant-loop-k : goal.invariant-loop-k

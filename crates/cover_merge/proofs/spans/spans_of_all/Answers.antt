@@ -1,8 +1,5 @@
 -- One row more has its spans.
-use Rattle.std.proofs.Common.{◌+◌, ◌∙◌, ap, length, subst, arith}
-use Rattle.std.proofs.lemmas.List.{get_or_default, length_push}
-use Rattle.tern_word.specs.declared.tables.Row.{Row}
-use Rattle.cover_merge.specs.Spans.{AreSpansOf}
+use Rattle.cover_merge.proofs.Common.{AreSpansOf, Row, ap, arith, get_or_default, length, length_push, subst, ◌+◌, ◌∙◌}
 use Rattle.cover_merge.proofs.SpanLemmas.{spans_put}
 use Rattle.cover_merge.proofs.spans.spans_of_all.Goals as goal
 

@@ -1,7 +1,5 @@
 -- The rows so far have their spans.
-use Rattle.std.proofs.Common.{◌≡◌, ℕ, ◌<◌, [], length, get_or}
-use Rattle.tern_word.specs.declared.tables.Row.{Row}
-use Rattle.cover_merge.specs.Spans.{AreSpansOf}
+use Rattle.cover_merge.proofs.Common.{AreSpansOf, Row, [], get_or, length, ℕ, ◌<◌, ◌≡◌}
 use Rattle.cover_merge.proofs.spans.spans_of_all.Given as goal
 
 abbrev pub invariant-loop-s : goal.invariant-loop-s

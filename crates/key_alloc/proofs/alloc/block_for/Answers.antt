@@ -1,6 +1,5 @@
+use Rattle.key_alloc.proofs.Common.{Contains, IfSome, subst}
 use Rattle.key_alloc.proofs.Taking.{right_in, taken_again, free_in}
-use Rattle.std.proofs.Common.{subst, IfSome}
-use Rattle.std.specs.List.{Contains}
 use Rattle.key_alloc.proofs.alloc.block_for.Goals as goal
 
 pub returns-in-Some-clause-free : goal.returns-in-Some-clause-free

@@ -1,6 +1,4 @@
-use Rattle.std.proofs.Common.{refl, arith, sym, ap, ◌∙◌, ◌≡◌, ◌++◌, ◌∷◌, [], subst, slice_get, length}
-use Rattle.std.proofs.lemmas.{Option.slice_get_read, List.length_push, List.append_assoc}
-use Rattle.key_alloc.specs.{KeyBlocks.AreFirstBlocks, KeyBlocks.fixed_of, FreeKeys.AreKeysFreeBeside}
+use Rattle.key_alloc.proofs.Common.{AreFirstBlocks, AreKeysFreeBeside, [], ap, append_assoc, arith, fixed_of, length, length_push, refl, slice_get, slice_get_read, subst, sym, ◌++◌, ◌∙◌, ◌∷◌, ◌≡◌}
 use Rattle.key_alloc.proofs.{FixedBlocks.have_fixed, FixedBlocks.fixed_among, Growing.one_more, Growing.blocks_apart, Growing.keys_enough}
 use Rattle.key_alloc.proofs.alloc.keys.Goals as goal
 

@@ -1,5 +1,4 @@
-use Rattle.std.proofs.Common.{◌≡◌, ◌++◌, length}
-use Rattle.key_alloc.specs.{KeyBlocks.fixed_of, KeyBlocks.AreFirstBlocks, FreeKeys.AreKeysFreeBeside}
+use Rattle.key_alloc.proofs.Common.{AreFirstBlocks, AreKeysFreeBeside, fixed_of, length, ◌++◌, ◌≡◌}
 use Rattle.key_alloc.proofs.alloc.keys.Given as goal
 
 -- the nets so far have their blocks, and the region has all other keys but those of fixed blocks

@@ -1,5 +1,4 @@
-use Rattle.std.proofs.Common.{subst, arith}
-use Rattle.key_alloc.specs.KeyBlocks.{IsOpenPlace}
+use Rattle.key_alloc.proofs.Common.{IsOpenPlace, arith, subst}
 use Rattle.key_alloc.proofs.{Sizes.size_from_half, Sizes.size_within, Sizes.one_size, Taking.block_from_least}
 use Rattle.key_alloc.proofs.alloc.least_block.Goals as goal
 

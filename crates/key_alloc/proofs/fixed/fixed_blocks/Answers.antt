@@ -1,5 +1,4 @@
-use Rattle.std.proofs.Common.{arith}
-use Rattle.std.proofs.lemmas.Option.{slice_get_read}
+use Rattle.key_alloc.proofs.Common.{arith, slice_get_read}
 use Rattle.key_alloc.proofs.FixedBlocks.{fixed_more}
 use Rattle.key_alloc.proofs.fixed.fixed_blocks.Goals as goal
 

@@ -1,5 +1,4 @@
-use Rattle.std.proofs.Common.{◌≡◌, take}
-use Rattle.key_alloc.specs.KeyBlocks.{fixed_of}
+use Rattle.key_alloc.proofs.Common.{fixed_of, take, ◌≡◌}
 use Rattle.key_alloc.proofs.fixed.fixed_blocks.Given as goal
 
 -- the fixed blocks of the nets so far

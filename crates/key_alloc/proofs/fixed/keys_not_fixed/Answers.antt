@@ -1,6 +1,4 @@
-use Rattle.std.proofs.Common.{subst, ap, ◌∙◌}
-use Rattle.std.specs.List.Sorted.{IsPermutation}
-use Rattle.key_alloc.specs.KeyBlocks.{fixed_of}
+use Rattle.key_alloc.proofs.Common.{IsPermutation, ap, fixed_of, subst, ◌∙◌}
 use Rattle.key_alloc.proofs.FixedBlocks.{have_fixed, sorted_fixed}
 use Rattle.key_alloc.proofs.fixed.keys_not_fixed.Goals as goal
 

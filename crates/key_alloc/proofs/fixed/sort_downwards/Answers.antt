@@ -1,7 +1,4 @@
-use Rattle.std.proofs.Common.{rules, ◌-◌, get_or, arith}
-use Rattle.std.proofs.lemmas.List.Sorted.{answers_always, IsNonDecreasingBy-from_sort}
-use Rattle.spin_base.specs.declared.blocks.Block.{Block}
-use Rattle.tern_word.proofs.BlockLaws.{key_small}
+use Rattle.key_alloc.proofs.Common.{Block, IsNonDecreasingBy-from_sort, answers_always, arith, get_or, key_small, rules, ◌-◌}
 use Rattle.key_alloc.proofs.fixed.sort_downwards.Goals as goal
 
 pub returns-clause-downwards : goal.returns-clause-downwards

@@ -1,7 +1,4 @@
-use Rattle.std.proofs.Common.{[], refl, sym, subst, inl, append-nil}
-use Rattle.spin_base.specs.declared.chips.Chip.{Chip}
-use Rattle.machine_desc.specs.{Live.LeadsTo, RoutingTree.IsTreeChip}
-use Rattle.link_detours.specs.{Steps.Steps, Waves.IsIn}
+use Rattle.link_detours.proofs.Common.{Chip, IsIn, IsTreeChip, LeadsTo, Steps, [], append-nil, inl, refl, subst, sym}
 use Rattle.link_detours.proofs.{Putting.bit_of, Stepping.IsLevel-same, Walks.walk_steps, Waving.AreWaves-same}
 use Rattle.link_detours.proofs.detours.join.Goals as goal
 

@@ -1,5 +1,4 @@
-use Rattle.std.proofs.Common.{arith}
-use Rattle.machine_desc.proofs.Same.{below_six}
+use Rattle.link_detours.proofs.Common.{arith, below_six}
 use Rattle.link_detours.proofs.{Waving.best_step, Waving.next_link, Searching.dir_number_at}
 use Rattle.link_detours.proofs.detours.last_link.Goals as goal
 

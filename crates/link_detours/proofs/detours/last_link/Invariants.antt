@@ -1,7 +1,4 @@
-use Rattle.std.proofs.Common.{◌≤◌}
-use Rattle.spin_base.specs.Links.{dir_number}
-use Rattle.machine_desc.specs.declared.trees.Edge.{Edge}
-use Rattle.link_detours.specs.Waves.{IsStepFrom}
+use Rattle.link_detours.proofs.Common.{Edge, IsStepFrom, dir_number, ◌≤◌}
 use Rattle.link_detours.proofs.detours.last_link.Given as goal
 
 -- no step from the set has one of the numbers so far

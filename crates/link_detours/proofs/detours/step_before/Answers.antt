@@ -1,9 +1,4 @@
-use Rattle.std.proofs.Common.{◌≡◌, Some, sym, subst, ap, ◌∙◌}
-use Rattle.std.proofs.lemmas.Bool.{false≢true}
-use Rattle.spin_base.specs.{declared.chips.Chip.Chip, declared.chips.Dir.Dir, Links.opposite_of}
-use Rattle.machine_desc.specs.Live.{far_of, IsLiveLink, is_live_link}
-use Rattle.machine_desc.proofs.Far.{far_inside}
-use Rattle.link_detours.specs.Waves.{IsIn}
+use Rattle.link_detours.proofs.Common.{Chip, Dir, IsIn, IsLiveLink, Some, ap, false≢true, far_inside, far_of, is_live_link, opposite_of, subst, sym, ◌∙◌, ◌≡◌}
 use Rattle.link_detours.proofs.{Putting.bit_of, Reaching.link_turned, Reaching.turned_link}
 use Rattle.link_detours.proofs.detours.step_before.Goals as goal
 

@@ -1,7 +1,4 @@
-use Rattle.std.proofs.Common.{◌≡◌, ℕ, ◌-◌, ◌<◌, suc, [], ◌∷◌, ◌++◌, length, sym, ◌∙◌, subst, arith, rules, append-nil}
-use Rattle.machine_desc.specs.RoutingTree.{IsTreeChip}
-use Rattle.machine_desc.proofs.Far.{inside_parts}
-use Rattle.link_detours.specs.{Repair.IsTreeLevel, Waves.AreWaves, Waves.IsBestStep, Waves.IsWave}
+use Rattle.link_detours.proofs.Common.{AreWaves, IsBestStep, IsTreeChip, IsTreeLevel, IsWave, [], append-nil, arith, inside_parts, length, rules, subst, suc, sym, ℕ, ◌++◌, ◌-◌, ◌<◌, ◌∙◌, ◌∷◌, ◌≡◌}
 use Rattle.link_detours.proofs.{Reaching.link_inside, Putting.bit_of, Putting.TellsTree, Putting.TellsTree-push, Waving.last_wave, Waving.no_waves, Waving.step_level, Waving.last_link_is}
 use Rattle.link_detours.proofs.{Waving.some_step, Waving.on_tree, Waving.way_more, Waving.way_ends, detours.walk_back.Goals.After-split_at}
 use Rattle.link_detours.proofs.detours.walk_back.Goals as goal

@@ -1,6 +1,4 @@
-use Rattle.std.proofs.Common.{◌≡◌, ℕ, List, ◌++◌, length}
-use Rattle.machine_desc.specs.{declared.trees.Edge.Edge, Live.IsInside, RoutingTree.IsTreeChip}
-use Rattle.link_detours.specs.{Repair.IsTreeLevel, Repair.IsDetour, Waves.AreWaves}
+use Rattle.link_detours.proofs.Common.{AreWaves, Edge, IsDetour, IsInside, IsTreeChip, IsTreeLevel, List, length, ℕ, ◌++◌, ◌≡◌}
 use Rattle.link_detours.proofs.Putting.{TellsTree}
 use Rattle.link_detours.proofs.detours.walk_back.Given as goal
 

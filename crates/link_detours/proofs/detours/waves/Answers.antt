@@ -1,6 +1,4 @@
-use Rattle.std.proofs.Common.{◌≡◌, suc, length, refl, sym, ap, ◌∙◌, subst, arith, rules}
-use Rattle.std.proofs.lemmas.{Bool.false≢true, Nat.mul-le}
-use Rattle.link_detours.specs.Waves.{IsIn, IsWave}
+use Rattle.link_detours.proofs.Common.{IsIn, arith, false≢true, mul-le, refl, suc, sym, ◌∙◌, ◌≡◌}
 use Rattle.link_detours.proofs.{Naming.all_named, Naming.none_grew, Naming.spread_but, Waving.first_wave, Waving.next_wave, Waving.dry, Waving.level_is, Waving.off_wave, Waving.sum_rises}
 use Rattle.link_detours.proofs.Waving.{added_words}
 use Rattle.link_detours.proofs.detours.waves.Goals as goal

@@ -1,7 +1,4 @@
-use Rattle.std.proofs.Common.{ℕ, ◌*◌, ◌-◌, ◌<◌}
-use Rattle.std.specs.List.{sum_by}
-use Rattle.machine_desc.specs.Live.{LeadsTo}
-use Rattle.link_detours.specs.{Steps.IsReachedBy, Waves.IsIn, Waves.IsSpreadBut, Waves.IsWave, Waves.AreWaves}
+use Rattle.link_detours.proofs.Common.{AreWaves, IsIn, IsReachedBy, IsSpreadBut, IsWave, LeadsTo, sum_by, ℕ, ◌*◌, ◌-◌, ◌<◌}
 use Rattle.link_detours.proofs.detours.waves.Given as goal
 
 -- the waves so far and the next of them, the columns in which it can spread, and the target is in none of those so far

@@ -1,7 +1,4 @@
-use Rattle.std.proofs.Common.{arith}
-use Rattle.std.proofs.Common.{ap, take_all, ◌∙◌}
-use Rattle.std.specs.Prelude.{filter}
-use Rattle.machine_desc.specs.Live.{is_live_link}
+use Rattle.link_detours.proofs.Common.{arith, take_all}
 use Rattle.link_detours.proofs.edges.live_edges.Goals as goal
 
 pub returns : goal.returns

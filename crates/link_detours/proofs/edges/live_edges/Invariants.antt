@@ -1,6 +1,4 @@
-use Rattle.std.proofs.Common.{◌≡◌, take}
-use Rattle.std.specs.Prelude.{filter}
-use Rattle.machine_desc.specs.Live.{is_live_link}
+use Rattle.link_detours.proofs.Common.{filter, is_live_link, take, ◌≡◌}
 use Rattle.link_detours.proofs.edges.live_edges.Given as goal
 
 -- the live ones of the edges so far

@@ -1,7 +1,4 @@
-use Rattle.std.proofs.Common.{arith}
-use Rattle.std.proofs.Common.{ap, take_all, ◌∙◌}
-use Rattle.std.specs.Prelude.{filter}
-use Rattle.link_detours.specs.Usable.{is_marked}
+use Rattle.link_detours.proofs.Common.{arith, take_all}
 use Rattle.link_detours.proofs.edges.reached_edges.Goals as goal
 
 pub index-requires : goal.index-requires

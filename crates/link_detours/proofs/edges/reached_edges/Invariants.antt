@@ -1,6 +1,4 @@
-use Rattle.std.proofs.Common.{◌≡◌, take}
-use Rattle.std.specs.Prelude.{filter}
-use Rattle.link_detours.specs.Usable.{is_marked}
+use Rattle.link_detours.proofs.Common.{filter, is_marked, take, ◌≡◌}
 use Rattle.link_detours.proofs.edges.reached_edges.Given as goal
 
 abbrev pub invariant-loop-edge : goal.invariant-loop-edge

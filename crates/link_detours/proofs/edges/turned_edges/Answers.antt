@@ -1,4 +1,4 @@
-use Rattle.std.proofs.Common.{arith}
+use Rattle.link_detours.proofs.Common.{arith}
 use Rattle.link_detours.proofs.{Tabling.turned_some, Tabling.turned_none, edges.turned_edges.Goals.in-Some+in_ok-push, edges.turned_edges.Goals.in_default}
 use Rattle.link_detours.proofs.edges.turned_edges.Goals as goal
 

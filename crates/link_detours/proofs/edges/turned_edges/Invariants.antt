@@ -1,6 +1,4 @@
-use Rattle.std.proofs.Common.{◌≡◌, take}
-use Rattle.std.specs.List.{filter_map}
-use Rattle.link_detours.specs.Usable.{other_end_of}
+use Rattle.link_detours.proofs.Common.{filter_map, other_end_of, take, ◌≡◌}
 use Rattle.link_detours.proofs.edges.turned_edges.Given as goal
 
 abbrev pub invariant-loop-edge : goal.invariant-loop-edge

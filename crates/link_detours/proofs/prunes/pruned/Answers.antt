@@ -1,7 +1,4 @@
-use Rattle.std.specs.List.{All, filter, filter_map}
-use Rattle.machine_desc.specs.{declared.trees.Edge.Edge, Live.IsInside}
-use Rattle.link_detours.specs.Usable.{is_marked, other_end_of}
-use Rattle.std.proofs.lemmas.List.Elements.{All-filter}
+use Rattle.link_detours.proofs.Common.{All, All-filter, Edge, IsInside, filter, filter_map, is_marked, other_end_of}
 use Rattle.link_detours.proofs.{Turning.turned_inside, Turning.left_leads, prunes.pruned.Goals.After-deref-4}
 use Rattle.link_detours.proofs.prunes.pruned.Goals as goal
 

@@ -1,6 +1,4 @@
-use Rattle.std.proofs.Common.{length, refl, ap, ◌∙◌, arith}
-use Rattle.std.proofs.lemmas.{List.take_all, Option.slice_get-get_or}
-use Rattle.machine_desc.proofs.Far.{live_inside}
+use Rattle.link_detours.proofs.Common.{arith, live_inside, slice_get-get_or, take_all, ◌∙◌}
 use Rattle.link_detours.proofs.{Keeping.joined_more, Keeping.first_cut_off, Reaching.edges_inside}
 use Rattle.link_detours.proofs.repairs.join_all.Goals as goal
 

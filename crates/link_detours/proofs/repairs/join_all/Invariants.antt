@@ -1,4 +1,4 @@
-use Rattle.std.proofs.Common.{take}
+use Rattle.link_detours.proofs.Common.{take}
 use Rattle.link_detours.proofs.Keeping.{JoinedSoFar}
 use Rattle.link_detours.proofs.repairs.join_all.Given as goal
 

@@ -1,4 +1,4 @@
-use Rattle.machine_desc.proofs.Far.{live_inside}
+use Rattle.link_detours.proofs.Common.{live_inside}
 use Rattle.link_detours.proofs.Keeping.{live_edges_inside, kept_is, kept_whole}
 use Rattle.link_detours.proofs.repairs.kept_edges.Goals as goal
 

@@ -1,9 +1,5 @@
-use Rattle.std.proofs.Common.{◌≡◌, IfErr, rules}
-use Rattle.std.proofs.lemmas.{Result.IfErr-weaker, List.Elements.All-contains}
-use Rattle.machine_desc.specs.RoutingTree.{IsTreeChip}
+use Rattle.link_detours.proofs.Common.{All-contains, IfErr, IfErr-weaker, IsRepairCause, IsTreeChip, NoMemory, rules, ◌≡◌}
 use Rattle.link_detours.proofs.{Pruning.tree_left, Unchanged.same_edges, Unchanged.unchanged, Unchanged.not_cut_off}
-use Rattle.link_detours.specs.Cause.{IsRepairCause}
-use Rattle.link_detours.specs.declared.repairs.RepairErr.TheVariants.{Memory as NoMemory}
 use Rattle.link_detours.proofs.repairs.repair.Goals as goal
 
 pub returns-clause-repaired : goal.returns-clause-repaired

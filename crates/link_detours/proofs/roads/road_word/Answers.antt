@@ -1,4 +1,4 @@
-use Rattle.std.proofs.Common.{arith}
+use Rattle.link_detours.proofs.Common.{arith}
 use Rattle.link_detours.proofs.{RoadBits.TellsTo-set, RoadBits.TellsTo-skip, roads.road_word.Goals.then-link_live, roads.road_word.Goals.else-link_live}
 use Rattle.link_detours.proofs.roads.road_word.Goals as goal
 

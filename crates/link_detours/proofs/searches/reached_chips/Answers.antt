@@ -1,8 +1,4 @@
-use Rattle.std.proofs.Common.{◌≡◌, ◌++◌, ◌∷◌, [], Some, true, false, sym, ◌∙◌, subst, arith, rules}
-use Rattle.machine_desc.specs.Live.{IsInside}
-use Rattle.spin_base.specs.declared.chips.Chip.{Chip}
-use Rattle.link_detours.specs.Usable.{is_marked}
-use Rattle.machine_desc.proofs.{Far.far_inside, Same.below_six}
+use Rattle.link_detours.proofs.Common.{Chip, IsInside, Some, [], arith, below_six, false, far_inside, is_marked, rules, subst, sym, true, ◌++◌, ◌∙◌, ◌∷◌, ◌≡◌}
 use Rattle.link_detours.proofs.Searching.{start, start_looking, look_past, look_at_end, mark_read, weight_falls, end_links, marked_reached, flagged_inside, flagged_parts, flagged_none, dir_number_at}
 use Rattle.link_detours.proofs.searches.reached_chips.Goals.{in-Some+then-not-index+in_ok-push, in-Some+else-not-index, in_default}
 use Rattle.link_detours.proofs.searches.reached_chips.Goals as goal

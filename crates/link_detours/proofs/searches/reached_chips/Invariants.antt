@@ -1,5 +1,4 @@
-use Rattle.std.proofs.Common.{◌+◌, ◌*◌, ◌-◌, ◌≤◌, length}
-use Rattle.std.specs.List.{sum_by}
+use Rattle.link_detours.proofs.Common.{length, sum_by, ◌*◌, ◌+◌, ◌-◌, ◌≤◌}
 use Rattle.link_detours.proofs.Searching.{Ongoing, Waits, Looking, unmarked}
 use Rattle.link_detours.proofs.searches.reached_chips.Given as goal
 

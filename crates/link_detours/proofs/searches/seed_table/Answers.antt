@@ -1,9 +1,5 @@
-use Rattle.std.proofs.Common.{◌≡◌, ◌∙◌, ap, length, replicate, take_all, arith, false, rules}
-use Rattle.std.proofs.{Math.ListN.length-set, lemmas.List.length-replicate}
-use Rattle.spin_base.specs.Equality.{chip_eq}
-use Rattle.spin_base.proofs.Equality.{chip_eq_same, chip_eq_true}
-use Rattle.machine_desc.specs.Live.{index_of, IsInside}
-use Rattle.machine_desc.proofs.{Far.same_index, Listing.Tells-more, Listing.Tells-none}
+use Rattle.link_detours.proofs.Common.{IsInside, Tells-more, Tells-none, ap, arith, chip_eq, chip_eq_same, chip_eq_true, false, index_of, length, length-replicate, length-set, replicate, rules}
+use Rattle.link_detours.proofs.Common.{same_index, take_all, ◌∙◌, ◌≡◌}
 use Rattle.link_detours.proofs.Tabling.{Told-contains}
 use Rattle.link_detours.proofs.searches.seed_table.Goals as goal
 

@@ -1,4 +1,4 @@
-use Rattle.std.proofs.Common.{◌≡◌, ◌*◌, length, take}
+use Rattle.link_detours.proofs.Common.{length, take, ◌*◌, ◌≡◌}
 use Rattle.link_detours.proofs.Tabling.{Marks}
 use Rattle.link_detours.proofs.searches.seed_table.Given as goal
 

@@ -1,4 +1,4 @@
-use Rattle.std.proofs.Common.{◌-◌, arith}
+use Rattle.link_detours.proofs.Common.{arith, ◌-◌}
 use Rattle.link_detours.proofs.TurnedWords.{down_inside, down_round}
 use Rattle.link_detours.proofs.sets.down.Goals as goal
 

@@ -1,6 +1,4 @@
-use Rattle.std.proofs.Common.{arith}
-use Rattle.std.proofs.Common.{◌≡◌, ap, length, replicate, ◌∙◌, rules}
-use Rattle.std.proofs.lemmas.List.{length-replicate}
+use Rattle.link_detours.proofs.Common.{arith, length-replicate}
 use Rattle.link_detours.proofs.Putting.{none_in}
 use Rattle.link_detours.proofs.sets.empty_set.Goals as goal
 

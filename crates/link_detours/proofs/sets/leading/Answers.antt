@@ -1,7 +1,4 @@
-use Rattle.std.proofs.Common.{◌≡◌, ◌<◌, ◌↔◌, Some, refl, subst, sym}
-use Rattle.std.specs.Int.{bit_at}
-use Rattle.machine_desc.specs.Live.{IsLiveLink, x_step, y_step, stepped}
-use Rattle.machine_desc.proofs.Far.{inside_from}
+use Rattle.link_detours.proofs.Common.{IsLiveLink, Some, bit_at, inside_from, refl, stepped, subst, sym, x_step, y_step, ◌<◌, ◌↔◌, ◌≡◌}
 use Rattle.link_detours.proofs.{RoadBits.chip_of_column, Spreading.leading_told}
 use Rattle.link_detours.proofs.sets.leading.Goals as goal
 

@@ -1,4 +1,4 @@
-use Rattle.std.proofs.Common.{arith}
+use Rattle.link_detours.proofs.Common.{arith}
 use Rattle.link_detours.proofs.Naming.{beside}
 use Rattle.link_detours.proofs.sets.near_columns.Goals as goal
 

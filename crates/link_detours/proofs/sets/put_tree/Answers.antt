@@ -1,6 +1,4 @@
-use Rattle.std.proofs.Common.{◌∙◌, rules, sym}
-use Rattle.std.proofs.lemmas.List.{take_all}
-use Rattle.machine_desc.proofs.Far.{far_inside}
+use Rattle.link_detours.proofs.Common.{far_inside, rules, sym, take_all, ◌∙◌}
 use Rattle.link_detours.proofs.{Putting.bit_of, Putting.TellsTree-root, Putting.TellsTree-push, Putting.TellsTree-skip, Putting.TellsTree-taken, sets.put_tree.Goals.in-Some}
 use Rattle.link_detours.proofs.sets.put_tree.Goals.{in_default}
 use Rattle.link_detours.proofs.sets.put_tree.Goals as goal

@@ -1,4 +1,4 @@
-use Rattle.std.proofs.Common.{◌≡◌, length, take}
+use Rattle.link_detours.proofs.Common.{length, take, ◌≡◌}
 use Rattle.link_detours.proofs.Putting.{TellsTree}
 use Rattle.link_detours.proofs.sets.put_tree.Given as goal
 

@@ -1,6 +1,4 @@
-use Rattle.std.proofs.Common.{◌<◌, ◌≤◌, arith}
-use Rattle.std.specs.Int.{trailing_zeros, w64}
-use Rattle.std.proofs.lemmas.Nat.Bits.{bit_at-trailing_zeros}
+use Rattle.link_detours.proofs.Common.{arith, bit_at-trailing_zeros, trailing_zeros, w64, ◌<◌, ◌≤◌}
 use Rattle.link_detours.proofs.Naming.{fewer, spreading_more, spreading_skip}
 use Rattle.link_detours.proofs.sets.spread.Goals as goal
 

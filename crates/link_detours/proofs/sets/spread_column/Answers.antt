@@ -1,5 +1,4 @@
-use Rattle.std.proofs.Common.{get_or, refl, inl, inr, rules}
-use Rattle.std.proofs.lemmas.Bool.{cases_eq}
+use Rattle.link_detours.proofs.Common.{cases_eq, get_or, inl, inr, refl, rules}
 use Rattle.link_detours.proofs.sets.spread_column.Goals as goal
 
 pub returns : goal.returns

@@ -1,6 +1,4 @@
-use Rattle.std.proofs.Common.{◌<◌, arith}
-use Rattle.spin_base.specs.Links.{dir_number}
-use Rattle.machine_desc.proofs.Same.{below_six}
+use Rattle.link_detours.proofs.Common.{arith, below_six, dir_number, ◌<◌}
 use Rattle.link_detours.proofs.{Searching.dir_number_at, Spreading.SpreadTo-more}
 use Rattle.link_detours.proofs.sets.spread_word.Goals as goal
 

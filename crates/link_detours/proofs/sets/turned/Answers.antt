@@ -1,4 +1,4 @@
-use Rattle.std.proofs.Common.{arith}
+use Rattle.link_detours.proofs.Common.{arith}
 use Rattle.link_detours.proofs.TurnedWords.{turned_ahead, turned_back}
 use Rattle.link_detours.proofs.sets.turned.Goals as goal
 

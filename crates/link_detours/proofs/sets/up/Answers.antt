@@ -1,5 +1,4 @@
-use Rattle.std.proofs.Common.{◌<◌, ◌-◌, ◌*◌, ◌%◌, ◌^◌, arith}
-use Rattle.std.proofs.lemmas.Nat.{one_shl, pow_pos}
+use Rattle.link_detours.proofs.Common.{arith, one_shl, pow_pos, ◌%◌, ◌*◌, ◌-◌, ◌<◌, ◌^◌}
 use Rattle.link_detours.proofs.TurnedWords.{up_inside, up_round}
 use Rattle.link_detours.proofs.sets.up.Goals as goal
 

@@ -1,5 +1,4 @@
-use Rattle.std.specs.Int.{w64}
-use Rattle.std.proofs.lemmas.Nat.Bits.{bit_at_set_same}
+use Rattle.link_detours.proofs.Common.{bit_at_set_same, w64}
 use Rattle.link_detours.proofs.Spreading.{or_left}
 use Rattle.link_detours.proofs.sets.with_column.Goals as goal
 

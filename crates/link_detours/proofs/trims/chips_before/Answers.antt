@@ -1,5 +1,4 @@
-use Rattle.std.proofs.Common.{arith}
-use Rattle.std.proofs.Common.{◌++◌, ap, map, take_all, ◌∙◌}
+use Rattle.link_detours.proofs.Common.{arith, take_all}
 use Rattle.link_detours.proofs.trims.chips_before.Goals as goal
 
 pub returns : goal.returns

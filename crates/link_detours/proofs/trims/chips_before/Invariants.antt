@@ -1,4 +1,4 @@
-use Rattle.std.proofs.Common.{◌≡◌, ◌++◌, map, take}
+use Rattle.link_detours.proofs.Common.{map, take, ◌++◌, ◌≡◌}
 use Rattle.link_detours.proofs.trims.chips_before.Given as goal
 
 -- the chips of the edges that were looked at stand after the targets

@@ -1,8 +1,4 @@
-use Rattle.std.proofs.Common.{◌≡◌, true, Some, rules}
-use Rattle.std.proofs.lemmas.List.{take_all, Elements.All-more}
-use Rattle.machine_desc.specs.RoutingTree.{end_of}
-use Rattle.link_detours.specs.Usable.{is_marked}
-use Rattle.spin_base.specs.declared.chips.Chip.{Chip}
+use Rattle.link_detours.proofs.Common.{All-more, Chip, Some, end_of, is_marked, rules, take_all, true, ◌≡◌}
 use Rattle.link_detours.proofs.trims.ends_are_marked.Goals as goal
 
 pub loop-edge-preserved : goal.loop-edge-preserved

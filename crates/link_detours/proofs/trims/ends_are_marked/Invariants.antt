@@ -1,7 +1,4 @@
-use Rattle.std.proofs.Common.{◌≡◌, true, Some, All, take}
-use Rattle.machine_desc.specs.RoutingTree.{end_of}
-use Rattle.link_detours.specs.Usable.{is_marked}
-use Rattle.spin_base.specs.declared.chips.Chip.{Chip}
+use Rattle.link_detours.proofs.Common.{All, Chip, Some, end_of, is_marked, take, true, ◌≡◌}
 use Rattle.link_detours.proofs.trims.ends_are_marked.Given as goal
 
 -- the edges that were looked at end at marked chips

@@ -1,5 +1,4 @@
-use Rattle.std.proofs.Common.{◌≤◌, rules}
-use Rattle.std.proofs.lemmas.List.{take_all}
+use Rattle.link_detours.proofs.Common.{rules, take_all, ◌≤◌}
 use Rattle.link_detours.proofs.Trimming.{order_more}
 use Rattle.link_detours.proofs.trims.is_in_order.Goals as goal
 

@@ -1,6 +1,4 @@
-use Rattle.std.proofs.Common.{◌<◌, All, take}
-use Rattle.machine_desc.specs.Flags.{link_place}
-use Rattle.link_detours.specs.Repair.{AreInPlaceOrder}
+use Rattle.link_detours.proofs.Common.{All, AreInPlaceOrder, link_place, take, ◌<◌}
 use Rattle.link_detours.proofs.trims.is_in_order.Given as goal
 
 -- the edges that were looked at are in order, and before the least place that may come

@@ -1,4 +1,4 @@
-use Rattle.std.proofs.Common.{arith}
+use Rattle.link_detours.proofs.Common.{arith}
 use Rattle.link_detours.proofs.{Reaching.edges_inside, Trimming.sorted_stay}
 use Rattle.link_detours.proofs.trims.trimmed.Goals as goal
 

@@ -1,6 +1,5 @@
 -- So far there are as many empty hands as were made.
-use Rattle.std.proofs.Common.{◌≡◌, None}
-use Rattle.std.specs.Prelude.{replicate}
+use Rattle.mesh_core.proofs.Common.{None, replicate, ◌≡◌}
 use Rattle.mesh_core.proofs.hands.empty_hands.Given as goal
 
 abbrev pub invariant-loop : goal.invariant-loop

@@ -1,5 +1,5 @@
 -- The hand at the place has served the output.
-use Rattle.std.proofs.Common.{sym, ◌∙◌, arith}
+use Rattle.mesh_core.proofs.Common.{arith, sym, ◌∙◌}
 use Rattle.mesh_core.proofs.ServingLaws.{hands_after-some, hands_after-none}
 use Rattle.mesh_core.proofs.hands.serve.Goals as goal
 

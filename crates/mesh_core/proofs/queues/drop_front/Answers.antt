@@ -1,5 +1,5 @@
 -- The queue without its front stands at the place.
-use Rattle.std.proofs.lemmas.Option.{slice_get-get_or}
+use Rattle.mesh_core.proofs.Common.{slice_get-get_or}
 use Rattle.mesh_core.proofs.QueueLists.{drop_front-popped}
 use Rattle.mesh_core.proofs.queues.drop_front.Goals as goal
 

@@ -1,6 +1,5 @@
 -- So far there are as many empty queues as were made.
-use Rattle.std.proofs.Common.{◌≡◌, []}
-use Rattle.std.specs.Prelude.{replicate}
+use Rattle.mesh_core.proofs.Common.{[], replicate, ◌≡◌}
 use Rattle.mesh_core.proofs.queues.empty_queues.Given as goal
 
 abbrev pub invariant-loop : goal.invariant-loop

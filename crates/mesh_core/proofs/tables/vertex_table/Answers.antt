@@ -1,8 +1,5 @@
 -- The table tells one vertex more after each spot.
-use Rattle.std.proofs.Common.{arith, ◌≡◌, ℕ, ◌+◌, take, get_or, set, sym, subst, Some}
-use Rattle.std.proofs.lemmas.List.{get_or_default}
-use Rattle.spin_base.specs.declared.chips.Spot.{Spot}
-use Rattle.mesh_core.specs.VertexTable.{TellsVertices, spot_place}
+use Rattle.mesh_core.proofs.Common.{Some, Spot, TellsVertices, arith, get_or, get_or_default, set, spot_place, subst, sym, take, ℕ, ◌+◌, ◌≡◌}
 use Rattle.mesh_core.proofs.{VertexTableLaws.TellsVertices-none, VertexTableLaws.TellsVertices-more, VertexTableLaws.TellsVertices-beyond, tables.vertex_table.Goals.in-Some}
 use Rattle.mesh_core.proofs.tables.vertex_table.Goals.{in_default-spot_place}
 use Rattle.mesh_core.proofs.tables.vertex_table.Goals as goal

@@ -1,4 +1,4 @@
-use Rattle.spin_base.specs.declared.copies.Event.TheVariants.{Collect}
+use Rattle.mesh_drain.proofs.Common.{Collect}
 use Rattle.mesh_drain.proofs.Frame.{onward_by}
 use Rattle.mesh_drain.proofs.draining.collect.Goals as goal
 

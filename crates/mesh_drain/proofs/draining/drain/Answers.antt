@@ -1,5 +1,4 @@
-use Rattle.std.proofs.Common.{◌∙◌, ap}
-use Rattle.mesh_core.specs.State.{State}
+use Rattle.mesh_drain.proofs.Common.{State, ap, ◌∙◌}
 use Rattle.mesh_drain.proofs.{Frame.dumped_reached, Moving.after_moved, Moving.after_setup, Moving.moved_then, Moving.kept_moved, Vertices.drops_none, Vertices.drops_then}
 use Rattle.mesh_drain.proofs.draining.drain.Goals as goal
 

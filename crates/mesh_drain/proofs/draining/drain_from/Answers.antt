@@ -1,4 +1,4 @@
-use Rattle.std.proofs.Common.{arith}
+use Rattle.mesh_drain.proofs.Common.{arith}
 use Rattle.mesh_drain.proofs.{Frame.reached_then, Frame.kept_reached, Packets.few_spots, Senders.moved_of_reached, Senders.one_less_sender, Senders.rest_from, Senders.sender_there, Turns.was_there}
 use Rattle.mesh_drain.proofs.draining.drain_from.Goals as goal
 

@@ -1,7 +1,5 @@
-use Rattle.std.proofs.Common.{◌≡◌, [], drop}
-use Rattle.mesh_drain.specs.Draining.{IsReachedDropless}
+use Rattle.mesh_drain.proofs.Common.{IsReachedDropless, NothingWaits, [], drop, ◌≡◌}
 use Rattle.mesh_drain.proofs.Senders.{Unsent}
-use Rattle.mesh_core.specs.Expected.{NothingWaits}
 use Rattle.mesh_drain.proofs.draining.drain_from.Given as goal
 
 -- only the vertices from here on have packets unsent

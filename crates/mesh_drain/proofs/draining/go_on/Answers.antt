@@ -1,7 +1,4 @@
-use Rattle.std.proofs.Common.{◌+◌, drop, subst, arith}
-use Rattle.std.proofs.lemmas.List.{drop_all}
-use Rattle.spin_base.specs.declared.copies.Event.TheVariants.{Take}
-use Rattle.mesh_drain.specs.UnderWay.{IsServing}
+use Rattle.mesh_drain.proofs.Common.{IsServing, Take, arith, drop, drop_all, subst, ◌+◌}
 use Rattle.mesh_drain.proofs.{Frame.onward_by, Frame.onward_then, Packets.serving_done, Turns.taken_serving, Turns.taken_less, Turns.outs_left}
 use Rattle.mesh_drain.proofs.draining.go_on.Goals as goal
 

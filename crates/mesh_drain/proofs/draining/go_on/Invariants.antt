@@ -1,5 +1,4 @@
-use Rattle.std.proofs.Common.{◌≤◌, drop}
-use Rattle.mesh_drain.specs.{Draining.IsReachedOnward, UnderWay.work, UnderWay.IsServing}
+use Rattle.mesh_drain.proofs.Common.{IsReachedOnward, IsServing, drop, work, ◌≤◌}
 use Rattle.mesh_drain.proofs.draining.go_on.Given as goal
 
 -- the outputs from here on are still to be served

@@ -1,4 +1,4 @@
-use Rattle.std.proofs.Common.{arith}
+use Rattle.mesh_drain.proofs.Common.{arith}
 use Rattle.mesh_drain.proofs.{Frame.reached_none, Frame.reached_then, Frame.kept_reached, Turns.one_less, Turns.all_sent_there, Turns.as_before, Turns.there_still, Turns.was_there, Turns.is_none}
 use Rattle.mesh_drain.proofs.Turns.{is_some'}
 use Rattle.mesh_drain.proofs.draining.send_all.Goals as goal

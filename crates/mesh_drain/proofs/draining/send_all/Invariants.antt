@@ -1,8 +1,4 @@
-use Rattle.std.proofs.Common.{◌≡◌, [], List, length, get_or}
-use Rattle.std.specs.List.{slice_set}
-use Rattle.spin_base.specs.declared.copies.McCopy.{McCopy}
-use Rattle.mesh_drain.specs.Draining.{IsReachedDropless}
-use Rattle.mesh_core.specs.Expected.{NothingWaits}
+use Rattle.mesh_drain.proofs.Common.{IsReachedDropless, List, McCopy, NothingWaits, [], get_or, length, slice_set, ◌≡◌}
 use Rattle.mesh_drain.proofs.draining.send_all.Given as goal
 
 abbrev pub invariant-packets : goal.invariant-packets

@@ -1,4 +1,4 @@
-use Rattle.std.proofs.Common.{◌<◌, ◌≤◌, length, ap, arith, subst}
+use Rattle.mesh_drain.proofs.Common.{ap, arith, length, subst, ◌<◌, ◌≤◌}
 use Rattle.mesh_drain.proofs.{Frame.reached_then, Frame.kept_reached, Packets.few_spots, Turns.there_still, Turns.was_there, Turns.one_vertex_more, Turns.at_rest}
 use Rattle.mesh_drain.proofs.draining.send_each.Goals as goal
 

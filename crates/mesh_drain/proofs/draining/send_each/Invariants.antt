@@ -1,6 +1,4 @@
-use Rattle.std.proofs.Common.{◌≡◌, ◌<◌, ℕ, [], get_or}
-use Rattle.mesh_drain.specs.Draining.{IsReachedDropless}
-use Rattle.mesh_core.specs.Expected.{NothingWaits}
+use Rattle.mesh_drain.proofs.Common.{IsReachedDropless, NothingWaits, [], get_or, ℕ, ◌<◌, ◌≡◌}
 use Rattle.mesh_drain.proofs.draining.send_each.Given as goal
 
 -- the vertices before this one have sent all

@@ -1,4 +1,4 @@
-use Rattle.std.proofs.Common.{arith}
+use Rattle.mesh_drain.proofs.Common.{arith}
 use Rattle.mesh_drain.proofs.{Again.brought, Turns.on_both}
 use Rattle.mesh_drain.proofs.draining.send_first.Goals as goal
 

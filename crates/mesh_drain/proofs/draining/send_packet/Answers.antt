@@ -1,6 +1,4 @@
-use Rattle.std.proofs.Common.{◌∙◌, refl, rules}
-use Rattle.spin_base.specs.declared.copies.Event.TheVariants.{Inject}
-use Rattle.mesh_core.specs.Step.{after_event}
+use Rattle.mesh_drain.proofs.Common.{Inject, after_event, refl, rules, ◌∙◌}
 use Rattle.mesh_drain.proofs.{Frame.dropless, Frame.onward_none, Frame.onward_then, Frame.onward_unsent, Frame.reached_by, Frame.reached_then, Frame.sent_dropless, Turns.begins, Turns.begins_unsent}
 use Rattle.mesh_drain.proofs.Turns.{ends_quiet, popped_smaller}
 use Rattle.mesh_drain.proofs.draining.send_packet.Goals as goal

@@ -1,6 +1,4 @@
-use Rattle.spin_base.specs.declared.copies.Event.TheVariants.{Inject}
-use Rattle.mesh_core.specs.Step.{after_event}
-use Rattle.mesh_drain.specs.{Draining.IsReachedOnward, UnderWay.work, UnderWay.WaitsAlone}
+use Rattle.mesh_drain.proofs.Common.{Inject, IsReachedOnward, WaitsAlone, after_event, work}
 use Rattle.mesh_drain.proofs.draining.send_packet.Given as goal
 
 abbrev pub invariant-loop-next : goal.invariant-loop-next

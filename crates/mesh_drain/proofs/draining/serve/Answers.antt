@@ -1,6 +1,4 @@
-use Rattle.std.proofs.Common.{ap, arith, length, refl}
-use Rattle.mesh_core.specs.{State.State, Step.after_event}
-use Rattle.spin_base.specs.declared.copies.Event.TheVariants.{Send}
+use Rattle.mesh_drain.proofs.Common.{Send, State, after_event, ap, arith, length, refl}
 use Rattle.mesh_drain.proofs.{Frame.onward_by, Frame.onward_then, Packets.few_in_mesh, Steps.kept_after, Turns.on_ok, Turns.link_served, Turns.core_served, Turns.nowhere_served}
 use Rattle.mesh_drain.proofs.draining.serve.Goals as goal
 

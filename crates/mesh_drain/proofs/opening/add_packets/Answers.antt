@@ -1,9 +1,4 @@
-use Rattle.std.proofs.Common.{◌+◌, ◌<◌, refl, sym, subst, None, arith}
-use Rattle.std.proofs.lemmas.Option.{get_or_from_slice_get}
-use Rattle.std.specs.List.{slice_index_or}
-use Rattle.spin_base.specs.declared.copies.Packet.{Packet}
-use Rattle.machine_desc.specs.declared.nets.NetPlan.{NetPlan}
-use Rattle.mesh_core.specs.Opened.{first_copy}
+use Rattle.mesh_drain.proofs.Common.{NetPlan, None, Packet, arith, first_copy, get_or_from_slice_get, refl, slice_index_or, subst, sym, ◌+◌, ◌<◌}
 use Rattle.mesh_drain.proofs.{Opened.known, Opened.listed_source, Opened.grows, Packets.few_in_mesh}
 use Rattle.mesh_drain.proofs.opening.add_packets.Goals as goal
 

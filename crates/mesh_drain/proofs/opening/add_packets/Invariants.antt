@@ -1,5 +1,4 @@
-use Rattle.std.proofs.Common.{◌≡◌, [], take}
-use Rattle.mesh_core.specs.Opened.{opened_mesh}
+use Rattle.mesh_drain.proofs.Common.{[], opened_mesh, take, ◌≡◌}
 use Rattle.mesh_drain.proofs.opening.add_packets.Given as goal
 
 abbrev pub invariant-loop-number : goal.invariant-loop-number

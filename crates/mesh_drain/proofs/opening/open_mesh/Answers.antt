@@ -1,6 +1,4 @@
-use Rattle.std.proofs.Common.{◌≡◌, [], sym, ap, subst, ◌∙◌}
-use Rattle.mesh_core.specs.{State.State, State.Setup, Opened.opened_mesh}
-use Rattle.mesh_drain.specs.Opening.{AreListed}
+use Rattle.mesh_drain.proofs.Common.{AreListed, Setup, State, [], ap, opened_mesh, subst, sym, ◌∙◌, ◌≡◌}
 use Rattle.mesh_drain.proofs.Opened.{opens}
 use Rattle.mesh_drain.proofs.opening.open_mesh.Goals as goal
 

@@ -1,5 +1,4 @@
-use Rattle.std.proofs.Common.{◌≡◌, map, take}
-use Rattle.mesh_drain.specs.Opening.{source_vertex_of}
+use Rattle.mesh_drain.proofs.Common.{map, source_vertex_of, take, ◌≡◌}
 use Rattle.mesh_drain.proofs.opening.source_vertices.Given as goal
 
 abbrev pub invariant-loop-net : goal.invariant-loop-net

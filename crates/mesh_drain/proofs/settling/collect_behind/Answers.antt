@@ -1,4 +1,4 @@
-use Rattle.std.proofs.Common.{arith}
+use Rattle.mesh_drain.proofs.Common.{arith}
 use Rattle.mesh_drain.proofs.{Frame.dropless, Packets.few_in_mesh}
 use Rattle.mesh_drain.proofs.settling.collect_behind.Goals as goal
 

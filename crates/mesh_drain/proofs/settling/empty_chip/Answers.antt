@@ -1,4 +1,4 @@
-use Rattle.std.proofs.Common.{refl}
+use Rattle.mesh_drain.proofs.Common.{refl}
 use Rattle.mesh_drain.proofs.{Moving.after_none, Moving.after_then, Moving.after_setup, Vertices.drops_none, Vertices.drops_then}
 use Rattle.mesh_drain.proofs.settling.empty_chip.Goals as goal
 

@@ -1,4 +1,4 @@
-use Rattle.mesh_drain.specs.{Draining.AreCollected, Draining.DropsAtNoVertex, Draining.IsAfter, UnderWay.weight_in}
+use Rattle.mesh_drain.proofs.Common.{AreCollected, DropsAtNoVertex, IsAfter, weight_in}
 use Rattle.mesh_drain.proofs.settling.empty_chip.Given as goal
 
 abbrev pub invariant-events : goal.invariant-events

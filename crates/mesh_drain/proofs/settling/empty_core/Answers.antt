@@ -1,6 +1,4 @@
-use Rattle.std.proofs.Common.{◌≡◌, sym, ap, ◌∙◌, set}
-use Rattle.spin_base.specs.declared.copies.Event.TheVariants.{Collect}
-use Rattle.mesh_core.specs.State.{State}
+use Rattle.mesh_drain.proofs.Common.{Collect, State, ap, set, sym, ◌∙◌, ◌≡◌}
 use Rattle.mesh_drain.proofs.{Frame.reached_none, Frame.reached_by, Frame.reached_then, Steps.set_twice, Moving.after_reached, Moving.idle_from, Moving.idle_stays, Moving.lighter, Moving.mesh_after}
 use Rattle.mesh_drain.proofs.{Moving.moved_enabled, Vertices.same_besides, Vertices.same_then, Vertices.collect_besides, Vertices.collect_there, Vertices.collected_there, Vertices.idle_empty}
 use Rattle.mesh_drain.proofs.Vertices.{as_it_was}

@@ -1,6 +1,4 @@
-use Rattle.std.proofs.Common.{◌≡◌, List, set}
-use Rattle.spin_base.specs.declared.copies.McCopy.{McCopy}
-use Rattle.mesh_drain.specs.{Draining.IsReachedDropless, Draining.IsSameBesidesCores, UnderWay.weight_in}
+use Rattle.mesh_drain.proofs.Common.{IsReachedDropless, IsSameBesidesCores, List, McCopy, set, weight_in, ◌≡◌}
 use Rattle.mesh_drain.proofs.settling.empty_core.Given as goal
 
 -- the vertex's queue alone has changed

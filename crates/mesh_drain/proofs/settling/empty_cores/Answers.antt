@@ -1,6 +1,4 @@
-use Rattle.std.proofs.Common.{List, ◌<◌, ◌≤◌, length, ap, ◌∙◌, sym, arith, subst}
-use Rattle.spin_base.specs.declared.chips.Spot.{Spot}
-use Rattle.mesh_core.specs.State.{Setup}
+use Rattle.mesh_drain.proofs.Common.{List, Setup, Spot, ap, arith, length, subst, sym, ◌<◌, ◌∙◌, ◌≤◌}
 use Rattle.mesh_drain.proofs.{Frame.reached_none, Frame.reached_then, Frame.setup_reached, Moving.after_reached, Moving.mesh_after, Packets.few_in_mesh, Turns.there_still, Vertices.same_besides}
 use Rattle.mesh_drain.proofs.Vertices.{same_then, one_more_collected, all_collected}
 use Rattle.mesh_drain.proofs.settling.empty_cores.Goals as goal

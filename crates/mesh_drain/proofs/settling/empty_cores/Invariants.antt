@@ -1,5 +1,4 @@
-use Rattle.std.proofs.Common.{◌≡◌, ℕ, ◌<◌, get_or, []}
-use Rattle.mesh_drain.specs.Draining.{IsReachedDropless, IsSameBesidesCores}
+use Rattle.mesh_drain.proofs.Common.{IsReachedDropless, IsSameBesidesCores, [], get_or, ℕ, ◌<◌, ◌≡◌}
 use Rattle.mesh_drain.proofs.settling.empty_cores.Given as goal
 
 -- nothing waits for the vertices before this one

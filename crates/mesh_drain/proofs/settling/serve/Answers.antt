@@ -1,9 +1,4 @@
-use Rattle.std.proofs.Common.{◌≡◌, ◌<◌, sym, subst, ◌∙◌, ap, true, arith}
-use Rattle.std.specs.Prelude.{is_some, OnOk}
-use Rattle.spin_base.specs.declared.copies.Event.TheVariants.{Send, Dump}
-use Rattle.mesh_core.specs.{State.State, Step.step_of}
-use Rattle.mesh_core.proofs.Fixed.{dumped_stays}
-use Rattle.mesh_drain.specs.{Draining.AreCollected, Draining.DropsAtNoVertex, UnderWay.weight_in}
+use Rattle.mesh_drain.proofs.Common.{AreCollected, DropsAtNoVertex, Dump, OnOk, Send, State, ap, arith, dumped_stays, is_some, step_of, subst, sym, true, weight_in, ◌<◌, ◌∙◌, ◌≡◌}
 use Rattle.mesh_drain.proofs.{Frame.dumped_reached, Moving.after_one, Moving.after_then, Moving.after_lighter, Moving.after_reached, Moving.always, Moving.lighter, Moving.moved_enabled}
 use Rattle.mesh_drain.proofs.{Moving.dump_enabled, Moving.idle_stays, Moving.mesh_after, Turns.on_ok, Vertices.drops_none, Vertices.served_collected}
 use Rattle.mesh_drain.proofs.settling.serve.Goals as goal

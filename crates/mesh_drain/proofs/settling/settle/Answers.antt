@@ -1,5 +1,4 @@
-use Rattle.std.proofs.Common.{arith}
-use Rattle.mesh_core.specs.Expected.{NothingWaits}
+use Rattle.mesh_drain.proofs.Common.{NothingWaits, arith}
 use Rattle.mesh_drain.proofs.{Frame.dumped_reached, Moving.after_moved, Moving.after_setup, Moving.after_then, Moving.after_lighter, Moving.mesh_after, Moving.moved_none, Moving.moved_on}
 use Rattle.mesh_drain.proofs.{Moving.moved_then, Moving.waits_somewhere, Vertices.drops_none, Vertices.drops_then, Vertices.quiet_still}
 use Rattle.mesh_drain.proofs.settling.settle.Goals as goal

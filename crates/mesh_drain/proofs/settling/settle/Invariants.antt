@@ -1,5 +1,4 @@
-use Rattle.mesh_core.specs.Expected.{NothingWaits}
-use Rattle.mesh_drain.specs.{UnderWay.weight_in, Draining.AreCollected, Draining.DropsAtNoVertex, Draining.IsMoved}
+use Rattle.mesh_drain.proofs.Common.{AreCollected, DropsAtNoVertex, IsMoved, NothingWaits, weight_in}
 use Rattle.mesh_drain.proofs.settling.settle.Given as goal
 
 -- where nothing waited, nothing waits

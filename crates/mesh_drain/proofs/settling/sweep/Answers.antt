@@ -1,4 +1,4 @@
-use Rattle.std.proofs.Common.{arith, refl}
+use Rattle.mesh_drain.proofs.Common.{arith, refl}
 use Rattle.mesh_drain.proofs.{Moving.after_none, Moving.after_then, Moving.after_setup, Vertices.drops_none, Vertices.drops_then}
 use Rattle.mesh_drain.proofs.settling.sweep.Goals as goal
 

@@ -1,4 +1,4 @@
-use Rattle.mesh_drain.specs.Draining.{AreCollected, DropsAtNoVertex, IsAfter}
+use Rattle.mesh_drain.proofs.Common.{AreCollected, DropsAtNoVertex, IsAfter}
 use Rattle.mesh_drain.proofs.settling.sweep.Given as goal
 
 abbrev pub invariant-loop-index : goal.invariant-loop-index

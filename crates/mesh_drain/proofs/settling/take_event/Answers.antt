@@ -1,6 +1,4 @@
-use Rattle.std.proofs.Common.{sym, subst, ap}
-use Rattle.mesh_core.specs.State.{State}
-use Rattle.mesh_drain.specs.Draining.{AreCollected, DropsAtNoVertex, IsAfter}
+use Rattle.mesh_drain.proofs.Common.{AreCollected, DropsAtNoVertex, IsAfter, State, ap, subst, sym}
 use Rattle.mesh_drain.proofs.{Moving.after_none, Moving.after_one, Moving.lighter, Vertices.drops_none, Vertices.event_leads_on, Vertices.event_collected}
 use Rattle.mesh_drain.proofs.settling.take_event.Goals as goal
 

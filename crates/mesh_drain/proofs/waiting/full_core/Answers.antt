@@ -1,4 +1,4 @@
-use Rattle.std.proofs.Common.{ap, arith, length}
+use Rattle.mesh_drain.proofs.Common.{ap, arith, length}
 use Rattle.mesh_drain.proofs.{Packets.few_in_mesh, Ports.no_core}
 use Rattle.mesh_drain.proofs.waiting.full_core.Goals as goal
 

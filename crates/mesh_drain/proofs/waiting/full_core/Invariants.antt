@@ -1,5 +1,4 @@
-use Rattle.std.proofs.Common.{◌≡◌, ◌<◌, ℕ, [], Some}
-use Rattle.std.specs.List.{slice_get}
+use Rattle.mesh_drain.proofs.Common.{Some, [], slice_get, ℕ, ◌<◌, ◌≡◌}
 use Rattle.mesh_drain.proofs.waiting.full_core.Given as goal
 
 -- nothing waits for the vertices before this one

@@ -1,6 +1,4 @@
-use Rattle.std.proofs.Common.{◌≡◌, ◌<◌, ℕ, Some, None}
-use Rattle.std.specs.List.{slice_get}
-use Rattle.machine_desc.specs.Live.{index_of, chip_of}
+use Rattle.mesh_drain.proofs.Common.{None, Some, chip_of, index_of, slice_get, ℕ, ◌<◌, ◌≡◌}
 use Rattle.mesh_drain.proofs.waiting.full_hand.Given as goal
 
 -- the hands of the chips before this one are free

@@ -1,4 +1,4 @@
-use Rattle.std.proofs.Common.{arith}
+use Rattle.mesh_drain.proofs.Common.{arith}
 use Rattle.mesh_drain.proofs.Ports.{no_input}
 use Rattle.mesh_drain.proofs.waiting.full_port.Goals as goal
 

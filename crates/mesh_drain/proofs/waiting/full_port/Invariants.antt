@@ -1,8 +1,4 @@
-use Rattle.std.proofs.Common.{◌≡◌, ◌<◌, ℕ, [], Some}
-use Rattle.std.specs.List.{slice_get}
-use Rattle.spin_base.specs.declared.chips.Port.{Port}
-use Rattle.machine_desc.specs.Live.{chip_of}
-use Rattle.mesh_core.specs.State.{queue_at}
+use Rattle.mesh_drain.proofs.Common.{Port, Some, [], chip_of, queue_at, slice_get, ℕ, ◌<◌, ◌≡◌}
 use Rattle.mesh_drain.proofs.waiting.full_port.Given as goal
 
 -- nothing waits at the ports of the chips before this one

@@ -1,4 +1,4 @@
-use Rattle.std.proofs.Common.{arith}
+use Rattle.mesh_drain.proofs.Common.{arith}
 use Rattle.mesh_drain.proofs.Ports.{at_each_port}
 use Rattle.mesh_drain.proofs.waiting.full_port_of.Goals as goal
 

@@ -1,7 +1,5 @@
-use Rattle.std.proofs.Common.{◌≡◌, ◌<◌, ℕ, [], Some}
-use Rattle.std.specs.List.{slice_get}
-use Rattle.spin_base.specs.{declared.chips.Port.TheVariants.Link, declared.chips.Port.TheVariants.Local, Links.dir_at}
-use Rattle.mesh_core.specs.State.{queue_at}
+use Rattle.mesh_drain.proofs.Common.{Local, Some, [], dir_at, queue_at, slice_get, ℕ, ◌<◌, ◌≡◌}
+use Rattle.spin_base.specs.declared.chips.Port.TheVariants.{Link}
 use Rattle.mesh_drain.proofs.waiting.full_port_of.Given as goal
 
 -- nothing waits from the chip's own cores, nor at the links of lower numbers

@@ -1,7 +1,4 @@
-use Rattle.std.proofs.Common.{arith, ap, ◌∙◌, List}
-use Rattle.std.specs.List.{slice_get}
-use Rattle.spin_base.specs.declared.routes.Out.{Out}
-use Rattle.mesh_core.specs.State.{Hand}
+use Rattle.mesh_drain.proofs.Common.{Hand, List, Out, ap, arith, slice_get, ◌∙◌}
 use Rattle.mesh_drain.proofs.Ports.{next_some, next_none}
 use Rattle.mesh_drain.proofs.waiting.next_output.Goals as goal
 

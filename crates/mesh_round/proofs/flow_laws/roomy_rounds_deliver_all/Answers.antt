@@ -1,6 +1,6 @@
 -- The ledger holds after the rounds, and no copy was dumped.
+use Rattle.mesh_round.proofs.Common.{opened_mesh}
 use Rattle.mesh_round.proofs.flow_laws.roomy_rounds_deliver_all.Goals as goal
-use Rattle.mesh_core.specs.Opened.{opened_mesh}
 
 pub returns-clause-no_record : goal.returns-clause-no_record
 returns-clause-no_record c = λ patience turns setup n nets packets patient mesh right stand of_nets roomy rounds.

@@ -1,6 +1,4 @@
-use Rattle.std.proofs.Common.{◌≡◌, Option, None, sym, subst}
-use Rattle.std.specs.List.{All}
-use Rattle.mesh_core.specs.State.{Hand}
+use Rattle.mesh_round.proofs.Common.{All, Hand, None, Option, subst, sym, ◌≡◌}
 use Rattle.mesh_round.proofs.PlayedMesh.{is_mesh, leads_by_flow, still}
 use Rattle.mesh_round.proofs.laws.a_round_on_threads_is_a_round.Goals as goal
 

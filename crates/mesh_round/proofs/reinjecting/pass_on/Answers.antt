@@ -1,10 +1,5 @@
 -- After rounds the first dumped copy goes back, so each pass leaves less to be done, until no record is left.
-use Rattle.std.proofs.Common.{rules, ◌<◌, ◌∙◌, ℕ, length, sym, ap, arith, subst}
-use Rattle.std.proofs.lemmas.Result.{IfErr-weaker}
-use Rattle.std.specs.Prelude.{IfErr}
-use Rattle.mesh_core.specs.State.{IsMesh, Setup, State}
-use Rattle.mesh_run.specs.Layouts.{IsLayoutOf}
-use Rattle.mesh_round.specs.{RoundFlow.HasRounds, OnThreads.MeshOnLayout, Reinjecting.HasPasses}
+use Rattle.mesh_round.proofs.Common.{HasPasses, HasRounds, IfErr, IfErr-weaker, IsLayoutOf, IsMesh, MeshOnLayout, Setup, State, ap, arith, length, rules, subst, sym, ℕ, ◌<◌, ◌∙◌}
 use Rattle.mesh_round.proofs.{FirstBack.first_goes_back, Passes.passes_keep_mesh, Passes.passes_then, Passes.rounds_pass, Passes.rounds_no_more}
 use Rattle.mesh_round.proofs.reinjecting.pass_on.Goals as goal
 

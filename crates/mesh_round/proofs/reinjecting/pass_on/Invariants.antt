@@ -1,5 +1,4 @@
-use Rattle.mesh_core.specs.Expected.{IsAtRest}
-use Rattle.mesh_round.specs.{Work.work_in, OnThreads.MayGoOn, Reinjecting.HasPasses}
+use Rattle.mesh_round.proofs.Common.{HasPasses, IsAtRest, MayGoOn, work_in}
 use Rattle.mesh_round.proofs.reinjecting.pass_on.Given as goal
 
 -- the mesh was reached by rounds and copies put back, may go on, and is at rest

@@ -1,7 +1,6 @@
 -- Each copy that is put back leaves less to be done.
-use Rattle.std.proofs.Common.{arith, ◌<◌, ◌∙◌, refl, sym, subst, inl, inr}
-use Rattle.mesh_core.specs.State.{State}
-use Rattle.mesh_round.specs.{Work.work_in, OnThreads.MayGoOn, Reinjecting.HasPasses, Reinjecting.none, Reinjecting.put_back}
+use Rattle.mesh_round.proofs.Common.{HasPasses, MayGoOn, State, arith, inl, inr, put_back, refl, subst, sym, work_in, ◌<◌, ◌∙◌}
+use Rattle.mesh_round.specs.Reinjecting.{none}
 use Rattle.mesh_round.proofs.{PutBackParts.ready_back, PutBackWork.put_back_lighter, PutBackWork.still_less}
 use Rattle.mesh_round.proofs.reinjecting.put_all_back.Goals as goal
 

@@ -1,5 +1,4 @@
-use Rattle.std.proofs.Common.{◌≡◌, ℕ, ◌<◌, ◌⊎◌}
-use Rattle.mesh_round.specs.{Work.work_in, OnThreads.MayGoOn, Reinjecting.HasPasses}
+use Rattle.mesh_round.proofs.Common.{HasPasses, MayGoOn, work_in, ℕ, ◌<◌, ◌≡◌, ◌⊎◌}
 use Rattle.mesh_round.proofs.reinjecting.put_all_back.Given as goal
 
 -- the mesh was reached by copies put back, may go on, and there is less to be done as soon as one was

@@ -1,6 +1,6 @@
 -- Where no layout is made, there was no pass.
-use Rattle.std.proofs.Common.{◌∙◌, sym, subst}
-use Rattle.mesh_round.specs.Reinjecting.{HasPasses, none}
+use Rattle.mesh_round.proofs.Common.{HasPasses, subst, sym, ◌∙◌}
+use Rattle.mesh_round.specs.Reinjecting.{none}
 use Rattle.mesh_round.proofs.reinjecting.reinject.Goals as goal
 
 pub returns-in-Err-clause-refused : goal.returns-in-Err-clause-refused

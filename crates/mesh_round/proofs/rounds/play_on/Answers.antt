@@ -1,9 +1,5 @@
 -- One round: a copy moved in it; or none did, and then there was none.
-use Rattle.std.proofs.Common.{◌≡◌, true, false, refl, sym, subst}
-use Rattle.std.specs.Prelude.{IfOk}
-use Rattle.mesh_core.specs.State.{State}
-use Rattle.mesh_run.specs.Raised.{IsRaisedFrom, PlaysTo}
-use Rattle.mesh_round.specs.OnThreads.{LeadsByRound, MayGoOn}
+use Rattle.mesh_round.proofs.Common.{IfOk, IsRaisedFrom, LeadsByRound, MayGoOn, PlaysTo, State, false, refl, subst, sym, true, ◌≡◌}
 use Rattle.mesh_round.proofs.{Played.IsLaw, Played.answers, Played.at_pace, Played.leads, Played.leads_at_rest, Played.ready_after, Played.refuses, Played.stood_still, rounds.play_on.Given.Over}
 use Rattle.mesh_round.proofs.rounds.play_on.Goals.{In-Ok-false, In-Ok-true}
 use Rattle.mesh_round.proofs.rounds.play_on.Goals as goal

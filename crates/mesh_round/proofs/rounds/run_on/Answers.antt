@@ -1,8 +1,5 @@
 -- Rounds that moved a copy are counted; those that moved none left the mesh as it was.
-use Rattle.std.proofs.Common.{rules, ◌≡◌, ◌∙◌, true, false, sym, subst}
-use Rattle.std.proofs.lemmas.Result.{IfErr-weaker}
-use Rattle.std.specs.Prelude.{IfErr}
-use Rattle.mesh_round.specs.{RoundFlow.none, OnThreads.MayGoOn, Bound.HasMovingRounds}
+use Rattle.mesh_round.proofs.Common.{HasMovingRounds, IfErr, IfErr-weaker, MayGoOn, false, none, rules, subst, sym, true, ◌∙◌, ◌≡◌}
 use Rattle.mesh_round.proofs.Played.{IsLaw, IsReached, answers, at_pace, begins, moved_on, refuses, rests_where_none, stood_on}
 use Rattle.mesh_round.proofs.rounds.run_on.{Given.Over, Goals.In-Ok-false}
 use Rattle.mesh_round.proofs.rounds.run_on.Goals as goal

@@ -1,5 +1,5 @@
+use Rattle.mesh_round.proofs.Common.{◌≡◌}
 use Rattle.mesh_round.proofs.Played.{IsReached}
-use Rattle.std.proofs.Common.{◌≡◌}
 use Rattle.mesh_round.proofs.rounds.run_on.Given as goal
 
 -- the mesh was reached by rounds in each of which a copy moved, at the pace that was asked for

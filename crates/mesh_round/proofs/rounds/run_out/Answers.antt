@@ -1,7 +1,5 @@
 -- Where nothing waits, or no layout is made, there was no round.
-use Rattle.std.proofs.Common.{arith, ◌∙◌, ℕ, sym, subst}
-use Rattle.mesh_core.specs.State.{State}
-use Rattle.mesh_round.specs.{Bound.HasMovingRounds, RoundFlow.HasNoHand, RoundFlow.HasRounds, RoundFlow.none}
+use Rattle.mesh_round.proofs.Common.{HasMovingRounds, HasNoHand, HasRounds, State, arith, none, subst, sym, ℕ, ◌∙◌}
 use Rattle.mesh_round.proofs.Resting.{rests}
 use Rattle.mesh_round.proofs.rounds.run_out.Goals as goal
 

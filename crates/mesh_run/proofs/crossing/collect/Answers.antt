@@ -1,7 +1,4 @@
-use Rattle.std.proofs.Common.{◌≡◌, get_or, set, Some, refl, sym, ap, ◌∙◌, arith}
-use Rattle.std.proofs.lemmas.Option.{same_Some, slice_get-get_or}
-use Rattle.chip_node.specs.declared.ends.End.{End, TheVariants.Sends, TheVariants.Takes}
-use Rattle.mesh_run.specs.declared.homes.Cut.{Cut}
+use Rattle.mesh_run.proofs.Common.{Cut, End, Sends, Some, Takes, ap, arith, get_or, refl, same_Some, set, slice_get-get_or, sym, ◌∙◌, ◌≡◌}
 use Rattle.mesh_run.proofs.CrossingLaws.{collected_all, collected_more, collected_none, next_laid}
 use Rattle.mesh_run.proofs.crossing.collect.Goals as goal
 

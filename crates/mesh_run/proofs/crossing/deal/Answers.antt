@@ -1,6 +1,4 @@
-use Rattle.std.proofs.Common.{arith, refl}
-use Rattle.std.proofs.lemmas.Option.{slice_get-get_or}
-use Rattle.mesh_run.specs.declared.homes.Cut.{Cut}
+use Rattle.mesh_run.proofs.Common.{Cut, arith, slice_get-get_or}
 use Rattle.mesh_run.proofs.CrossingLaws.{dealt_all, dealt_more, dealt_none, end_still, next_link, same_on}
 use Rattle.mesh_run.proofs.crossing.deal.Goals as goal
 

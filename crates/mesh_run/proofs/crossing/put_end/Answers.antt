@@ -1,6 +1,4 @@
-use Rattle.std.proofs.Common.{set, Option, Some, refl, sym, ap, ◌∙◌, arith}
-use Rattle.chip_node.specs.declared.ends.End.{End}
-use Rattle.mesh_run.specs.{declared.shares.Share.Share, Split.end_in}
+use Rattle.mesh_run.proofs.Common.{End, Option, Share, Some, ap, arith, end_in, refl, set, sym, ◌∙◌}
 use Rattle.mesh_run.proofs.CrossingLaws.{end_inside, end_set, read_end, share_inside}
 use Rattle.mesh_run.proofs.crossing.put_end.Goals as goal
 

@@ -1,5 +1,4 @@
-use Rattle.std.proofs.Common.{subst}
-use Rattle.machine_desc.specs.Description.{HasSize}
+use Rattle.mesh_run.proofs.Common.{HasSize, subst}
 use Rattle.mesh_run.proofs.FloorLaws.{few_chips, few_vertices}
 use Rattle.mesh_run.proofs.floors.few_vertices.Goals as goal
 

@@ -1,4 +1,4 @@
-use Rattle.std.proofs.Common.{arith}
+use Rattle.mesh_run.proofs.Common.{arith}
 use Rattle.mesh_run.proofs.FloorLaws.{behind_none, behind_more}
 use Rattle.mesh_run.proofs.floors.push_behind.Goals as goal
 

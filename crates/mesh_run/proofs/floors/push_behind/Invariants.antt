@@ -1,4 +1,4 @@
-use Rattle.mesh_run.specs.Floors.{AddsBehind}
+use Rattle.mesh_run.proofs.Common.{AddsBehind}
 use Rattle.mesh_run.proofs.floors.push_behind.Given as goal
 
 -- the queues behind the outputs so far

@@ -1,7 +1,4 @@
-use Rattle.std.proofs.Common.{◌++◌, ℕ, Option, ap, ◌∙◌, arith}
-use Rattle.std.specs.Option.{option_to_list}
-use Rattle.spin_base.specs.declared.chips.{Chip.Chip, Spot.Spot}
-use Rattle.machine_desc.specs.NetsOn.{vertex_at}
+use Rattle.mesh_run.proofs.Common.{Chip, Option, Spot, ap, arith, option_to_list, vertex_at, ℕ, ◌++◌, ◌∙◌}
 use Rattle.mesh_run.proofs.FloorLaws.{vertices_all, vertices_more, vertices_none}
 use Rattle.mesh_run.proofs.floors.vertices_on.Goals as goal
 

@@ -1,6 +1,4 @@
-use Rattle.std.proofs.Common.{◌≡◌, ℕ}
-use Rattle.machine_desc.specs.Live.{chip_of}
-use Rattle.mesh_run.specs.Floors.{AreVerticesOn}
+use Rattle.mesh_run.proofs.Common.{AreVerticesOn, chip_of, ℕ, ◌≡◌}
 use Rattle.mesh_run.proofs.floors.vertices_on.Given as goal
 
 -- the vertices so far, of the chip of any index

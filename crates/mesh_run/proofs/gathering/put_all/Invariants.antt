@@ -1,4 +1,4 @@
-use Rattle.std.proofs.Common.{◌≡◌, ◌+◌, ◌++◌, take}
+use Rattle.mesh_run.proofs.Common.{take, ◌++◌, ◌+◌, ◌≡◌}
 use Rattle.mesh_run.proofs.gathering.put_all.Given as goal
 
 -- the items so far were put

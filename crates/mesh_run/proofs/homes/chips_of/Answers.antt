@@ -1,5 +1,4 @@
-use Rattle.std.proofs.Common.{◌*◌, ap, ◌∙◌}
-use Rattle.machine_desc.specs.Description.{Description}
+use Rattle.mesh_run.proofs.Common.{Description, ap, ◌*◌, ◌∙◌}
 use Rattle.mesh_run.proofs.homes.chips_of.Goals as goal
 
 pub returns-clause-value : goal.returns-clause-value

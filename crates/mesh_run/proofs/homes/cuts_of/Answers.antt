@@ -1,6 +1,4 @@
-use Rattle.std.proofs.Common.{arith}
-use Rattle.std.proofs.lemmas.Option.{slice_get-get_or}
-use Rattle.mesh_run.specs.declared.homes.Home.{Home}
+use Rattle.mesh_run.proofs.Common.{arith, slice_get-get_or}
 use Rattle.mesh_run.proofs.HomeLaws.{cuts_all, cuts_more, cuts_none}
 use Rattle.mesh_run.proofs.homes.cuts_of.Goals as goal
 

@@ -1,9 +1,4 @@
-use Rattle.std.proofs.Common.{◌≡◌, ◌+◌, ◌*◌, ◌<◌, ℕ, List, get_or, length, sym, subst, arith}
-use Rattle.std.proofs.lemmas.Option.{slice_get-get_or}
-use Rattle.spin_base.specs.declared.chips.Spot.{Spot}
-use Rattle.machine_desc.specs.{Description.Description, Live.IsInside}
-use Rattle.mesh_core.proofs.VertexTableLaws.{site_inside}
-use Rattle.mesh_run.specs.{Floors.grid_size, Homes.AreHomesTo}
+use Rattle.mesh_run.proofs.Common.{Description, IsInside, List, Spot, arith, get_or, grid_size, length, site_inside, slice_get-get_or, subst, sym, ◌*◌, ◌+◌, ◌<◌}
 use Rattle.mesh_run.proofs.HomeLaws.{homes_all, homes_none, ports_more, vertex_more}
 use Rattle.mesh_run.proofs.homes.homes_of.Goals as goal
 

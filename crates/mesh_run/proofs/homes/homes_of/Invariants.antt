@@ -1,4 +1,4 @@
-use Rattle.mesh_run.specs.{Floors.grid_size, Homes.AreHomesTo, Homes.HaveSenders}
+use Rattle.mesh_run.proofs.Common.{AreHomesTo, HaveSenders, grid_size}
 use Rattle.mesh_run.proofs.homes.homes_of.Given as goal
 
 -- the ports' queues so far

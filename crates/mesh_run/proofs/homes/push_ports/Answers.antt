@@ -1,6 +1,4 @@
-use Rattle.std.proofs.Common.{◌≡◌, ◌++◌, ◌∷◌, [], List, append-nil, append_assoc, replicate, sym, ap, ◌∙◌, arith, ℕ}
-use Rattle.std.proofs.lemmas.List.{replicate_more}
-use Rattle.mesh_run.specs.declared.homes.Home.{Home}
+use Rattle.mesh_run.proofs.Common.{append-nil, append_assoc, arith, replicate_more, sym}
 use Rattle.mesh_run.proofs.homes.push_ports.Goals as goal
 
 pub loop-port-init : goal.loop-port-init

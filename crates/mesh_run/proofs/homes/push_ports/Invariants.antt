@@ -1,5 +1,4 @@
-use Rattle.std.proofs.Common.{◌≡◌, ◌++◌, replicate}
-use Rattle.mesh_run.specs.declared.homes.Home.{Home}
+use Rattle.mesh_run.proofs.Common.{Home, replicate, ◌++◌, ◌≡◌}
 use Rattle.mesh_run.proofs.homes.push_ports.Given as goal
 
 -- the ports so far

@@ -1,5 +1,4 @@
-use Rattle.std.proofs.Common.{ℕ, subst, arith}
-use Rattle.mesh_run.specs.Homes.{AreShareRuns}
+use Rattle.mesh_run.proofs.Common.{AreShareRuns, arith, subst, ℕ}
 use Rattle.mesh_run.proofs.HomeLaws.{runs_all}
 use Rattle.mesh_run.proofs.homes.runs_of.Goals as goal
 

@@ -1,4 +1,4 @@
-use Rattle.std.proofs.Common.{◌≤◌}
+use Rattle.mesh_run.proofs.Common.{◌≤◌}
 use Rattle.mesh_run.proofs.HomeLaws.{RiseTo}
 use Rattle.mesh_run.proofs.homes.runs_of.Given as goal
 

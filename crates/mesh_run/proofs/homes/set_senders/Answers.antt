@@ -1,6 +1,4 @@
-use Rattle.std.proofs.Common.{◌≡◌, ℕ, subst, arith}
-use Rattle.spin_base.proofs.Tests.{answers_none}
-use Rattle.mesh_run.specs.Homes.{HaveSenders}
+use Rattle.mesh_run.proofs.Common.{HaveSenders, answers_none, arith, subst, ℕ, ◌≡◌}
 use Rattle.mesh_run.proofs.{FloorLaws.live_below, HomeLaws.output_of, HomeLaws.senders_dead, HomeLaws.senders_live, HomeLaws.senders_more}
 use Rattle.mesh_run.proofs.homes.set_senders.Goals as goal
 

@@ -1,6 +1,4 @@
-use Rattle.std.proofs.Common.{◌≡◌, ℕ, List, Some}
-use Rattle.std.specs.List.{slice_get}
-use Rattle.mesh_run.specs.{Homes.HaveSenders, Shares.router_place}
+use Rattle.mesh_run.proofs.Common.{HaveSenders, List, Some, router_place, slice_get, ℕ, ◌≡◌}
 use Rattle.mesh_run.proofs.homes.set_senders.Given as goal
 
 -- the senders of the outputs so far

@@ -1,4 +1,4 @@
-use Rattle.std.proofs.Common.{arith}
+use Rattle.mesh_run.proofs.Common.{arith}
 use Rattle.mesh_run.proofs.HomeLaws.{run_all, run_from, run_more, table_all, table_none}
 use Rattle.mesh_run.proofs.homes.share_table.Goals as goal
 

@@ -1,5 +1,4 @@
-use Rattle.std.proofs.Common.{◌≡◌, ◌-◌, ◌<◌, ◌≤◌, length, take, set, ap, sym, subst, arith}
-use Rattle.mesh_run.specs.Queues.{DownTo, IsDown}
+use Rattle.mesh_run.proofs.Common.{DownTo, IsDown, ap, arith, length, set, subst, sym, take, ◌-◌, ◌<◌, ◌≡◌, ◌≤◌}
 use Rattle.mesh_run.proofs.Holding.{as_many, only_ends, down_none, stands_next, next_are_ends, down_more, down_all}
 use Rattle.mesh_run.proofs.queues.bring_down.Goals as goal
 

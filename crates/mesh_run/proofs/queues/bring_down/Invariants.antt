@@ -1,7 +1,4 @@
-use Rattle.std.proofs.Common.{◌≡◌, ◌≤◌, List, length}
-use Rattle.std.specs.List.{All}
-use Rattle.link_queue.specs.declared.links.LinkEnds.{LinkEnds}
-use Rattle.mesh_run.specs.{Standing.HoldsAll, Queues.AreEnds}
+use Rattle.mesh_run.proofs.Common.{All, AreEnds, HoldsAll, LinkEnds, List, length, ◌≡◌, ◌≤◌}
 use Rattle.mesh_run.proofs.Holding.{DownFrom}
 use Rattle.mesh_run.proofs.queues.bring_down.Given as goal
 

@@ -1,7 +1,5 @@
-use Rattle.std.proofs.Common.{◌≡◌, ◌+◌, ◌-◌, ◌≤◌, List, length, refl, sym, ap, ◌∙◌, subst, arith}
-use Rattle.spin_base.specs.declared.copies.McCopy.{McCopy}
+use Rattle.mesh_run.proofs.Common.{IsUp, List, McCopy, ap, arith, length, places_for, refl, subst, sym, ◌+◌, ◌-◌, ◌∙◌, ◌≡◌, ◌≤◌}
 use Rattle.mesh_run.proofs.BringingUp.{made_with, up_none, may_rise, up_more, all_up}
-use Rattle.mesh_run.specs.Queues.{IsUp, places_for}
 use Rattle.mesh_run.proofs.queues.bring_up.Goals as goal
 
 pub loop-place-init : goal.loop-place-init

@@ -1,4 +1,4 @@
-use Rattle.std.proofs.Common.{◌+◌}
+use Rattle.mesh_run.proofs.Common.{◌+◌}
 use Rattle.mesh_run.proofs.BringingUp.{UpTo}
 use Rattle.mesh_run.proofs.queues.bring_up.Given as goal
 

@@ -1,6 +1,4 @@
-use Rattle.std.proofs.Common.{◌≡◌, ◌&&◌, Bool, nat_eq, min, List, sym, ap, ◌∙◌, subst, arith}
-use Rattle.link_queue.specs.declared.links.LinkEnds.{LinkEnds}
-use Rattle.mesh_run.specs.{declared.queues.Rested.Rested, Queues.RestAll, Queues.WasUp, Queues.free_places_of}
+use Rattle.mesh_run.proofs.Common.{Bool, LinkEnds, List, RestAll, Rested, WasUp, ap, arith, free_places_of, min, nat_eq, subst, sym, ◌&&◌, ◌∙◌, ◌≡◌}
 use Rattle.mesh_run.proofs.{Holding.only_ends, Resting.all_rest, Resting.links_past, Resting.next_at, Resting.next_was, Resting.none_rest, Resting.one_rests, Resting.rest_inside, Resting.rest_places}
 use Rattle.mesh_run.proofs.queues.rest_all.Goals.{then-quiet, else-quiet}
 use Rattle.mesh_run.proofs.queues.rest_all.Goals as goal

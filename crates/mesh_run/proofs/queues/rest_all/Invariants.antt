@@ -1,7 +1,4 @@
-use Rattle.std.proofs.Common.{List}
-use Rattle.std.specs.List.{All}
-use Rattle.link_queue.specs.declared.links.LinkEnds.{LinkEnds}
-use Rattle.mesh_run.specs.{Standing.HoldsAll, Queues.WasUp}
+use Rattle.mesh_run.proofs.Common.{All, HoldsAll, LinkEnds, List, WasUp}
 use Rattle.mesh_run.proofs.Resting.{RestSoFar}
 use Rattle.mesh_run.proofs.queues.rest_all.Given as goal
 

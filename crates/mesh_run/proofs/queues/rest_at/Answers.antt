@@ -1,8 +1,5 @@
-use Rattle.std.proofs.Common.{arith}
-use Rattle.std.proofs.Common.{subst}
-use Rattle.link_queue.specs.{declared.links.Link.Link, Ends.IsTx, Ends.IsRx}
+use Rattle.mesh_run.proofs.Common.{IsRx, IsTx, Link, arith, slice_get_within, subst}
 use Rattle.mesh_run.proofs.Resting.{lent_there, rests_there}
-use Rattle.std.proofs.lemmas.Option.{slice_get_within}
 use Rattle.mesh_run.proofs.queues.rest_at.Goals as goal
 
 pub take_ends-tx-requires : goal.take_ends-tx-requires

@@ -1,6 +1,4 @@
-use Rattle.std.proofs.Common.{◌+◌, List, ◌∙◌, subst}
-use Rattle.link_queue.specs.declared.links.LinkEnds.{LinkEnds}
-use Rattle.mesh_run.specs.{Queues.StayUp, Standing.HoldsAll}
+use Rattle.mesh_run.proofs.Common.{HoldsAll, LinkEnds, List, StayUp, subst, ◌+◌, ◌∙◌}
 use Rattle.mesh_run.proofs.{Holding.only_ends, Resting.StaysAs, Resting.after_refusal, Resting.all_stay, Resting.links_past, Resting.next_at, Resting.next_up, Resting.none_done, Resting.one_done}
 use Rattle.mesh_run.proofs.Resting.{some_stay}
 use Rattle.mesh_run.proofs.queues.widen_all.Goals as goal

@@ -1,6 +1,4 @@
-use Rattle.std.proofs.Common.{◌+◌, List, map}
-use Rattle.link_queue.specs.declared.links.LinkEnds.{LinkEnds}
-use Rattle.mesh_run.specs.{Standing.HoldsAll, Queues.AreUp, Queues.queue_of_link}
+use Rattle.mesh_run.proofs.Common.{AreUp, HoldsAll, LinkEnds, List, map, queue_of_link, ◌+◌}
 use Rattle.mesh_run.proofs.Resting.{SoFar, StaysAs}
 use Rattle.mesh_run.proofs.queues.widen_all.Given as goal
 

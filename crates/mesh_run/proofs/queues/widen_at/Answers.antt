@@ -1,8 +1,4 @@
-use Rattle.std.proofs.Common.{sym, subst, arith}
-use Rattle.link_queue.specs.Ends.{sending}
-use Rattle.std.proofs.Common.{◌∙◌}
-use Rattle.std.proofs.Common.{ap}
-use Rattle.link_queue.specs.{declared.links.Link.Link, declared.links.Rx.Rx, declared.links.Tx.Tx, Ends.IsTx, Ends.IsRx}
+use Rattle.mesh_run.proofs.Common.{IsRx, IsTx, Link, Rx, Tx, ap, arith, sending, subst, sym, ◌∙◌}
 use Rattle.mesh_run.proofs.Resting.{held_short, lent_inside, lent_link, put_again, rest_count, rest_inside, rest_places, rest_sent, rest_stands, rest_took, rest_wide, rest_within, widened_up}
 use Rattle.mesh_run.proofs.queues.widen_at.Goals as goal
 

@@ -1,5 +1,4 @@
-use Rattle.std.proofs.Common.{◌+◌, ◌<◌, length, refl, ◌∙◌, arith}
-use Rattle.mesh_run.specs.Rooms.{SameCopies}
+use Rattle.mesh_run.proofs.Common.{SameCopies, arith, length, refl, ◌+◌, ◌<◌, ◌∙◌}
 use Rattle.mesh_run.proofs.{Going.gone_more, Going.gone_none, Raising.copies_so_far}
 use Rattle.mesh_run.proofs.rooms.make_room_in_all.Goals as goal
 

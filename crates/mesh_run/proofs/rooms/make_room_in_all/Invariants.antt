@@ -1,4 +1,4 @@
-use Rattle.mesh_run.specs.Rooms.{SameCopies}
+use Rattle.mesh_run.proofs.Common.{SameCopies}
 use Rattle.mesh_run.proofs.Going.{GoneTo}
 use Rattle.mesh_run.proofs.rooms.make_room_in_all.Given as goal
 

@@ -1,5 +1,4 @@
-use Rattle.std.proofs.Common.{◌≡◌, ◌++◌, take}
-use Rattle.mesh_run.specs.Split.{cut_queues}
+use Rattle.mesh_run.proofs.Common.{cut_queues, take, ◌++◌, ◌≡◌}
 use Rattle.mesh_run.proofs.splitting.crossing_of.Given as goal
 
 -- the queues of the cuts so far

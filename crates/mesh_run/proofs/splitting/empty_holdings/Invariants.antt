@@ -1,5 +1,4 @@
-use Rattle.std.proofs.Common.{◌≡◌, [], replicate}
-use Rattle.chip_node.specs.declared.ends.End.TheVariants.{Away}
+use Rattle.mesh_run.proofs.Common.{Away, [], replicate, ◌≡◌}
 use Rattle.mesh_run.proofs.splitting.empty_holdings.Given as goal
 
 -- the places so far

@@ -1,5 +1,4 @@
-use Rattle.std.proofs.Common.{get_or, refl, sym, subst}
-use Rattle.mesh_run.specs.Splitting.{IsEmptyHand}
+use Rattle.mesh_run.proofs.Common.{IsEmptyHand, get_or, refl, subst, sym}
 use Rattle.mesh_run.proofs.SplitLaws.{nothing_more}
 use Rattle.mesh_run.proofs.splitting.empty_shares.Goals as goal
 

@@ -1,7 +1,4 @@
-use Rattle.std.proofs.Common.{◌≡◌, ◌<◌, ◌≤◌, ℕ, length, get_or, ◌∙◌, subst, arith}
-use Rattle.std.proofs.lemmas.Option.{slice_get-get_or}
-use Rattle.mesh_core.specs.State.{State}
-use Rattle.mesh_run.specs.declared.homes.Home.{Home}
+use Rattle.mesh_run.proofs.Common.{Home, State, arith, get_or, length, slice_get-get_or, subst, ℕ, ◌<◌, ◌∙◌, ◌≡◌, ◌≤◌}
 use Rattle.mesh_run.proofs.{CrossingLaws.end_still, SplitLaws.holds_on, SplitLaws.holds_self, SplitLaws.lanes_more, SplitLaws.lanes_none, SplitLaws.moved_in, SplitLaws.place_there}
 use Rattle.mesh_run.proofs.SplitLaws.{vertex_home, vertex_there, vertices_to_more, vertices_to_none}
 use Rattle.mesh_run.proofs.splitting.move_in.Goals as goal

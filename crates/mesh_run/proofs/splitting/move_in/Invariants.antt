@@ -1,5 +1,4 @@
-use Rattle.std.proofs.Common.{length}
-use Rattle.mesh_run.specs.Splitting.{AreSameHolds}
+use Rattle.mesh_run.proofs.Common.{AreSameHolds, length}
 use Rattle.mesh_run.proofs.SplitLaws.{LanesTo, VerticesTo}
 use Rattle.mesh_run.proofs.splitting.move_in.Given as goal
 

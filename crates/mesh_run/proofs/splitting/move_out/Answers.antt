@@ -1,7 +1,4 @@
-use Rattle.std.proofs.Common.{◌≡◌, ◌<◌, ◌≤◌, ℕ, length, get_or, sym, ◌∙◌, subst, arith}
-use Rattle.std.proofs.lemmas.Option.{slice_get-get_or}
-use Rattle.mesh_core.specs.State.{State}
-use Rattle.mesh_run.specs.declared.homes.Home.{Home}
+use Rattle.mesh_run.proofs.Common.{Home, State, arith, get_or, length, slice_get-get_or, subst, sym, ℕ, ◌<◌, ◌∙◌, ◌≡◌, ◌≤◌}
 use Rattle.mesh_run.proofs.{CrossingLaws.end_still, SplitLaws.moved_out, SplitLaws.out_more, SplitLaws.out_none, SplitLaws.place_there, SplitLaws.unsent_out_more, SplitLaws.unsent_out_none}
 use Rattle.mesh_run.proofs.SplitLaws.{vertex_home, vertex_there}
 use Rattle.mesh_run.proofs.splitting.move_out.Goals as goal

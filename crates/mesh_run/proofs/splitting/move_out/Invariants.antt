@@ -1,4 +1,4 @@
-use Rattle.std.proofs.Common.{length}
+use Rattle.mesh_run.proofs.Common.{length}
 use Rattle.mesh_run.proofs.SplitLaws.{OutTo, UnsentOutTo}
 use Rattle.mesh_run.proofs.splitting.move_out.Given as goal
 

@@ -1,5 +1,4 @@
-use Rattle.std.proofs.Common.{◌≡◌, ◌-◌, ◌<◌, ◌≤◌, ℕ, length, set, ap, ◌∙◌, subst, arith}
-use Rattle.mesh_core.specs.State.{State}
+use Rattle.mesh_run.proofs.Common.{State, ap, arith, length, set, subst, ℕ, ◌-◌, ◌<◌, ◌∙◌, ◌≡◌, ◌≤◌}
 use Rattle.mesh_run.proofs.SplitLaws.{sets_core, sets_input}
 use Rattle.mesh_run.proofs.splitting.swap_queue.Goals as goal
 

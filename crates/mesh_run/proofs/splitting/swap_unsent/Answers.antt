@@ -1,6 +1,4 @@
-use Rattle.std.proofs.Common.{◌≡◌, ◌<◌, length, set, Some, refl, sym, ap, ◌∙◌, subst}
-use Rattle.std.proofs.lemmas.Option.{get_or_from_slice_get}
-use Rattle.mesh_run.specs.declared.shares.Share.{Share}
+use Rattle.mesh_run.proofs.Common.{Share, Some, ap, get_or_from_slice_get, length, refl, set, subst, sym, ◌<◌, ◌∙◌, ◌≡◌}
 use Rattle.mesh_run.proofs.SplitLaws.{unsent_set}
 use Rattle.mesh_run.proofs.splitting.swap_unsent.Goals as goal
 

@@ -1,5 +1,4 @@
-use Rattle.std.proofs.Common.{arith, Some}
-use Rattle.std.proofs.lemmas.Option.{get_or_from_slice_get}
+use Rattle.mesh_run.proofs.Common.{Some, arith, get_or_from_slice_get}
 use Rattle.mesh_run.proofs.standing.take_at.Goals as goal
 
 pub returns-clause-stood : goal.returns-clause-stood

@@ -1,4 +1,4 @@
-use Rattle.std.proofs.Common.{length, arith}
+use Rattle.par_compile.proofs.Common.{arith, length}
 use Rattle.par_compile.proofs.{Left.blocks_all, Left.blocks_turning, Righted.coverable}
 use Rattle.par_compile.proofs.chip_tables.blocks_for.Goals as goal
 

@@ -1,9 +1,4 @@
-use Rattle.std.proofs.Common.{◌≡◌, ◌*◌, ◌≤◌, ◌∙◌, List, length, map, take, arith}
-use Rattle.std.proofs.lemmas.Result.{IfOk-weaker}
-use Rattle.std.specs.List.{All, AllZip}
-use Rattle.default_routes.specs.declared.stripping.Final.{Final}
-use Rattle.machine_desc.specs.RightTables.{AreRight}
-use Rattle.par_compile.specs.Finals.{AreAllUnlessLong, AreFinals, IsFinalFor, KeepsRows, loaded_of}
+use Rattle.par_compile.proofs.Common.{All, AllZip, AreAllUnlessLong, AreFinals, AreRight, Final, IfOk-weaker, IsFinalFor, KeepsRows, List, arith, length, loaded_of, map, take, ◌*◌, ◌∙◌, ◌≡◌, ◌≤◌}
 use Rattle.par_compile.proofs.Righted.{all_final, all_keep, all_right, few_chips, few_entries, finals_within}
 use Rattle.par_compile.proofs.chip_tables.final_tables.Goals as goal
 

@@ -1,9 +1,4 @@
-use Rattle.std.proofs.Common.{◌≡◌, ◌∙◌, length, ap, sym, subst, Some, arith, rules}
-use Rattle.std.specs.List.{All, position, slice_get}
-use Rattle.std.proofs.lemmas.List.Elements.{All-weaker}
-use Rattle.app_graph.specs.ValidGraph.{IsValidNet}
-use Rattle.net_plans.specs.Ways.{HasEndsAmong}
-use Rattle.par_compile.specs.{Compiled.HasLongTable, Finals.is_long}
+use Rattle.par_compile.proofs.Common.{All, All-weaker, HasEndsAmong, HasLongTable, IsValidNet, Some, ap, arith, is_long, length, position, rules, slice_get, subst, sym, ◌∙◌, ◌≡◌}
 use Rattle.par_compile.proofs.{Refusing.refused_where, Standing.routing_is, Unique.long_has_many, Unique.long_has_no_pair, Unique.none_long, Unique.one_plan, Unique.routed_of}
 use Rattle.par_compile.proofs.compiling.compile.Goals as goal
 

@@ -1,5 +1,4 @@
-use Rattle.std.proofs.Common.{◌≡◌, take}
-use Rattle.par_compile.specs.Imaging.{tables_from}
+use Rattle.par_compile.proofs.Common.{tables_from, take, ◌≡◌}
 use Rattle.par_compile.proofs.images.image_of.Given as goal
 
 -- the tables of the chips that were read

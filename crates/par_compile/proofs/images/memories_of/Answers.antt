@@ -1,9 +1,4 @@
-use Rattle.std.proofs.Common.{◌≡◌, List, map, sym, ap, subst}
-use Rattle.std.proofs.lemmas.Result.{IfOk-weaker}
-use Rattle.spin_base.specs.declared.blocks.Entry.{Entry}
-use Rattle.machine_desc.specs.{declared.nets.NetPlan.NetPlan, RightTables.AreRight}
-use Rattle.table_load.specs.{declared.tables.Image.Image, Memories.IsLoaded}
-use Rattle.par_compile.specs.Finals.{loaded_of}
+use Rattle.par_compile.proofs.Common.{AreRight, Entry, IfOk-weaker, Image, IsLoaded, List, NetPlan, ap, loaded_of, map, subst, sym, ◌≡◌}
 use Rattle.par_compile.proofs.Imaged.{all_loaded, read_again}
 use Rattle.par_compile.proofs.images.memories_of.Goals as goal
 

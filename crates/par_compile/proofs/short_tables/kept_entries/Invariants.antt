@@ -1,5 +1,4 @@
-use Rattle.std.proofs.Common.{◌≡◌, take}
-use Rattle.par_compile.specs.ShortTables.{kept_entries}
+use Rattle.par_compile.proofs.Common.{kept_entries, take, ◌≡◌}
 use Rattle.par_compile.proofs.short_tables.kept_entries.Given as goal
 
 -- the entries of the original blocks that were read

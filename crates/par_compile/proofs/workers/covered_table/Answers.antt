@@ -1,6 +1,4 @@
-use Rattle.std.proofs.Common.{sym, subst}
-use Rattle.std.specs.Prelude.{List}
-use Rattle.net_tables.specs.{declared.marks.Mark.Mark, Marks.AreApart, Marks.IsTableOf}
+use Rattle.par_compile.proofs.Common.{AreApart, IsTableOf, List, Mark, subst, sym}
 use Rattle.par_compile.proofs.workers.covered_table.Goals as goal
 
 pub shorten-requires-clause-sound : goal.shorten-requires-clause-sound

@@ -1,8 +1,4 @@
-use Rattle.std.proofs.Common.{◌∙◌, List, length, take, arith}
-use Rattle.std.proofs.lemmas.{Result.IfOk-weaker, Slice.Zip.AllZip-long}
-use Rattle.std.specs.List.{AllZip}
-use Rattle.default_routes.specs.declared.stripping.Final.{Final}
-use Rattle.par_compile.specs.Finals.{AreAllUnlessLong, GivesFinal, IsFinalFor, IsStillPlain}
+use Rattle.par_compile.proofs.Common.{AllZip, AllZip-long, AreAllUnlessLong, Final, GivesFinal, IfOk-weaker, IsFinalFor, IsStillPlain, List, arith, length, take, ◌∙◌}
 use Rattle.par_compile.proofs.Working.{all_beside}
 use Rattle.par_compile.proofs.workers.finals.Goals as goal
 

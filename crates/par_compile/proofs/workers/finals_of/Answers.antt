@@ -1,8 +1,4 @@
-use Rattle.std.proofs.Common.{◌≡◌, ◌∙◌, List, None, arith, subst, sym}
-use Rattle.std.proofs.lemmas.Grind.{common_steps}
-use Rattle.std.specs.{List.position, Vec.Iter.into_iter_items}
-use Rattle.default_routes.specs.declared.stripping.Final.{Final}
-use Rattle.par_compile.specs.{declared.workers.Work.Work, Finals.GivesFinal, Finals.is_long}
+use Rattle.par_compile.proofs.Common.{Final, GivesFinal, List, None, Work, arith, common_steps, into_iter_items, is_long, position, subst, sym, ◌∙◌, ◌≡◌}
 use Rattle.par_compile.proofs.Working.{AreGiven, all_given, given_at_end, given_more, last_is_long}
 use Rattle.par_compile.proofs.workers.finals_of.Goals as goal
 

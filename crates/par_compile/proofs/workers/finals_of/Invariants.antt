@@ -1,5 +1,4 @@
-use Rattle.std.specs.Vec.Iter.{into_iter_items}
-use Rattle.par_compile.specs.Finals.{GivesFinal}
+use Rattle.par_compile.proofs.Common.{GivesFinal, into_iter_items}
 use Rattle.par_compile.proofs.Working.{AreGiven}
 use Rattle.par_compile.proofs.workers.finals_of.Given as goal
 

@@ -1,8 +1,4 @@
-use Rattle.std.proofs.Common.{List, All, refl, sym, subst, arith}
-use Rattle.std.proofs.lemmas.{Grind.common_steps, List.Elements.All-head, List.Elements.All-tail}
-use Rattle.std.specs.Vec.Iter.{into_iter_items}
-use Rattle.net_tables.specs.declared.marks.Mark.{Mark}
-use Rattle.par_compile.specs.Finals.{AreCoverable, IsStillPlain}
+use Rattle.par_compile.proofs.Common.{All, All-head, All-tail, AreCoverable, IsStillPlain, List, Mark, arith, common_steps, into_iter_items, refl, subst, sym}
 use Rattle.par_compile.proofs.Working.{AreGiven, all_made, given_more}
 use Rattle.par_compile.proofs.workers.works_of.Goals as goal
 

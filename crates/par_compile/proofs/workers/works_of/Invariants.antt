@@ -1,6 +1,4 @@
-use Rattle.std.proofs.Common.{All}
-use Rattle.std.specs.Vec.Iter.{into_iter_items}
-use Rattle.par_compile.specs.Finals.{AreCoverable, IsStillPlain}
+use Rattle.par_compile.proofs.Common.{All, AreCoverable, IsStillPlain, into_iter_items}
 use Rattle.par_compile.proofs.Working.{AreGiven}
 use Rattle.par_compile.proofs.workers.works_of.Given as goal
 

@@ -1,6 +1,4 @@
-use Rattle.std.proofs.Common.{subst, sym}
-use Rattle.std.proofs.lemmas.Option.{slice_get_within}
-use Rattle.table_load.specs.Images.{IsRow}
+use Rattle.plan_check.proofs.Common.{IsRow, slice_get_within, subst, sym}
 use Rattle.plan_check.proofs.Meeting.{amiss_by_default, amiss_by_row, amiss_by_split}
 use Rattle.plan_check.proofs.flaws.flaw_in.Goals as goal
 

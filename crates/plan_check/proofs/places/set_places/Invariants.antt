@@ -1,5 +1,5 @@
 -- The board tells of the tables passed, the last first.
-use Rattle.std.proofs.Common.{◌*◌}
+use Rattle.plan_check.proofs.Common.{◌*◌}
 use Rattle.plan_check.proofs.TablePlaces.{TellsFrom}
 use Rattle.plan_check.proofs.places.set_places.Given as goal
 

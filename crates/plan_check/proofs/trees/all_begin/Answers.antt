@@ -1,8 +1,4 @@
-use Rattle.std.proofs.Common.{refl, arith}
-use Rattle.std.specs.Prelude.{All}
-use Rattle.spin_base.proofs.Tests.{fails, answers_no}
-use Rattle.machine_desc.specs.declared.trees.Edge.{Edge}
-use Rattle.plan_check.specs.Marks.{IsMarkedChip}
+use Rattle.plan_check.proofs.Common.{All, Edge, IsMarkedChip, answers_no, arith, fails, refl}
 use Rattle.plan_check.proofs.trees.all_begin.Goals as goal
 
 pub returns-then-not-is_marked : goal.returns-then-not-is_marked

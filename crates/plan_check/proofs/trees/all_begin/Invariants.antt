@@ -1,7 +1,5 @@
 -- The edges passed begin at chips with marks.
-use Rattle.std.proofs.Common.{ℕ, ◌<◌, get_or}
-use Rattle.machine_desc.specs.declared.trees.Edge.{Edge}
-use Rattle.plan_check.specs.Marks.{IsMarkedChip}
+use Rattle.plan_check.proofs.Common.{Edge, IsMarkedChip, get_or, ℕ, ◌<◌}
 use Rattle.plan_check.proofs.trees.all_begin.Given as goal
 
 abbrev pub invariant-loop-edge : goal.invariant-loop-edge

@@ -1,5 +1,5 @@
 -- Of the chips passed, each with a mark goes on.
-use Rattle.std.proofs.Common.{◌≡◌, ℕ, ◌<◌, true, false, get_or}
+use Rattle.plan_check.proofs.Common.{false, get_or, true, ℕ, ◌<◌, ◌≡◌}
 use Rattle.plan_check.proofs.trees.each_goes_on.Given as goal
 
 abbrev pub invariant-loop-i : goal.invariant-loop-i

@@ -1,5 +1,4 @@
-use Rattle.std.proofs.Common.{◌*◌, refl, sym, ap, subst, ◌∙◌}
-use Rattle.machine_desc.specs.{Description.Description, Live.index_of}
+use Rattle.plan_check.proofs.Common.{Description, ap, index_of, refl, subst, sym, ◌*◌, ◌∙◌}
 use Rattle.plan_check.proofs.Marking.{EnteredSoFar, entered_none, entered_at, not_entered_at, entered_tells}
 use Rattle.plan_check.proofs.trees.enters_once.Goals as goal
 

@@ -1,5 +1,5 @@
 -- The edges passed enter each chip once, and the chips that they enter have marks.
-use Rattle.std.proofs.Common.{◌≡◌}
+use Rattle.plan_check.proofs.Common.{◌≡◌}
 use Rattle.plan_check.proofs.Marking.{EnteredSoFar}
 use Rattle.plan_check.proofs.trees.enters_once.Given as goal
 

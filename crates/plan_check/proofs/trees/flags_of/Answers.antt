@@ -1,6 +1,4 @@
-use Rattle.std.proofs.Common.{◌*◌, refl, subst, ◌∙◌}
-use Rattle.std.proofs.lemmas.List.{take_all}
-use Rattle.plan_check.specs.Marks.{AreFlags}
+use Rattle.plan_check.proofs.Common.{AreFlags, refl, subst, take_all, ◌*◌, ◌∙◌}
 use Rattle.plan_check.proofs.TreeLaws.{no_flags, flag_more}
 use Rattle.plan_check.proofs.trees.flags_of.Goals as goal
 

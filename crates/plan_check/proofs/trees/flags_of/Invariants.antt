@@ -1,6 +1,5 @@
 -- The edges passed are flagged.
-use Rattle.std.proofs.Common.{◌≡◌, take}
-use Rattle.plan_check.specs.Marks.{AreFlags}
+use Rattle.plan_check.proofs.Common.{AreFlags, take, ◌≡◌}
 use Rattle.plan_check.proofs.trees.flags_of.Given as goal
 
 abbrev pub invariant-loop-edge : goal.invariant-loop-edge

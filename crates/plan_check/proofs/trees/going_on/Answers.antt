@@ -1,6 +1,4 @@
-use Rattle.std.proofs.Common.{◌*◌, [], refl, subst, ◌∙◌}
-use Rattle.std.proofs.lemmas.List.{take_all}
-use Rattle.plan_check.specs.Marks.{AreMarks, HasEdgeOrTarget}
+use Rattle.plan_check.proofs.Common.{AreMarks, HasEdgeOrTarget, [], refl, subst, take_all, ◌*◌, ◌∙◌}
 use Rattle.plan_check.proofs.{Marking.no_marks, TreeLaws.none_goes, TreeLaws.edge_goes, TreeLaws.target_goes}
 use Rattle.plan_check.proofs.trees.going_on.Goals as goal
 

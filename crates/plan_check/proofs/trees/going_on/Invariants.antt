@@ -1,6 +1,5 @@
 -- The chips of the edges passed have marks, and then those of the targets passed.
-use Rattle.std.proofs.Common.{◌≡◌, [], take}
-use Rattle.plan_check.specs.Marks.{AreMarks, HasEdgeOrTarget}
+use Rattle.plan_check.proofs.Common.{AreMarks, HasEdgeOrTarget, [], take, ◌≡◌}
 use Rattle.plan_check.proofs.trees.going_on.Given as goal
 
 abbrev pub invariant-loop-edge : goal.invariant-loop-edge

@@ -1,7 +1,5 @@
 -- The targets passed are on chips with marks.
-use Rattle.std.proofs.Common.{ℕ, ◌<◌, get_or}
-use Rattle.spin_base.specs.declared.chips.Spot.{Spot}
-use Rattle.plan_check.specs.Marks.{IsMarkedChip}
+use Rattle.plan_check.proofs.Common.{IsMarkedChip, Spot, get_or, ℕ, ◌<◌}
 use Rattle.plan_check.proofs.trees.has_all.Given as goal
 
 abbrev pub invariant-loop-target : goal.invariant-loop-target

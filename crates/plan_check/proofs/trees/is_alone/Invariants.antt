@@ -1,6 +1,5 @@
 -- The targets passed are on the root.
-use Rattle.std.proofs.Common.{◌≡◌, ℕ, ◌<◌, get_or}
-use Rattle.spin_base.specs.declared.chips.Spot.{Spot}
+use Rattle.plan_check.proofs.Common.{Spot, get_or, ℕ, ◌<◌, ◌≡◌}
 use Rattle.plan_check.proofs.trees.is_alone.Given as goal
 
 abbrev pub invariant-loop-target : goal.invariant-loop-target

@@ -1,9 +1,5 @@
-use Rattle.std.proofs.Common.{◌≡◌, ℕ, ◌<◌, ◌↔◌, IsTrue, List, Bool, true, false, length, get_or, sym, ◌∙◌, subst}
-use Rattle.std.specs.Prelude.{All}
-use Rattle.spin_base.proofs.Tests.{fails, answers_no}
-use Rattle.spin_base.specs.declared.chips.Spot.{Spot}
-use Rattle.machine_desc.specs.{declared.trees.Edge.Edge, Description.Description, RoutingTree.IsRoutingTree}
-use Rattle.plan_check.specs.Marks.{AreMarks, EntersOnce, IsMarkedChip, IsReachedChip}
+use Rattle.plan_check.proofs.Common.{All, AreMarks, Bool, Description, Edge, EntersOnce, IsMarkedChip, IsReachedChip, IsRoutingTree, IsTrue, List, Spot, answers_no, fails, false, get_or, length}
+use Rattle.plan_check.proofs.Common.{subst, sym, true, ℕ, ◌<◌, ◌↔◌, ◌∙◌, ◌≡◌}
 use Rattle.plan_check.proofs.TreeLaws.{begins_marked, targets_marked, is_tree_tells, once_of, once_inside, has_inside}
 use Rattle.plan_check.proofs.trees.is_routed.Goals as goal
 

@@ -1,7 +1,4 @@
-use Rattle.std.proofs.Common.{◌≡◌, ◌*◌, ◌<◌, ◌++◌, ◌∷◌, [], Some, true, false, length, sym, ap, ◌∙◌, subst, arith}
-use Rattle.spin_base.specs.declared.chips.Chip.{Chip}
-use Rattle.machine_desc.specs.{Description.Description, Live.index_of}
-use Rattle.plan_check.specs.Marks.{mark_at}
+use Rattle.plan_check.proofs.Common.{Chip, Description, Some, [], ap, arith, false, index_of, length, mark_at, subst, sym, true, ◌*◌, ◌++◌, ◌<◌, ◌∙◌, ◌∷◌, ◌≡◌}
 use Rattle.plan_check.proofs.Searching.{search_first, search_past, search_push, search_ended, from_inside, to_inside, flagged_goes, flagged_nowhere}
 use Rattle.plan_check.proofs.trees.reached_from.Goals.{in-Some+then-not-at+in_ok-push-2, in-Some+else-not-at, in_default}
 use Rattle.plan_check.proofs.trees.reached_from.Goals as goal

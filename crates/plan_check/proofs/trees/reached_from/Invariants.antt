@@ -1,5 +1,5 @@
 -- The links before the next were looked at.
-use Rattle.std.proofs.Common.{◌≡◌, ◌*◌, ◌-◌}
+use Rattle.plan_check.proofs.Common.{◌*◌, ◌-◌, ◌≡◌}
 use Rattle.plan_check.proofs.Searching.{Searching}
 use Rattle.plan_check.proofs.trees.reached_from.Given as goal
 

@@ -1,5 +1,4 @@
-use Rattle.std.proofs.Common.{subst}
-use Rattle.plan_check.specs.Verdicts.{IsVerdict}
+use Rattle.plan_check.proofs.Common.{IsVerdict, subst}
 use Rattle.plan_check.proofs.Lookups.{right_told, wrong_told}
 use Rattle.plan_check.proofs.verdicts.check.Goals as goal
 

@@ -1,5 +1,4 @@
-use Rattle.std.proofs.Common.{◌<◌, ◌≤◌, ◌∙◌, None, length, get_or, sym, subst}
-use Rattle.std.proofs.lemmas.List.{get_or_default}
+use Rattle.plan_check.proofs.Common.{None, get_or, get_or_default, length, subst, sym, ◌<◌, ◌∙◌, ◌≤◌}
 use Rattle.plan_check.proofs.Chips.{rows_valid, rows_few, flaw_found, fine_more, fine_to_the_end}
 use Rattle.plan_check.proofs.verdicts.first_flaw.Goals as goal
 

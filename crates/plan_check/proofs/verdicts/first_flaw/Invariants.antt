@@ -1,5 +1,5 @@
 -- The net is fine at the chips passed.
-use Rattle.plan_check.specs.Boards.{IsFineBelow}
+use Rattle.plan_check.proofs.Common.{IsFineBelow}
 use Rattle.plan_check.proofs.verdicts.first_flaw.Given as goal
 
 abbrev pub invariant-loop-index : goal.invariant-loop-index

@@ -1,4 +1,4 @@
-use Rattle.std.proofs.lemmas.List.{get_or-replicate}
+use Rattle.plan_check.proofs.Common.{get_or-replicate}
 use Rattle.plan_check.proofs.verdicts.place_board.Goals as goal
 
 pub returns : goal.returns

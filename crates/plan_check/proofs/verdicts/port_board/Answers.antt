@@ -1,5 +1,4 @@
-use Rattle.std.proofs.Common.{None}
-use Rattle.std.proofs.lemmas.List.{get_or-replicate}
+use Rattle.plan_check.proofs.Common.{None, get_or-replicate}
 use Rattle.plan_check.proofs.verdicts.port_board.Goals as goal
 
 pub returns : goal.returns

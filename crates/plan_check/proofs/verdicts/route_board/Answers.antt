@@ -1,5 +1,4 @@
-use Rattle.std.proofs.Common.{◌∙◌}
-use Rattle.std.proofs.lemmas.List.{get_or-replicate}
+use Rattle.plan_check.proofs.Common.{get_or-replicate, ◌∙◌}
 use Rattle.plan_check.proofs.verdicts.route_board.Goals as goal
 
 pub returns : goal.returns

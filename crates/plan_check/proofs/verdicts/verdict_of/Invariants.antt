@@ -1,5 +1,5 @@
 -- The nets passed are fine, and the boards are as long as before.
-use Rattle.std.proofs.Common.{◌≡◌, ◌*◌, length}
+use Rattle.plan_check.proofs.Common.{length, ◌*◌, ◌≡◌}
 use Rattle.plan_check.proofs.Chips.{AreFine}
 use Rattle.plan_check.proofs.verdicts.verdict_of.Given as goal
 

@@ -1,10 +1,4 @@
-use Rattle.std.proofs.Common.{ℕ, List, [], ◌∷◌, ◌++◌, map, take, sym, ap, ◌∙◌}
-use Rattle.std.specs.{List.zip, Option.option_map}
-use Rattle.std.proofs.lemmas.Option.{slice_get-map}
-use Rattle.spin_base.specs.declared.blocks.Block.{Block}
-use Rattle.machine_desc.specs.declared.nets.NetPlan.{NetPlan}
-use Rattle.app_graph.specs.declared.graphs.Net.{Net}
-use Rattle.spin_base.proofs.Places.{zip_more}
+use Rattle.run_report.proofs.Common.{Block, List, Net, NetPlan, [], ap, map, option_map, slice_get-map, sym, take, zip, zip_more, ℕ, ◌++◌, ◌∙◌, ◌∷◌}
 use Rattle.run_report.proofs.lists.keys_of.Goals as goal
 
 pub loop-i-preserved : goal.loop-i-preserved

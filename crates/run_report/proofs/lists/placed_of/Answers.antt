@@ -1,9 +1,4 @@
-use Rattle.std.proofs.Common.{ℕ, List, [], ◌∷◌, ◌++◌, map, take, sym, ap, ◌∙◌}
-use Rattle.std.specs.{List.zip, Option.option_map}
-use Rattle.std.proofs.lemmas.Option.{slice_get-map}
-use Rattle.spin_base.specs.declared.chips.Spot.{Spot}
-use Rattle.app_graph.specs.declared.graphs.Vertex.{Vertex}
-use Rattle.spin_base.proofs.Places.{zip_more}
+use Rattle.run_report.proofs.Common.{List, Spot, Vertex, [], ap, map, option_map, slice_get-map, sym, take, zip, zip_more, ℕ, ◌++◌, ◌∙◌, ◌∷◌}
 use Rattle.run_report.proofs.lists.placed_of.Goals as goal
 
 pub loop-i-preserved : goal.loop-i-preserved

@@ -1,6 +1,4 @@
-use Rattle.std.proofs.Common.{◌≡◌, take}
-use Rattle.std.specs.List.{zip}
-use Rattle.run_report.specs.Listed.{vertex_names}
+use Rattle.run_report.proofs.Common.{take, vertex_names, zip, ◌≡◌}
 use Rattle.run_report.proofs.lists.placed_of.Given as goal
 
 abbrev pub invariant-loop-i : goal.invariant-loop-i

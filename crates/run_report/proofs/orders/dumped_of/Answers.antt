@@ -1,7 +1,4 @@
-use Rattle.std.proofs.Common.{List, rules, subst, sym, ◌∙◌}
-use Rattle.std.proofs.lemmas.List.Sorted.{answers_always}
-use Rattle.spin_base.specs.declared.copies.DumpRec.{DumpRec}
-use Rattle.run_report.specs.{Keys.dump_numbers, Orders.IsSortedStably, RunReport.dump_key}
+use Rattle.run_report.proofs.Common.{DumpRec, IsSortedStably, List, answers_always, dump_key, dump_numbers, rules, subst, sym, ◌∙◌}
 use Rattle.run_report.proofs.Sorting.{in_order_of_four}
 use Rattle.run_report.proofs.orders.dumped_of.Goals as goal
 

@@ -1,5 +1,4 @@
-use Rattle.std.proofs.Common.{◌<◌, ◌^◌, sym, subst}
-use Rattle.run_report.specs.ReportText.{row_total}
+use Rattle.run_report.proofs.Common.{row_total, subst, sym, ◌<◌, ◌^◌}
 use Rattle.run_report.proofs.Listing.{few_rows}
 use Rattle.run_report.proofs.plans.plan_text.Goals as goal
 

@@ -1,7 +1,4 @@
-use Rattle.std.proofs.Common.{List, rules, refl, ap, subst, map, ◌∙◌}
-use Rattle.std.proofs.lemmas.List.Sorted.{answers_always}
-use Rattle.spin_base.specs.declared.copies.Delivery.{Delivery}
-use Rattle.run_report.specs.{Keys.delivery_numbers, Orders.IsSortedStably, Named.named_delivery, RunReport.delivery_key}
+use Rattle.run_report.proofs.Common.{Delivery, IsSortedStably, List, answers_always, ap, delivery_key, delivery_numbers, map, named_delivery, refl, rules, subst, ◌∙◌}
 use Rattle.run_report.proofs.Sorting.{in_order_of_two}
 use Rattle.run_report.proofs.reports.report_of.Goals as goal
 

@@ -1,5 +1,4 @@
-use Rattle.std.proofs.Common.{arith}
-use Rattle.run_report.specs.ReportText.{dump_line}
+use Rattle.run_report.proofs.Common.{arith, dump_line}
 use Rattle.run_report.proofs.Gathering.{put_at, put_all}
 use Rattle.run_report.proofs.texts.put_dumps.Goals as goal
 

@@ -1,6 +1,4 @@
-use Rattle.std.proofs.Common.{◌≡◌, ◌++◌, take}
-use Rattle.std.specs.List.{flat_map}
-use Rattle.run_report.specs.ReportText.{dump_line}
+use Rattle.run_report.proofs.Common.{dump_line, flat_map, take, ◌++◌, ◌≡◌}
 use Rattle.run_report.proofs.texts.put_dumps.Given as goal
 
 -- the lines so far are written

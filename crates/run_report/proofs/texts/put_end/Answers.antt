@@ -1,4 +1,4 @@
-use Rattle.std.proofs.Common.{ℕ, List, ◌++◌, ◌∙◌, ap, codes, decimal}
+use Rattle.run_report.proofs.Common.{List, ap, codes, decimal, ℕ, ◌++◌, ◌∙◌}
 use Rattle.run_report.proofs.Joining.{six_appended}
 use Rattle.run_report.proofs.texts.put_end.Goals as goal
 

@@ -1,4 +1,4 @@
-use Rattle.std.proofs.Common.{arith, refl}
+use Rattle.run_report.proofs.Common.{arith, refl}
 use Rattle.run_report.proofs.LastDigits.{line_put}
 use Rattle.run_report.proofs.texts.put_event.Goals as goal
 

@@ -1,6 +1,4 @@
-use Rattle.std.proofs.Common.{◌≡◌, ◌++◌, ◌/◌, take}
-use Rattle.spin_base.specs.Gathered.{gathered}
-use Rattle.run_report.specs.ReportText.{event_line, event_front}
+use Rattle.run_report.proofs.Common.{event_front, event_line, gathered, take, ◌++◌, ◌/◌, ◌≡◌}
 use Rattle.run_report.proofs.texts.put_events.Given as goal
 
 -- the lines so far are written, and the front is that of the last number

@@ -1,4 +1,4 @@
-use Rattle.std.proofs.Common.{◌∙◌, arith}
+use Rattle.run_report.proofs.Common.{arith, ◌∙◌}
 use Rattle.run_report.proofs.LastDigits.{cut_back}
 use Rattle.run_report.proofs.texts.put_front.Goals as goal
 

@@ -1,7 +1,4 @@
-use Rattle.std.proofs.Common.{◌++◌, ◌∙◌, ap, ap₂, map, sym, arith}
-use Rattle.std.specs.List.{flat_map}
-use Rattle.std.proofs.lemmas.List.Folds.{flat_map-map}
-use Rattle.run_report.specs.{Named.named_delivery, ReportText.got_line}
+use Rattle.run_report.proofs.Common.{ap, ap₂, arith, flat_map, flat_map-map, got_line, map, named_delivery, sym, ◌++◌, ◌∙◌}
 use Rattle.run_report.proofs.Gathering.{put_at, put_all}
 use Rattle.run_report.proofs.texts.put_gots.Goals as goal
 

@@ -1,6 +1,4 @@
-use Rattle.std.proofs.Common.{◌≡◌, ◌++◌, take}
-use Rattle.std.specs.List.{flat_map}
-use Rattle.run_report.specs.{Named.named_delivery, ReportText.got_line}
+use Rattle.run_report.proofs.Common.{flat_map, got_line, named_delivery, take, ◌++◌, ◌≡◌}
 use Rattle.run_report.proofs.texts.put_gots.Given as goal
 
 -- the lines so far are written

@@ -1,6 +1,4 @@
-use Rattle.std.proofs.Common.{◌≡◌, ◌++◌, take}
-use Rattle.std.specs.List.{flat_map}
-use Rattle.run_report.specs.ReportText.{place_line}
+use Rattle.run_report.proofs.Common.{flat_map, place_line, take, ◌++◌, ◌≡◌}
 use Rattle.run_report.proofs.texts.put_places.Given as goal
 
 -- the lines so far are written

@@ -1,5 +1,4 @@
-use Rattle.std.proofs.Common.{arith}
-use Rattle.run_report.specs.ReportText.{row_line}
+use Rattle.run_report.proofs.Common.{arith, row_line}
 use Rattle.run_report.proofs.Gathering.{put_more, put_all}
 use Rattle.run_report.proofs.texts.put_rows.Goals as goal
 

@@ -1,6 +1,4 @@
-use Rattle.std.proofs.Common.{◌≡◌, ◌++◌, take}
-use Rattle.std.specs.List.{flat_map}
-use Rattle.run_report.specs.ReportText.{table_lines}
+use Rattle.run_report.proofs.Common.{flat_map, table_lines, take, ◌++◌, ◌≡◌}
 use Rattle.run_report.proofs.texts.put_tables.Given as goal
 
 -- the lines so far are written

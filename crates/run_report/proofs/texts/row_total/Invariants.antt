@@ -1,5 +1,4 @@
-use Rattle.std.proofs.Common.{◌≡◌, take}
-use Rattle.run_report.specs.ReportText.{row_total}
+use Rattle.run_report.proofs.Common.{row_total, take, ◌≡◌}
 use Rattle.run_report.proofs.texts.row_total.Given as goal
 
 -- the rows of the tables so far

@@ -1,7 +1,4 @@
-use Rattle.std.proofs.Common.{◌≡◌, ℕ, List, ◌++◌, ◌∙◌, ap}
-use Rattle.std.specs.List.{flat_map}
-use Rattle.spin_base.specs.declared.{blocks.Block.Block, blocks.ChipTable.ChipTable, chips.Spot.Spot}
-use Rattle.run_report.specs.ReportText.{place_line, keys_line, table_lines, event_lines, dump_line, wait_line, report_text}
+use Rattle.run_report.proofs.Common.{Block, ChipTable, List, Spot, ap, dump_line, event_lines, flat_map, keys_line, place_line, report_text, table_lines, wait_line, ℕ, ◌++◌, ◌∙◌, ◌≡◌}
 use Rattle.run_report.proofs.Joining.{then_more}
 use Rattle.run_report.proofs.texts.text_of.Goals as goal
 

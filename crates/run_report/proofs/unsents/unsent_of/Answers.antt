@@ -1,6 +1,4 @@
-use Rattle.std.proofs.Common.{◌≡◌, ℕ, ◌+◌, ◌-◌, ◌^◌, ◌∙◌, sym, ap, length, min, sum_by}
-use Rattle.std.specs.List.{range_with_len}
-use Rattle.run_report.specs.RunReport.{copies_at, unsent_by}
+use Rattle.run_report.proofs.Common.{ap, copies_at, length, min, range_with_len, sum_by, sym, unsent_by, ℕ, ◌+◌, ◌-◌, ◌^◌, ◌∙◌, ◌≡◌}
 use Rattle.run_report.proofs.Gathering.{sum_more, capped_more}
 use Rattle.run_report.proofs.unsents.unsent_of.Goals as goal
 

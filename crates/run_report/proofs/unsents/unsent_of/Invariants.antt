@@ -1,6 +1,4 @@
-use Rattle.std.proofs.Common.{◌≡◌, ◌-◌, ◌^◌, min, sum_by}
-use Rattle.std.specs.List.{range_with_len}
-use Rattle.run_report.specs.RunReport.{unsent_by}
+use Rattle.run_report.proofs.Common.{min, range_with_len, sum_by, unsent_by, ◌-◌, ◌^◌, ◌≡◌}
 use Rattle.run_report.proofs.unsents.unsent_of.Given as goal
 
 abbrev pub invariant-loop-vertex : goal.invariant-loop-vertex

@@ -1,8 +1,4 @@
-use Rattle.std.proofs.Common.{◌++◌, ◌∙◌, sym, ap, ap₂, arith, map}
-use Rattle.std.specs.List.{flat_map, range_with_len}
-use Rattle.std.proofs.lemmas.List.{flat_map_more, FromFn.map-range_with_len_more}
-use Rattle.machine_desc.specs.{Description.Description, Live.chip_of}
-use Rattle.run_report.specs.RunReport.{chip_waits}
+use Rattle.run_report.proofs.Common.{Description, ap, ap₂, arith, chip_of, chip_waits, flat_map, flat_map_more, map, map-range_with_len_more, range_with_len, sym, ◌++◌, ◌∙◌}
 use Rattle.run_report.proofs.waits.put_chips.Goals as goal
 
 pub loop-index-preserved : goal.loop-index-preserved

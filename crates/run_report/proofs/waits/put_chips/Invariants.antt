@@ -1,7 +1,4 @@
-use Rattle.std.proofs.Common.{◌≡◌, ◌++◌, map}
-use Rattle.std.specs.List.{flat_map, range_with_len}
-use Rattle.machine_desc.specs.Live.{chip_of}
-use Rattle.run_report.specs.RunReport.{chip_waits}
+use Rattle.run_report.proofs.Common.{chip_of, chip_waits, flat_map, map, range_with_len, ◌++◌, ◌≡◌}
 use Rattle.run_report.proofs.waits.put_chips.Given as goal
 
 abbrev pub invariant-loop-index : goal.invariant-loop-index

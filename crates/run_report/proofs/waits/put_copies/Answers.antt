@@ -1,5 +1,4 @@
-use Rattle.std.proofs.Common.{arith}
-use Rattle.spin_base.specs.declared.copies.McCopy.{McCopy}
+use Rattle.run_report.proofs.Common.{McCopy, arith}
 use Rattle.run_report.proofs.Gathering.{pushed_at, pushed_all}
 use Rattle.run_report.proofs.waits.put_copies.Goals as goal
 

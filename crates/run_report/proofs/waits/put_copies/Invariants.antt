@@ -1,5 +1,4 @@
-use Rattle.std.proofs.Common.{◌≡◌, ◌++◌, take}
-use Rattle.run_report.specs.RunReport.{waits_at}
+use Rattle.run_report.proofs.Common.{take, waits_at, ◌++◌, ◌≡◌}
 use Rattle.run_report.proofs.waits.put_copies.Given as goal
 
 abbrev pub invariant-loop-copy : goal.invariant-loop-copy

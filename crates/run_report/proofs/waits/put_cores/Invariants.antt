@@ -1,6 +1,4 @@
-use Rattle.std.proofs.Common.{◌≡◌, ◌++◌, take}
-use Rattle.spin_base.specs.Gathered.{gathered}
-use Rattle.run_report.specs.RunReport.{core_waits}
+use Rattle.run_report.proofs.Common.{core_waits, gathered, take, ◌++◌, ◌≡◌}
 use Rattle.run_report.proofs.waits.put_cores.Given as goal
 
 abbrev pub invariant-loop-vertex : goal.invariant-loop-vertex

@@ -1,5 +1,4 @@
-use Rattle.std.proofs.Common.{◌≡◌, ◌++◌, take, map}
-use Rattle.mesh_core.specs.declared.places.Place.TheVariants.{Hand}
+use Rattle.run_report.proofs.Common.{Hand, map, take, ◌++◌, ◌≡◌}
 use Rattle.run_report.proofs.waits.put_outs.Given as goal
 
 abbrev pub invariant-loop-out : goal.invariant-loop-out

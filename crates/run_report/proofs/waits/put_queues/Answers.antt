@@ -1,5 +1,4 @@
-use Rattle.std.proofs.Common.{arith}
-use Rattle.run_report.specs.RunReport.{queue_waits}
+use Rattle.run_report.proofs.Common.{arith, queue_waits}
 use Rattle.run_report.proofs.Gathering.{put_at, put_all}
 use Rattle.run_report.proofs.waits.put_queues.Goals as goal
 

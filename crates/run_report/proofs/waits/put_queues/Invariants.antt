@@ -1,6 +1,4 @@
-use Rattle.std.proofs.Common.{◌≡◌, ◌++◌, take}
-use Rattle.std.specs.List.{flat_map}
-use Rattle.run_report.specs.RunReport.{queue_waits}
+use Rattle.run_report.proofs.Common.{flat_map, queue_waits, take, ◌++◌, ◌≡◌}
 use Rattle.run_report.proofs.waits.put_queues.Given as goal
 
 -- what waits at the ports so far is there

@@ -1,6 +1,4 @@
-use Rattle.std.proofs.Common.{rules}
-use Rattle.std.proofs.lemmas.List.Sorted.{answers_always}
-use Rattle.run_report.specs.Keys.{wait_numbers}
+use Rattle.run_report.proofs.Common.{answers_always, rules, wait_numbers}
 use Rattle.run_report.proofs.Sorting.{in_order_of_five}
 use Rattle.run_report.proofs.waits.sort_waits.Goals as goal
 

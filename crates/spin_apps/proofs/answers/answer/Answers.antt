@@ -1,6 +1,4 @@
-use Rattle.std.proofs.Common.{Option, OnOk, sym, subst, string_bytes}
-use Rattle.app_loads.specs.Host.{Host}
-use Rattle.spin_apps.specs.Answers.{AreAnswered}
+use Rattle.spin_apps.proofs.Common.{AreAnswered, Host, OnOk, Option, string_bytes, subst, sym}
 use Rattle.spin_apps.proofs.Chain.{all_apps, all_given, all_only, all_told}
 use Rattle.spin_apps.proofs.answers.answer.Goals as goal
 

@@ -1,6 +1,4 @@
-use Rattle.std.proofs.Common.{refl, sym, subst, Result}
-use Rattle.std.specs.Prelude.{IsOk}
-use Rattle.spin_base.specs.declared.wants.Memory.{Memory}
+use Rattle.spin_apps.proofs.Common.{IsOk, Memory, Result, refl, subst, sym}
 use Rattle.spin_apps.proofs.answers.finished.Goals as goal
 
 pub returns-in-Ok : goal.returns-in-Ok

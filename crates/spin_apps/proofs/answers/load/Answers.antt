@@ -1,6 +1,4 @@
-use Rattle.std.proofs.Common.{Option, ap}
-use Rattle.app_loads.specs.Host.{Host}
-use Rattle.spin_apps.specs.Answers.{host_at}
+use Rattle.spin_apps.proofs.Common.{Host, Option, ap, host_at}
 use Rattle.spin_apps.proofs.answers.load.Goals as goal
 
 pub returns-in-Some : goal.returns-in-Some

@@ -1,4 +1,4 @@
-use Rattle.std.proofs.Common.{string_bytes, arith}
+use Rattle.spin_apps.proofs.Common.{arith, string_bytes}
 use Rattle.spin_apps.proofs.Chain.{told_load}
 use Rattle.spin_apps.proofs.answers.load_on.Goals as goal
 

@@ -1,10 +1,4 @@
-use Rattle.std.proofs.Common.{◌≡◌, refl, sym, ap, subst, arith, Option, Some, string_bytes, rules}
-use Rattle.std.proofs.lemmas.Option.{slice_get_read}
-use Rattle.std.specs.List.{slice_get}
-use Rattle.spin_base.proofs.Places.{All-at}
-use Rattle.job_requests.specs.Valid.{IsValidStep}
-use Rattle.app_loads.specs.Host.{Host}
-use Rattle.spin_apps.specs.Hosting.{FindHosts, packet_count_of}
+use Rattle.spin_apps.proofs.Common.{All-at, FindHosts, Host, IsValidStep, Option, Some, ap, arith, packet_count_of, refl, rules, slice_get, slice_get_read, string_bytes, subst, sym, ◌≡◌}
 use Rattle.spin_apps.proofs.Chain.{find_after, finds_host, goes_all, goes_first, goes_more, packets_more}
 use Rattle.spin_apps.proofs.answers.take_all.Goals as goal
 

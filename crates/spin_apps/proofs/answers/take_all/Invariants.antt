@@ -1,5 +1,4 @@
-use Rattle.std.proofs.Common.{◌*◌, ◌≤◌, drop, string_bytes}
-use Rattle.spin_apps.specs.Hosting.{FindHosts, packet_count_of}
+use Rattle.spin_apps.proofs.Common.{FindHosts, drop, packet_count_of, string_bytes, ◌*◌, ◌≤◌}
 use Rattle.spin_apps.proofs.Chain.{GoesOn}
 use Rattle.spin_apps.proofs.answers.take_all.Given as goal
 

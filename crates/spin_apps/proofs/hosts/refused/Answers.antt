@@ -1,5 +1,4 @@
-use Rattle.std.proofs.Common.{refl, subst}
-use Rattle.app_loads.specs.Loading.{IsWhyNotLoaded}
+use Rattle.spin_apps.proofs.Common.{IsWhyNotLoaded, refl, subst}
 use Rattle.spin_apps.proofs.hosts.refused.Goals as goal
 
 pub returns-in-Refused : goal.returns-in-Refused

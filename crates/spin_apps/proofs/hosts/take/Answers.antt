@@ -1,8 +1,4 @@
-use Rattle.std.proofs.Common.{IfOk, List, sym, subst}
-use Rattle.spin_base.specs.declared.chips.Spot.{Spot}
-use Rattle.place_fit.specs.Boards.{IsWith}
-use Rattle.app_loads.specs.Host.{Host}
-use Rattle.spin_apps.specs.{Free.free_but, Free.free_machine, Hosting.IsTaken}
+use Rattle.spin_apps.proofs.Common.{Host, IfOk, IsTaken, IsWith, List, Spot, free_but, free_machine, subst, sym}
 use Rattle.spin_apps.proofs.{Keeping.with_spots, Serving.free_after_load, Serving.free_after_refusal, Serving.machine_after_load}
 use Rattle.spin_apps.proofs.hosts.take.Goals as goal
 

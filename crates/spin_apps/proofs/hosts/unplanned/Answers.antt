@@ -1,5 +1,4 @@
-use Rattle.std.proofs.Common.{refl, subst}
-use Rattle.spin_apps.specs.Plans.{IsWhyUnplanned}
+use Rattle.spin_apps.proofs.Common.{IsWhyUnplanned, refl, subst}
 use Rattle.spin_apps.proofs.hosts.unplanned.Goals as goal
 
 pub returns-in-NoRoom : goal.returns-in-NoRoom

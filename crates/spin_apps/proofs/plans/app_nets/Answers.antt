@@ -1,8 +1,4 @@
-use Rattle.std.proofs.Common.{subst, sym, rules}
-use Rattle.std.proofs.lemmas.List.{take_all}
-use Rattle.std.specs.List.{AllZip}
-use Rattle.net_plans.specs.Cause.{IsNetCause}
-use Rattle.spin_apps.specs.Plans.{IsNetFor}
+use Rattle.spin_apps.proofs.Common.{AllZip, IsNetCause, IsNetFor, rules, subst, sym, take_all}
 use Rattle.spin_apps.proofs.Planning.{why_net, nets_more, reached_more, valid_more}
 use Rattle.spin_apps.proofs.plans.app_nets.Goals as goal
 

@@ -1,7 +1,4 @@
-use Rattle.std.proofs.Common.{take}
-use Rattle.std.specs.List.{All, AllZip}
-use Rattle.app_loads.specs.Plans.{IsAppNet}
-use Rattle.spin_apps.specs.Plans.{IsNetFor}
+use Rattle.spin_apps.proofs.Common.{All, AllZip, IsAppNet, IsNetFor, take}
 use Rattle.spin_apps.proofs.Planning.{AreReachedBelow}
 use Rattle.spin_apps.proofs.plans.app_nets.Given as goal
 

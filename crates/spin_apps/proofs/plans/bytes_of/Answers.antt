@@ -1,7 +1,4 @@
-use Rattle.std.proofs.Common.{◌++◌, ◌∷◌, [], ◌∙◌, sym, ap, map, rules}
-use Rattle.std.proofs.lemmas.List.{take_all}
-use Rattle.spin_base.proofs.Places.{map_more_at}
-use Rattle.app_graph.specs.declared.graphs.Vertex.{Vertex}
+use Rattle.spin_apps.proofs.Common.{Vertex, [], ap, map, map_more_at, rules, sym, take_all, ◌++◌, ◌∙◌, ◌∷◌}
 use Rattle.spin_apps.proofs.plans.bytes_of.Goals as goal
 
 pub loop-i-preserved : goal.loop-i-preserved

@@ -1,5 +1,4 @@
-use Rattle.std.proofs.Common.{◌≡◌, map, take}
-use Rattle.app_graph.specs.declared.graphs.Vertex.{Vertex}
+use Rattle.spin_apps.proofs.Common.{Vertex, map, take, ◌≡◌}
 use Rattle.spin_apps.proofs.plans.bytes_of.Given as goal
 
 -- the bytes of the vertices so far

@@ -1,5 +1,4 @@
-use Rattle.std.proofs.Common.{sym, subst}
-use Rattle.spin_apps.specs.{Free.free_but, Free.free_machine, Plans.IsWhyUnplanned}
+use Rattle.spin_apps.proofs.Common.{IsWhyUnplanned, free_but, free_machine, subst, sym}
 use Rattle.spin_apps.proofs.{FreeSpots.placed_usable, Keeping.without_spots, Planning.why_unplaced}
 use Rattle.spin_apps.proofs.plans.placed.Goals as goal
 

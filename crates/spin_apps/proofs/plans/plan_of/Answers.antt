@@ -1,7 +1,4 @@
-use Rattle.std.proofs.Common.{List, sym, subst, rules}
-use Rattle.spin_base.specs.declared.chips.Spot.{Spot}
-use Rattle.place_fit.specs.Boards.{IsWith}
-use Rattle.spin_apps.specs.{Free.free_but, Free.free_machine, Plans.IsWhyUnplanned}
+use Rattle.spin_apps.proofs.Common.{IsWhyUnplanned, IsWith, List, Spot, free_but, free_machine, rules, subst, sym}
 use Rattle.spin_apps.proofs.{FreeSpots.free_sites, FreeSpots.free_untaken, FreeSpots.placed_free, Keeping.with_spots, Planning.nets_on, Planning.plan_for, Planning.plan_valid, Planning.why_unrouted}
 use Rattle.spin_apps.proofs.plans.plan_of.Goals as goal
 

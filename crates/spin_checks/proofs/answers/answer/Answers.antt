@@ -1,4 +1,4 @@
-use Rattle.std.proofs.Common.{Ok, rules}
+use Rattle.spin_checks.proofs.Common.{Ok, rules}
 use Rattle.spin_checks.proofs.{Compiled.right_or_memory, Meaning.right_means, Meaning.wrong_means, OneAnswer.one_answer, Refusing.refused_answer}
 use Rattle.spin_checks.proofs.answers.answer.Goals as goal
 

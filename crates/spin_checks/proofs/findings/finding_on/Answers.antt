@@ -1,7 +1,4 @@
-use Rattle.std.proofs.Common.{◌≡◌, subst, sym}
-use Rattle.table_load.specs.{Memories.IsLoaded, declared.tables.Image.Image}
-use Rattle.plan_check.specs.{Verdicts.IsMisrouted, declared.verdicts.Verdict.Verdict}
-use Rattle.spin_checks.specs.declared.findings.Finding.TheVariants.{Judged}
+use Rattle.spin_checks.proofs.Common.{Image, IsLoaded, IsMisrouted, Judged, Verdict, subst, sym, ◌≡◌}
 use Rattle.spin_checks.proofs.OneVerdict.{wrong_named}
 use Rattle.spin_checks.proofs.findings.finding_on.Goals as goal
 

@@ -1,6 +1,4 @@
-use Rattle.std.proofs.Common.{rules}
-use Rattle.spin_base.proofs.Tests.{fails}
-use Rattle.spin_checks.specs.Findings.{HasGoodTree}
+use Rattle.spin_checks.proofs.Common.{HasGoodTree, fails, rules}
 use Rattle.spin_checks.proofs.Growing.{good_more, all_good}
 use Rattle.spin_checks.proofs.findings.first_bad.Goals as goal
 

@@ -1,6 +1,4 @@
-use Rattle.std.proofs.Common.{◌≡◌, ◌-◌, ◌^◌, ◌++◌, ◌∙◌, [], false, subst, ap, string_bytes}
-use Rattle.std.specs.{Fmt.digits, Fmt.padded_integral, Fmt.format_spec, Fmt.styled_digits_output, Fmt.AppendsText, Option.option_map}
-use Rattle.run_report.proofs.HexDigits.{word_text}
+use Rattle.spin_checks.proofs.Common.{AppendsText, [], ap, digits, false, format_spec, option_map, padded_integral, string_bytes, styled_digits_output, subst, word_text, ◌++◌, ◌-◌, ◌^◌, ◌∙◌, ◌≡◌}
 use Rattle.spin_checks.proofs.lines.put_word.Goals as goal
 
 pub returns : goal.returns

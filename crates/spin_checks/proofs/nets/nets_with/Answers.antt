@@ -1,8 +1,4 @@
-use Rattle.std.proofs.Common.{length, sym, subst}
-use Rattle.std.specs.List.{All}
-use Rattle.std.proofs.lemmas.List.Elements.{All-weaker}
-use Rattle.app_graph.specs.ValidGraph.{IsValidNet}
-use Rattle.net_plans.specs.Ways.{HasEndsAmong}
+use Rattle.spin_checks.proofs.Common.{All, All-weaker, HasEndsAmong, IsValidNet, length, subst, sym}
 use Rattle.spin_checks.proofs.{Refusing.key_due, Refusing.place_due, Refusing.refused_nets, Sites.all_on_sites}
 use Rattle.spin_checks.proofs.nets.nets_with.Goals as goal
 

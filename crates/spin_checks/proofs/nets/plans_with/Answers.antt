@@ -1,7 +1,4 @@
-use Rattle.std.proofs.Common.{Some, ◌<◌, length, ◌∙◌, sym, ap, rules}
-use Rattle.std.proofs.lemmas.Option.{slice_get-get_or}
-use Rattle.spin_base.proofs.Places.{All-at}
-use Rattle.net_plans.specs.Ways.{HasEndsAmong}
+use Rattle.spin_checks.proofs.Common.{All-at, HasEndsAmong, Some, ap, length, rules, slice_get-get_or, sym, ◌<◌, ◌∙◌}
 use Rattle.spin_checks.proofs.Growing.{plans_more}
 use Rattle.spin_checks.proofs.nets.plans_with.Goals as goal
 

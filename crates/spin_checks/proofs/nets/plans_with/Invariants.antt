@@ -1,6 +1,5 @@
 -- The nets passed have their plans.
-use Rattle.std.proofs.Common.{◌≡◌, length}
-use Rattle.spin_checks.specs.Nets.{IsEachNetWith}
+use Rattle.spin_checks.proofs.Common.{IsEachNetWith, length, ◌≡◌}
 use Rattle.spin_checks.proofs.nets.plans_with.Given as goal
 
 abbrev pub invariant-loop-i : goal.invariant-loop-i

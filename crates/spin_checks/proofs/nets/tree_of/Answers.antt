@@ -1,8 +1,4 @@
-use Rattle.std.proofs.Common.{List, sym, subst, rules}
-use Rattle.std.proofs.lemmas.List.Sorted.{answers_always}
-use Rattle.std.specs.List.{AllPairs}
-use Rattle.machine_desc.specs.declared.trees.Edge.{Edge}
-use Rattle.machine_desc.specs.EdgeOrder.{IsEdgeBefore, edge_key}
+use Rattle.spin_checks.proofs.Common.{AllPairs, Edge, IsEdgeBefore, List, answers_always, edge_key, rules, subst, sym}
 use Rattle.spin_checks.proofs.Sorting.{never_falls}
 use Rattle.spin_checks.proofs.nets.tree_of.Goals as goal
 

@@ -1,8 +1,4 @@
-use Rattle.std.proofs.Common.{◌<◌, ◌^◌, List, [], refl, sym, ap, subst, ◌∙◌}
-use Rattle.mesh_core.specs.{State.Setup, declared.places.Did.Did}
-use Rattle.run_report.specs.ReportText.{row_total, summary_text}
-use Rattle.run_report.proofs.Listing.{few_rows}
-use Rattle.spin_jobs.specs.{Planned.JobWithPlan, Words.IsReported}
+use Rattle.spin_jobs.proofs.Common.{Did, IsReported, JobWithPlan, List, Setup, [], ap, few_rows, refl, row_total, subst, summary_text, sym, ◌<◌, ◌^◌, ◌∙◌}
 use Rattle.spin_jobs.proofs.{AtRest.is_kept, AtRest.ran_out, AtRest.reported_of, AtRest.told_count, AtRest.told_none, Generating.generated_roomy}
 use Rattle.spin_jobs.proofs.makes.generated.Goals as goal
 

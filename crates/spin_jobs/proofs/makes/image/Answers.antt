@@ -1,8 +1,4 @@
-use Rattle.std.proofs.Common.{List, refl, sym, ap, ◌∙◌, subst}
-use Rattle.spin_base.specs.declared.blocks.Entry.{Entry}
-use Rattle.machine_desc.specs.RightTables.{AreRight}
-use Rattle.table_load.specs.{declared.tables.Image.Image, Images.Spells}
-use Rattle.spin_jobs.specs.Planned.{IsValidWithPlan, JobWithPlan, tables_image}
+use Rattle.spin_jobs.proofs.Common.{AreRight, Entry, Image, IsValidWithPlan, JobWithPlan, List, Spells, ap, refl, subst, sym, tables_image, ◌∙◌}
 use Rattle.spin_jobs.proofs.makes.image.Goals as goal
 
 pub returns : goal.returns

@@ -1,6 +1,4 @@
-use Rattle.std.proofs.Common.{refl, sym, ap, ◌∙◌}
-use Rattle.mesh_core.specs.State.{Setup}
-use Rattle.spin_jobs.specs.Planned.{JobWithPlan}
+use Rattle.spin_jobs.proofs.Common.{JobWithPlan, Setup, ap, refl, sym, ◌∙◌}
 use Rattle.spin_jobs.proofs.AtRest.{reported_of}
 use Rattle.spin_jobs.proofs.makes.reported.Goals as goal
 

@@ -1,7 +1,5 @@
-use Rattle.std.proofs.Common.{List, take, sym, ap, subst, ◌∙◌}
-use Rattle.spin_base.specs.declared.copies.Event.{Event}
-use Rattle.mesh_core.specs.{State.State, State.IsMesh, Step.after_events, Step.answers_of, Opened.MeetsJobLedger}
-use Rattle.spin_jobs.specs.{declared.outcomes.WordOutput.WordOutput, Parts.parts_with, Planned.opened_of, Planned.IsValidWithPlan, Planned.JobWithPlan, Words.IsTraced, Words.Reports, Words.TellsRun}
+use Rattle.spin_jobs.proofs.Common.{Event, IsMesh, IsTraced, IsValidWithPlan, JobWithPlan, List, MeetsJobLedger, Reports, State, TellsRun, WordOutput, after_events, answers_of, ap, opened_of}
+use Rattle.spin_jobs.proofs.Common.{parts_with, subst, sym, take, ◌∙◌}
 use Rattle.spin_jobs.proofs.{AtRest.reports, Tracing.traced_ledger, WordLaws.ok_weaker}
 use Rattle.spin_jobs.proofs.makes.trace.Goals as goal
 

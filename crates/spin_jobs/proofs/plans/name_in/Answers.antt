@@ -1,7 +1,4 @@
-use Rattle.std.proofs.Common.{◌≡◌, ◌∙◌}
-use Rattle.std.proofs.lemmas.Result.{IfOk-weaker}
-use Rattle.par_compile.specs.declared.compiling.CompileErr.TheVariants.{NoRoom, KeysOut, CutOff}
-use Rattle.spin_jobs.specs.Unplanned.{IsNameIn}
+use Rattle.spin_jobs.proofs.Common.{CutOff, IfOk-weaker, IsNameIn, KeysOut, NoRoom, ◌∙◌, ◌≡◌}
 use Rattle.spin_jobs.proofs.Exclusive.{name_in_same}
 use Rattle.spin_jobs.proofs.plans.name_in.Goals as goal
 

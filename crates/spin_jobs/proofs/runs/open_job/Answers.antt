@@ -1,10 +1,4 @@
-use Rattle.std.proofs.Common.{◌∙◌, ap, arith, sym, subst}
-use Rattle.std.proofs.lemmas.List.{length-map}
-use Rattle.app_graph.specs.RunPart.{IsRunOf}
-use Rattle.mesh_core.specs.State.{Setup}
-use Rattle.mesh_drain.specs.Opening.{CanOpen}
-use Rattle.par_compile.specs.Finals.{loaded_of}
-use Rattle.spin_jobs.specs.Planned.{JobWithPlan, setup_of}
+use Rattle.spin_jobs.proofs.Common.{CanOpen, IsRunOf, JobWithPlan, Setup, ap, arith, length-map, loaded_of, setup_of, subst, sym, ◌∙◌}
 use Rattle.spin_jobs.proofs.Opening.{job_of_nets, opened_ready}
 use Rattle.spin_jobs.proofs.runs.open_job.Goals as goal
 

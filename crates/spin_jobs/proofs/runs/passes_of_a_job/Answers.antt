@@ -1,7 +1,4 @@
-use Rattle.std.proofs.Common.{subst}
-use Rattle.mesh_core.specs.State.{State, IsMesh}
-use Rattle.mesh_round.specs.Reinjecting.{HasPasses}
-use Rattle.spin_jobs.specs.Planned.{opened_of}
+use Rattle.spin_jobs.proofs.Common.{HasPasses, IsMesh, State, opened_of, subst}
 use Rattle.spin_jobs.proofs.Running.{by_passes, kept_passes}
 use Rattle.spin_jobs.proofs.runs.passes_of_a_job.Goals as goal
 

@@ -1,6 +1,4 @@
-use Rattle.std.proofs.Common.{ℕ, ap, sym, subst, ◌∙◌}
-use Rattle.mesh_round.specs.Reinjecting.{HasPasses, IsOfNets}
-use Rattle.spin_jobs.specs.Planned.{opened_of, JobWithPlan}
+use Rattle.spin_jobs.proofs.Common.{HasPasses, IsOfNets, JobWithPlan, ap, opened_of, subst, sym, ℕ, ◌∙◌}
 use Rattle.spin_jobs.proofs.Opening.{opened_keeps}
 use Rattle.spin_jobs.proofs.runs.reinject_job.Goals as goal
 

@@ -1,7 +1,4 @@
-use Rattle.std.proofs.Common.{subst}
-use Rattle.mesh_core.specs.State.{State, IsMesh}
-use Rattle.mesh_round.specs.{Bound.LeadsSoon, RoundFlow.HasRounds}
-use Rattle.spin_jobs.specs.Planned.{opened_of}
+use Rattle.spin_jobs.proofs.Common.{HasRounds, IsMesh, LeadsSoon, State, opened_of, subst}
 use Rattle.spin_jobs.proofs.Running.{by_rounds, none_dropped, reached_soon, soon_leads}
 use Rattle.spin_jobs.proofs.runs.rounds_of_a_job.Goals as goal
 

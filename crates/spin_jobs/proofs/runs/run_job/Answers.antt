@@ -1,6 +1,4 @@
-use Rattle.std.proofs.Common.{ℕ, ap, sym, subst, ◌∙◌}
-use Rattle.mesh_round.specs.Bound.{LeadsSoon}
-use Rattle.spin_jobs.specs.Planned.{opened_of, JobWithPlan}
+use Rattle.spin_jobs.proofs.Common.{JobWithPlan, LeadsSoon, ap, opened_of, subst, sym, ℕ, ◌∙◌}
 use Rattle.spin_jobs.proofs.runs.run_job.Goals as goal
 
 pub returns-in-Ok : goal.returns-in-Ok

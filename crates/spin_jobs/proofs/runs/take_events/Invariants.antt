@@ -1,5 +1,4 @@
-use Rattle.std.proofs.Common.{◌≡◌, take}
-use Rattle.mesh_core.specs.Step.{after_events, answers_of}
+use Rattle.spin_jobs.proofs.Common.{after_events, answers_of, take, ◌≡◌}
 use Rattle.spin_jobs.proofs.runs.take_events.Given as goal
 
 -- the mesh and the answers after the events so far

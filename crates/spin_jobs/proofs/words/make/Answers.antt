@@ -1,7 +1,4 @@
-use Rattle.std.proofs.Common.{◌≡◌}
-use Rattle.job_gen.specs.Generated.{gen_job}
-use Rattle.spin_jobs.specs.{Reinjecting.HasReinjected, Runs.HasRunOut, Words.Images, Words.IsTraced, Words.Lists, Words.Reports, Words.Summarises, Words.generated, Words.imaged, Words.listed}
-use Rattle.spin_jobs.specs.Words.{ran, reinjected, traced}
+use Rattle.spin_jobs.proofs.Common.{HasReinjected, HasRunOut, Images, IsTraced, Lists, Reports, Summarises, gen_job, generated, imaged, listed, ran, reinjected, traced, ◌≡◌}
 use Rattle.spin_jobs.proofs.{AtRest.ran_out, AtRest.reinjected_as, AtRest.reports_at_rest, WordLaws.made_by}
 use Rattle.spin_jobs.proofs.words.make.Goals as goal
 

@@ -1,6 +1,5 @@
 -- Each way to choose.
-use Rattle.std.proofs.Common.{arith}
-use Rattle.table_rules.specs.Shortened.{few, fewer, many, no_fewer}
+use Rattle.table_rules.proofs.Common.{arith, few, fewer, many, no_fewer}
 use Rattle.table_rules.proofs.choosing.shorter_of.Goals as goal
 
 pub returns-then-len-target : goal.returns-then-len-target

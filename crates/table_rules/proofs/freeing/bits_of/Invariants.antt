@@ -1,6 +1,5 @@
 -- The bits of the rows that were read.
-use Rattle.std.proofs.Common.{◌≡◌, map, take}
-use Rattle.table_rules.specs.declared.rows.RoutedBlock.{RoutedBlock}
+use Rattle.table_rules.proofs.Common.{RoutedBlock, map, take, ◌≡◌}
 use Rattle.table_rules.proofs.freeing.bits_of.Given as goal
 
 abbrev pub invariant-loop-row : goal.invariant-loop-row

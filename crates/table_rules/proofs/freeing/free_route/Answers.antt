@@ -1,7 +1,5 @@
 -- Sorted bits, and what the gap tells.
-use Rattle.std.proofs.Common.{◌≡◌, ◌-◌, sym, subst, arith}
-use Rattle.std.specs.{Prelude.All, List.Contains, List.Sorted.IsNonDecreasing}
-use Rattle.std.proofs.lemmas.List.Sorted.{IsNonDecreasingBy-from_sort}
+use Rattle.table_rules.proofs.Common.{All, Contains, IsNonDecreasing, IsNonDecreasingBy-from_sort, arith, subst, sym, ◌-◌, ◌≡◌}
 use Rattle.table_rules.proofs.FreeRoutes.{has_all, is_free}
 use Rattle.table_rules.proofs.freeing.free_route.Goals as goal
 

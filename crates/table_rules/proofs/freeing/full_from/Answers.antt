@@ -1,6 +1,6 @@
 -- One number more.
+use Rattle.table_rules.proofs.Common.{arith}
 use Rattle.table_rules.proofs.FreeRoutes.{next_below, next_full, next_passed}
-use Rattle.std.proofs.Common.{arith}
 use Rattle.table_rules.proofs.freeing.full_from.Goals as goal
 
 pub loop-k-preserved : goal.loop-k-preserved

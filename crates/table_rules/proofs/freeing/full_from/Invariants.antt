@@ -1,6 +1,5 @@
 -- Each number from there on is one of those passed, and those are no less.
-use Rattle.std.proofs.Common.{◌+◌, ◌<◌, ◌≤◌, ℕ, get_or, length}
-use Rattle.std.specs.List.{Contains}
+use Rattle.table_rules.proofs.Common.{Contains, get_or, length, ℕ, ◌+◌, ◌<◌, ◌≤◌}
 use Rattle.table_rules.proofs.freeing.full_from.Given as goal
 
 abbrev pub invariant-loop-k : goal.invariant-loop-k

@@ -1,6 +1,5 @@
 -- The blocks that were read, joined.
-use Rattle.std.proofs.Common.{◌≡◌, take}
-use Rattle.table_rules.specs.Pairs.{joined_blocks}
+use Rattle.table_rules.proofs.Common.{joined_blocks, take, ◌≡◌}
 use Rattle.table_rules.proofs.joining.joined_blocks.Given as goal
 
 abbrev pub invariant-loop-block : goal.invariant-loop-block

@@ -1,6 +1,5 @@
 -- A block that may take it in, one that may not, and the end.
-use Rattle.std.proofs.Common.{length, sym, ap, ◌∙◌, arith}
-use Rattle.table_rules.specs.Pairs.{with_block}
+use Rattle.table_rules.proofs.Common.{ap, arith, length, sym, with_block, ◌∙◌}
 use Rattle.table_rules.proofs.JoinTurns.{passed_on, put_at_end, taken_in}
 use Rattle.table_rules.proofs.joining.put_block.Goals as goal
 

@@ -1,6 +1,5 @@
 -- The blocks passed may not take it in, so it is put among those behind them.
-use Rattle.std.proofs.Common.{◌≡◌, ◌++◌, drop, take}
-use Rattle.table_rules.specs.Pairs.{with_block}
+use Rattle.table_rules.proofs.Common.{drop, take, with_block, ◌++◌, ◌≡◌}
 use Rattle.table_rules.proofs.joining.put_block.Given as goal
 
 abbrev pub invariant-loop-at : goal.invariant-loop-at

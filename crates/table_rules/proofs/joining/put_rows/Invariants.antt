@@ -1,6 +1,5 @@
 -- The blocks that were read as rows, behind the rows before.
-use Rattle.std.proofs.Common.{◌≡◌, ◌++◌, map, take}
-use Rattle.table_rules.specs.Pairs.{row_by}
+use Rattle.table_rules.proofs.Common.{map, row_by, take, ◌++◌, ◌≡◌}
 use Rattle.table_rules.proofs.joining.put_rows.Given as goal
 
 abbrev pub invariant-loop-block : goal.invariant-loop-block

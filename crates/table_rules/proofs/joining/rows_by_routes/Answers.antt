@@ -1,6 +1,5 @@
 -- One route more.
-use Rattle.std.proofs.Common.{◌++◌, map, ap, ◌∙◌}
-use Rattle.table_rules.specs.Pairs.{joined_blocks, others, own_blocks, row_by, rows_by_routes}
+use Rattle.table_rules.proofs.Common.{ap, joined_blocks, map, others, own_blocks, row_by, rows_by_routes, ◌++◌, ◌∙◌}
 use Rattle.table_rules.proofs.JoinTurns.{routes_all, routes_more}
 use Rattle.table_rules.proofs.joining.rows_by_routes.Goals as goal
 

@@ -1,6 +1,5 @@
 -- With the rows of the routes that are left, the rows are those of all.
-use Rattle.std.proofs.Common.{◌≡◌, ◌++◌, drop}
-use Rattle.table_rules.specs.Pairs.{rows_by_routes}
+use Rattle.table_rules.proofs.Common.{drop, rows_by_routes, ◌++◌, ◌≡◌}
 use Rattle.table_rules.proofs.joining.rows_by_routes.Given as goal
 
 abbrev pub invariant-loop-route : goal.invariant-loop-route

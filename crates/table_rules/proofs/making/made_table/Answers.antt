@@ -1,8 +1,5 @@
 -- From row to row, what is made of the rest is made of all.
-use Rattle.std.proofs.Common.{◌≡◌, ◌-◌, ◌+◌, ◌≤◌, Some, length, take, drop, sym, ap, ◌∙◌, subst, arith}
-use Rattle.std.specs.Prelude.{IfSome}
-use Rattle.block_cuts.specs.Cuts.{cut}
-use Rattle.table_rules.specs.Made.{HasTooManyPieces, IsTableFrom, IsRowAdded}
+use Rattle.table_rules.proofs.Common.{HasTooManyPieces, IfSome, IsRowAdded, IsTableFrom, Some, ap, arith, cut, drop, length, subst, sym, take, ◌+◌, ◌-◌, ◌∙◌, ◌≡◌, ◌≤◌}
 use Rattle.table_rules.proofs.Turns.{blocks_more, more_rows, no_room, rows_all, too_many_later}
 use Rattle.table_rules.proofs.making.made_table.Goals as goal
 

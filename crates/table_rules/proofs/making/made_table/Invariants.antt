@@ -1,7 +1,5 @@
 -- What is made of the rows that are left is made of all; and the rows fit the room that is used.
-use Rattle.std.proofs.Common.{◌≡◌, ◌+◌, ◌≤◌, List, [], length, take, drop}
-use Rattle.tern_word.specs.declared.tables.Row.{Row}
-use Rattle.table_rules.specs.Made.{HasTooManyPieces, IsTableFrom, IsTableMadeOf, row_blocks}
+use Rattle.table_rules.proofs.Common.{HasTooManyPieces, IsTableFrom, IsTableMadeOf, List, Row, [], drop, length, row_blocks, take, ◌+◌, ◌≡◌, ◌≤◌}
 use Rattle.table_rules.proofs.making.made_table.Given as goal
 
 abbrev pub invariant-loop-row : goal.invariant-loop-row

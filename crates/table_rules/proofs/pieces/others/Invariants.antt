@@ -1,6 +1,5 @@
 -- The pieces of other routes that were read.
-use Rattle.std.proofs.Common.{◌≡◌, take}
-use Rattle.table_rules.specs.Pairs.{others}
+use Rattle.table_rules.proofs.Common.{others, take, ◌≡◌}
 use Rattle.table_rules.proofs.pieces.others.Given as goal
 
 abbrev pub invariant-loop-piece : goal.invariant-loop-piece

@@ -1,6 +1,5 @@
 -- The blocks of the route's pieces that were read.
-use Rattle.std.proofs.Common.{◌≡◌, take}
-use Rattle.table_rules.specs.Pairs.{own_blocks}
+use Rattle.table_rules.proofs.Common.{own_blocks, take, ◌≡◌}
 use Rattle.table_rules.proofs.pieces.own_blocks.Given as goal
 
 abbrev pub invariant-loop-piece : goal.invariant-loop-piece

@@ -1,6 +1,5 @@
 -- One row more.
-use Rattle.std.proofs.Common.{ap, ◌∙◌, take_all}
-use Rattle.table_rules.specs.Pairs.{pieces_of}
+use Rattle.table_rules.proofs.Common.{ap, pieces_of, take_all, ◌∙◌}
 use Rattle.table_rules.proofs.JoinTurns.{pieces_more}
 use Rattle.table_rules.proofs.pieces.pieces_of.Goals as goal
 

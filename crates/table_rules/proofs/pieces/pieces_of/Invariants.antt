@@ -1,6 +1,5 @@
 -- The pieces of the rows that were read.
-use Rattle.std.proofs.Common.{◌≡◌, take}
-use Rattle.table_rules.specs.Pairs.{pieces_of}
+use Rattle.table_rules.proofs.Common.{pieces_of, take, ◌≡◌}
 use Rattle.table_rules.proofs.pieces.pieces_of.Given as goal
 
 abbrev pub invariant-loop-row : goal.invariant-loop-row

@@ -1,5 +1,5 @@
 -- One alias more.
-use Rattle.std.proofs.Common.{[], ◌∷◌, ◌++◌, ap, ◌∙◌}
+use Rattle.table_rules.proofs.Common.{[], ap, ◌++◌, ◌∙◌, ◌∷◌}
 use Rattle.table_rules.proofs.JoinTurns.{aliases_all, aliases_more}
 use Rattle.table_rules.proofs.pieces.put_aliases.Goals as goal
 

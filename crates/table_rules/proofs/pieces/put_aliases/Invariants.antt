@@ -1,7 +1,5 @@
 -- The aliases that were read, behind the pieces before.
-use Rattle.std.proofs.Common.{◌≡◌, ◌++◌, map, take}
-use Rattle.tern_word.specs.declared.tables.Alias.{Alias}
-use Rattle.table_rules.specs.Pairs.{row_by}
+use Rattle.table_rules.proofs.Common.{Alias, map, row_by, take, ◌++◌, ◌≡◌}
 use Rattle.table_rules.proofs.pieces.put_aliases.Given as goal
 
 abbrev pub invariant-loop-alias : goal.invariant-loop-alias

@@ -1,6 +1,5 @@
 -- The aliases of the pieces that were read.
-use Rattle.std.proofs.Common.{◌≡◌, map, take}
-use Rattle.table_rules.specs.Made.{alias_of}
+use Rattle.table_rules.proofs.Common.{alias_of, map, take, ◌≡◌}
 use Rattle.table_rules.proofs.putting.aliases_of.Given as goal
 
 abbrev pub invariant-loop-piece : goal.invariant-loop-piece

@@ -1,9 +1,5 @@
 -- Each way to put a row.
-use Rattle.std.proofs.Common.{◌≡◌, map, sym, subst}
-use Rattle.std.proofs.lemmas.Result.{IfOk-weaker}
-use Rattle.cover_merge.proofs.Answering.{fails}
-use Rattle.cover_merge.specs.Merge.{PassesDown}
-use Rattle.table_rules.specs.Made.{IsRowAdded, in_pieces, left_out, piece_row, whole, whole_row, with_row, with_rows}
+use Rattle.table_rules.proofs.Common.{IfOk-weaker, IsRowAdded, PassesDown, fails, in_pieces, left_out, map, piece_row, subst, sym, whole, whole_row, with_row, with_rows, ◌≡◌}
 use Rattle.table_rules.proofs.Turns.{no_pieces, some_pieces, stands, stands_not}
 use Rattle.table_rules.proofs.putting.put.Goals as goal
 

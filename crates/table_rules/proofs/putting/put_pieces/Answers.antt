@@ -1,5 +1,5 @@
 -- One piece more.
-use Rattle.std.proofs.Common.{arith}
+use Rattle.table_rules.proofs.Common.{arith}
 use Rattle.table_rules.proofs.Turns.{length_with, piece_turn}
 use Rattle.table_rules.proofs.putting.put_pieces.Goals as goal
 

@@ -1,6 +1,5 @@
 -- With the pieces that are left, the rows are those that all give; and a piece is one row.
-use Rattle.std.proofs.Common.{◌≡◌, ◌+◌, ◌≤◌, length, map, drop}
-use Rattle.table_rules.specs.Made.{piece_row, with_rows}
+use Rattle.table_rules.proofs.Common.{drop, length, map, piece_row, with_rows, ◌+◌, ◌≡◌, ◌≤◌}
 use Rattle.table_rules.proofs.putting.put_pieces.Given as goal
 
 abbrev pub invariant-loop-piece : goal.invariant-loop-piece

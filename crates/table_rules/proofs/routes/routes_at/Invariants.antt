@@ -1,6 +1,5 @@
 -- The routes of the weights that were read.
-use Rattle.std.proofs.Common.{◌≡◌, ◌%◌, ◌^◌, map, take}
-use Rattle.spin_base.specs.declared.routes.Route.{Route}
+use Rattle.table_rules.proofs.Common.{Route, map, take, ◌%◌, ◌^◌, ◌≡◌}
 use Rattle.table_rules.proofs.routes.routes_at.Given as goal
 
 abbrev pub invariant-loop-weight : goal.invariant-loop-weight

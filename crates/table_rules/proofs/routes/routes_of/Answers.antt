@@ -1,8 +1,5 @@
 -- The weights tell the routes.
-use Rattle.std.proofs.Common.{◌≡◌, ◌%◌, ◌^◌, map, ap, ◌∙◌}
-use Rattle.std.proofs.lemmas.Result.{IfOk-weaker}
-use Rattle.spin_base.specs.declared.routes.Route.{Route}
-use Rattle.table_rules.specs.Pairs.{AreRoutesOf}
+use Rattle.table_rules.proofs.Common.{AreRoutesOf, IfOk-weaker, Route, ap, map, ◌%◌, ◌^◌, ◌∙◌, ◌≡◌}
 use Rattle.table_rules.proofs.Weights.{are_routes}
 use Rattle.table_rules.proofs.routes.routes_of.Goals as goal
 

@@ -1,5 +1,5 @@
 -- One piece more.
-use Rattle.std.proofs.Common.{[], ◌∷◌, ◌++◌, ap, ◌∙◌}
+use Rattle.table_rules.proofs.Common.{[], ap, ◌++◌, ◌∙◌, ◌∷◌}
 use Rattle.table_rules.proofs.Weights.{weights_more}
 use Rattle.table_rules.proofs.routes.weights_of.Goals as goal
 

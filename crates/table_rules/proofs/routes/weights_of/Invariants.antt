@@ -1,6 +1,5 @@
 -- The weights of the routes of the pieces that were read.
-use Rattle.std.proofs.Common.{◌≡◌, map, take}
-use Rattle.table_rules.specs.{declared.rows.RoutedBlock.RoutedBlock, Pairs.weight_of}
+use Rattle.table_rules.proofs.Common.{RoutedBlock, map, take, weight_of, ◌≡◌}
 use Rattle.table_rules.proofs.routes.weights_of.Given as goal
 
 abbrev pub invariant-loop-piece : goal.invariant-loop-piece

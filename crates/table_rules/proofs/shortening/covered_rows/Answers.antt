@@ -1,7 +1,5 @@
 -- The rows that are left of the covered table, and its joined pieces, say what the rows say.
-use Rattle.std.proofs.Common.{◌≡◌, sym, ap, ◌∙◌, subst, arith}
-use Rattle.std.proofs.lemmas.Result.{IfOk-weaker}
-use Rattle.table_rules.specs.{Pairs.pieces_of, Shortened.IsShortenedTo, Shortened.no_shorter, Shortened.shorter}
+use Rattle.table_rules.proofs.Common.{IfOk-weaker, IsShortenedTo, ap, arith, no_shorter, pieces_of, shorter, subst, sym, ◌∙◌, ◌≡◌}
 use Rattle.table_rules.proofs.{Faithful.keeps_itself, Faithful.made_is_sound, Keeping.short_keeps, Turns.is_short_from}
 use Rattle.table_rules.proofs.shortening.covered_rows.Goals as goal
 

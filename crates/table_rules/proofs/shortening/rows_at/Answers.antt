@@ -1,6 +1,5 @@
 -- One row more.
-use Rattle.std.proofs.Common.{sym, ap, ◌∙◌}
-use Rattle.table_rules.specs.Rows.{routed}
+use Rattle.table_rules.proofs.Common.{ap, routed, sym, ◌∙◌}
 use Rattle.table_rules.proofs.Turns.{places_more}
 use Rattle.table_rules.proofs.shortening.rows_at.Goals as goal
 

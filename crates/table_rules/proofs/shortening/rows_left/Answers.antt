@@ -1,8 +1,5 @@
 -- The rows at the kept places.
-use Rattle.std.proofs.Common.{map, sym, subst, ap, ◌∙◌}
-use Rattle.std.specs.Prelude.{All, length, ◌<◌}
-use Rattle.cover_merge.specs.Merge.{rows_at}
-use Rattle.table_rules.specs.Rows.{routed}
+use Rattle.table_rules.proofs.Common.{All, ap, length, map, routed, rows_at, subst, sym, ◌<◌, ◌∙◌}
 use Rattle.table_rules.proofs.shortening.rows_left.Goals as goal
 
 pub invariant_of-at : goal.invariant_of-at

@@ -1,6 +1,5 @@
 -- A short table is its own.
-use Rattle.std.proofs.Common.{sym, subst}
-use Rattle.table_rules.specs.{Rows.KeepsRoutes, Shortened.IsShortenedTo, Shortened.short}
+use Rattle.table_rules.proofs.Common.{IsShortenedTo, KeepsRoutes, short, subst, sym}
 use Rattle.table_rules.proofs.Faithful.{keeps_itself}
 use Rattle.table_rules.proofs.shortening.shorten_rows.Goals as goal
 

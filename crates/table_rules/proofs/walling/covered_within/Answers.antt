@@ -1,7 +1,6 @@
 -- The rows before the wall, and the joined pieces, say what the rows say, and no more.
-use Rattle.std.proofs.Common.{◌≡◌, sym, ap, ◌∙◌, subst, arith}
-use Rattle.std.proofs.lemmas.Result.{IfOk-weaker}
-use Rattle.table_rules.specs.{Exact.IsShortenedWithin, Exact.no_shorter, Exact.shorter, Exact.walled, Pairs.others, Pairs.pieces_of, Rows.HasNoNewKeys, Rows.KeepsRoutes}
+use Rattle.table_rules.proofs.Common.{HasNoNewKeys, IfOk-weaker, IsShortenedWithin, KeepsRoutes, ap, arith, others, pieces_of, subst, sym, walled, ◌∙◌, ◌≡◌}
+use Rattle.table_rules.specs.Exact.{no_shorter, shorter}
 use Rattle.table_rules.proofs.{Faithful.keeps_itself, Faithful.made_is_sound, Keeping.keeps_joined, Keeping.no_more_joined, Keeping.shorter_has, Walls.few_wall, Walls.is_short_within}
 use Rattle.table_rules.proofs.Walls.{keeps_within, keys_within, sound_wall}
 use Rattle.table_rules.proofs.walling.covered_within.Goals as goal

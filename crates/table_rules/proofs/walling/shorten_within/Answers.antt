@@ -1,8 +1,6 @@
 -- A table that is its own.
-use Rattle.std.proofs.Common.{sym, subst}
-use Rattle.std.specs.Prelude.{MatchOption}
-use Rattle.spin_base.specs.declared.routes.Route.{Route}
-use Rattle.table_rules.specs.{Exact.HasAllRoutes, Exact.IsFree, Exact.IsShortenedWithin, Exact.no_route, Exact.short, Rows.KeepsRoutes}
+use Rattle.table_rules.proofs.Common.{HasAllRoutes, IsFree, IsShortenedWithin, KeepsRoutes, MatchOption, Route, no_route, subst, sym}
+use Rattle.table_rules.specs.Exact.{short}
 use Rattle.table_rules.proofs.Faithful.{keeps_itself}
 use Rattle.table_rules.proofs.walling.shorten_within.Goals as goal
 

@@ -1,8 +1,5 @@
 -- Rows that are cut into too many pieces, with a wall behind them.
-use Rattle.std.proofs.Common.{[], ◌∙◌, subst}
-use Rattle.std.specs.Prelude.{MatchOption}
-use Rattle.tern_word.specs.declared.tables.Table.{Table}
-use Rattle.table_rules.specs.Made.{HasTooManyPieces, IsTableMadeOf}
+use Rattle.table_rules.proofs.Common.{HasTooManyPieces, IsTableMadeOf, MatchOption, Table, [], subst, ◌∙◌}
 use Rattle.table_rules.proofs.walling.within_wall.Goals as goal
 
 pub returns-clause-rows : goal.returns-clause-rows

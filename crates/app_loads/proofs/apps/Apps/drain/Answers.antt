@@ -1,7 +1,5 @@
-use Rattle.std.proofs.Common.{arith, subst, sym}
-use Rattle.app_loads.specs.Running.{AreAlikeInBlocks}
+use Rattle.app_loads.proofs.Common.{AreAlikeInBlocks, after_moved, arith, subst, sym}
 use Rattle.app_loads.proofs.Hosts.{alike_in, apps_after_in, host_after, host_kept, host_moved, known_in}
-use Rattle.mesh_drain.proofs.Moving.{after_moved}
 use Rattle.app_loads.proofs.apps.Apps.drain.Goals as goal
 
 pub drain_known-requires : goal.drain_known-requires

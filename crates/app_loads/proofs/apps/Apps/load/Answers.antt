@@ -1,8 +1,5 @@
-use Rattle.std.proofs.Common.{◌≡◌, ◌∙◌, ◌+◌, ◌<◌, ◌≤◌, ◌++◌, ◌∷◌, [], refl, sym, ap, subst, arith, List, Option, Some, ℕ}
-use Rattle.std.proofs.lemmas.{List.with_items_is, Result.IfOk-at_ok, Result.IfErr-at_err}
-use Rattle.std.specs.{Prelude.IfSome, Prelude.vec_capacity, Prelude.vec_len, Vec.with_items}
-use Rattle.app_loads.specs.{declared.loaded.LoadedApp.LoadedApp, declared.plans.AppNet.AppNet, Applications.AreApps, Claims.claims_of, Joining.IsServedApp, Joining.IsSettled, Sending.AreWithSources}
-use Rattle.app_loads.specs.Taking.{AreFreeAgain, IsDueAlways, frees}
+use Rattle.app_loads.proofs.Common.{AppNet, AreApps, AreFreeAgain, AreWithSources, IfErr-at_err, IfOk-at_ok, IfSome, IsDueAlways, IsServedApp, IsSettled, List, LoadedApp, Option, Some, [], ap, arith}
+use Rattle.app_loads.proofs.Common.{claims_of, frees, refl, subst, sym, vec_capacity, vec_len, with_items, with_items_is, ℕ, ◌++◌, ◌+◌, ◌<◌, ◌∙◌, ◌∷◌, ◌≡◌, ◌≤◌}
 use Rattle.app_loads.proofs.LoadedParts.{IsOut, Joins, Stands, can_join, err_why, free_again, never_none, on_err, on_ok, ok_host, ok_loaded, packets_fit, still}
 use Rattle.app_loads.proofs.apps.Apps.load.Goals.{After-push_reserved-in-Ok, After-deref_mut, After-len, After-put-in-Err, After-reserve_one}
 use Rattle.app_loads.proofs.apps.Apps.load.Goals as goal

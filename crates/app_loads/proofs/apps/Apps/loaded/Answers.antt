@@ -1,4 +1,4 @@
-use Rattle.std.proofs.Common.{arith}
+use Rattle.app_loads.proofs.Common.{arith}
 use Rattle.app_loads.proofs.Numbers.{any_number}
 use Rattle.app_loads.proofs.apps.Apps.loaded.Goals as goal
 

@@ -1,7 +1,4 @@
-use Rattle.std.proofs.Common.{◌∙◌, [], ap, refl, subst, sym}
-use Rattle.mesh_core.specs.State.{IsMesh}
-use Rattle.mesh_drain.specs.Draining.{SendAlone}
-use Rattle.app_loads.specs.{Inner.numbers_of, Taking.frees}
+use Rattle.app_loads.proofs.Common.{IsMesh, SendAlone, [], ap, frees, numbers_of, refl, subst, sym, ◌∙◌}
 use Rattle.app_loads.proofs.Bare.{bare_mesh_alone, made_apps}
 use Rattle.app_loads.proofs.apps.Apps.new.Goals as goal
 

@@ -1,6 +1,4 @@
-use Rattle.std.proofs.Common.{◌≡◌, ◌==◌, ◌∙◌, get_or, sym, ap, subst, Some}
-use Rattle.std.specs.Prelude.{position}
-use Rattle.app_loads.specs.{declared.loaded.LoadedApp.LoadedApp, Applications.AreApps, Host.Host}
+use Rattle.app_loads.proofs.Common.{AreApps, Host, LoadedApp, Some, ap, get_or, position, subst, sym, ◌==◌, ◌∙◌, ◌≡◌}
 use Rattle.app_loads.proofs.{SpotsOf.found_loaded, SpotsOf.no_app, SpotsOf.same_as_found, apps.Apps.spots_of.Goals.After-index-app}
 use Rattle.app_loads.proofs.apps.Apps.spots_of.Goals as goal
 

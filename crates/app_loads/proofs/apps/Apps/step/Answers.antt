@@ -1,4 +1,4 @@
-use Rattle.std.proofs.Common.{None}
+use Rattle.app_loads.proofs.Common.{None}
 use Rattle.app_loads.proofs.Hosts.{apps_after_in, host_after, step_after}
 use Rattle.app_loads.proofs.apps.Apps.step.Goals as goal
 

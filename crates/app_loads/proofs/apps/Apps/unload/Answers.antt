@@ -1,6 +1,4 @@
-use Rattle.std.proofs.{Common.◌≡◌, Common.◌∙◌, Common.refl, Common.sym, Common.ap, Common.Some, lemmas.List.with_items_is, lemmas.Result.IfOk-at_ok, lemmas.Result.IfErr-at_err}
-use Rattle.std.specs.Vec.{with_items}
-use Rattle.app_loads.specs.{declared.answers.Ended.Ended, Leaving.NoneUnderWay, Removing.HasLeft, Removing.IsWhyHere, Taking.AreGivenBack, Taking.frees}
+use Rattle.app_loads.proofs.Common.{AreGivenBack, Ended, HasLeft, IfErr-at_err, IfOk-at_ok, IsWhyHere, NoneUnderWay, Some, ap, frees, refl, sym, with_items, with_items_is, ◌∙◌, ◌≡◌}
 use Rattle.app_loads.proofs.LeftParts.{HasGone, Leaves, can_leave, not_loaded, ok_host, ok_none, ok_unloaded, on_ok_is, senders_known, why_stays}
 use Rattle.app_loads.proofs.{LoadedParts.Stands, LoadedParts.never_none, LoadedParts.on_err, LoadedParts.still, apps.Apps.unload.Goals.After-index, apps.Apps.unload.Goals.After-put}
 use Rattle.app_loads.proofs.apps.Apps.unload.Goals.{After-put-in-Err}

@@ -1,4 +1,4 @@
-use Rattle.std.proofs.Common.{arith, ◌∙◌, sym}
+use Rattle.app_loads.proofs.Common.{arith, sym, ◌∙◌}
 use Rattle.app_loads.proofs.GroupLaws.{ends_with}
 use Rattle.app_loads.proofs.group.Group.ends_with.Goals as goal
 

@@ -1,5 +1,5 @@
-use Rattle.std.proofs.{Common.arith, Common.◌&&◌, Common.Bool, Common.false, Common.leb, Common.not, lemmas.Bool.and_from, lemmas.Bool.le-leb, lemmas.Bool.le-ltb}
-use Rattle.app_loads.specs.{declared.group.Group.TheInside.Inside, declared.loaded.LoadedApp.LoadedApp, Leaving.is_packet_of}
+use Rattle.app_loads.proofs.Common.{Bool, LoadedApp, and_from, arith, false, is_packet_of, le-leb, le-ltb, leb, not, ◌&&◌}
+use Rattle.app_loads.specs.declared.group.Group.TheInside.{Inside}
 use Rattle.app_loads.proofs.GroupLaws.{others_all}
 use Rattle.app_loads.proofs.group.Group.is_others.Goals as goal
 

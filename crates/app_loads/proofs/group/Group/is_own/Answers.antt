@@ -1,4 +1,4 @@
-use Rattle.std.proofs.{Common.arith, lemmas.Bool.and_from}
+use Rattle.app_loads.proofs.Common.{and_from, arith}
 use Rattle.app_loads.proofs.GroupLaws.{own_all}
 use Rattle.app_loads.proofs.group.Group.is_own.Goals as goal
 

@@ -1,5 +1,4 @@
-use Rattle.std.proofs.Common.{◌≡◌, ◌-◌, arith, drop, length, refl, subst, List}
-use Rattle.app_loads.specs.{Grouping.Grouped, Grouping.all_grouped, Groups.deliveries_at, Groups.last_arrivals, Groups.sent_of}
+use Rattle.app_loads.proofs.Common.{Grouped, List, all_grouped, arith, deliveries_at, drop, last_arrivals, length, refl, sent_of, subst, ◌-◌, ◌≡◌}
 use Rattle.app_loads.proofs.GroupLaws.{behind_others}
 use Rattle.app_loads.proofs.groups.Groups.ends_with.Goals as goal
 

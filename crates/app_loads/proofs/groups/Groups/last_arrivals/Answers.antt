@@ -1,5 +1,4 @@
-use Rattle.std.proofs.Common.{◌≡◌, ◌∙◌, ap, arith, length, sym}
-use Rattle.app_loads.specs.Groups.{last_arrivals}
+use Rattle.app_loads.proofs.Common.{ap, arith, last_arrivals, length, sym, ◌∙◌, ◌≡◌}
 use Rattle.app_loads.proofs.GroupLaws.{last_arrivals_are}
 use Rattle.app_loads.proofs.groups.Groups.last_arrivals.Goals as goal
 

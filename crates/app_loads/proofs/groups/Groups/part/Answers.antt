@@ -1,7 +1,5 @@
-use Rattle.std.proofs.{Common.arith, Common.◌≡◌, Common.◌∙◌, Common.List, Common.[], Common.ap, Common.length, Common.not, lemmas.Bool.or_parts, lemmas.Grind.common_steps}
-use Rattle.std.specs.{Prelude.vec_capacity, Prelude.vec_len, Vec.Iter.into_iter_items}
-use Rattle.spin_base.proofs.Places.{none_within}
-use Rattle.app_loads.specs.{Grouping.Grouped, Grouping.all_grouped, Grouping.is_mixed_group, Leaving.is_delivery_of}
+use Rattle.app_loads.proofs.Common.{Grouped, List, [], all_grouped, ap, arith, common_steps, into_iter_items, is_delivery_of, is_mixed_group, length, none_within, not, or_parts, vec_capacity, vec_len}
+use Rattle.app_loads.proofs.Common.{◌∙◌, ◌≡◌}
 use Rattle.app_loads.proofs.GroupLaws.{few_more, left_others, none_of_rest, put_group, rest_is, room_still, still_counted}
 use Rattle.app_loads.proofs.groups.Groups.part.Goals as goal
 

@@ -1,6 +1,4 @@
-use Rattle.std.proofs.Common.{◌≡◌, ◌+◌, ◌≤◌, ◌++◌, false, length, not}
-use Rattle.std.specs.{List.filter, List.list_any, Prelude.vec_capacity, Prelude.vec_len, Vec.Iter.into_iter_items}
-use Rattle.app_loads.specs.{Grouping.all_grouped, Grouping.is_mixed_group, Leaving.is_delivery_of}
+use Rattle.app_loads.proofs.Common.{all_grouped, false, filter, into_iter_items, is_delivery_of, is_mixed_group, length, list_any, not, vec_capacity, vec_len, ◌++◌, ◌+◌, ◌≡◌, ◌≤◌}
 use Rattle.app_loads.proofs.groups.Groups.part.Given as goal
 
 -- what is in the lists and what is left are all, and there is room for what is left

@@ -1,5 +1,4 @@
-use Rattle.std.proofs.Common.{◌≡◌, ◌+◌, arith, rules}
-use Rattle.app_loads.specs.Groups.{sent_of}
+use Rattle.app_loads.proofs.Common.{arith, rules, sent_of, ◌+◌, ◌≡◌}
 use Rattle.app_loads.proofs.GroupLaws.{put_back, put_counted, put_last_arrivals}
 use Rattle.app_loads.proofs.groups.Groups.put.Goals as goal
 

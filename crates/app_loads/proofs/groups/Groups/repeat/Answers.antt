@@ -1,6 +1,4 @@
-use Rattle.std.proofs.Common.{◌≡◌, ◌+◌, ◌-◌, ◌++◌, ◌∙◌, ap, arith, length, rules, sym, List}
-use Rattle.std.specs.List.{slice_set}
-use Rattle.app_loads.specs.{Grouping.Grouped, Grouping.all_grouped, Groups.deliveries_at, Groups.last_arrivals, Groups.sent_of}
+use Rattle.app_loads.proofs.Common.{Grouped, List, all_grouped, ap, arith, deliveries_at, last_arrivals, length, rules, sent_of, slice_set, sym, ◌++◌, ◌+◌, ◌-◌, ◌∙◌, ◌≡◌}
 use Rattle.app_loads.proofs.GroupLaws.{counted_again, last_arrivals_stay, last_same, on_err, repeated, same_item}
 use Rattle.app_loads.proofs.groups.Groups.repeat.Goals.{After-repeat}
 use Rattle.app_loads.proofs.groups.Groups.repeat.Goals as goal

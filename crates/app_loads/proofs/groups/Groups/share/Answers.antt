@@ -1,6 +1,4 @@
-use Rattle.std.proofs.Common.{◌≡◌, ◌-◌, ◌∙◌, ap, arith, length, sym, List}
-use Rattle.std.specs.List.{slice_set}
-use Rattle.app_loads.specs.Grouping.{Grouped, all_grouped}
+use Rattle.app_loads.proofs.Common.{Grouped, List, all_grouped, ap, arith, length, slice_set, sym, ◌-◌, ◌∙◌, ◌≡◌}
 use Rattle.app_loads.proofs.{GroupLaws.same_groups, groups.Groups.share.Goals.After-share}
 use Rattle.app_loads.proofs.groups.Groups.share.Goals as goal
 

@@ -1,5 +1,4 @@
-use Rattle.std.proofs.Common.{arith}
-use Rattle.app_loads.specs.Grouping.{all_grouped}
+use Rattle.app_loads.proofs.Common.{all_grouped, arith}
 use Rattle.app_loads.proofs.{Earlier.event_with, Kept.ok_then}
 use Rattle.app_loads.proofs.meshes.KeptMesh.step.Goals as goal
 

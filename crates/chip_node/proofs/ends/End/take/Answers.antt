@@ -1,5 +1,4 @@
-use Rattle.std.proofs.Common.{subst}
-use Rattle.chip_node.specs.Going.{IsEndOf}
+use Rattle.chip_node.proofs.Common.{IsEndOf, subst}
 use Rattle.chip_node.proofs.Offering.{in_end_stays}
 use Rattle.chip_node.proofs.ends.End.take.Goals as goal
 

@@ -1,6 +1,4 @@
-use Rattle.std.proofs.Common.{◌≡◌}
-use Rattle.link_queue.specs.Ends.{sending}
-use Rattle.chip_node.specs.{Ends.IsOutEndOf, Offers.RefusesOffers}
+use Rattle.chip_node.proofs.Common.{IsOutEndOf, RefusesOffers, sending, ◌≡◌}
 use Rattle.chip_node.proofs.ends.OutEnd.send.Given as goal
 
 -- all offers so far were refused

@@ -1,7 +1,4 @@
-use Rattle.std.proofs.Common.{arith, ◌≡◌, List, [], ◌∷◌, Option, refl, sym, subst}
-use Rattle.std.specs.{List.slice_get, Option.IfSome}
-use Rattle.std.proofs.lemmas.List.{take_rest}
-use Rattle.spin_base.specs.declared.copies.McCopy.{McCopy}
+use Rattle.chip_node.proofs.Common.{IfSome, List, McCopy, Option, [], arith, refl, slice_get, subst, sym, take_rest, ◌∷◌, ◌≡◌}
 use Rattle.chip_node.proofs.lanes.Lane.front.Goals as goal
 
 first_of : (ys : List McCopy) (r : Option McCopy) → r ≡ slice_get ys 0 → IfSome r (λ k. (rest : List McCopy) × (ys ≡ k ∷ rest))

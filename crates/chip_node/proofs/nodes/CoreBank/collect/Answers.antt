@@ -1,6 +1,4 @@
-use Rattle.std.proofs.Common.{ℕ, ◌+◌, ◌<◌, length, get_or, refl, sym, arith}
-use Rattle.std.proofs.lemmas.List.Elements.{All-set}
-use Rattle.chip_node.specs.Going.{IsEndOf, IsIdleAt}
+use Rattle.chip_node.proofs.Common.{All-set, IsEndOf, IsIdleAt, arith, get_or, length, refl, sym, ℕ, ◌+◌, ◌<◌}
 use Rattle.chip_node.proofs.{Banking.vertex_idle, Banking.vertex_there, Flows.goes_none, Flows.ready_bank_on, Flows.stays_goes, GoingRound.gone_more, Looking.end_written, Looking.lacks_at}
 use Rattle.chip_node.proofs.{Placing.got_goes, Stays.stays_on}
 use Rattle.chip_node.proofs.nodes.CoreBank.collect.Goals as goal

@@ -1,5 +1,4 @@
-use Rattle.std.proofs.Common.{◌+◌, ℕ, get_or}
-use Rattle.chip_node.specs.{Acting.IsReadyBank, Going.IsIdleAt, Going.Stays}
+use Rattle.chip_node.proofs.Common.{IsIdleAt, IsReadyBank, Stays, get_or, ℕ, ◌+◌}
 use Rattle.chip_node.proofs.GoingRound.{GoneBy}
 use Rattle.chip_node.proofs.nodes.CoreBank.collect.Given as goal
 

@@ -1,6 +1,4 @@
-use Rattle.std.proofs.Common.{ℕ, ◌+◌, ◌*◌, ◌<◌, [], length, set, inr, refl, ap, ◌∙◌, arith}
-use Rattle.std.proofs.lemmas.List.{get_or_default, Elements.All-contains, Elements.All-set}
-use Rattle.chip_node.specs.{Going.IsEndOf, Items.injection_place}
+use Rattle.chip_node.proofs.Common.{All-contains, All-set, IsEndOf, [], ap, arith, get_or_default, injection_place, inr, length, refl, set, ℕ, ◌*◌, ◌+◌, ◌<◌, ◌∙◌}
 use Rattle.chip_node.proofs.{Banking.popped_rest, EndSteps.end_refuses_full, EndSteps.end_stays_refuses, Flows.goes_none, Flows.ready_bank_on, Placing.sent_goes, Placing.stays_at, Placing.Writes}
 use Rattle.chip_node.proofs.Sending.{sender_stands}
 use Rattle.chip_node.proofs.nodes.CoreBank.send.Goals as goal

@@ -1,5 +1,4 @@
-use Rattle.std.proofs.Common.{◌≢◌, sym, subst}
-use Rattle.chip_node.specs.{declared.holdings.Turn.Turn, declared.holdings.Turn.TheVariants.Moved, Acting.BankActs, Acting.SendsOne}
+use Rattle.chip_node.proofs.Common.{BankActs, Moved, SendsOne, Turn, subst, sym, ◌≢◌}
 use Rattle.chip_node.proofs.{Banking.cannot_get_before, Banking.first_none, Banking.half_stays, Banking.halves_act, Banking.second_none, Stays.roomy_on}
 use Rattle.chip_node.proofs.nodes.CoreBank.turn.Goals as goal
 

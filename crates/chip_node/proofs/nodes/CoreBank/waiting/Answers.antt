@@ -1,4 +1,4 @@
-use Rattle.std.proofs.Common.{◌<◌, length, sym, subst, arith}
+use Rattle.chip_node.proofs.Common.{arith, length, subst, sym, ◌<◌}
 use Rattle.chip_node.proofs.Banking.{unsent_first}
 use Rattle.chip_node.proofs.nodes.CoreBank.waiting.Goals as goal
 

@@ -1,5 +1,4 @@
-use Rattle.std.proofs.Common.{◌≡◌, ℕ, [], get_or}
-use Rattle.std.specs.List.{slice_index_or}
+use Rattle.chip_node.proofs.Common.{[], get_or, slice_index_or, ℕ, ◌≡◌}
 use Rattle.chip_node.proofs.GoingRound.{GoneBy}
 use Rattle.chip_node.proofs.nodes.CoreBank.waiting.Given as goal
 

@@ -1,6 +1,4 @@
-use Rattle.std.proofs.Common.{take}
-use Rattle.std.specs.List.{All}
-use Rattle.chip_node.specs.Taking.{HasRoomBehind}
+use Rattle.chip_node.proofs.Common.{All, HasRoomBehind, take}
 use Rattle.chip_node.proofs.nodes.RouterNode.has_room.Given as goal
 
 -- there is room at the outputs so far

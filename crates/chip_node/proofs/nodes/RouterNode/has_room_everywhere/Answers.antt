@@ -1,7 +1,4 @@
-use Rattle.std.proofs.Common.{Option, subst, arith}
-use Rattle.std.specs.List.{All}
-use Rattle.std.proofs.lemmas.List.{take_all}
-use Rattle.chip_node.specs.{declared.nodes.Behind.Behind, Taking.HasRoomIn}
+use Rattle.chip_node.proofs.Common.{All, Behind, HasRoomIn, Option, arith, subst, take_all}
 use Rattle.chip_node.proofs.Looking.{room_everywhere}
 use Rattle.chip_node.proofs.nodes.RouterNode.has_room_everywhere.Goals as goal
 

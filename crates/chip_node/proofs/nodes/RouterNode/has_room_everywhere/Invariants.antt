@@ -1,6 +1,4 @@
-use Rattle.std.proofs.Common.{take}
-use Rattle.std.specs.List.{All}
-use Rattle.chip_node.specs.Taking.{HasRoomIn}
+use Rattle.chip_node.proofs.Common.{All, HasRoomIn, take}
 use Rattle.chip_node.proofs.nodes.RouterNode.has_room_everywhere.Given as goal
 
 -- there is room behind the outputs so far

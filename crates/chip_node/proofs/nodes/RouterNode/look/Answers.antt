@@ -1,8 +1,5 @@
-use Rattle.std.proofs.Common.{◌≡◌, ℕ, ◌+◌, ◌*◌, ◌<◌, ◌≤◌, List, length, get_or, set, refl, sym, ap, subst, ◌∙◌, arith}
-use Rattle.std.proofs.lemmas.{Bool.false≢true, List.Elements.All-set}
-use Rattle.spin_base.proofs.Places.{one_item_at}
-use Rattle.spin_base.specs.{declared.chips.Port.Port, declared.routes.Out.Out, Links.port_number}
-use Rattle.chip_node.specs.{declared.ends.End.End, declared.ends.Seen.TheVariants.Front, Going.IsEndOf, Items.port_place, Passing.IsSeen, Routing.outputs_at, Taking.HasRoomForOuts}
+use Rattle.chip_node.proofs.Common.{All-set, End, Front, HasRoomForOuts, IsEndOf, IsSeen, List, Out, Port, ap, arith, false≢true, get_or, length, one_item_at, outputs_at, port_number, port_place}
+use Rattle.chip_node.proofs.Common.{refl, set, subst, sym, ℕ, ◌*◌, ◌+◌, ◌<◌, ◌∙◌, ◌≡◌, ◌≤◌}
 use Rattle.chip_node.proofs.{EndSteps.end_lacks_idle, Flows.goes_none, Flows.ready_router_on, Looking.end_written, Looking.idle_at, Looking.idle_past, Looking.lacks_at, Looking.read_stands}
 use Rattle.chip_node.proofs.{Looking.room_kept, Looking.seen_first, Placing.stays_at, Placing.took_goes, Placing.Writes, Stays.stays_same, Turning.looks_on}
 use Rattle.chip_node.proofs.nodes.RouterNode.look.Goals as goal

@@ -1,7 +1,4 @@
-use Rattle.std.proofs.Common.{ℕ, None, Option, slice_set, refl, sym, subst, arith}
-use Rattle.std.proofs.lemmas.Option.{slice_get_within}
-use Rattle.spin_base.proofs.Places.{All-at}
-use Rattle.chip_node.specs.{Going.IsEndOf, Passing.SendsBehind}
+use Rattle.chip_node.proofs.Common.{All-at, IsEndOf, None, Option, SendsBehind, arith, refl, slice_get_within, slice_set, subst, sym, ℕ}
 use Rattle.chip_node.proofs.Sending.{place_there, sender_sends, sender_stands}
 use Rattle.chip_node.proofs.nodes.RouterNode.send.Goals as goal
 

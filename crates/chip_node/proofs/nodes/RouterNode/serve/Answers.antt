@@ -1,6 +1,4 @@
-use Rattle.std.proofs.Common.{arith, List, [], ◌∷◌, ◌++◌, ap, subst, ◌∙◌}
-use Rattle.spin_base.specs.{declared.copies.DumpRec.DumpRec, WithRoom.WithRoom, declared.copies.McCopy.McCopy}
-use Rattle.chip_node.specs.{declared.holdings.Holdings.Holdings, Acting.place_at_router, Passing.SendsBehind}
+use Rattle.chip_node.proofs.Common.{DumpRec, Holdings, List, McCopy, SendsBehind, WithRoom, [], ap, arith, place_at_router, subst, ◌++◌, ◌∙◌, ◌∷◌}
 use Rattle.chip_node.proofs.{Sending.dumped_recorded, Sending.dumped_room, Sending.sent_nowhere, Sending.sent_recorded, Sending.sent_room, Flows.ready_router_on, Placing.served_elsewhere}
 use Rattle.chip_node.proofs.Placing.{served_goes, unsent_items}
 use Rattle.chip_node.proofs.nodes.RouterNode.serve.Goals as goal

@@ -1,7 +1,5 @@
-use Rattle.std.proofs.Common.{◌≡◌, ◌<◌, length, get_or, refl, arith}
-use Rattle.std.proofs.lemmas.List.{get_or_default}
-use Rattle.spin_base.specs.declared.{chips.Dir.TheVariants.East, routes.Out.Out, routes.Out.TheVariants.Link}
-use Rattle.chip_node.specs.Items.{Service}
+use Rattle.chip_node.proofs.Common.{East, Out, Service, arith, get_or, get_or_default, length, refl, ◌<◌, ◌≡◌}
+use Rattle.spin_base.specs.declared.routes.Out.TheVariants.{Link}
 use Rattle.chip_node.proofs.Serving.{room_left, serves_more, serves_none}
 use Rattle.chip_node.proofs.nodes.RouterNode.serve_all.Goals as goal
 

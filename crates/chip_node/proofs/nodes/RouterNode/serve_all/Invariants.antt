@@ -1,6 +1,4 @@
-use Rattle.std.proofs.Common.{◌+◌, ◌≤◌, length, take}
-use Rattle.std.specs.List.{AllWithin}
-use Rattle.chip_node.specs.{Acting.IsReadyRouter, Acting.ServesOuts, Taking.HasRoomBehind}
+use Rattle.chip_node.proofs.Common.{AllWithin, HasRoomBehind, IsReadyRouter, ServesOuts, length, take, ◌+◌, ◌≤◌}
 use Rattle.chip_node.proofs.nodes.RouterNode.serve_all.Given as goal
 
 -- the outputs so far were served, and there is room for the others

@@ -1,7 +1,4 @@
-use Rattle.std.proofs.Common.{◌+◌, ◌*◌, List, refl, sym, ap, subst, ◌∙◌}
-use Rattle.std.proofs.lemmas.{Bool.false≢true, List.Elements.All-set}
-use Rattle.spin_base.specs.declared.routes.Out.{Out}
-use Rattle.chip_node.specs.{Going.IsEndOf, Items.port_place, Taking.HasRoomForOuts}
+use Rattle.chip_node.proofs.Common.{All-set, HasRoomForOuts, IsEndOf, List, Out, ap, false≢true, port_place, refl, subst, sym, ◌*◌, ◌+◌, ◌∙◌}
 use Rattle.chip_node.proofs.{Flows.goes_none, Flows.ready_router_on, Looking.end_written, Looking.lacks_at, Looking.room_for_all, Looking.room_kept, Placing.took_goes, Stays.stays_same}
 use Rattle.chip_node.proofs.nodes.RouterNode.take_over.Goals as goal
 

@@ -1,6 +1,5 @@
-use Rattle.std.proofs.Common.{◌≡◌, ℕ, ◌+◌, ◌%◌, ◌<◌, get_or, refl, sym, ◌∙◌, arith}
-use Rattle.spin_base.specs.{declared.chips.Dir.TheVariants.East, declared.chips.Port.Port, declared.chips.Port.TheVariants.Link, Links.port_number}
-use Rattle.chip_node.specs.{Going.IsIdleAt, Items.port_place}
+use Rattle.chip_node.proofs.Common.{East, IsIdleAt, Port, arith, get_or, port_number, port_place, refl, sym, ℕ, ◌%◌, ◌+◌, ◌<◌, ◌∙◌, ◌≡◌}
+use Rattle.spin_base.specs.declared.chips.Port.TheVariants.{Link}
 use Rattle.chip_node.proofs.{GoingRound.gone_more, Stays.roomy_on, Stays.stays_on, Turning.next_idle, Turning.port_at, Turning.port_step, Turning.ports_gone, Turning.routes_one, Turning.seven_ports}
 use Rattle.chip_node.proofs.nodes.RouterNode.turn.Goals.{in-Empty, in-NoRoom}
 use Rattle.chip_node.proofs.nodes.RouterNode.turn.Goals as goal

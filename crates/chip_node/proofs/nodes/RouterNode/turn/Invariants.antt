@@ -1,7 +1,4 @@
-use Rattle.std.proofs.Common.{◌≡◌, ◌≢◌}
-use Rattle.std.specs.Prelude.{IsTrue}
-use Rattle.spin_base.specs.{declared.chips.Port.Port, Links.port_number}
-use Rattle.chip_node.specs.{declared.holdings.Turn.TheVariants.Moved, Acting.IsReadyRouter, Going.IsIdleAt, Going.HasAmpleRoom, Going.Stays, Items.port_place}
+use Rattle.chip_node.proofs.Common.{HasAmpleRoom, IsIdleAt, IsReadyRouter, IsTrue, Moved, Port, Stays, port_number, port_place, ◌≡◌, ◌≢◌}
 use Rattle.chip_node.proofs.GoingRound.{GoneBy}
 use Rattle.chip_node.proofs.nodes.RouterNode.turn.Given as goal
 

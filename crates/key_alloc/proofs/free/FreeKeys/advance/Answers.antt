@@ -1,5 +1,4 @@
-use Rattle.std.proofs.Common.{refl, sym, ap, ◌∙◌, ◌+◌, ◌-◌, ◌||◌, subst, arith}
-use Rattle.range_store.specs.Regions.{AreRuns, is_free, in_range}
+use Rattle.key_alloc.proofs.Common.{AreRuns, ap, arith, in_range, is_free, refl, subst, sym, ◌+◌, ◌-◌, ◌||◌, ◌∙◌}
 use Rattle.key_alloc.proofs.Frontier.{IsRunEnd, run_end, moved_up, passed, last_is_run_end}
 use Rattle.key_alloc.proofs.free.FreeKeys.advance.Goals as goal
 

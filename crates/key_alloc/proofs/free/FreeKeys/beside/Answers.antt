@@ -1,7 +1,4 @@
-use Rattle.std.proofs.Common.{refl, ap, ◌∙◌, ◌≡◌, ℕ, ◌≤◌, true, false, not, ◌&&◌, subst, arith}
-use Rattle.std.proofs.lemmas.{Bool.Decides.nat_tests, List.Elements.All-replicate}
-use Rattle.key_alloc.specs.{declared.free.Start.Start, KeyBlocks.IsOpenPlace}
-use Rattle.range_store.specs.Regions.{AreRuns, is_free, is_hole_range, in_range, hole_of}
+use Rattle.key_alloc.proofs.Common.{All-replicate, AreRuns, IsOpenPlace, Start, ap, arith, false, hole_of, in_range, is_free, is_hole_range, nat_tests, not, refl, subst, true, ℕ, ◌&&◌, ◌∙◌, ◌≡◌, ◌≤◌}
 use Rattle.key_alloc.proofs.Frontier.{at_start}
 use Rattle.key_alloc.proofs.free.FreeKeys.beside.Goals as goal
 

@@ -1,4 +1,4 @@
-use Rattle.std.proofs.Common.{arith}
+use Rattle.key_alloc.proofs.Common.{arith}
 use Rattle.key_alloc.proofs.free.FreeKeys.go_on.Goals as goal
 
 pub advance-requires : goal.advance-requires

@@ -1,7 +1,5 @@
-use Rattle.std.proofs.Common.{◌≡◌, ◌≢◌, ◌<◌, ◌++◌, ◌∷◌, [], ℕ, refl, sym, ◌∙◌, subst, true, not, ◌&&◌, List, arith}
-use Rattle.spin_base.specs.declared.blocks.Block.{Block}
-use Rattle.range_store.specs.Regions.{AreRuns, is_hole_range, is_free, in_range}
-use Rattle.key_alloc.specs.{KeyBlocks.size_of, FreeKeys.AreKeysFreeBeside, declared.free.FreeKeys.FreeKeys}
+use Rattle.key_alloc.proofs.Common.{AreKeysFreeBeside, AreRuns, Block, FreeKeys, List, [], arith, in_range, is_free, is_hole_range, not, refl, size_of, subst, sym, true, ℕ, ◌&&◌, ◌++◌, ◌<◌, ◌∙◌, ◌∷◌}
+use Rattle.key_alloc.proofs.Common.{◌≡◌, ◌≢◌}
 use Rattle.key_alloc.proofs.Taking.{below_frontier, least_from_fit, beyond_from_fit, none_from_fit, open_before, taken_more}
 use Rattle.key_alloc.proofs.free.FreeKeys.take.Goals as goal
 

@@ -1,6 +1,4 @@
-use Rattle.std.proofs.Common.{◌-◌, List}
-use Rattle.spin_base.specs.declared.blocks.Block.{Block}
-use Rattle.key_alloc.specs.FreeKeys.{AreKeysFreeBeside}
+use Rattle.key_alloc.proofs.Common.{AreKeysFreeBeside, Block, List, ◌-◌}
 use Rattle.key_alloc.proofs.free.FreeKeys.take.Given as goal
 
 -- the same blocks are taken

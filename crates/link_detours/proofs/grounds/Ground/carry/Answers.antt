@@ -1,7 +1,4 @@
-use Rattle.std.proofs.Common.{arith}
-use Rattle.std.proofs.Common.{sym, refl, ◌∙◌}
-use Rattle.std.proofs.lemmas.{Bool.false≢true, List.take_all, List.Elements.All-more}
-use Rattle.machine_desc.specs.Live.{IsLiveLink}
+use Rattle.link_detours.proofs.Common.{All-more, IsLiveLink, arith, false≢true, refl, sym, take_all, ◌∙◌}
 use Rattle.link_detours.proofs.grounds.Ground.carry.Goals as goal
 
 pub loop-edge-preserved : goal.loop-edge-preserved

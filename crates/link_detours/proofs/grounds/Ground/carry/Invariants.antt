@@ -1,5 +1,4 @@
-use Rattle.std.proofs.Common.{All, take}
-use Rattle.machine_desc.specs.Live.{IsLiveLink}
+use Rattle.link_detours.proofs.Common.{All, IsLiveLink, take}
 use Rattle.link_detours.proofs.grounds.Ground.carry.Given as goal
 
 -- the edges that were looked at are live links

@@ -1,4 +1,4 @@
-use Rattle.std.proofs.Common.{arith, rules}
+use Rattle.link_detours.proofs.Common.{arith, rules}
 use Rattle.link_detours.proofs.RoadBits.{dead_outside}
 use Rattle.link_detours.proofs.grounds.Ground.has.Goals as goal
 

@@ -1,7 +1,4 @@
-use Rattle.std.proofs.Common.{◌+◌, ◌*◌, ◌/◌, ◌%◌, ◌<◌, ap, ◌∙◌, lit<, arith}
-use Rattle.std.proofs.lemmas.Nat.{mod_below, div-add-mod'}
-use Rattle.spin_base.specs.Links.{dir_number}
-use Rattle.machine_desc.proofs.{Far.inside_parts, Same.below_six}
+use Rattle.link_detours.proofs.Common.{ap, arith, below_six, div-add-mod', inside_parts, lit<, mod_below, ◌%◌, ◌*◌, ◌+◌, ◌/◌, ◌<◌, ◌∙◌}
 use Rattle.link_detours.proofs.{RoadBits.RoadsTo-more, Searching.dir_number_at}
 use Rattle.link_detours.proofs.roads.Roads.of.Goals as goal
 

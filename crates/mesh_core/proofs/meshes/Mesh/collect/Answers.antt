@@ -1,9 +1,5 @@
 -- The mesh after the copy was delivered is the one that the step gives.
-use Rattle.std.proofs.Common.{◌≡◌, ◌∙◌, ap, sym, arith, Some, ℕ, List}
-use Rattle.std.proofs.lemmas.List.{with_items_is}
-use Rattle.std.specs.{List.slice_get, Vec.with_items}
-use Rattle.spin_base.specs.declared.copies.{Event.TheVariants.Collect, McCopy.McCopy}
-use Rattle.mesh_core.specs.{Queues.front_of, Queues.drop_front, State.State, Step.step_of, Whole.state_of}
+use Rattle.mesh_core.proofs.Common.{Collect, List, McCopy, Some, State, ap, arith, drop_front, front_of, slice_get, state_of, step_of, sym, with_items, with_items_is, ℕ, ◌∙◌, ◌≡◌}
 use Rattle.mesh_core.proofs.{Keeping.IsMesh-step_of, StepParts.step_of-collect}
 use Rattle.mesh_core.proofs.meshes.Mesh.collect.Goals as goal
 

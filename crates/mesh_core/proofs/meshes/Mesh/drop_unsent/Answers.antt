@@ -1,7 +1,5 @@
 -- The mesh without the copy is a mesh.
-use Rattle.std.proofs.Common.{arith}
-use Rattle.std.proofs.lemmas.List.{with_items_is}
-use Rattle.mesh_core.specs.{Queues.drop_front, Whole.state_of}
+use Rattle.mesh_core.proofs.Common.{arith, drop_front, state_of, with_items_is}
 use Rattle.mesh_core.proofs.Changes.{IsMesh-dropped}
 use Rattle.mesh_core.proofs.meshes.Mesh.drop_unsent.Goals as goal
 

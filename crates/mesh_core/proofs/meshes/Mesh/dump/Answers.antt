@@ -1,10 +1,6 @@
 -- The mesh after the copy was dropped is the one that the step gives.
-use Rattle.std.proofs.Common.{◌≡◌, ◌∙◌, ap, sym, subst, arith, false, Some, ℕ}
-use Rattle.std.proofs.lemmas.List.{with_items_is}
-use Rattle.std.specs.{List.slice_get, Vec.with_items}
-use Rattle.spin_base.specs.declared.copies.{Event.TheVariants.Dump, McCopy.McCopy}
-use Rattle.machine_desc.specs.Live.{index_of}
-use Rattle.mesh_core.specs.{Serving.queue_named, Serving.copy_served, Serving.hands_after, State.State, State.Queue, State.behind, Step.has_room_behind, Step.step_of, Whole.state_of}
+use Rattle.mesh_core.proofs.Common.{Dump, McCopy, Queue, Some, State, ap, arith, behind, copy_served, false, hands_after, has_room_behind, index_of, queue_named, slice_get, state_of, step_of, subst}
+use Rattle.mesh_core.proofs.Common.{sym, with_items, with_items_is, ℕ, ◌∙◌, ◌≡◌}
 use Rattle.mesh_core.proofs.{Keeping.IsMesh-step_of, StepParts.step_of-dump}
 use Rattle.mesh_core.proofs.meshes.Mesh.dump.Goals as goal
 

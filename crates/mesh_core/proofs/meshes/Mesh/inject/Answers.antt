@@ -1,10 +1,6 @@
 -- The mesh after the copy was sent is the one that the step gives.
-use Rattle.std.proofs.Common.{◌≡◌, ◌∙◌, ap, sym, subst, arith, true, Some, ℕ, List}
-use Rattle.std.proofs.lemmas.{List.with_items_is, Option.slice_get-get_or, Bool.ltb-true}
-use Rattle.std.specs.{List.slice_get, Vec.with_items}
-use Rattle.spin_base.specs.declared.{chips.Spot.Spot, chips.Port.TheVariants.Local, copies.Event.TheVariants.Inject, copies.McCopy.McCopy}
-use Rattle.machine_desc.specs.Description.{Description}
-use Rattle.mesh_core.specs.{Queues.front_of, Queues.drop_front, State.State, State.queue_at, Step.has_room, Step.push_at, Step.step_of, Step.after_event, Whole.state_of}
+use Rattle.mesh_core.proofs.Common.{Description, Inject, List, Local, McCopy, Some, Spot, State, after_event, ap, arith, drop_front, front_of, has_room, ltb-true, push_at, queue_at, slice_get}
+use Rattle.mesh_core.proofs.Common.{slice_get-get_or, state_of, step_of, subst, sym, true, with_items, with_items_is, ℕ, ◌∙◌, ◌≡◌}
 use Rattle.mesh_core.proofs.{Keeping.IsMesh-step_of, StepParts.step_of-inject, StepParts.after_event-moved}
 use Rattle.mesh_core.proofs.meshes.Mesh.inject.Goals as goal
 

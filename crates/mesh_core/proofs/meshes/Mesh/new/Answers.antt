@@ -1,6 +1,5 @@
 -- The lists are made as the empty mesh has them.
-use Rattle.std.proofs.Common.{subst}
-use Rattle.mesh_core.specs.State.{Setup, IsMesh}
+use Rattle.mesh_core.proofs.Common.{IsMesh, Setup, subst}
 use Rattle.mesh_core.proofs.Changes.{IsMesh-empty, empty_from, IsMesh-delivered, IsMesh-dumped}
 use Rattle.mesh_core.proofs.meshes.Mesh.new.Goals as goal
 

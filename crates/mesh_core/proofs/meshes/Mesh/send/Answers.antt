@@ -1,11 +1,6 @@
 -- The mesh after the copy was sent is the one that the step gives.
-use Rattle.std.proofs.Common.{◌≡◌, ◌∙◌, ap, sym, subst, arith, true, Some, ℕ}
-use Rattle.std.proofs.lemmas.List.{with_items_is}
-use Rattle.std.specs.{List.slice_get, Vec.with_items}
-use Rattle.spin_base.specs.{declared.copies.Event.TheVariants.Send, declared.copies.McCopy.McCopy, Hops.onward}
-use Rattle.machine_desc.specs.Live.{index_of}
-use Rattle.mesh_core.specs.{Serving.queue_named, Serving.copy_served, Serving.inputs_after, Serving.cores_after, Serving.hands_after, State.State, State.Queue, State.behind, Step.has_room_behind}
-use Rattle.mesh_core.specs.{Step.step_of, Step.after_event, Whole.state_of}
+use Rattle.mesh_core.proofs.Common.{McCopy, Queue, Send, Some, State, after_event, ap, arith, behind, copy_served, cores_after, hands_after, has_room_behind, index_of, inputs_after, onward}
+use Rattle.mesh_core.proofs.Common.{queue_named, slice_get, state_of, step_of, subst, sym, true, with_items, with_items_is, ℕ, ◌∙◌, ◌≡◌}
 use Rattle.mesh_core.proofs.{Keeping.IsMesh-step_of, StepParts.step_of-send, StepParts.after_event-moved}
 use Rattle.mesh_core.proofs.meshes.Mesh.send.Goals as goal
 

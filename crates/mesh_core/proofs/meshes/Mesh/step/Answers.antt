@@ -1,7 +1,5 @@
 -- Each event keeps the ledger, and no Dump is enabled where queues hold as many copies as there are packets.
-use Rattle.std.proofs.Common.{subst}
-use Rattle.spin_base.specs.declared.copies.Event.TheVariants.{Inject, Take, Send, Dump, Collect}
-use Rattle.mesh_core.specs.State.{IsMesh}
+use Rattle.mesh_core.proofs.Common.{Collect, Dump, Inject, IsMesh, Send, Take, subst}
 use Rattle.mesh_core.proofs.{StepLedger.ledger-after_event, StepLedger.ledger-after_result, NoDump.idle_result, NoDump.idle_answer}
 use Rattle.mesh_core.proofs.meshes.Mesh.step.Goals as goal
 

@@ -1,11 +1,7 @@
 -- The mesh after the copy was taken is the one that the step gives.
-use Rattle.std.proofs.Common.{◌≡◌, ◌∙◌, ap, sym, subst, arith, true, Some, None, ℕ, ◌<◌, ◌*◌, length, List, set}
-use Rattle.std.proofs.lemmas.List.{with_items_is}
-use Rattle.std.specs.{List.slice_get, Vec.with_items, Vec.with_item}
-use Rattle.spin_base.specs.declared.copies.{Event.TheVariants.Take, McCopy.McCopy}
-use Rattle.machine_desc.specs.{Description.Description, Live.index_of, Live.is_live_chip}
-use Rattle.mesh_core.specs.{declared.places.Did.TheVariants.Moved, Queues.front_of, Queues.drop_front, State.State, State.queue_at, Step.in_hand, Step.outputs, Step.step_of, Step.answer}
-use Rattle.mesh_core.specs.{Step.after_event, Whole.state_of}
+use Rattle.mesh_core.proofs.Common.{Description, List, McCopy, Moved, None, Some, State, Take, after_event, answer, ap, arith, drop_front, front_of, index_of, is_live_chip, length, outputs, queue_at}
+use Rattle.mesh_core.proofs.Common.{set, slice_get, state_of, step_of, subst, sym, true, with_item, with_items, with_items_is, ℕ, ◌*◌, ◌<◌, ◌∙◌, ◌≡◌}
+use Rattle.mesh_core.specs.Step.{in_hand}
 use Rattle.mesh_core.proofs.{Keeping.IsMesh-step_of, StepParts.step_of-take, StepParts.answer-moved, StepParts.after_event-moved, ServingLaws.outputs_at, ServingLaws.no_hand}
 use Rattle.mesh_core.proofs.meshes.Mesh.take.Goals as goal
 

@@ -1,9 +1,5 @@
 -- A link that is not live leads to the device on it, if there is one.
-use Rattle.std.proofs.Common.{◌≡◌, ◌+◌, sym, ap, ◌∙◌, subst, false}
-use Rattle.std.specs.List.{All}
-use Rattle.spin_base.specs.declared.{chips.Spot.Spot, routes.Out.TheVariants.Link}
-use Rattle.machine_desc.specs.{Live.far_of, Live.is_live_link, Live.IsSite, NetsOn.vertex_at}
-use Rattle.mesh_core.specs.State.{Setup, vertex_behind, core_queue_of, behind_link}
+use Rattle.mesh_core.proofs.Common.{All, IsSite, Link, Setup, Spot, ap, behind_link, core_queue_of, false, far_of, is_live_link, subst, sym, vertex_at, vertex_behind, ◌+◌, ◌∙◌, ◌≡◌}
 use Rattle.mesh_core.proofs.ServingLaws.{vertex_behind-link}
 use Rattle.mesh_core.proofs.setups.MeshSetup.behind_link.Goals as goal
 

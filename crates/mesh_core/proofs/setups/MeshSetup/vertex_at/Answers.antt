@@ -1,7 +1,5 @@
 -- The table tells the vertex on each spot of a chip, and on no other spot is there one.
-use Rattle.std.proofs.Common.{◌≡◌, sym, subst, ◌∙◌, arith, None}
-use Rattle.mesh_core.specs.State.{Setup}
-use Rattle.machine_desc.specs.NetsOn.{vertex_at}
+use Rattle.mesh_core.proofs.Common.{None, Setup, arith, subst, sym, vertex_at, ◌∙◌, ◌≡◌}
 use Rattle.mesh_core.proofs.VertexTableLaws.{vertex_at-nowhere, spot_place-below, vertex_told}
 use Rattle.mesh_core.proofs.setups.MeshSetup.vertex_at.Goals as goal
 

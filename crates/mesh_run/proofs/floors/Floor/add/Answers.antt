@@ -1,7 +1,4 @@
-use Rattle.std.proofs.Common.{◌*◌, ℕ, refl, ap, ◌∙◌, subst}
-use Rattle.spin_base.specs.declared.chips.Chip.{Chip}
-use Rattle.machine_desc.specs.{Description.Description, Live.chip_of, Live.is_live_chip}
-use Rattle.mesh_run.specs.Floors.{AddsBehind, live_if}
+use Rattle.mesh_run.proofs.Common.{AddsBehind, Chip, Description, ap, chip_of, is_live_chip, live_if, refl, subst, ℕ, ◌*◌, ◌∙◌}
 use Rattle.mesh_run.proofs.FloorLaws.{bank_of, floor_more}
 use Rattle.mesh_run.proofs.floors.Floor.add.Goals as goal
 

@@ -1,5 +1,4 @@
-use Rattle.std.proofs.Common.{◌≡◌, ◌*◌, ap, ◌∙◌, arith}
-use Rattle.machine_desc.specs.Description.{Description}
+use Rattle.mesh_run.proofs.Common.{Description, ap, arith, ◌*◌, ◌∙◌, ◌≡◌}
 use Rattle.mesh_run.proofs.FloorLaws.{floor_all, floor_none}
 use Rattle.mesh_run.proofs.floors.Floor.of.Goals as goal
 

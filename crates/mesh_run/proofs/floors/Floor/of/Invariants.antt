@@ -1,4 +1,4 @@
-use Rattle.mesh_run.specs.Floors.{IsFloorSoFar}
+use Rattle.mesh_run.proofs.Common.{IsFloorSoFar}
 use Rattle.mesh_run.proofs.floors.Floor.of.Given as goal
 
 -- the chips so far

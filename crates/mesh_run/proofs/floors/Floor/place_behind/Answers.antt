@@ -1,6 +1,4 @@
-use Rattle.std.proofs.Common.{◌≡◌, ◌+◌, ◌*◌, ◌≤◌, List, Option, get_or, length, ap, ◌∙◌, subst, arith}
-use Rattle.chip_node.specs.declared.nodes.Behind.{Behind}
-use Rattle.spin_base.specs.Outputs.{out_number}
+use Rattle.mesh_run.proofs.Common.{arith, get_or}
 use Rattle.mesh_run.proofs.FloorLaws.{behind_inside, read_behind}
 use Rattle.mesh_run.proofs.floors.Floor.place_behind.Goals as goal
 

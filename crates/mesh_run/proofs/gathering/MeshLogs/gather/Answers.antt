@@ -1,4 +1,4 @@
-use Rattle.std.proofs.Common.{arith}
+use Rattle.mesh_run.proofs.Common.{arith}
 use Rattle.mesh_run.proofs.GatheringLaws.{gathered_all}
 use Rattle.mesh_run.proofs.gathering.MeshLogs.gather.Goals as goal
 

@@ -1,6 +1,4 @@
-use Rattle.std.proofs.Common.{◌≡◌, take}
-use Rattle.std.specs.List.{sum_by}
-use Rattle.mesh_run.specs.declared.shares.Share.{Share}
+use Rattle.mesh_run.proofs.Common.{Share, sum_by, take, ◌≡◌}
 use Rattle.mesh_run.proofs.gathering.MeshLogs.make_room.Given as goal
 
 -- the room of the shares so far

@@ -1,6 +1,4 @@
-use Rattle.std.proofs.Common.{◌≡◌, ◌*◌, ℕ, List, length, sym, ap, ◌∙◌, subst, arith}
-use Rattle.mesh_core.specs.State.{State}
-use Rattle.mesh_run.specs.{declared.homes.Home.Home, Floors.IsFloorOf, Floors.grid_size, Homes.AreCutsOf, Homes.AreHomesOf, Homes.AreShareRuns, Homes.IsShareTable}
+use Rattle.mesh_run.proofs.Common.{AreCutsOf, AreHomesOf, AreShareRuns, Home, IsFloorOf, IsShareTable, List, State, ap, arith, grid_size, length, subst, sym, ℕ, ◌*◌, ◌∙◌, ◌≡◌}
 use Rattle.mesh_run.proofs.PlanLaws.{few_homes}
 use Rattle.mesh_run.proofs.layout.Layout.of.Goals as goal
 

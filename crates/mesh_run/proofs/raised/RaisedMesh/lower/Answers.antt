@@ -1,7 +1,4 @@
-use Rattle.std.proofs.Common.{◌<◌, ◌≤◌, List, [], ◌++◌, length, refl, sym, ap, ◌∙◌, subst, arith}
-use Rattle.std.proofs.lemmas.List.{get_or_default}
-use Rattle.mesh_core.specs.State.{State}
-use Rattle.mesh_run.specs.{declared.homes.Home.Home, Split.cut_queues, Splitting.MovesOut}
+use Rattle.mesh_run.proofs.Common.{Home, List, MovesOut, State, [], ap, arith, cut_queues, get_or_default, length, refl, subst, sym, ◌++◌, ◌<◌, ◌∙◌, ◌≤◌}
 use Rattle.mesh_run.proofs.Lowering.{all_are_ends, cut_at, cut_inside, cuts_more, cuts_none, fits_raised, lowered, no_more_links}
 use Rattle.mesh_run.proofs.raised.RaisedMesh.lower.Goals as goal
 

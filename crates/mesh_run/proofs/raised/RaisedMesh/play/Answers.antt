@@ -1,6 +1,4 @@
-use Rattle.std.proofs.Common.{◌+◌, List, refl, subst, arith}
-use Rattle.mesh_core.specs.State.{IsMesh, State}
-use Rattle.mesh_run.specs.{declared.shares.Share.Share, Gathering.HasRoomForLogs, Raised.IsRaisedFrom}
+use Rattle.mesh_run.proofs.Common.{HasRoomForLogs, IsMesh, IsRaisedFrom, List, Share, State, arith, refl, subst, ◌+◌}
 use Rattle.mesh_run.proofs.{Raising.copies_self, Raising.known_up, Raising.with_links, Resting.after_refusal}
 use Rattle.mesh_run.proofs.raised.RaisedMesh.play.Goals as goal
 

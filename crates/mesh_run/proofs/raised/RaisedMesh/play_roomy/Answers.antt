@@ -1,11 +1,5 @@
-use Rattle.std.proofs.Common.{arith}
-use Rattle.std.proofs.Common.{ℕ, ◌+◌, List, ◌++◌, length, sym, ap, ◌∙◌, subst}
-use Rattle.std.proofs.lemmas.List.{with_items_is}
-use Rattle.std.specs.{List.All, List.flat_map, Vec.with_items}
-use Rattle.link_queue.specs.declared.links.{Link.Link, LinkEnds.LinkEnds}
-use Rattle.mesh_core.specs.State.{IsMesh, State}
-use Rattle.mesh_run.specs.{declared.homes.Cut.Cut, declared.raised.RaisedMesh.RaisedMesh, declared.shares.Share.Share, Crossing.AreCuts, Crossing.AreLaid, Crossing.Deals, Crossing.HoldsNoEnds}
-use Rattle.mesh_run.specs.{Gathering.AreEmptied, Gathering.FitsLogs, Gathering.IsAnyMoved, Queues.RestAll, Queues.WasUp, Raised.IsRoomyFrom, Raised.PlaysTo, Shares.IsShareOf, Standing.HoldsAll}
+use Rattle.mesh_run.proofs.Common.{All, AreCuts, AreEmptied, AreLaid, Cut, Deals, FitsLogs, HoldsAll, HoldsNoEnds, IsAnyMoved, IsMesh, IsRoomyFrom, IsShareOf, Link, LinkEnds, List, PlaysTo}
+use Rattle.mesh_run.proofs.Common.{RaisedMesh, RestAll, Share, State, WasUp, ap, arith, flat_map, length, subst, sym, with_items, with_items_is, ℕ, ◌++◌, ◌+◌, ◌∙◌}
 use Rattle.mesh_run.proofs.{AfterDeal.cuts_apart, RoundSteps.IsCollected, RoundSteps.IsDealt, RoundSteps.IsTurned, RoundSteps.PlayAndStay, RoundSteps.can_rest, RoundSteps.cuts_laid}
 use Rattle.mesh_run.proofs.RoundSteps.{is_collected, is_dealt, is_turned, no_ends, room_for_logs, round_plays, shares_of_mesh, still_cuts}
 use Rattle.mesh_run.proofs.raised.RaisedMesh.play_roomy.{Given.Over, Goals.After-collect, Goals.After-deal, Goals.After-play_all}

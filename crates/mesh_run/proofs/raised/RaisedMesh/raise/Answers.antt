@@ -1,6 +1,4 @@
-use Rattle.std.proofs.Common.{◌+◌, List, ap, ◌∙◌, subst}
-use Rattle.mesh_core.specs.State.{State}
-use Rattle.mesh_run.specs.{declared.homes.Home.Home, Splitting.MovesIn}
+use Rattle.mesh_run.proofs.Common.{Home, List, MovesIn, State, ap, subst, ◌+◌, ◌∙◌}
 use Rattle.mesh_run.proofs.Raising.{raised_in}
 use Rattle.mesh_run.proofs.raised.RaisedMesh.raise.Goals as goal
 

@@ -1,5 +1,4 @@
-use Rattle.std.proofs.Common.{◌/◌, refl, sym, subst}
-use Rattle.mesh_run.specs.Shares.{IsInRun}
+use Rattle.mesh_run.proofs.Common.{IsInRun, refl, subst, sym, ◌/◌}
 use Rattle.mesh_run.proofs.Acting.{bank_acts, bank_keeps, even_place, odd_place, ready_bank, ready_router, router_acts, router_keeps}
 use Rattle.mesh_run.proofs.shares.Share.act.Goals as goal
 

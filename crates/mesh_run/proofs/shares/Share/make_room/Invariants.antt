@@ -1,5 +1,4 @@
-use Rattle.std.proofs.Common.{◌-◌}
-use Rattle.mesh_run.specs.Rooms.{SameCopies}
+use Rattle.mesh_run.proofs.Common.{SameCopies, ◌-◌}
 use Rattle.mesh_run.proofs.shares.Share.make_room.Given as goal
 
 -- the copies are as they were

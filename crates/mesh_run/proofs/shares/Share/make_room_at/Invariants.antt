@@ -1,4 +1,4 @@
-use Rattle.mesh_run.specs.Rooms.{SameCopies}
+use Rattle.mesh_run.proofs.Common.{SameCopies}
 use Rattle.mesh_run.proofs.shares.Share.make_room_at.Given as goal
 
 -- the copies are as they were

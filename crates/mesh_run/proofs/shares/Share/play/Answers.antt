@@ -1,4 +1,4 @@
-use Rattle.std.proofs.Common.{arith}
+use Rattle.mesh_run.proofs.Common.{arith}
 use Rattle.mesh_run.proofs.Acting.{round_more}
 use Rattle.mesh_run.proofs.shares.Share.play.Goals as goal
 

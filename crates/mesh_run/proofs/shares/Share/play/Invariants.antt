@@ -1,4 +1,4 @@
-use Rattle.mesh_run.specs.Shares.{IsShareOf, PlaysRound}
+use Rattle.mesh_run.proofs.Common.{IsShareOf, PlaysRound}
 use Rattle.mesh_run.proofs.shares.Share.play.Given as goal
 
 -- so many turns were played

@@ -1,8 +1,4 @@
-use Rattle.std.proofs.Common.{◌≡◌, ◌≤◌, ◌+◌, Bool, true, List, refl, arith, subst, sym}
-use Rattle.link_queue.specs.declared.links.Link.{Link}
-use Rattle.chip_node.specs.declared.flags.Flags.{Flags}
-use Rattle.mesh_core.specs.State.{Setup}
-use Rattle.mesh_run.specs.{declared.shares.Share.Share, Shares.IsShareOf, Shares.MovesAt, Shares.PlaysOne}
+use Rattle.mesh_run.proofs.Common.{Bool, Flags, IsShareOf, Link, List, MovesAt, PlaysOne, Setup, Share, arith, refl, subst, sym, true, ◌+◌, ◌≡◌, ◌≤◌}
 use Rattle.mesh_run.proofs.{Acting.each_more, Acting.each_none, Acting.each_past, Acting.one_moves, Acting.one_stays, Acting.OneEach, shares.Share.turn_each.Goals.then-not-all+in-Some}
 use Rattle.mesh_run.proofs.shares.Share.turn_each.Goals.{else-not-all, else-at-self, then-at-self+in-Moved, then-at-self+in-Waits, then-at-self+in-Nothing+then-not-has}
 use Rattle.mesh_run.proofs.shares.Share.turn_each.Goals.{then-at-self+in-Nothing+else-not-has}

@@ -1,5 +1,4 @@
-use Rattle.std.proofs.Common.{◌≤◌, ◌-◌}
-use Rattle.mesh_run.specs.Shares.{IsShareOf}
+use Rattle.mesh_run.proofs.Common.{IsShareOf, ◌-◌, ◌≤◌}
 use Rattle.mesh_run.proofs.Acting.{OneEach}
 use Rattle.mesh_run.proofs.shares.Share.turn_each.Given as goal
 

@@ -1,8 +1,4 @@
-use Rattle.std.proofs.Common.{◌≡◌, ◌+◌, ◌++◌, ℕ, List, length, sym, ap, ◌∙◌, subst, arith}
-use Rattle.std.proofs.lemmas.List.{length-map}
-use Rattle.spin_base.specs.declared.copies.McCopy.{McCopy}
-use Rattle.mesh_core.specs.State.{State}
-use Rattle.mesh_run.specs.{Queues.AreUp, Split.cut_queues, Splitting.AreInside, Splitting.HoldNothing}
+use Rattle.mesh_run.proofs.Common.{AreUp, HoldNothing, List, McCopy, State, ap, arith, cut_queues, length, length-map, subst, ℕ, ◌++◌, ◌+◌, ◌∙◌, ◌≡◌}
 use Rattle.mesh_run.proofs.PlanLaws.{cuts_fit, cuts_inside, plan_fits, plan_shared}
 use Rattle.mesh_run.proofs.splitting.SplitPlan.of.Goals as goal
 

@@ -1,6 +1,4 @@
-use Rattle.std.proofs.Common.{◌∷◌, [], map, ◌∙◌}
-use Rattle.std.proofs.lemmas.List.{map-append}
-use Rattle.link_queue.specs.declared.links.LinkEnds.{LinkEnds}
+use Rattle.mesh_run.proofs.Common.{LinkEnds, [], map, map-append, ◌∙◌, ◌∷◌}
 use Rattle.mesh_run.proofs.Holding.{last_leaves}
 use Rattle.mesh_run.proofs.standing.Standing.pop.Goals as goal
 

@@ -1,4 +1,4 @@
-use Rattle.std.proofs.Common.{refl}
+use Rattle.mesh_run.proofs.Common.{refl}
 use Rattle.mesh_run.proofs.Slots.{ends_back}
 use Rattle.mesh_run.proofs.standing.Standing.put_ends.Goals as goal
 

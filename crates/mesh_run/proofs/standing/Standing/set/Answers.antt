@@ -1,4 +1,4 @@
-use Rattle.std.proofs.Common.{refl}
+use Rattle.mesh_run.proofs.Common.{refl}
 use Rattle.mesh_run.proofs.Slots.{set_there}
 use Rattle.mesh_run.proofs.standing.Standing.set.Goals as goal
 

@@ -1,5 +1,4 @@
-use Rattle.std.proofs.Common.{refl}
-use Rattle.link_queue.specs.declared.links.LinkEnds.{LinkEnds}
+use Rattle.mesh_run.proofs.Common.{LinkEnds, refl}
 use Rattle.mesh_run.proofs.Slots.{slot_stands, end_taken, ends_gone}
 use Rattle.mesh_run.proofs.standing.Standing.take_ends.Goals as goal
 

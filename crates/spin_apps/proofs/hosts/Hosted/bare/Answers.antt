@@ -1,9 +1,4 @@
-use Rattle.std.proofs.Common.{◌≡◌, ◌∙◌, ap, sym, subst}
-use Rattle.machine_desc.specs.Description.{Description}
-use Rattle.link_detours.specs.LiveRoads.{AreRoadsOf}
-use Rattle.place_fit.specs.Boards.{AreFreeOn}
-use Rattle.app_loads.specs.{Host.Host, Opening.bare_host}
-use Rattle.spin_apps.specs.Free.{free_machine}
+use Rattle.spin_apps.proofs.Common.{AreFreeOn, AreRoadsOf, Description, Host, ap, bare_host, free_machine, subst, sym, ◌∙◌, ◌≡◌}
 use Rattle.spin_apps.proofs.Keeping.{free_bare}
 use Rattle.spin_apps.proofs.hosts.Hosted.bare.Goals as goal
 

@@ -1,6 +1,4 @@
-use Rattle.std.proofs.Common.{◌≡◌, ◌∙◌, false, IfOk, sym, subst}
-use Rattle.app_loads.specs.Host.{Host, is_loaded}
-use Rattle.spin_apps.specs.{Answers.IsLoadAnswer, Hosting.HasNumbersFor, Making.HasFreeCores}
+use Rattle.spin_apps.proofs.Common.{HasFreeCores, HasNumbersFor, Host, IfOk, IsLoadAnswer, false, is_loaded, subst, sym, ◌∙◌, ◌≡◌}
 use Rattle.spin_apps.proofs.{Planning.may_load, Planning.taken_answers, hosts.Hosted.load.Goals.After-plan_of}
 use Rattle.spin_apps.proofs.hosts.Hosted.load.Goals as goal
 

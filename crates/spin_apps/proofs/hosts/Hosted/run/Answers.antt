@@ -1,9 +1,4 @@
-use Rattle.std.proofs.Common.{◌≡◌, ap, ◌∙◌, sym, subst}
-use Rattle.machine_desc.specs.Description.{Description}
-use Rattle.mesh_core.specs.State.{Setup, State}
-use Rattle.mesh_core.proofs.Fixed.{setup_after}
-use Rattle.place_fit.specs.Boards.{AreFreeOn}
-use Rattle.app_loads.specs.Host.{Host}
+use Rattle.spin_apps.proofs.Common.{AreFreeOn, Description, Host, Setup, State, ap, setup_after, subst, sym, ◌∙◌, ◌≡◌}
 use Rattle.spin_apps.proofs.Keeping.{same_free}
 use Rattle.spin_apps.proofs.hosts.Hosted.run.Goals as goal
 

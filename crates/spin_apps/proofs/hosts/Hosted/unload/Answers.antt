@@ -1,7 +1,4 @@
-use Rattle.std.proofs.Common.{◌≡◌, ◌∙◌, List, sym, subst}
-use Rattle.spin_base.specs.declared.chips.Spot.{Spot}
-use Rattle.place_fit.specs.Boards.{IsWith}
-use Rattle.spin_apps.specs.Free.{free_machine}
+use Rattle.spin_apps.proofs.Common.{IsWith, List, Spot, free_machine, subst, sym, ◌∙◌, ◌≡◌}
 use Rattle.spin_apps.proofs.{Keeping.unloaded_with, Serving.machine_after_unload}
 use Rattle.spin_apps.proofs.hosts.Hosted.unload.Goals as goal
 
