@@ -28,5 +28,5 @@ first_flaw-requires c = record {
   ports_long = c.set_ports.ensures.long;
   routes_long = c.set_targets.ensures.long;
   comes_in = c.set_ports.ensures.told;
-  outputs = c.set_targets.ensures.told;
+  outputs = c.set_targets.ensures.told c.set_links.ensures.told;
 }
