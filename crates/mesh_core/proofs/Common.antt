@@ -1,31 +1,35 @@
 -- The names that the proofs of this crate cite from outside of them, passed on from one place. Declares nothing.
-pub use Rattle.machine_desc.proofs.Branches.{ComesBy, ExitLeads, branch_short, comes_by, end_on_branch, exit_leads, exit_of, last_exit, length_le_from_apart, link_on_branch, same_exit, same_place}
-pub use Rattle.machine_desc.proofs.{Branches.way_first, Far.far_inside, Far.index_below, Far.live_back, Far.live_ends, Far.live_inside, Far.same_index, Same.same_spot, Sites.end_is_no_live_link}
-pub use Rattle.machine_desc.proofs.{Sites.same_site, Sites.site_parts, TreeLemmas.one_edge_into, Wanted.edge_wanted, Wanted.end_wanted, Wanted.spot_of_out, Wanted.wanted_cases}
+pub use Rattle.machine_desc.proofs.Branches.{ComesBy, ExitLeads, branch_inside, branch_short, comes_by, end_on_branch, exit_leads, exit_of, last_exit, length_le_from_apart, link_on_branch, same_exit}
+pub use Rattle.machine_desc.proofs.{Branches.same_place, Branches.way_first, Far.far_inside, Far.index_below, Far.live_back, Far.live_ends, Far.live_inside, Far.same_index, Live.index_of-chip_of}
+pub use Rattle.machine_desc.proofs.{Same.same_spot, Sites.end_is_no_live_link, Sites.same_site, Sites.site_parts, TreeLemmas.one_edge_into, Wanted.edge_wanted, Wanted.end_wanted, Wanted.spot_of_out}
+pub use Rattle.machine_desc.proofs.Wanted.{wanted_cases}
 pub use Rattle.machine_desc.specs.{Branch.Exit, Branch.IsBranch, Branch.arrival_at, Description.Description, Description.HasSize, Live.IsInside, Live.IsLiveChip, Live.IsLiveLink, Live.IsSite}
 pub use Rattle.machine_desc.specs.{Live.chip_of, Live.far_of, Live.index_of, Live.is_live_chip, Live.is_live_link, NetsOn.AreNetsOn, NetsOn.HaveDisjointBlocks, NetsOn.IsWayOn, NetsOn.vertex_at}
 pub use Rattle.machine_desc.specs.{Outputs.ComesIn, Outputs.is_wanted, Outputs.leads_to_spot, RightTables.AreRight, RightTables.IsKeyOf, RightTables.RoutesByTree, RightTables.table_at}
-pub use Rattle.machine_desc.specs.{RoutingTree.IsRoutingTree, declared.nets.NetPlan.NetPlan, declared.trees.Edge.Edge}
+pub use Rattle.machine_desc.specs.{RoutingTree.IsRoutingTree, RoutingTree.end_of, declared.nets.NetPlan.NetPlan, declared.trees.Edge.Edge}
 pub use Rattle.mesh_core.specs.Expected.{AreAsExpected, IsAskedFor, IsAtRest, IsDeliveryNotAfter, deliveries_of, delivery_at, expected_count, expected_deliveries, targets_of_net, without_hop}
 pub use Rattle.mesh_core.specs.{HasRun.DropsNone, Ledger.Asked, Ledger.Label, Ledger.MeetsLedger, Ledger.MeetsLedgerFor, Ledger.OnlyUnderWay, Ledger.all_hand_marks, Ledger.core_marks}
 pub use Rattle.mesh_core.specs.Ledger.{delivered_marks, dumped_marks, hand_marks, input_marks, label_of, marks_at, marks_of, port_of, unsent_marks}
 pub use Rattle.mesh_core.specs.Opened.{AreOfNets, MeetsJobLedger, asked_at, asked_by, asked_in, copy_from, empty_mesh, first_copy, label_in, opened_mesh, unsent_of}
-pub use Rattle.mesh_core.specs.{PutBack.after_put_back, PutBack.put_back_of, Queues.drop_front, Queues.front_of, Serving.copy_served, Serving.cores_after, Serving.hands_after, Serving.inputs_after}
+pub use Rattle.mesh_core.specs.{PutBack.after_put_back, PutBack.put_back_of, Queues.drop_front, Queues.front_of, Searches.IsEdgeInto, Searches.IsFound, Searches.IsMarkThere, Searches.IsOfCore}
+pub use Rattle.mesh_core.specs.{Searches.IsOfOutput, Searches.IsOfPort, Searches.is_held, Searches.port_behind, Serving.copy_served, Serving.cores_after, Serving.hands_after, Serving.inputs_after}
 pub use Rattle.mesh_core.specs.{Serving.queue_named, State.FitsHand, State.FitsQueue, State.Hand, State.IsMesh, State.Queue, State.Setup, State.State, State.behind, State.behind_link, State.core}
 pub use Rattle.mesh_core.specs.{State.core_queue_of, State.input, State.nowhere, State.queue_at, State.vertex_behind, Step.after_event, Step.after_events, Step.after_serving, Step.answer}
 pub use Rattle.mesh_core.specs.Step.{collect_of, dump_of, has_room, has_room_behind, in_hand as held_for, inject_of, outputs, outs_without, push_at, push_behind, send_of, serves, step_of, take_of}
 pub use Rattle.mesh_core.specs.Trail.{IsUnderWayAt, Mark, Station, at_core, comes_in_there, delivered, dumped, in_hand, in_queue, is_on_trail, is_packet_on_trail, leaves_there, on_trail, unsent}
-pub use Rattle.mesh_core.specs.{VertexTable.IsSpotPlace, VertexTable.TellsVertices, VertexTable.spot_place, Waiting.queue_of, Whole.state_of, declared.places.Did.Did}
-pub use Rattle.mesh_core.specs.declared.places.Did.TheVariants.{Idle, Moved}
+pub use Rattle.mesh_core.specs.{VertexTable.IsSpotPlace, VertexTable.TellsVertices, VertexTable.spot_place, Waiting.queue_of, Whereabouts.IsFoundThere, Whereabouts.IsTracked, Whereabouts.IsWhere}
+pub use Rattle.mesh_core.specs.{Whereabouts.TellsStation, Whole.state_of, declared.places.Did.Did, declared.places.Did.TheVariants.Idle, declared.places.Did.TheVariants.Moved}
+pub use Rattle.mesh_core.specs.declared.places.{Place.TheVariants.CoreQueue, Place.TheVariants.Hand as HandAt, Place.TheVariants.InQueue, Where.TheVariants.At, Where.TheVariants.Delivered}
+pub use Rattle.mesh_core.specs.declared.places.Where.{TheVariants.Dumped, TheVariants.Unsent, Where}
 pub use Rattle.spin_base.proofs.{Counts.count_by-agree, Counts.count_by-append, Counts.count_by-cons, Counts.count_by-map, Counts.count_by-none, Equality.chip_eq_same, Equality.chip_eq_true}
 pub use Rattle.spin_base.proofs.Equality.{out_eq_same, out_eq_true, port_eq_same, port_eq_true, port_number_injective, spot_eq_same, spot_eq_true}
 pub use Rattle.spin_base.proofs.Exchange.{PutIn, TakenOut, among_taken_out, count_put_in, count_taken_out, put_in_after, put_in_before, put_in_gathered, taken_out_after, taken_out_before}
 pub use Rattle.spin_base.proofs.{Exchange.taken_out_gathered, Gathering.among_chosen, Gathering.among_gathered, Gathering.among_gathered_from, Gathering.among_made, Gathering.chosen_among}
 pub use Rattle.spin_base.proofs.Gathering.{count_chosen_none, count_chosen_one, count_made_one, gathered_among, gathered_among_from, gathered_nothing, gathered_of_none, made_among}
 pub use Rattle.spin_base.proofs.Members.{Among, Contains-filter, among_any, among_contains, among_either, among_filter, among_left, among_map, among_only, among_right, any_among, contains_among}
-pub use Rattle.spin_base.proofs.{Members.map_among, Members.position_nowhere, Once.outs_once, Outputs.dir_number_below, Outputs.no_high_bit, Pairs.AllPairs-apart, Pairs.AllPairs-head}
-pub use Rattle.spin_base.proofs.{Pairs.AllPairs-tail, Places.All-at, Places.All-each, Places.set-slice_get, Places.slice_get-set_other, Places.slice_get-set_same, Places.slice_get_there}
-pub use Rattle.spin_base.proofs.Spots.{dir_at-dir_number, out_of-core, out_of-device, out_of-has_bit, spot_of_core, spot_of_link}
+pub use Rattle.spin_base.proofs.{Members.map_among, Members.position_nowhere, Members.position_there, Once.outs_once, Outputs.dir_number_below, Outputs.no_high_bit, Pairs.AllPairs-apart}
+pub use Rattle.spin_base.proofs.{Pairs.AllPairs-head, Pairs.AllPairs-tail, Places.All-at, Places.All-each, Places.set-slice_get, Places.slice_get-set_other, Places.slice_get-set_same}
+pub use Rattle.spin_base.proofs.{Places.slice_get_there, Spots.dir_at-dir_number, Spots.out_of-core, Spots.out_of-device, Spots.out_of-has_bit, Spots.spot_of_core, Spots.spot_of_link}
 pub use Rattle.spin_base.specs.{Equality.chip_eq, Equality.out_eq, Equality.port_eq, Equality.spot_eq, Gathered.gathered, Hops.last_hop, Hops.onward, Links.dir_at, Links.dir_number, Links.opposite_of}
 pub use Rattle.spin_base.specs.{Links.port_number, Lookup.lookup, Outputs.IsOutput, Outputs.all_outs, Outputs.has, Outputs.out_of, Outputs.outs_of, declared.blocks.Entry.Entry}
 pub use Rattle.spin_base.specs.declared.chips.{Chip.Chip, Dir.Dir, Dir.TheVariants.East, Dir.TheVariants.North, Dir.TheVariants.NorthEast, Dir.TheVariants.South, Dir.TheVariants.SouthWest}

@@ -25,9 +25,11 @@ mod Ordered
 mod QueueLists
 pub mod Queued
 pub mod RoomyRuns
+mod Searching
 pub mod ServingLaws
 pub mod Standing
 mod StepLedger
 mod StepParts
 pub mod VertexTableLaws
+mod WalkingUp
 pub mod Ways

@@ -1,15 +1,15 @@
 -- Where a packet waits, in a mesh that meets the ledger: behind each output that a hand still has to serve there is a queue
 -- without a copy of the hand's packet, and no queue has two copies of one packet.
 use Rattle.mesh_core.proofs.Common.{All, All-contains, All-each, AllPairs-apart, Among, Bool, ByLink, Chip, Contains, Core, Dir, Exit, ExitLeads, IsInside, IsKeyOf, IsLiveLink, IsMesh, IsRoutingTree}
-use Rattle.mesh_core.proofs.Common.{IsSite, IsWayOn, Label, Link, List, Mark, McCopy, MeetsLedger, NetPlan, Out, Port, Queue, Setup, Some, Spot, State, Station, all_hand_marks, among_contains}
-use Rattle.mesh_core.proofs.Common.{among_left, among_right, and_from, and_parts, ap, arith, arrival_at, at_core, behind, behind_link, cases_order, chip_of, contains_among, core, core_marks}
+use Rattle.mesh_core.proofs.Common.{IsSite, IsTracked, IsWayOn, Label, Link, List, Mark, McCopy, MeetsLedger, NetPlan, Out, Port, Queue, Setup, Some, Spot, State, Station, all_hand_marks}
+use Rattle.mesh_core.proofs.Common.{among_contains, among_left, among_right, and_from, and_parts, ap, arith, at_core, behind, behind_link, cases_order, chip_of, contains_among, core, core_marks}
 use Rattle.mesh_core.proofs.Common.{core_queue_of, count_by, count_by-append, count_by-map, delivered_marks, dumped_marks, end_is_no_live_link, eq-eqb, eqb-true, exit_leads, false, far_inside, far_of}
-use Rattle.mesh_core.proofs.Common.{gathered_among, get_or_from_slice_get, in_hand, in_queue, inl, input, input_marks, inr, is_live_link, is_on_trail, is_packet_on_trail, last_exit, length, live_ends}
-use Rattle.mesh_core.proofs.Common.{live_inside, map, map_among, marks_at, marks_of, nowhere, on_trail, opposite_of, out_of, port_of, queue_at, queue_of, refl, same_place, same_site, slice_get}
-use Rattle.mesh_core.proofs.Common.{slice_get_there, slice_get_within, subst, suc, sym, true, unsent_marks, vertex_behind, ℕ, ◌%◌, ◌++◌, ◌+◌, ◌/◌, ◌<◌, ◌==◌, ◌∙◌, ◌≡◌, ◌≢◌, ◌≤◌}
-use Rattle.mesh_core.proofs.{Changes.queue_at-below, Counting.count_two, Counting.count_le, Counting.counted, Counting.count_gathered_part, Law.ComesThere, Law.comes_from, Law.comes_parts}
-use Rattle.mesh_core.proofs.{Law.leaves_parts, LedgerLaw.one_net, Moves.behind_inputs, Moves.behind_unsent, Moves.mark, OneWay.last_place, Standing.queued_mark, Standing.core_mark}
-use Rattle.mesh_core.proofs.Ways.{vertex_at_stands, vertex_behind_there, vertex_behind_stands, leads_to}
+use Rattle.mesh_core.proofs.Common.{gathered_among, get_or_from_slice_get, in_hand, in_queue, inl, input, input_marks, inr, is_live_link, is_on_trail, is_packet_on_trail, length, live_ends}
+use Rattle.mesh_core.proofs.Common.{live_inside, map_among, marks_at, marks_of, nowhere, opposite_of, out_of, port_of, queue_at, queue_of, refl, same_site, slice_get, slice_get_there}
+use Rattle.mesh_core.proofs.Common.{slice_get_within, subst, suc, sym, true, unsent_marks, vertex_behind, ℕ, ◌%◌, ◌++◌, ◌+◌, ◌/◌, ◌<◌, ◌==◌, ◌∙◌, ◌≡◌, ◌≢◌, ◌≤◌}
+use Rattle.mesh_core.proofs.{Changes.queue_at-below, Counting.count_two, Counting.count_le, Counting.counted, Counting.count_gathered_part, Law.leaves_parts, Law.comes_parts, Moves.behind_inputs}
+use Rattle.mesh_core.proofs.{Moves.behind_unsent, Moves.mark, Standing.queued_mark, Standing.core_mark, WalkingUp.comes_on, WalkingUp.ends_on, Ways.vertex_at_stands, Ways.vertex_behind_there}
+use Rattle.mesh_core.proofs.Ways.{vertex_behind_stands, leads_to}
 
 -- the queue behind an output, which has no copy of this packet
 abbrev pub FreeBehind : State → Chip → Out → ℕ → Type 0
@@ -27,7 +27,7 @@ module _ (s : State) (nets : List NetPlan) (labels : ℕ → Label) (ledger : Me
     to : ℕ
     way : IsWayOn s.setup.machine s.setup.spots net target branch from to
     on : is_on_trail from to branch x ≡ true
-    is_mark : Contains (marks_of s) x
+    tracked : IsTracked s net x.copy.packet
     once : count_by (is_packet_on_trail x.copy.packet from to branch) (marks_of s) ≡ 1
 
   trail_of : (x : Mark) → Contains (marks_of s) x → OnTrail x
@@ -43,59 +43,9 @@ module _ (s : State) (nets : List NetPlan) (labels : ℕ → Label) (ledger : Me
         to = on.3.3;
         way = on.3.4;
         on = on.3.5;
-        is_mark = has;
+        tracked = record { nets = nets; labels = labels; ledger = ledger; in_nets = on.1; mark = x; is_mark = has; is_packet = refl; is_key = on.2 };
         once = ledger.once_on_each x has on.0 on.1 on.2 on.3.0 on.3.1 on.3.2 on.3.3 on.3.4;
       }
-
-  -- ---- a mark of the same packet that is at a place of the trail is on it
-
-  module _ (x : Mark) (t : OnTrail x) (y : Mark) (has : Contains (marks_of s) y) (same : y.copy.packet ≡ x.copy.packet) where
-    u : OnTrail y
-    u = trail_of y has
-
-    -- both have the packet's key, so their nets are one
-    its_way : IsWayOn s.setup.machine s.setup.spots t.net u.target u.branch u.from u.to
-    its_way =
-        let key : y.copy.key ≡ x.copy.key = (ledger.labelled y has).0 ∙ (ap (λ n. (labels n).key) same ∙ sym (ledger.labelled x t.is_mark).0) in
-        let one : u.net ≡ t.net =
-        one_net nets ledger.nets_stand.disjoint u.net t.net u.in_nets t.in_nets x.copy.key (subst (λ n. IsKeyOf u.net.block n) key u.is_key) t.is_key in
-        subst (λ (n : NetPlan). IsWayOn s.setup.machine s.setup.spots n u.target u.branch u.from u.to) one u.way
-
-    tree : IsRoutingTree s.setup.machine t.net.tree.root t.net.tree.edges t.net.targets
-    tree = All-contains (λ n. IsRoutingTree s.setup.machine n.tree.root n.tree.edges n.targets) nets t.net ledger.nets_stand.trees t.in_nets
-
-    -- their branches pass a chip at one place, and come in at one port
-    one_place : (i j : ℕ) (z w : Exit) → slice_get t.branch i ≡ Some z → slice_get u.branch j ≡ Some w → z.chip ≡ w.chip →
-        (i ≡ j) × (arrival_at t.branch i ≡ arrival_at u.branch j)
-    one_place =
-        same_place s.setup.machine t.net.tree.root t.net.tree.edges (map (λ z. z.chip) t.net.targets) tree t.target u.target t.branch u.branch t.way.is_branch its_way.is_branch
-
-    comes_on : (i : ℕ) (z : Exit) → slice_get t.branch i ≡ Some z → (port : Port) → y.station ≡ in_queue z.chip port → is_on_trail t.from t.to t.branch y ≡ true
-    comes_on i z at port is =
-        let there : ComesThere u.branch y.copy.hop z.chip port =
-        comes_parts u.branch y.copy.hop z.chip port (sym (ap (on_trail u.from u.to u.branch y.copy.hop) is) ∙ u.on) in
-        let one = one_place i y.copy.hop z there.exit at there.at (sym there.chip) in
-        let here : ComesThere t.branch y.copy.hop z.chip port =
-        record {
-          exit = z;
-          at = ap (slice_get t.branch) (sym one.0) ∙ at;
-          chip = refl;
-          port_is = ap (arrival_at t.branch) (sym one.0) ∙ (one.1 ∙ there.port_is);
-        } in
-        ap (on_trail t.from t.to t.branch y.copy.hop) is ∙ comes_from t.branch y.copy.hop z.chip port here
-
-    ends_on : y.station ≡ at_core t.to → is_on_trail t.from t.to t.branch y ≡ true
-    ends_on is =
-        let on = and_parts (t.to == u.to) (y.copy.hop == length u.branch) (sym (ap (on_trail u.from u.to u.branch y.copy.hop) is) ∙ u.on) in
-        let spots : List Spot = s.setup.spots in
-        let one : Some t.target ≡ Some u.target =
-        sym (vertex_at_stands spots t.target t.to t.way.ends) ∙ (ap (slice_get spots) (eqb-true t.to u.to on.0) ∙ vertex_at_stands spots u.target u.to u.way.ends) in
-        let same_target : t.target ≡ u.target = cc in
-        let a = last_place s.setup.machine t.net tree t.target t.branch t.way.is_branch in
-        let b = last_place s.setup.machine t.net tree u.target u.branch its_way.is_branch in
-        let place = (one_place a.0 b.0 (last_exit t.target) (last_exit u.target) a.1 b.1 (ap (λ (z : Spot). z.chip) same_target)).0 in
-        let hop : y.copy.hop ≡ length t.branch = eqb-true y.copy.hop (length u.branch) on.1 ∙ (sym b.2 ∙ (ap (λ n. n + 1) (sym place) ∙ a.2)) in
-        ap (on_trail t.from t.to t.branch y.copy.hop) is ∙ and_from (t.to == t.to) (y.copy.hop == length t.branch) (eq-eqb t.to t.to refl) (eq-eqb y.copy.hop (length t.branch) hop)
 
   -- another mark of the packet is not on the trail
   not_twice : (x : Mark) → Contains (marks_of s) x → (t : OnTrail x) → (y : Mark) → Contains (marks_of s) y → y.copy.packet ≡ x.copy.packet →
@@ -136,7 +86,7 @@ module _ (s : State) (nets : List NetPlan) (labels : ℕ → Label) (ledger : Me
               let m : Mark = mark j (in_queue y.chip port) in
               let there : Contains (marks_of s) m = among_contains m (marks_of s) (queued_mark s y.chip port inside j q.0 q.1 (contains_among j q.0 in_q)) in
               not_twice x has t m there same
-              (comes_on x t m there same (suc k.hop) y next port refl)
+              (comes_on s t.net k.packet t.tracked t.target t.way.is_target t.branch t.from t.to t.way m there same (suc k.hop) y.chip y.out port next refl)
               (λ e'. let stations : in_hand c o ≡ in_queue y.chip port = ap (λ (z : Mark). z.station) e' in cc)),
         )
 
@@ -163,7 +113,8 @@ module _ (s : State) (nets : List NetPlan) (labels : ℕ → Label) (ledger : Me
               let m : Mark = mark j (at_core vertex.0) in
               let there : Contains (marks_of s) m = among_contains m (marks_of s) (core_mark s vertex.0 j q.0 q.1 (contains_among j q.0 in_q)) in
               not_twice x has t m there same
-              (ends_on x t m there same (ap at_core is_to))
+              (ends_on s t.net k.packet t.tracked t.target t.way.is_target t.branch t.from t.to t.way m there same
+              (vertex.0, t.way.ends ∙ ap Some (sym is_to), inl refl))
               (λ e'. let stations : in_hand c o ≡ at_core vertex.0 = ap (λ (z : Mark). z.station) e' in cc)),
         )
       where
@@ -255,8 +206,10 @@ module _ (s : State) (nets : List NetPlan) (labels : ℕ → Label) (ledger : Me
       omega (arith, part, in_input_marks p))
       (λ x t j among same.
       let there = comes_parts t.branch x.hop c port t.on in
-      comes_on (mark x (in_queue c port)) t (mark j (in_queue c port)) (waiting_mark (input i) q at j among) same x.hop there.exit there.at port
-      (ap (λ d. in_queue d port) (sym there.chip)))
+      let place : slice_get t.branch x.hop ≡ Some (record { chip = c; out = there.exit.out }) =
+      there.at ∙ ap (λ (d : Chip). let z : Exit = record { chip = d; out = there.exit.out } in Some z) there.chip in
+      comes_on s t.net x.packet t.tracked t.target t.way.is_target t.branch t.from t.to t.way (mark j (in_queue c port)) (waiting_mark (input i) q at j among) same
+      x.hop c there.exit.out port place refl)
       n
   once_in_queue (core v) q at n =
       once_at (at_core v) q (waiting_mark (core v) q at)
@@ -267,6 +220,7 @@ module _ (s : State) (nets : List NetPlan) (labels : ℕ → Label) (ledger : Me
       omega (arith, part, in_core_marks p))
       (λ x t j among same.
       let is_to : v ≡ t.to = eqb-true v t.to ((and_parts (v == t.to) (x.hop == length t.branch) t.on).0) in
-      ends_on (mark x (at_core v)) t (mark j (at_core v)) (waiting_mark (core v) q at j among) same (ap at_core is_to))
+      ends_on s t.net x.packet t.tracked t.target t.way.is_target t.branch t.from t.to t.way (mark j (at_core v)) (waiting_mark (core v) q at j among) same
+      (v, t.way.ends ∙ ap Some (sym is_to), inl refl))
       n
   once_in_queue nowhere q at n = cc

@@ -1,8 +1,8 @@
 -- Which marks a mesh has, by their stations: those of the lists' items there.
-use Rattle.mesh_core.proofs.Common.{Among, Chip, Delivery, DumpRec, Hand, IsInside, List, Mark, McCopy, None, Option, Out, Port, Some, State, Station, all_hand_marks, among_either, among_gathered}
-use Rattle.mesh_core.proofs.Common.{among_left, among_map, among_right, arith, at_core, chip_of, core_marks, delivered, delivered_marks, dumped, dumped_marks, gathered_among, gathered_among_from}
-use Rattle.mesh_core.proofs.Common.{hand_marks, in_hand, in_queue, index_of, inl, input_marks, inr, map_among, marks_at, marks_of, port_number, port_of, queue_at, refl, slice_get, subst, suc, sym}
-use Rattle.mesh_core.proofs.Common.{unsent, unsent_marks, zero, ℕ, ◌%◌, ◌++◌, ◌+◌, ◌/◌, ◌<◌, ◌≡◌, ◌⊎◌}
+use Rattle.mesh_core.proofs.Common.{Among, Chip, Delivery, Description, DumpRec, Hand, IsInside, List, Mark, McCopy, None, Option, Out, Port, Some, State, Station, all_hand_marks, among_either}
+use Rattle.mesh_core.proofs.Common.{among_gathered, among_left, among_map, among_right, arith, at_core, chip_of, core_marks, delivered, delivered_marks, dumped, dumped_marks, gathered_among}
+use Rattle.mesh_core.proofs.Common.{gathered_among_from, hand_marks, in_hand, in_queue, index_of, index_of-chip_of, inl, input_marks, inr, map_among, marks_at, marks_of, port_number, port_of}
+use Rattle.mesh_core.proofs.Common.{queue_at, refl, slice_get, subst, suc, sym, unsent, unsent_marks, zero, ℕ, ◌%◌, ◌++◌, ◌+◌, ◌/◌, ◌<◌, ◌≡◌, ◌⊎◌}
 use Rattle.mesh_core.proofs.Moves.{behind_hands, behind_inputs, behind_unsent, mark, chip_of-index_of, station_of_queue}
 
 -- ---- chips and ports by number
@@ -17,6 +17,11 @@ port_number-port_of (suc (suc (suc (suc zero)))) low = refl
 port_number-port_of (suc (suc (suc (suc (suc zero))))) low = refl
 port_number-port_of (suc (suc (suc (suc (suc (suc zero)))))) low = refl
 port_number-port_of (suc (suc (suc (suc (suc (suc (suc n))))))) low = absurd (omega arith)
+
+-- the place of the queues of a chip and port is one
+pub place_of_queue : (m : Description) (c : Chip) (port : Port) (i : ℕ) → IsInside m c → chip_of m (i / 7) ≡ c → port_of (i % 7) ≡ port →
+    i ≡ queue_at m c port
+place_of_queue m c port i inside is_chip is_port = grind (arith, index_of-chip_of m (i / 7), port_number-port_of (i % 7) (omega arith))
 
 -- ---- marks by their stations
 

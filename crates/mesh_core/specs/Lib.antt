@@ -14,6 +14,7 @@ pub mod Ledger
 pub mod Opened
 pub mod PutBack
 pub mod Queues
+pub mod Searches
 pub mod Serving
 pub mod State
 pub mod Step
@@ -21,4 +22,5 @@ pub mod Tabled
 pub mod Trail
 pub mod VertexTable
 pub mod Waiting
+pub mod Whereabouts
 pub mod Whole

@@ -13,10 +13,11 @@ mod queues;
 mod setups;
 mod steps;
 mod tables;
+mod whereabouts;
 
 pub use hands::Hand;
 pub use meshes::Mesh;
 pub use parts::MeshParts;
-pub use places::{Did, Place};
+pub use places::{Did, Place, Where};
 pub use queues::Queue;
 pub use setups::MeshSetup;

@@ -18,3 +18,14 @@ pub enum Place {
     /// The queue of a core, by its chip and number.
     CoreQueue(Chip, u8),
 }
+
+/// Where a target's copy of a packet is.
+#[derive(Clone, Copy, PartialEq, Eq)]
+pub enum Where {
+    Unsent,
+    At(Place),
+    /// The place in the list of deliveries.
+    Delivered(usize),
+    /// The place in the list of dump records.
+    Dumped(usize),
+}

@@ -1,2 +1,3 @@
 mod Stands
 mod Right
+pub mod Tracked

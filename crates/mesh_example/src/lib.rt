@@ -4,7 +4,7 @@
 //! do on it what a reader expects. The example is this project's own.
 #![tactic(auto)]
 
-ghost use Rattle.std.specs.Prelude.{◌≡◌, List, [], ◌∷◌, ◌++◌, None, Some};
+ghost use Rattle.std.specs.Prelude.{◌≡◌, ℕ, ◌<◌, List, [], ◌∷◌, ◌++◌, None, Some};
 ghost use Rattle.spin_base.specs.declared.chips.Dir.TheVariants.{East, West};
 ghost use Rattle.spin_base.specs.declared.chips.Port.TheVariants.{Link as ByLink, Local};
 ghost use Rattle.spin_base.specs.declared.routes.Out.TheVariants.{Link, Core};
@@ -15,10 +15,12 @@ ghost use Rattle.machine_desc.specs.RightTables.{AreRight};
 ghost use Rattle.mesh_core.specs.State.{IsMesh};
 ghost use Rattle.mesh_core.specs.Step.{after_events};
 ghost use Rattle.mesh_core.specs.Opened.{AreOfNets, MeetsJobLedger};
+ghost use Rattle.mesh_core.specs.Whereabouts.{IsTracked};
 ghost use Rattle.mesh_example.specs.Board.{two_chip_board, left_chip, right_chip, device, spots, net, other_net, nets, tables, wrong_tables, packets, opened, far_branch, device_branch, first_packet, second_packet, device_packet, copy, other_copy};
 
 /// The nets stand on the machine with trees to their targets, the tables are right for them, and each packet has a key of
-/// its net. So the mesh meets the ledger of the job after every list of events. Tables that lack a row are not right.
+/// its net. So the mesh meets the ledger of the job after every list of events, and each packet can be found in it. Tables
+/// that lack a row are not right.
 pub fn the_example_meets_the_definitions()
     ensures is_mesh { IsMesh opened }
     ensures stands { AreNetsOn two_chip_board spots nets }
@@ -32,6 +34,10 @@ pub fn the_example_meets_the_definitions()
     ensures way_to_device { IsWayOn two_chip_board spots other_net device device_branch 1 4 }
     ensures ledger { (events : List Event)
         → MeetsJobLedger (after_events opened events) nets packets }
+    ensures tracked { (events : List Event) (i : ℕ) → i < 2
+        → IsTracked (after_events opened events) net i }
+    ensures tracked_to_device { (events : List Event)
+        → IsTracked (after_events opened events) other_net 2 }
 {}
 
 /// What is where, worked by hand: the first packet is in hand on the left chip with two outputs to serve; on the right

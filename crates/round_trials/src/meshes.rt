@@ -1,13 +1,15 @@
-// What a round makes of the mesh of a job.
+// Where a copy is in the mesh of a job, and what a round makes of that mesh.
 ghost use Rattle.std.specs.Prelude.{◌≡◌, [], IfSome};
 ghost use Rattle.app_graph.specs.RunPart.{IsRunOf};
 ghost use Rattle.app_graph.specs.ValidGraph.{IsValidGraph};
 ghost use Rattle.mesh_round.specs.RoundFlow.{HasNoHand};
+ghost use Rattle.spin_jobs.specs.Parts.{WhereRun};
+ghost use Rattle.round_trials.specs.Kept.{KeepsLedger};
 
 use crate::calls::THREE_PACKETS;
 use crate::gates::InOrder;
 use job_readers::Job;
-use mesh_core::Mesh;
+use mesh_core::{Mesh, Place, Where};
 use mesh_round::round;
 use mesh_run::Pace;
 use spin_base::{Chip, Delivery, Dir, DumpRec, FreeGate, McCopy, Out, Port};
@@ -18,6 +20,10 @@ use std::alloc::Global;
 use std::mem;
 use std::sync::Wait;
 use std::thread::Threads;
+
+/// The same two chips with one packet, which its vertex has sent.
+const ONE_INJECTED: &str =
+    "{\"version\":1,\"machine\":{\"width\":2,\"height\":1},\"graph\":{\"vertices\":[{\"name\":\"a\",\"at\":[0,0]},{\"name\":\"b\",\"at\":[1,0]}],\"nets\":[{\"name\":\"n\",\"source\":\"a\",\"targets\":[\"b\"]}]},\"run\":{\"packets\":[{\"net\":\"n\",\"index\":0}],\"events\":[[\"inject\",\"a\"]]}}";
 
 // The job of a text. What else is made here and below is forgotten, so that the tests owe no proof of taking it apart.
 fn job_in(alloc: Global, text: &str) -> Option<Job>
@@ -37,6 +43,7 @@ fn job_in(alloc: Global, text: &str) -> Option<Job>
 fn traced<R: Threads + Wait + Sync>(rt: &R, alloc: Global, job: Job) -> Option<Parts>
     requires graph { IsValidGraph job.graph }
     requires run { IsRunOf job.graph job.run }
+    ensures kept { IfSome result (λ p. WhereRun p KeepsLedger) }
     ensures no_hand { IfSome result (λ p. job.run.events ≡ [] → IfSome p.mesh HasNoHand) }
 {
     match made_of_job(rt, alloc, JobWord::Trace, job, &FreeGate) {
@@ -49,6 +56,44 @@ fn traced<R: Threads + Wait + Sync>(rt: &R, alloc: Global, job: Job) -> Option<P
             None
         }
     }
+}
+
+// Where the first packet is on its way to the first target of the first net, if it is of that net.
+fn first_copy(parts: &Parts) -> Option<Where>
+    requires { WhereRun parts.now KeepsLedger }
+{
+    let job = parts.job.as_ref()?;
+    let plan = parts.plan.as_ref()?;
+    let mesh = parts.mesh.as_ref()?;
+    let _report = parts.report.as_ref()?;
+    let packet = job.run.packets.as_slice().first()?;
+    let net = plan.nets.as_slice().first()?;
+    let target = net.targets.as_slice().first()?;
+    if packet.net != 0 || mesh.delivered().len() > 9 || mesh.dumped().len() > 9 {
+        return None;
+    }
+    Some(mesh.where_is(net, 0, *target))
+}
+
+// The same in the mesh of a job after its events.
+fn found<R: Threads + Wait + Sync>(rt: &R, alloc: Global, text: &str) -> Option<Where> {
+    let job = job_in(alloc, text)?;
+    let parts = traced(rt, alloc, job)?;
+    let place = first_copy(&parts);
+    mem::forget(parts);
+    place
+}
+
+#[test]
+fn a_packet_is_found_unsent(rt: HostRuntime) {
+    assert!(rt; found(&rt, rt.alloc(), THREE_PACKETS) == Some(Where::Unsent));
+}
+
+// An injected copy stands in the queue of its chip's own cores (docs/formats.md, "How a run goes").
+#[test]
+fn an_injected_packet_is_found_in_the_queue_of_the_cores(rt: HostRuntime) {
+    let queue = Place::InQueue(Chip { x: 0, y: 0 }, Port::Local);
+    assert!(rt; found(&rt, rt.alloc(), ONE_INJECTED) == Some(Where::At(queue)));
 }
 
 // The mesh of a job before any event.
