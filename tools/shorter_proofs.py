@@ -1,5 +1,5 @@
 #!/usr/bin/env python3
-"""Makes the proofs of a crate shorter where `grind` finds by itself what a body spells out.
+"""Makes the proofs of a crate shorter where antt finds by itself what a body spells out.
 
     tools/shorter_proofs.py bodies CRATE       from the top of the repository, with the libraries below the crate built
     tools/shorter_proofs.py blocks CRATE       (tools/take_libraries.py)
@@ -7,14 +7,14 @@
     tools/shorter_proofs.py common CRATE..     neither do these
     tools/shorter_proofs.py unused CRATE..
 
-`bodies` looks at each body of two lines and more. Beside its lemma it writes others of the same statement, whose body is `grind`
-with the lemmas that the first one cites: one with their arguments where these are known at the head of the body, and one with their bare
-names. One `rt check` of the crate tries all of them, since one that fails keeps no other from being checked. One that is not refused
-takes the place of the first body, and the others go. Then the crate is checked again, and bodies that are refused come back: those
+`bodies` looks at each body of two lines and more. Beside its lemma it writes others of the same statement: two whose body is `grind`
+with the lemmas that the first one cites, with their arguments where these are known at the head of the body and by their bare names; and
+one that makes the same call with `_` for the arguments that antt finds. One `rt check` of the crate tries all of them, since one that
+fails keeps no other from being checked. One that is not refused takes the place of the first body, and the others go. Then the crate is checked again, and bodies that are refused come back: those
 of lemmas that no check came to, and of values on which a type rests. `blocks` does the same for the parts of a body that stays: a case, a
 field, a `let`. `imports` drops the names that a file of proofs does not use, adds those of the tactics, and writes those of one
 folder on one line. `common` lets each file take what it names outside of its crate's proofs from one module, proofs/Common.antt.
-`unused` drops the lemmas that nothing needs.
+`unused` drops the lemmas that neither an answer, a definition, the code nor a promise needs.
 
 No verdict rests on it: `rt ci` proves what it leaves.
 """
@@ -257,9 +257,8 @@ def shorter_texts(body, lemmas, lines, lemma):
     bound = {it for begin, _ in equations for it in re.findall(r"[^\s(){}:,∷]+", lines[begin].partition(" =")[0])} | bound_in(body)
     bound |= {it for names in re.findall(r"[({]((?:[^\s(){}:]+ )+):", " ".join(said)) for it in names.split()}
     facts = bound - values_in(" ".join(said)) - {"c"}
-    found = [facts_of(body, lemmas, name), names_of(body, lemmas, name), spared_of(body, lemmas, name, facts)]
-    made = os.environ.get("MAKERS", "012")
-    return dict.fromkeys(it for k, it in enumerate(found) if str(k) in made and it)
+    found = facts_of(body, lemmas, name), names_of(body, lemmas, name), spared_of(body, lemmas, name, facts)
+    return dict.fromkeys(filter(None, found))
 
 
 def bodies(lines, lemma, lemmas):
@@ -597,12 +596,27 @@ def drop_unused(*crates):
                 while lines[begin - 1].lstrip().startswith("-- ") and not lines[begin - 1].lstrip().startswith("-- --"):
                     begin -= 1
                 end += lines[end : end + 1] == [""] and (begin == 0 or lines[begin - 1] == "")
-                count += end - begin
                 print(f"{file}: {name}")
+                count += end - begin
                 lines[begin:end] = []
+                count += drop_empty_modules(lines)
                 write(file, lines)
+    for file in {it[0] for name in set(cites) - reached for it in places[name]}:
+        if not any(re.match(r"\s*[^\s-].* : |\s*(pub )?(abbrev|record|data|ruleset|pub use) ", it) for it in files[file]):
+            print(f"{file}: nothing is left in it, so it and its line in Lib.antt can go")
     print(f"{count} lines fewer")
     return 0
+
+
+def drop_empty_modules(lines):
+    """Drops the headers of modules in which nothing stands, and says how many lines these were."""
+    before = len(lines)
+    for at in reversed([k for k, it in enumerate(lines) if it.lstrip().startswith("module ")]):
+        over = next((k for k in range(at, len(lines)) if lines[k].endswith("where")), at) + 1
+        rest = next((it for it in lines[over:] if it.strip()), "")
+        if not rest or indent(rest) <= indent(lines[at]):
+            del lines[at:over]
+    return before - len(lines)
 
 
 def main(what, *crates):
