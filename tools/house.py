@@ -25,12 +25,12 @@ BEGIN, END = "<!-- made by tools/house.py -->\n", "<!-- end -->\n"
 ALONE = r"\((Tests alone|No command)"
 # No count may grow beyond these. Whoever lowers one lowers its bound.
 MOST = {
-    "conditions a function, in hundredths": 41,
+    "conditions a function, in hundredths": 29,
     "conditions of one function": 4,
-    "lines of proofs": 76341,
-    "lines of proofs longer than 200 characters": 515,
+    "lines of proofs": 73015,
+    "lines of proofs longer than 200 characters": 497,
     "lines of proofs longer than 300 characters": 0,
-    "lines of definitions": 13918,
+    "lines of definitions": 13884,
     "lines of definitions on which the programs' calls rest": 4675,
 }
 PROMISES, LAWS = "| promise | carried by | broken by |", "| law or lemma | stands as |"
