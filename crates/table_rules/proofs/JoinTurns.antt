@@ -1,23 +1,20 @@
 -- One block more, one route more.
-use Rattle.table_rules.proofs.Common.{Alias, Block, Bool, List, Original, Route, RoutedBlock, Row, [], ap, append-nil, append_assoc, arith, drop, drop_all, drop_more, false, flat_map-append}
-use Rattle.table_rules.proofs.Common.{fold-append, get_or, if◌then◌else◌, joined_blocks, length, map, map-append, map_push, meets_one, merge_two, others, own_blocks, pieces_of, refl, row_by}
-use Rattle.table_rules.proofs.Common.{rows_by_routes, served_by, set, sets-eq, sym, take, take_all, take_more, true, with_block, ℕ, ◌++◌, ◌+◌, ◌<◌, ◌∙◌, ◌∷◌, ◌≡◌, ◌≤◌}
+use Rattle.table_rules.proofs.Common.{Alias, Among, Block, List, Original, Route, RoutedBlock, Row, [], ap, append-nil, append_assoc, arith, cases_Bool, drop, drop_all, drop_more, false}
+use Rattle.table_rules.proofs.Common.{flat_map-append, fold-append, get_or, inl, inr, joined_blocks, length, map, map-append, map_push, meets_one, merge_two, not, others, own_blocks, pieces_of, refl}
+use Rattle.table_rules.proofs.Common.{row_by, rows_by_routes, served_by, set, suc, sym, take, take_all, take_more, true, with_block, zero, ℕ, ◌++◌, ◌+◌, ◌<◌, ◌∙◌, ◌∷◌, ◌≡◌, ◌≤◌}
 
 -- ---- a block is put
 
-module _ (behind : List RoutedBlock) (block : Block) (blocks all : List Block) (i : ℕ) (so_far : take i blocks ++ with_block behind (drop i blocks) block ≡ all) where
-  pub put_at_end : length blocks ≤ i → blocks ++ block ∷ [] ≡ all
-  put_at_end past = grind (arith, take_all i blocks past, drop_all i blocks past)
+module _ (behind : List RoutedBlock) (block : Block) where
+  pub taken_in : (blocks : List Block) (at : ℕ) (d : Block) → at < length blocks → not (meets_one behind (merge_two (get_or blocks at d) block)) ≡ true
+      → ((k : ℕ) → k < at → not (meets_one behind (merge_two (get_or blocks k d) block)) ≡ false) → set blocks at (merge_two (get_or blocks at d) block) ≡ with_block behind blocks block
+  taken_in [] at d inside takes before = absurd (omega (arith, inside))
+  taken_in (b ∷ blocks) zero d inside takes before = grind arith
+  taken_in (b ∷ blocks) (suc at) d inside takes before = grind (arith, before 0, taken_in blocks at d (omega (arith, inside)) takes (λ k less. before (suc k) (omega (arith, less))))
 
-  module _ (b join : Block) (within : i < length blocks) (read : b ≡ get_or blocks i b) (is : join ≡ merge_two b block) where
-    at_place : (t : Bool) → meets_one behind join ≡ t → take i blocks ++ (if t then b ∷ with_block behind (drop (i + 1) blocks) block else join ∷ drop (i + 1) blocks) ≡ all
-    at_place t met = grind (arith, drop_more blocks i b within)
-
-    pub taken_in : meets_one behind join ≡ false → set blocks i join ≡ all
-    taken_in clear = grind (arith, sets-eq (join ∷ []) blocks i (omega (arith, within)), append_assoc (take i blocks) (join ∷ []) (drop (i + length (join ∷ [])) blocks), at_place false clear)
-
-    pub passed_on : meets_one behind join ≡ true → take (i + 1) blocks ++ with_block behind (drop (i + 1) blocks) block ≡ all
-    passed_on met = grind (arith, take_more blocks i b within, append_assoc (take i blocks) (b ∷ []) (with_block behind (drop (i + 1) blocks) block), at_place true met)
+  pub put_at_end : (blocks : List Block) → ((b : Block) → Among b blocks → not (meets_one behind (merge_two b block)) ≡ true → ⊥) → blocks ++ block ∷ [] ≡ with_block behind blocks block
+  put_at_end [] none = refl
+  put_at_end (b ∷ blocks) none = grind (arith, cases_Bool (meets_one behind (merge_two b block)), none b (inl refl), put_at_end blocks (λ x among. none x (inr among)))
 
 -- ---- blocks are joined
 
