@@ -17,8 +17,8 @@ pub use Rattle.std.proofs.lemmas.List.{Concat.flat_map-append, Edits.length-inse
 pub use Rattle.std.proofs.lemmas.List.Elements.{All-tail, All-take, Contains-append_cases, Contains-append_left, Contains-append_right, Contains-get_or}
 pub use Rattle.std.proofs.lemmas.List.{Filters.dedup_is, Folds.find-append, Kept.AllPairs-cons, Kept.AllPairs-from_increasing, Kept.Contains-dedup_nat, Kept.Contains-from_dedup}
 pub use Rattle.std.proofs.lemmas.List.{Quantifiers.position-Some, Sorted.All-permutation, Sorted.Contains-permutation, Sorted.IsNonDecreasingBy-from_sort, Sorted.IsPermutation-refl}
-pub use Rattle.std.proofs.lemmas.List.{Sorted.IsPermutation-sym, Sums.fold-append, Sums.sum_by-append, Sums.take_while-cons, append-nil, drop_all, drop_more, get_or-map, get_or_default, length-map}
-pub use Rattle.std.proofs.lemmas.{List.map-append, List.map_push, List.take_all, List.take_more, Map.Keys.IsStrictlyIncreasing-dedup, Nat.Bits.bit_at-zero, Nat.and_le_l, Nat.and_le_r, Nat.mod_low}
+pub use Rattle.std.proofs.lemmas.List.{Sorted.IsPermutation-sym, Sums.sum_by-append, Sums.take_while-cons, append-nil, drop_all, drop_more, get_or-map, get_or_default, length-map, map-append}
+pub use Rattle.std.proofs.lemmas.{List.map_push, List.take_all, List.take_more, Map.Keys.IsStrictlyIncreasing-dedup, Nat.Bits.bit_at-zero, Nat.and_le_l, Nat.and_le_r, Nat.mod_low}
 pub use Rattle.std.proofs.lemmas.{Option.get_or_from_slice_get, Option.none-some, Option.same_Some, Option.slice_get-get_or, Option.slice_get_within, Result.IfOk-weaker}
 pub use Rattle.std.specs.{Int.bit_at, Int.bit_not, Int.w32, List.Contains, List.Sorted.IsNonDecreasing, List.Sorted.IsPermutation, List.cons_option, List.dedup, List.position, List.position_or_len}
 pub use Rattle.std.specs.{Option.option_or, Prelude.All, Prelude.AllPairs, Prelude.IfSome, Prelude.MatchOption, Prelude.bit_and, Prelude.bit_xor, Prelude.count_by, Prelude.filter, Prelude.fold}

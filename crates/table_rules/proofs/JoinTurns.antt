@@ -1,7 +1,7 @@
 -- One block more, one route more.
-use Rattle.table_rules.proofs.Common.{Alias, Among, Block, List, Original, Route, RoutedBlock, Row, [], ap, append-nil, append_assoc, arith, cases_Bool, drop, drop_all, drop_more, false}
-use Rattle.table_rules.proofs.Common.{flat_map-append, fold-append, get_or, inl, inr, joined_blocks, length, map, map-append, map_push, meets_one, merge_two, not, others, own_blocks, pieces_of, refl}
-use Rattle.table_rules.proofs.Common.{row_by, rows_by_routes, served_by, set, suc, sym, take, take_all, take_more, true, with_block, zero, ℕ, ◌++◌, ◌+◌, ◌<◌, ◌∙◌, ◌∷◌, ◌≡◌, ◌≤◌}
+use Rattle.table_rules.proofs.Common.{Alias, Among, Block, List, Original, Route, RoutedBlock, Row, [], ap, append-nil, append_assoc, arith, cases_Bool, drop, drop_more, false, flat_map-append}
+use Rattle.table_rules.proofs.Common.{get_or, inl, inr, joined_blocks, length, map, map-append, map_push, meets_one, merge_two, not, others, own_blocks, pieces_of, refl, row_by, rows_by_routes}
+use Rattle.table_rules.proofs.Common.{served_by, set, suc, sym, take, take_all, take_more, true, with_block, zero, ℕ, ◌++◌, ◌+◌, ◌<◌, ◌∙◌, ◌∷◌, ◌≡◌, ◌≤◌}
 
 -- ---- a block is put
 
@@ -15,12 +15,6 @@ module _ (behind : List RoutedBlock) (block : Block) where
   pub put_at_end : (blocks : List Block) → ((b : Block) → Among b blocks → not (meets_one behind (merge_two b block)) ≡ true → ⊥) → blocks ++ block ∷ [] ≡ with_block behind blocks block
   put_at_end [] none = refl
   put_at_end (b ∷ blocks) none = grind (arith, cases_Bool (meets_one behind (merge_two b block)), none b (inl refl), put_at_end blocks (λ x among. none x (inr among)))
-
--- ---- blocks are joined
-
-pub joined_more : (behind : List RoutedBlock) (blocks : List Block) (i : ℕ) (block : Block) (old new : List Block) → i < length blocks → block ≡ get_or blocks i block → old ≡ joined_blocks behind (take i blocks)
-    → new ≡ with_block behind old block → new ≡ joined_blocks behind (take (i + 1) blocks)
-joined_more behind blocks i block old new within read so_far put = grind (arith, fold-append (with_block behind), take_more blocks i block within)
 
 -- ---- the pieces of rows
 
@@ -44,9 +38,6 @@ module _ (row : Row) (items : List Alias) (i : ℕ) (before old : List RoutedBlo
 -- ---- rows of routes
 
 module _ (routes : List Route) (i : ℕ) (rows left all : List RoutedBlock) (so_far : rows ++ rows_by_routes (drop i routes) left ≡ all) where
-  pub routes_all : length routes ≤ i → rows ≡ all
-  routes_all past = sym (append-nil rows) ∙ (ap (λ l. rows ++ rows_by_routes l left) (sym (drop_all i routes past)) ∙ so_far)
-
   pub routes_more : (route : Route) (behind : List RoutedBlock) (own joined : List Block) (new : List RoutedBlock) → i < length routes → route ≡ get_or routes i route → behind ≡ others route left
       → own ≡ own_blocks route left → joined ≡ joined_blocks behind own → new ≡ rows ++ map (row_by route) joined → new ++ rows_by_routes (drop (i + 1) routes) behind ≡ all
   routes_more route behind own joined new within read behind_is own_is joined_is put =
