@@ -1,7 +1,7 @@
 -- One block more, one route more.
-use Rattle.table_rules.proofs.Common.{Alias, Among, Block, List, Original, Route, RoutedBlock, Row, [], ap, append-nil, append_assoc, arith, cases_Bool, drop, drop_more, false, flat_map-append}
-use Rattle.table_rules.proofs.Common.{get_or, inl, inr, joined_blocks, length, map, map-append, map_push, meets_one, merge_two, not, others, own_blocks, pieces_of, refl, row_by, rows_by_routes}
-use Rattle.table_rules.proofs.Common.{served_by, set, suc, sym, take, take_all, take_more, true, with_block, zero, ℕ, ◌++◌, ◌+◌, ◌<◌, ◌∙◌, ◌∷◌, ◌≡◌, ◌≤◌}
+use Rattle.table_rules.proofs.Common.{Alias, Among, Block, List, Original, Route, RoutedBlock, Row, [], ap, append_assoc, arith, cases_Bool, drop, drop_more, false, get_or, inl, inr, joined_blocks}
+use Rattle.table_rules.proofs.Common.{length, map, meets_one, merge_two, not, others, own_blocks, refl, row_by, rows_by_routes, served_by, set, suc, sym, take, take_all, true, with_block, zero, ℕ}
+use Rattle.table_rules.proofs.Common.{◌++◌, ◌+◌, ◌<◌, ◌∙◌, ◌∷◌, ◌≡◌, ◌≤◌}
 
 -- ---- a block is put
 
@@ -18,14 +18,7 @@ module _ (behind : List RoutedBlock) (block : Block) where
 
 -- ---- the pieces of rows
 
-pub pieces_more : (rows : List Row) (i : ℕ) (row : Row) (old new : List RoutedBlock) → i < length rows → row ≡ get_or rows i row → old ≡ pieces_of (take i rows)
-    → new ≡ old ++ map (λ (o : Original). row_by o.route o.block) (served_by row) → new ≡ pieces_of (take (i + 1) rows)
-pieces_more rows i row old new within read so_far put = grind (arith, take_more rows i row within, flat_map-append served_by (take i rows) (row ∷ []), append-nil (served_by row), map-append)
-
 module _ (row : Row) (items : List Alias) (i : ℕ) (before old : List RoutedBlock) (so_far : old ≡ before ++ map (λ (a : Alias). row_by row.route a.block) (take i items)) where
-  pub aliases_more : (a : Alias) (new : List RoutedBlock) → i < length items → a ≡ get_or items i a → new ≡ old ++ row_by row.route a.block ∷ [] → new ≡ before ++ map (λ (x : Alias). row_by row.route x.block) (take (i + 1) items)
-  aliases_more a new within read put = grind (arith, take_more items i a within, append_assoc, map_push)
-
   pub aliases_all : items ≡ row.aliases → length items ≤ i → old ≡ before ++ map (λ (o : Original). row_by o.route o.block) (served_by row)
   aliases_all same past =
       so_far ∙ ap (λ l. before ++ l) (ap (map (λ (x : Alias). row_by row.route x.block)) (take_all i items past ∙ same) ∙ in_two row.aliases)
