@@ -1,8 +1,8 @@
 -- Numbers of routes, and the rows of one route one after another.
-use Rattle.cover_merge.proofs.Common.{All, All-append, All-cons, All-drop, All-take, AreLinks, AreNumbers, AreRoutes, Bool, IsAhead, IsEachOnce, IsFirstOfRoute, IsMergeSet, IsNextOfRoute, IsOrdered}
-use Rattle.cover_merge.proofs.Common.{IsRouteAdded, List, Route, Row, [], after, ap, arith, cases_lt, cond, drop, eqb-true, false, get_or, get_or-append_seam, get_or_append_left, get_or_default}
-use Rattle.cover_merge.proofs.Common.{has_row, inl, inr, insert, insert_place, length, length-append, map, merge_rows, merged_row, nat_tests, not, passes_at_first, picked, position_or_len_push}
-use Rattle.cover_merge.proofs.Common.{prefix_len-le-length, refl, subst, suc, sym, take, true, zero, ℕ, ◌++◌, ◌+◌, ◌<◌, ◌==◌, ◌∙◌, ◌∷◌, ◌≡◌, ◌≢◌, ◌≤◌, ◌⊎◌}
+use Rattle.cover_merge.proofs.Common.{All-append, All-cons, All-drop, All-take, AreLinks, AreNumbers, Bool, IsAhead, IsEachOnce, IsFirstOfRoute, IsMergeSet, IsNextOfRoute, IsOrdered, IsRouteAdded}
+use Rattle.cover_merge.proofs.Common.{List, Route, Row, [], after, ap, arith, cases_lt, cond, drop, eqb-true, false, get_or, get_or-append_seam, get_or_append_left, get_or_default, has_row, insert}
+use Rattle.cover_merge.proofs.Common.{insert_place, length, length-append, map, merge_rows, merged_row, nat_tests, not, passes_at_first, picked, position_or_len_push, prefix_len-le-length, refl}
+use Rattle.cover_merge.proofs.Common.{subst, suc, sym, take, true, zero, ℕ, ◌++◌, ◌+◌, ◌<◌, ◌==◌, ◌∙◌, ◌∷◌, ◌≡◌, ◌≤◌}
 use Rattle.cover_merge.specs.Links.{place_of_route}
 use Rattle.cover_merge.proofs.{Lists.All-picked, ApplyLemmas.left, ApplyLemmas.after_is, ApplyLemmas.route_is}
 
@@ -28,18 +28,6 @@ route_last routes bits none = grind (arith, nat_tests, position_or_len_push (λ 
 pub added_last : (bits n : ℕ) (old new : List ℕ) → n ≡ place_of_route old bits → n ≡ length old → new ≡ old ++ bits ∷ [] → IsRouteAdded bits old new
 added_last bits n old new is none now =
     grind (arith, length-append old (bits ∷ []), route_last old bits (sym is ∙ none), get_or-append_seam old bits, route_stays, cases_lt, get_or, get_or_append_left)
-
-pub added_again : (bits n : ℕ) (old : List ℕ) → n ≡ place_of_route old bits → n ≢ length old → n ≤ length old → IsRouteAdded bits old old
-added_again bits n old is there most = record {
-  found = by_case (cases_lt n (length old));
-  stays = λ other before. before;
-  one_more = omega arith;
-  once = λ each. each;
-}
-  where
-    by_case : (n < length old) ⊎ (length old ≤ n) → place_of_route old bits < length old
-    by_case (inl less) = omega (arith, is, less)
-    by_case (inr all) = absurd (there (omega (arith, all, most)))
 
 pub place_le : (routes : List ℕ) (bits : ℕ) → place_of_route routes bits ≤ length routes
 unfolding place_of_route
@@ -72,14 +60,6 @@ numbers_insert : (routes : List ℕ) (m : Row) (p : ℕ) (rows : List Row) → i
 numbers_insert routes m zero rows = refl
 numbers_insert routes m (suc p) [] = refl
 numbers_insert routes m (suc p) (r ∷ rows) = ap (λ l. place_of_route routes r.route.bits ∷ l) (numbers_insert routes m p rows)
-
-pub numbers_done : (routes : List ℕ) (rows : List Row) (numbers : List ℕ) → AreRoutes rows routes → numbers ≡ numbers_for routes rows → AreNumbers routes rows numbers
-numbers_done routes rows numbers are whole = record {
-  each = whole;
-  below = subst (All (λ c. c < length routes)) (sym whole) (λ k d within.
-      let inside : k < length rows = omega (arith, within, numbers_length routes rows) in
-      subst (λ n. n < length routes) (sym (get_or_default (numbers_for routes rows) k d 0 within ∙ numbers_read routes rows k (merge_rows []) inside)) (are.found k (merge_rows []) inside));
-}
 
 -- two rows have one number exactly where they have one route
 module _ (routes : List ℕ) (rows : List Row) (numbers : List ℕ) (are : AreNumbers routes rows numbers) where
