@@ -9,6 +9,13 @@ use Rattle.std.proofs.Math.ListN.{get_or-map}
 use Rattle.net_tables.specs.declared.marks.Mark.{Mark}
 use Rattle.app_loads.specs.declared.places.Region.{Region}
 
+-- the first of the items that are left stands at the next place
+pub left_first : {X : Type 0} (xs : List X) (k : ℕ) (x : X) (rest : List X) → drop k xs ≡ x ∷ rest → (slice_get xs k ≡ Some x) × (rest ≡ drop (k + 1) xs)
+left_first [] zero x rest is = cc
+left_first [] (suc k) x rest is = cc
+left_first (y ∷ ys) zero x rest is = let head : y ≡ x = cc in let tail : rest ≡ ys = cc in (ap Some head, tail)
+left_first (y ∷ ys) (suc k) x rest is = grind (arith, left_first ys k x rest is)
+
 -- ---- a list with a part written
 
 pub put_more : {X : Type 0} (old b : List X) (first p : ℕ) (x : X) (m n : List X) → length b ≡ p → first + p < length old → m ≡ take first old ++ (b ++ drop (first + p) old) →

@@ -1,10 +1,10 @@
 -- The least packet of an application that is under way, from the lists of the mesh.
 use Rattle.app_loads.proofs.Common.{All, All-at, All-contains, Among, Bool, Chip, Contains, FitsHand, Hand, IfNone, IfSome, IsLeastUnderWay, IsMesh, IsUnderWayAt, List, LoadedApp, Mark, McCopy, None}
 use Rattle.app_loads.proofs.Common.{NoneUnderWay, Option, Out, SendAlone, Some, StandsAt, State, Station, WaitsIn, [], all_hand_marks, among_at, among_contains, among_either, among_left, among_map}
-use Rattle.app_loads.proofs.Common.{among_right, ap, append-nil, arith, at_core, cases_lt, chip_of, contains_among, core_marks, delivered, dumped, false, flat_map, flat_map-append, gathered}
-use Rattle.app_loads.proofs.Common.{gathered_among, get_or, get_or_default, get_or_from_slice_get, hand_marks, held_packets, if◌then◌else◌, in_hand, in_queue, inl, input_marks, inr, is_packet_of}
-use Rattle.app_loads.proofs.Common.{least_own_packet, length, lesser_of, map_among, map_more_at, mark, mark_stands, marks_at, marks_of, min, own_packet, packet_numbers_of, port_of, refl, slice_get}
-use Rattle.app_loads.proofs.Common.{slice_get-get_or, subst, sym, take, take_all, take_more, true, unsent, unsent_marks, unsent_numbers, ℕ, ◌%◌, ◌++◌, ◌+◌, ◌/◌, ◌<◌, ◌∙◌, ◌∷◌, ◌≡◌, ◌≤◌}
+use Rattle.app_loads.proofs.Common.{among_right, ap, arith, at_core, cases_lt, chip_of, contains_among, core_marks, delivered, dumped, false, flat_map, fold, gathered, gathered_among, get_or}
+use Rattle.app_loads.proofs.Common.{get_or_from_slice_get, hand_marks, held_packets, if◌then◌else◌, in_hand, in_queue, inl, input_marks, inr, is_packet_of, least_own_packet, length, lesser_of}
+use Rattle.app_loads.proofs.Common.{map_among, mark, mark_stands, marks_at, marks_of, min, own_packet, packet_numbers_of, port_of, refl, slice_get, slice_get-get_or, subst, sym, true, unsent}
+use Rattle.app_loads.proofs.Common.{unsent_marks, unsent_numbers, ℕ, ◌%◌, ◌++◌, ◌+◌, ◌/◌, ◌<◌, ◌∙◌, ◌∷◌, ◌≡◌, ◌≤◌}
 use Rattle.app_loads.proofs.{ClaimCases.among_flat, ClaimCases.flat_among, LeavingLists.after_cores, LeavingLists.after_hands, LeavingLists.after_inputs, LeavingLists.after_unsent}
 
 -- ---- the least of some numbers
@@ -52,39 +52,20 @@ module _ (app : LoadedApp) where
             )
       ]
 
--- ---- scans, one item more
+-- ---- folds
 
-module _ (app : LoadedApp) (so_far least next : Option ℕ) where
-  -- one list more of those that a function makes
-  pub list_more : {X : Type 0} (f : X → List ℕ) (xs : List X) (i : ℕ) (x : X) → i < length xs → x ≡ get_or xs i x → least ≡ lesser_of so_far (least_own_packet app (flat_map f (take i xs))) →
-      next ≡ lesser_of least (least_own_packet app (f x)) → next ≡ lesser_of so_far (least_own_packet app (flat_map f (take (i + 1) xs)))
-  list_more {X} f xs i x below is was found =
-      least_more app so_far least next (flat_map f (take i xs)) (f x) (flat_map f (take (i + 1) xs)) was found
-      (ap (flat_map f) (take_more xs i x below)
-      ∙ (flat_map-append f (take i xs) (get_or xs i x ∷ []) ∙ (ap (λ l. flat_map f (take i xs) ++ l) (append-nil (f (get_or xs i x))) ∙ ap (λ (y : X). flat_map f (take i xs) ++ f y) (sym is))))
+module _ (app : LoadedApp) where
+  -- over what has lists of numbers
+  pub least_folded : {X : Type 0} (f : X → List ℕ) (xs : List X) (o : Option ℕ) → fold (λ p x. lesser_of p (least_own_packet app (f x))) o xs ≡ lesser_of o (least_own_packet app (flat_map f xs))
+  least_folded f [] o = sym (none_right o)
+  least_folded f (x ∷ xs) o = least_more app o _ _ (f x) (flat_map f xs) (flat_map f (x ∷ xs)) refl (least_folded f xs (lesser_of o (least_own_packet app (f x)))) refl
 
-  -- one copy more
-  pub copy_more : (copies : List McCopy) (i : ℕ) (d : McCopy) → i < length copies → least ≡ lesser_of so_far (least_own_packet app (packet_numbers_of (take i copies))) →
-      next ≡ lesser_of least (own_packet app (get_or copies i d).packet) → next ≡ lesser_of so_far (least_own_packet app (packet_numbers_of (take (i + 1) copies)))
-  copy_more copies i d below was found =
-      least_more app so_far least next (packet_numbers_of (take i copies)) ((get_or copies i d).packet ∷ []) (packet_numbers_of (take (i + 1) copies)) was
-      (found ∙ ap (lesser_of least) (sym (none_right (own_packet app (get_or copies i d).packet))))
-      (map_more_at (λ (k : McCopy). k.packet) copies i (get_or copies i d) (slice_get-get_or copies i d below))
-
-  -- all of them
-  pub all_lists : {X : Type 0} (f : X → List ℕ) (xs : List X) (i : ℕ) → length xs ≤ i → least ≡ lesser_of so_far (least_own_packet app (flat_map f (take i xs))) →
-      least ≡ lesser_of so_far (least_own_packet app (flat_map f xs))
-  all_lists f xs i all was = was ∙ ap (λ l. lesser_of so_far (least_own_packet app (flat_map f l))) (take_all i xs all)
-
--- one more vertex of those that may have packets unsent
-pub sender_more : (app : LoadedApp) (queues : List (List McCopy)) (vertices : List ℕ) (i d : ℕ) (least next : Option ℕ) (q lent : List McCopy) →
-    i < length vertices → All (λ v. v < length queues) vertices →
-    lent ≡ q → q ≡ get_or queues (get_or vertices i d) q → least ≡ least_own_packet app (flat_map (unsent_numbers queues) (take i vertices)) →
-    next ≡ lesser_of least (least_own_packet app (packet_numbers_of lent)) →
-    next ≡ least_own_packet app (flat_map (unsent_numbers queues) (take (i + 1) vertices))
-sender_more app queues vertices i d least next q lent below there lent_is is was found =
-    list_more app None least next (unsent_numbers queues) vertices i (get_or vertices i d) below (get_or_default vertices i d (get_or vertices i d) below) was
-    (found ∙ ap (λ (l : List McCopy). lesser_of least (least_own_packet app (packet_numbers_of l))) (lent_is ∙ (is ∙ get_or_default queues (get_or vertices i d) q [] (there i d below))))
+  -- over copies
+  pub copies_folded : (copies : List McCopy) (o : Option ℕ) → fold (λ p (k : McCopy). lesser_of p (own_packet app k.packet)) o copies ≡ lesser_of o (least_own_packet app (packet_numbers_of copies))
+  copies_folded [] o = sym (none_right o)
+  copies_folded (k ∷ rest) o =
+      least_more app o _ _ (k.packet ∷ []) (packet_numbers_of rest) (packet_numbers_of (k ∷ rest)) (ap (lesser_of o) (sym (none_right (own_packet app k.packet))))
+      (copies_folded rest (lesser_of o (own_packet app k.packet))) refl
 
 -- ---- the packets under way
 

@@ -1,17 +1,8 @@
-use Rattle.app_loads.proofs.Common.{ap, least_own_packet, lesser_of, packet_numbers_of, sym, ◌∙◌}
-use Rattle.app_loads.proofs.LeavingLeast.{none_right, list_more, all_lists}
+use Rattle.app_loads.proofs.Common.{YieldsList-from_slice, fold_from_yields_List, least_own_packet, lesser_of, packet_numbers_of, rules, ◌∙◌}
+use Rattle.app_loads.proofs.LeavingLeast.{least_folded}
 use Rattle.app_loads.proofs.leaving.least_in_queues.Goals as goal
-
-pub loop-queue-init : goal.loop-queue-init
-loop-queue-init c = sym (none_right c.args.so_far)
-
-pub loop-queue-preserved : goal.loop-queue-preserved
-loop-queue-preserved c =
-    list_more c.args.app.now c.args.so_far c.loop-queue.least c.least_in-least.result packet_numbers_of c.args.queues.now c.loop-queue.queue-index c.queue-item.result
-    c.loop-queue-test.true c.queue-item.is c.loop-queue.invariant
-    (c.least_in-least.ensures ∙ ap (λ l. lesser_of c.loop-queue.least (least_own_packet c.args.app.now (packet_numbers_of l))) c.as_slice.ensures)
 
 pub returns : goal.returns
 returns c =
-    all_lists c.args.app.now c.args.so_far c.loop-queue.least c.loop-queue.least packet_numbers_of c.args.queues.now c.loop-queue.queue-index c.loop-queue-test.false
-    c.loop-queue.invariant
+    fold_from_yields_List _ (λ o q. lesser_of o (least_own_packet c.args.app.now (packet_numbers_of q))) c.args.so_far c.fold.result c.fold.ensures.ran (YieldsList-from_slice c.args.queues.now cc) (λ a x b q k. search rules)
+    ∙ least_folded c.args.app.now packet_numbers_of c.args.queues.now c.args.so_far
