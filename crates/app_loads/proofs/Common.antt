@@ -27,7 +27,7 @@ pub use Rattle.key_alloc.proofs.Ranges.{free_of, in_facts, in_from, regroup, roo
 pub use Rattle.key_alloc.specs.KeyBlocks.{size_of}
 pub use Rattle.machine_desc.proofs.{Branches.length_le_from_apart, Branches.link_on_branch, Far.far_inside, Far.index_below, Far.live_ends, Far.live_inside, Far.same_index, Live.chip_of-inside}
 pub use Rattle.machine_desc.proofs.{Live.index_of-chip_of, Same.chip_eq-from_same, Same.same_spot, Sites.usable_parts, Sites.usable_site, TreeLemmas.tree_cases, TreeLemmas.tree_end}
-pub use Rattle.machine_desc.specs.{Branch.Exit, Description.Description, Description.HasSize, Live.IsInside, Live.IsSite, Live.IsUsable, Live.chip_of, Live.index_of, Live.is_usable, NetsOn.AreNetsOn}
+pub use Rattle.machine_desc.specs.{Branch.Exit, Description.Description, Description.HasSize, Live.IsInside, Live.IsUsable, Live.chip_of, Live.index_of, Live.is_usable, NetsOn.AreNetsOn}
 pub use Rattle.machine_desc.specs.{NetsOn.HaveDisjointBlocks, NetsOn.IsWayOn, NetsOn.vertex_at, Outputs.is_wanted, RightTables.AreRight, RightTables.IsKeyOf, RightTables.RoutesByTree}
 pub use Rattle.machine_desc.specs.{RightTables.table_at, RoutingTree.IsRoutingTree, RoutingTree.IsTreeChip, RoutingTree.end_of, declared.nets.NetPlan.NetPlan, declared.trees.Edge.Edge}
 pub use Rattle.mesh_core.proofs.{AskedPackets.asked_from, AskedPackets.asked_parts, AskedPackets.net_in_list, Counting.count_covered, Counting.count_le, Counting.count_some, Counting.counted}
@@ -58,7 +58,7 @@ pub use Rattle.spin_base.proofs.{Gathering.gathered_nothing, Gathering.gathered_
 pub use Rattle.spin_base.proofs.Members.{Contains-from_filter, Contains-later, Contains-map, Contains-none, Contains-unmap, among_any, among_at, among_contains, among_either, among_filter, among_left}
 pub use Rattle.spin_base.proofs.Members.{among_map, among_right, any_among, contains_among, map_among, position_nowhere, position_there}
 pub use Rattle.spin_base.proofs.{Pairs.All-flat_map, Pairs.AllPairs-across, Pairs.AllPairs-append, Pairs.AllPairs-head, Pairs.AllPairs-left, Pairs.AllPairs-right, Pairs.AllPairs-tail, Places.All-at}
-pub use Rattle.spin_base.proofs.Places.{All-each, AllZip-at_first, AllZip-at_second, AllZip-more, enumerate_more, map_more_at, none_within, set-slice_get, slice_get-mapped, slice_get-push_cases}
+pub use Rattle.spin_base.proofs.Places.{All-each, AllZip-at_first, AllZip-at_second, enumerate_more, map_more_at, none_within, set-slice_get, slice_get-mapped, slice_get-push_cases}
 pub use Rattle.spin_base.proofs.{Places.slice_get-set_other, Places.slice_get-set_same, Places.slice_get_there, Places.take_more_at, Places.unmapped, Places.zip-first_at, Ranges.slice_get-map_range}
 pub use Rattle.spin_base.specs.{Equality.chip_eq, Equality.spot_eq, Gathered.gathered, Hops.onward, Lookup.default_route, Lookup.matches, Outputs.IsOutput, Outputs.has, declared.blocks.Block.Block}
 pub use Rattle.spin_base.specs.declared.{blocks.Entry.Entry, chips.Chip.Chip, chips.Port.Port, chips.Spot.Spot, copies.Delivery.Delivery, copies.DumpRec.DumpRec, copies.Event.Event}

@@ -46,11 +46,12 @@ pub(crate) fn originals_of(
 fn in_order(alloc: Global, lists: Vec<Seq<Mark>>) -> Result<Seq<Seq<Mark>>, Memory>
     ensures { IfOk result (λ sorted. AllZip IsTableOf lists.items (tables_in sorted)) }
 {
-    let mut sorted = Seq::new(alloc);
-    for marks in lists {
-        sorted.push(sorted_marks(marks)?)?;
-    }
-    Ok(sorted)
+    Ok(Seq::from_vec(
+        lists
+            .into_iter()
+            .map(|marks| sorted_marks(marks))
+            .try_collect(alloc)?,
+    ))
 }
 
 // Original blocks in the order of the rows of their plain table. Most chips have none, or one.
