@@ -70,8 +70,8 @@ pub use Rattle.std.proofs.Common.{ℕ, ◌%◌, ◌&&◌, ◌*◌, ◌++◌, ◌
 pub use Rattle.std.proofs.{Math.Bool.or-false, Math.Pow.pow_mono, Math.Seq.drop-cons, Math.Seq.take-length, iter.runs.Made.chains, lemmas.Bool.Decides.nat_tests, lemmas.Bool.and_from}
 pub use Rattle.std.proofs.lemmas.Bool.{and_parts, and_right, both_ways, cases_Bool, cases_eq, cases_lt, cases_order, cond-false, cond-true, cond_both, eq-eqb, eqb-true, false_from_ne_true, false≢true}
 pub use Rattle.std.proofs.lemmas.Bool.{le-leb, le-ltb, leb-false, leb-true, lt-leb, lt-ltb, ltb-true, ne_eqb, not-false, not-true, or_cases, or_left, or_parts, or_right}
-pub use Rattle.std.proofs.lemmas.{Grind.common_steps, Grind.flat_map-append, Grind.pow_more, Iterator.Consumers.YieldsList-at, Iterator.Consumers.YieldsList-from_filter}
-pub use Rattle.std.proofs.lemmas.Iterator.{Consumers.fold_from_yields_List, YieldsList-from_map, YieldsList-from_range, YieldsList-from_slice, items_from_collect}
+pub use Rattle.std.proofs.lemmas.{Grind.common_steps, Grind.flat_map-append, Grind.pow_more, Iterator.Consumers.YieldsList-at, Iterator.Consumers.YieldsList-from_chain}
+pub use Rattle.std.proofs.lemmas.Iterator.{Consumers.YieldsList-from_filter, Consumers.fold_from_yields_List, YieldsList-from_map, YieldsList-from_range, YieldsList-from_slice, items_from_collect}
 pub use Rattle.std.proofs.lemmas.List.Elements.{All-append, All-cons, All-contains, All-filter, All-from_get_or, All-head, All-map, All-nil, All-push, All-replicate, All-set, All-tail, All-weaker}
 pub use Rattle.std.proofs.lemmas.List.Elements.{Contains-append_left, Contains-append_right, Contains-push_cases, filter-append, filter_map-append}
 pub use Rattle.std.proofs.lemmas.List.{Filters.length-filter_both, Folds.find_at, Folds.list_any-append, FromFn.get_or-map-range_with_len, FromFn.length-map-range_with_len}

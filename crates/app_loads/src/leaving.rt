@@ -135,23 +135,14 @@ fn least_of_all(parts: &MeshParts, app: &LoadedApp) -> Option<u32>
     ensures some { IsMesh parts.now → IfSome result (IsLeastUnderWay parts.now app.now) }
     ensures none { IfNone result (NoneUnderWay parts.now app.now) }
 {
-    let unsent = least_in_queues(parts.unsent.as_slice(), app, None);
-    let inputs = least_in_queues(parts.inputs.as_slice(), app, unsent);
-    let hands = least_in_hands(parts.hands.as_slice(), app, inputs);
-    least_in_queues(parts.cores.as_slice(), app, hands)
+    let sources = parts.unsent.as_slice().iter();
+    let queues = sources.chain(parts.inputs.as_slice());
+    let all = queues.chain(parts.cores.as_slice());
+    let least = all.fold(None, |least, queue| least_in(queue.as_slice(), app, least));
+    least_in_hands(parts.hands.as_slice(), app, least)
 }
 
-// The lesser of the least so far and the least of the application's packets in these queues.
-fn least_in_queues(queues: &[Fifo<McCopy>], app: &LoadedApp, so_far: Option<u32>) -> Option<u32>
-    ensures { result
-        ≡ lesser_of so_far (least_own_packet app.now (flat_map packet_numbers_of queues.now)) }
-{
-    queues.iter().fold(so_far, |least, queue| {
-        least_in(queue.as_slice(), app, least)
-    })
-}
-
-// The same of the copies of one queue.
+// The lesser of the least so far and the least of the application's packets in a queue.
 fn least_in(copies: &[McCopy], app: &LoadedApp, so_far: Option<u32>) -> Option<u32>
     ensures { result ≡ lesser_of so_far (least_own_packet app.now (packet_numbers_of copies.now)) }
 {
