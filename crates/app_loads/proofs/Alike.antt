@@ -6,14 +6,7 @@ use Rattle.app_loads.proofs.Common.{◌≡◌}
 use Rattle.app_loads.proofs.{Delivered.HasOneWay, Delivered.no_more, LeavingLeast.listed_waits, LeavingLeast.under_way, LeavingLeast.waits_listed}
 
 pub alike_too : (h g : Host) → AreAlike h g → AreAlike g h
-alike_too h g alike = record {
-  machine = sym alike.machine;
-  apps = sym alike.apps;
-  packets = sym alike.packets;
-  unsent = sym alike.unsent;
-  quiet = alike.other_quiet;
-  other_quiet = alike.quiet;
-}
+alike_too h g alike = grind arith
 
 -- the vertices are the same
 pub same_spots : (h g : Host) → AreApps h → AreApps g → h.mesh.setup.machine ≡ g.mesh.setup.machine → h.mesh.setup.spots ≡ g.mesh.setup.spots
@@ -43,8 +36,7 @@ module _ (h g : Host) (alike : AreAlike h g) where
   waits_too mesh app n waits = listed_waits g.mesh mesh app n waits.0 (subst (Among n) same_under_way (waits_listed h.mesh app n waits))
 
   pub none_too : IsMesh h.mesh → (app : LoadedApp) → NoneUnderWay h.mesh app → NoneUnderWay g.mesh app
-  none_too mesh app none n waits =
-      none n (listed_waits h.mesh mesh app n waits.0 (subst (Among n) (sym same_under_way) (waits_listed g.mesh app n waits)))
+  none_too mesh app none n waits = grind (arith, listed_waits, Among, same_under_way, waits_listed)
 
 -- ---- deliveries
 

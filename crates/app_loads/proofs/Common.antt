@@ -21,8 +21,8 @@ pub use Rattle.app_loads.specs.{Writing.AreUnusedFrom, Writing.CanClear, Writing
 pub use Rattle.app_loads.specs.declared.answers.{LoadErr.TheVariants.Refused, LoadRefusal.LoadRefusal, LoadRefusal.TheVariants.KeysOut, LoadRefusal.TheVariants.Loaded}
 pub use Rattle.app_loads.specs.declared.answers.{LoadRefusal.TheVariants.MemoryOut, LoadRefusal.TheVariants.RowsOut, UnloadErr.TheVariants.NotLoaded, UnloadErr.TheVariants.Waiting}
 pub use Rattle.app_loads.specs.declared.{answers.UnloadErr.UnloadErr, apps.Apps.TheInside.Inside, arrivals.Arrival.Arrival, group.Sent.Sent, known.KnownBlock.KnownBlock, leaving.Left.Left}
-pub use Rattle.app_loads.specs.declared.{loaded.Claim.Claim, loaded.LoadedApp.LoadedApp, loaded.Range.Range, places.Region.TheVariants.Keys, places.Region.TheVariants.Memory}
-pub use Rattle.app_loads.specs.declared.{places.Region.TheVariants.Rows, plans.AppNet.AppNet, plans.AppPlan.AppPlan}
+pub use Rattle.app_loads.specs.declared.{loaded.Claim.Claim, loaded.LoadedApp.LoadedApp, loaded.Range.Range, places.Region.TheVariants.Keys, places.Region.TheVariants.Rows, plans.AppNet.AppNet}
+pub use Rattle.app_loads.specs.declared.plans.AppPlan.{AppPlan}
 pub use Rattle.key_alloc.proofs.Ranges.{free_of, in_facts, in_from, regroup, room_above}
 pub use Rattle.key_alloc.specs.KeyBlocks.{size_of}
 pub use Rattle.machine_desc.proofs.{Branches.length_le_from_apart, Branches.link_on_branch, Far.far_inside, Far.index_below, Far.live_ends, Far.live_inside, Far.same_index, Live.chip_of-inside}
@@ -38,9 +38,9 @@ pub use Rattle.mesh_core.proofs.Ways.{vertex_at_stands, vertex_there}
 pub use Rattle.mesh_core.specs.{Expected.IsAtRest, Expected.NothingWaits, Ledger.Asked, Ledger.Label, Ledger.MeetsLedger, Ledger.MeetsLedgerFor, Ledger.all_hand_marks, Ledger.core_marks}
 pub use Rattle.mesh_core.specs.Ledger.{delivered_marks, dumped_marks, hand_marks, input_marks, label_of, marks_at, marks_of, port_of, unsent_marks}
 pub use Rattle.mesh_core.specs.{Opened.asked_at, Opened.asked_by, Opened.copy_from, Opened.empty_mesh, Opened.first_copy, Opened.label_in, Queues.drop_front, State.FitsHand, State.Hand, State.IsMesh}
-pub use Rattle.mesh_core.specs.{State.Queue, State.Setup, State.State, State.behind, State.core, State.input, State.nowhere, State.queue_at, State.vertex_behind, Step.after_event, Step.after_events}
-pub use Rattle.mesh_core.specs.Step.{after_serving, collect_of, dump_of, has_room_behind, inject_of, push_behind, send_of, serves, step_of, take_of}
-pub use Rattle.mesh_core.specs.Trail.{IsUnderWayAt, Mark, Station, at_core, delivered, dumped, in_hand, in_queue, is_on_trail, is_packet_on_trail, on_trail, unsent}
+pub use Rattle.mesh_core.specs.{State.Queue, State.Setup, State.State, State.core, State.input, State.nowhere, State.queue_at, State.vertex_behind, Step.after_event, Step.after_events}
+pub use Rattle.mesh_core.specs.{Step.collect_of, Step.dump_of, Step.has_room_behind, Step.inject_of, Step.push_behind, Step.send_of, Step.step_of, Step.take_of, Trail.IsUnderWayAt, Trail.Mark}
+pub use Rattle.mesh_core.specs.Trail.{Station, at_core, delivered, dumped, in_hand, in_queue, is_on_trail, is_packet_on_trail, on_trail, unsent}
 pub use Rattle.mesh_core.specs.{VertexTable.spot_place, declared.places.Did.Did}
 pub use Rattle.mesh_drain.proofs.{Frame.dumped_reached, Frame.kept_reached, Frame.reached_none, Frame.reached_then, Frame.setup_reached, Moving.after_moved, Moving.after_none, Moving.after_one}
 pub use Rattle.mesh_drain.proofs.{Moving.after_setup, Packets.few_spots, Senders.Unsent, Senders.moved_of_reached, Senders.one_less_sender, Senders.rest_from, Senders.sender_there}
@@ -60,10 +60,10 @@ pub use Rattle.spin_base.proofs.Members.{among_map, among_right, any_among, cont
 pub use Rattle.spin_base.proofs.{Pairs.All-flat_map, Pairs.AllPairs-across, Pairs.AllPairs-append, Pairs.AllPairs-head, Pairs.AllPairs-left, Pairs.AllPairs-right, Pairs.AllPairs-tail, Places.All-at}
 pub use Rattle.spin_base.proofs.Places.{All-each, AllZip-at_first, AllZip-at_second, enumerate_more, map_more_at, none_within, set-slice_get, slice_get-mapped, slice_get-push_cases}
 pub use Rattle.spin_base.proofs.{Places.slice_get-set_other, Places.slice_get-set_same, Places.slice_get_there, Places.take_more_at, Places.unmapped, Places.zip-first_at, Ranges.slice_get-map_range}
-pub use Rattle.spin_base.specs.{Equality.chip_eq, Equality.spot_eq, Gathered.gathered, Hops.onward, Lookup.default_route, Lookup.matches, Outputs.IsOutput, Outputs.has, declared.blocks.Block.Block}
+pub use Rattle.spin_base.specs.{Equality.chip_eq, Equality.spot_eq, Gathered.gathered, Lookup.default_route, Lookup.matches, Outputs.IsOutput, Outputs.has, declared.blocks.Block.Block}
 pub use Rattle.spin_base.specs.declared.{blocks.Entry.Entry, chips.Chip.Chip, chips.Port.Port, chips.Spot.Spot, copies.Delivery.Delivery, copies.DumpRec.DumpRec, copies.Event.Event}
 pub use Rattle.spin_base.specs.declared.copies.{Event.TheVariants.Collect, Event.TheVariants.Dump, Event.TheVariants.Inject, Event.TheVariants.Send, Event.TheVariants.Take, McCopy.McCopy}
-pub use Rattle.spin_base.specs.declared.{copies.Packet.Packet, routes.Out.Out, routes.Out.TheVariants.Core, routes.Route.Route}
+pub use Rattle.spin_base.specs.declared.{copies.Packet.Packet, routes.Out.Out, routes.Out.TheVariants.Core, routes.Route.Route, wants.Memory.Memory}
 pub use Rattle.std.proofs.Common.{Bool, Err, Global, IfOk, IsTrue, List, None, Ok, OnErr, OnOk, Option, Result, Some, Vec, [], ap, append-nil, append_assoc, arith, bit_and, cond, count_by, drop}
 pub use Rattle.std.proofs.Common.{false, find, get_or, if◌then◌else◌, inl, inr, leb, length, ltb, map, max, min, not, refl, replicate, rules, set, subst, suc, sym, take, take-append-drop, true, zero}
 pub use Rattle.std.proofs.Common.{ℕ, ◌%◌, ◌&&◌, ◌*◌, ◌++◌, ◌+◌, ◌-◌, ◌/◌, ◌<◌, ◌==◌, ◌^◌, ◌||◌, ◌↔◌, ◌∙◌, ◌∷◌, ◌≡◌, ◌≢◌, ◌≤◌, ◌⊎◌}

@@ -1,13 +1,13 @@
 -- Rows put into ranges of entries.
-use Rattle.app_loads.proofs.Common.{AllZip, AreCopied, CanCopy, Chip, Contains, Contains-at, Contains-push_cases, Description, Entry, IsInside, IsRegion, IsTableOf, Keys, List, Memory, Range, Row}
-use Rattle.app_loads.proofs.Common.{Rows, ShareNoPlace, Some, Table, [], and_from, ap, append_assoc, arith, cases_eq, cases_lt, chip_count, clash, drop, drop-cons, drop_at, entry_of, eq-eqb, false}
+use Rattle.app_loads.proofs.Common.{AllZip, AreCopied, CanCopy, Chip, Contains, Contains-at, Contains-push_cases, Description, Entry, IsInside, IsRegion, IsTableOf, Keys, List, Range, Row, Rows}
+use Rattle.app_loads.proofs.Common.{ShareNoPlace, Some, Table, [], and_from, ap, append_assoc, arith, cases_eq, cases_lt, chip_count, clash, drop, drop-cons, drop_at, entry_of, eq-eqb, false}
 use Rattle.app_loads.proofs.Common.{false_from_ne_true, get_or, get_or-take, get_or_from_slice_get, in_from, in_range, index_below, index_of, inl, inr, is_taken, length, length-append, length-drop}
 use Rattle.app_loads.proofs.Common.{length-map, length-set, length-take-le, list_any-append, map, map-append, map_more_at, or_parts, place_of, range_has, refl, row_of_mark, same_Some, set, set_at}
 use Rattle.app_loads.proofs.Common.{slice_get, slice_get-get_or, slice_get-set_other, slice_get-set_same, slice_get_within, slice_set, subst, suc, sym, table_at, table_of_sorted, tables_in, take}
 use Rattle.app_loads.proofs.Common.{take_all, take_at, take_more_at, true, zero, ℕ, ◌&&◌, ◌++◌, ◌+◌, ◌<◌, ◌==◌, ◌||◌, ◌∙◌, ◌∷◌, ◌≡◌, ◌≢◌, ◌≤◌, ◌⊎◌}
+use Rattle.app_loads.specs.declared.places.Region.{Region, TheVariants.Memory}
 use Rattle.std.proofs.Math.ListN.{get_or-map}
 use Rattle.net_tables.specs.declared.marks.Mark.{Mark}
-use Rattle.app_loads.specs.declared.places.Region.{Region}
 
 -- the first of the items that are left stands at the next place
 pub left_first : {X : Type 0} (xs : List X) (k : ℕ) (x : X) (rest : List X) → drop k xs ≡ x ∷ rest → (slice_get xs k ≡ Some x) × (rest ≡ drop (k + 1) xs)
@@ -115,9 +115,7 @@ module _ (m : Description) (cur : List (List Entry)) (long : length cur ≡ chip
       ∙ get_or_from_slice_get (slice_set cur j table) j table [] (slice_get-set_same cur j (get_or cur j d) table (slice_get-get_or cur j d (omega (arith, below, long))))
 
   pub same_elsewhere : (c : Chip) → IsInside m c → index_of m c ≢ j → table_at m (slice_set cur j table) c ≡ table_at m cur c
-  same_elsewhere c inside other =
-      let got = slice_get-get_or cur (index_of m c) [] (let w = index_below m c inside in omega (arith, w, long)) in
-      get_or_from_slice_get (slice_set cur j table) (index_of m c) (get_or cur (index_of m c) []) [] (slice_get-set_other cur j (index_of m c) table other ∙ got)
+  same_elsewhere c inside other = grind (arith, slice_get-get_or, index_below, get_or_from_slice_get, get_or, slice_get-set_other)
 
   pub was_here : (c : Chip) → index_of m c ≡ j → table_at m cur c ≡ get_or cur j d
   was_here c same = ap (λ k. get_or cur k []) same ∙ get_or_from_slice_get cur j (get_or cur j d) [] (slice_get-get_or cur j d (omega (arith, below, long)))

@@ -86,8 +86,7 @@ none_past (a ∷ apps) packets j counted past =
 
 pub asked_is : (apps : List LoadedApp) (app : LoadedApp) → ((i : ℕ) → app.first ≤ i → asked_of apps i ≡ None) → (j : ℕ) →
     upto app (asked_of apps) (length app.plan.packets) j ≡ asked_of (apps ++ app ∷ []) j
-asked_is apps app none j =
-    grind (arith, cases_lt j app.first, either_none (asked_of apps j), asked_more apps app j, cases_lt j (app.first + length app.plan.packets), upto_else, lt-leb, upto_at, le-leb, past_app)
+asked_is apps app none j = grind (arith, cases_lt, either_none, asked_more, upto_else, lt-leb, upto_at, le-leb, past_app)
 
 -- the ledger holds of the same packets, whatever the tables
 pub same_packets : (s : State) (nets : List NetPlan) (f g : ℕ → Option Asked) → ((j : ℕ) → f j ≡ g j) → MeetsLedgerFor s nets f → MeetsLedgerFor s nets g

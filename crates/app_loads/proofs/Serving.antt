@@ -93,10 +93,7 @@ free_beside_more m taken old p before after range its beside at here = record {
 -- a range that is open for a claim shares no place with those that are taken
 apart_from_open : (m : Description) (taken : List Range) (claim : Claim) (place : ℕ) → IsOpenRange m taken claim place →
     (other : Range) → Contains taken other → ShareNoPlace other (range_at m claim place)
-apart_from_open m taken claim place may other has region k in_other in_mine =
-    let parts = and_parts ((place_of m claim.region) == region) (in_range place claim.size k) in_mine in
-    let region_is : (place_of m claim.region) ≡ region = eqb-true (place_of m claim.region) region parts.0 in
-    clash (taken_by taken (place_of m claim.region) k other has (subst (λ r. range_has r k other ≡ true) (sym region_is) in_other)) (may.untaken k parts.1)
+apart_from_open m taken claim place may other has region k in_other in_mine = grind (arith, and_parts, eqb-true, clash, taken_by)
 
 -- ---- one claim more is served
 

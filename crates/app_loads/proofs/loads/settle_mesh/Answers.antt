@@ -15,18 +15,13 @@ pub send-requires : goal.send-requires
 send-requires c = parted_send (c.parts.view_is ∙ c.take_apart-parts.ensures.parts) c.requires c.take_apart-parts.ensures.mesh c.deref_mut.ensures.value
 
 pub put_together-requires-in-Err : goal.put_together-requires-in-Err
-put_together-requires-in-Err c =
-    parted_mesh (c.parts.view_is ∙ c.take_apart-parts.ensures.parts) c.requires c.take_apart-parts.ensures.mesh
-    c.deref_mut.ensures.value c.in-Err.ensures.refused (with_items_is c.parts.inside.unsent c.send.new.unsent (c.send.auto.unsent ∙ c.deref_mut.ensures.len))
+put_together-requires-in-Err c = grind (arith, parted_mesh, with_items_is)
 
 pub install-requires : goal.install-requires
 install-requires c = grind (arith, parted_copy, ArePlain)
 
 pub put_together-requires : goal.put_together-requires
-put_together-requires c =
-    parted_whole (c.parts.view_is ∙ c.take_apart-parts.ensures.parts) c.requires c.take_apart-parts.ensures.mesh
-    c.deref_mut.ensures.value (with_items_is c.parts.inside.unsent c.send.new.unsent (c.send.auto.unsent ∙ c.deref_mut.ensures.len))
-    c.in-Ok-send.ensures.sent c.install.ensures.setup c.install.ensures.copied.all
+put_together-requires c = grind (arith, parted_whole, with_items_is)
 
 pub returns-in-Ok-send-clause-settled : goal.returns-in-Ok-send-clause-settled
 returns-in-Ok-send-clause-settled c =
