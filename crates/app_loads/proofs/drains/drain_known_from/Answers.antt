@@ -2,8 +2,5 @@ use Rattle.app_loads.proofs.Common.{arith, moved_of_reached}
 use Rattle.app_loads.proofs.Kept.{moved_as, same_mesh}
 use Rattle.app_loads.proofs.drains.drain_known_from.Goals as goal
 
-pub send_each-requires-clause-alike : goal.send_each-requires-clause-alike
-send_each-requires-clause-alike c = grind arith
-
 pub returns-in_ok-keep-clause-moved : goal.returns-in_ok-keep-clause-moved
 returns-in_ok-keep-clause-moved c = grind (arith, moved_as, same_mesh, moved_of_reached)

@@ -31,9 +31,6 @@ returns-in-Ok-app_of-clause-served c =
           (subst (λ (l : List Range). AreBlocks c.deref-2.result.now l c.args.plan.now.nets c.in-Ok-app_of.app.blocks) (sym made.ranges) made.blocks);
     }
 
-pub give_all-requires : goal.give_all-requires
-give_all-requires c = grind arith
-
 pub returns-clause-back : goal.returns-clause-back
 returns-clause-back c taken apart free =
     c.give_all.ensures.free c.args.machine.now taken (subst (λ (l : List Range). AreTaken c.args.machine.now taken l c.take_all.new.regions) (sym c.deref-in-Err-app_of.ensures.value) (c.in-Ok-take_all.ensures.taken taken apart free))

@@ -8,9 +8,6 @@ originals_of-requires c = grind (arith, routed, routed c.args.mesh.setup.machine
 pub returns-then-is_empty-clause-settled : goal.returns-then-is_empty-clause-settled
 returns-then-is_empty-clause-settled c = settled_bare c.args.mesh c.args.app.now c.requires (c.is_empty.ensures.0 c.if-is_empty.true)
 
-pub returns-in_default-clause-refused : goal.returns-in_default-clause-refused
-returns-in_default-clause-refused c = refl
-
 pub send-requires : goal.send-requires
 send-requires c = parted_send (c.parts.view_is ∙ c.take_apart-parts.ensures.parts) c.requires c.take_apart-parts.ensures.mesh c.deref_mut.ensures.value
 

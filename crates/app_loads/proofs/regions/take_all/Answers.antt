@@ -1,9 +1,6 @@
 use Rattle.app_loads.proofs.Common.{AreTaken, List, Range, arith, subst, sym}
 use Rattle.app_loads.proofs.regions.take_all.Goals as goal
 
-pub give_all-requires : goal.give_all-requires
-give_all-requires c = grind arith
-
 pub returns-in-Err-clause-back : goal.returns-in-Err-clause-back
 returns-in-Err-clause-back c taken apart free =
     c.give_all.ensures.free c.args.machine.now taken

@@ -24,9 +24,6 @@ bounds-sources-net c = grind (arith, packet_at c.as_slice-packet-items.result.no
 pub bounds-unsent-sources : goal.bounds-unsent-sources
 bounds-unsent-sources c = grind (arith, packet_at c.as_slice-packet-items.result.now c.loop-at.at c.as_slice-packet-items.ensures c.loop-at-test.true, queue_below)
 
-pub returns-clause-sent : goal.returns-clause-sent
-returns-clause-sent c spots are = grind arith
-
 pub loop-at-preserved : goal.loop-at-preserved
 loop-at-preserved c =
     let at = packet_at c.as_slice-packet-items.result.now c.loop-at.at c.as_slice-packet-items.ensures c.loop-at-test.true in

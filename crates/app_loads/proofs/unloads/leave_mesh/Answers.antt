@@ -2,9 +2,6 @@ use Rattle.app_loads.proofs.Common.{All-weaker, HaveRoom, IsLeastUnderWay, IsMes
 use Rattle.app_loads.proofs.{LeftMesh.can_clear, LeftMesh.parted_whole, LeftMesh.taken_still, LoadedParts.on_ok}
 use Rattle.app_loads.proofs.unloads.leave_mesh.Goals as goal
 
-pub least_waiting-requires : goal.least_waiting-requires
-least_waiting-requires c = grind arith
-
 pub put_together-requires : goal.put_together-requires
 put_together-requires c = subst IsMesh (sym c.take_apart-parts.ensures.parts) c.take_apart-parts.ensures.mesh
 
@@ -14,20 +11,11 @@ put_together-requires-in-Err c = subst IsMesh (sym c.take_apart-parts.ensures.pa
 pub returns-in-Some-clause-why : goal.returns-in-Some-clause-why
 returns-in-Some-clause-why c = subst (λ (s : State). IsLeastUnderWay s c.args.app.now c.in-Some.packet) c.take_apart-parts.ensures.parts c.in-Some.ensures.some
 
-pub returns-in-Some-clause-mesh_refused : goal.returns-in-Some-clause-mesh_refused
-returns-in-Some-clause-mesh_refused c = c.put_together.ensures ∙ c.take_apart-parts.ensures.parts
-
 pub make_room-requires : goal.make_room-requires
 make_room-requires c = grind (arith, All-weaker)
 
 pub put_together-requires-then-is_err : goal.put_together-requires-then-is_err
 put_together-requires-then-is_err c = subst IsMesh (sym c.take_apart-parts.ensures.parts) c.take_apart-parts.ensures.mesh
-
-pub returns-then-is_err-clause-mesh_refused : goal.returns-then-is_err-clause-mesh_refused
-returns-then-is_err-clause-mesh_refused c = c.put_together-then-is_err.ensures ∙ c.take_apart-parts.ensures.parts
-
-pub returns-in-Err-clause-back : goal.returns-in-Err-clause-back
-returns-in-Err-clause-back c = c.make_room.ensures.same
 
 pub give_all-requires : goal.give_all-requires
 give_all-requires c = record {
