@@ -118,15 +118,10 @@ module _ (m : Description) (app : LoadedApp) (loaded : IsLoadedOn m app) where
       let f_is : get_or app.ranges f.at f.range ≡ f.range = get_or_from_slice_get app.ranges f.at f.range f.range f.got in
       let g_is : get_or app.ranges g.at f.range ≡ g.range = get_or_from_slice_get app.ranges g.at g.range f.range g.got in
       elim (cases_eq f.at g.at) [
-        | inl same ↦
-            let one : f.claim ≡ g.claim = same_Some _ _ (sym f.at_claim ∙ (ap (slice_get (claims_of m app.plan)) same ∙ g.at_claim)) in
-            let number : i ≡ j = same_net i j (sym f.its ∙ (ap (λ (c : Claim). c.refusal) one ∙ g.its)) in
-            absurd (omega (arith, number, less))
+        | inl same ↦ grind (arith, same_Some, same_net)
         | inr other ↦ elim (cases_lt f.at g.at) [
-          | inl before ↦ subst (λ (r : Range). ShareNoPlace r g.range) f_is
-              (subst (λ (r : Range). ShareNoPlace (get_or app.ranges f.at f.range) r) g_is (apart f.at g.at f.range before in_g)) 0 key a b
-          | inr after ↦ subst (λ (r : Range). ShareNoPlace g.range r) f_is
-              (subst (λ (r : Range). ShareNoPlace r (get_or app.ranges f.at f.range)) g_is (apart g.at f.at f.range (omega (arith, after, other)) in_f)) 0 key b a
+          | inl before ↦ grind (arith, get_or app.ranges f.at f.range)
+          | inr after ↦ grind (arith, get_or app.ranges f.at f.range)
         ]
       ]
 

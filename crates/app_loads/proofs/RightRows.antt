@@ -16,8 +16,7 @@ found : (key : ℕ) (o : Out) (w : Bool) (other : Route) (es : List Entry) → (
     matches x key ≡ true → has (option_map_or (λ (e : Entry). e.route) (find (λ (e : Entry). matches e key) es) other) o ≡ w
 found key o w other [] each x there hit = absurd (Contains-none x there)
 found key o w other (e ∷ es) each x there hit = elim (cases_Bool (matches e key)) [
-  | inl mine ↦
-      ap (λ b. has (option_map_or (λ (e' : Entry). e'.route) (cond b (Some e) (find (λ (e' : Entry). matches e' key) es)) other) o) mine ∙ each e (Contains-first e es) mine
+  | inl mine ↦ grind (arith, Contains-first e es)
   | inr not_mine ↦
       ap (λ b. has (option_map_or (λ (e' : Entry). e'.route) (cond b (Some e) (find (λ (e' : Entry). matches e' key) es)) other) o) not_mine
       ∙ found key o w other es (λ l has_l. each l (Contains-later e es l has_l)) x (elim (Contains-cases e es x there) [
@@ -83,10 +82,7 @@ module _ (m : Description) (tables : List (List Entry)) (apps : List LoadedApp) 
         let y : NetPlan = get_or (nets_of app) from.0 x in
         let in_y = in_all app y in_apps (Contains-at (nets_of app) from.0 y (slice_get-get_or (nets_of app) from.0 x from.1)) in
         let block_is : row.block ≡ y.block = ap (λ (z : Row). z.block) (sym made.2) ∙ its.keys in
-        let y_key : IsKeyOf y.block key = record {
-          fits = keyed.fits;
-          matches = ap (λ (b : Block). bit_and key b.mask) (sym block_is) ∙ (eqb-true (bit_and key row.block.mask) row.block.key hit ∙ ap (λ (b : Block). b.key) block_is);
-        } in
+        let y_key : IsKeyOf y.block key = grind (arith, eqb-true (bit_and key row.block.mask) row.block.key hit, bit_and key row.block.mask) in
         let same : y ≡ x = one_net (all_nets apps) disjoint y x in_y in_x key y_key keyed in
         (made.0, subst (λ (n : NetPlan). IsOriginalOf m n c made.0) same its, made.2)
 

@@ -43,9 +43,6 @@ module _ (ranges : List Range) {i : ℕ} (d : Range) (below : i < length ranges)
 
     pub room_more : HaveRoom (take i ranges) regions → of_region range.region (take (i + 1) ranges) ≤ after.spare → HaveRoom (take (i + 1) ranges) (slice_set regions range.region after)
     room_more room enough k region at = elim (set_cases regions range.region k before after region at_place at) [
-      | inl mine ↦
-          let spare : region.spare ≡ after.spare = ap (λ (x : Region). x.spare) mine.1 in
-          let number : of_region k (take (i + 1) ranges) ≡ of_region range.region (take (i + 1) ranges) = ap (λ r. of_region r (take (i + 1) ranges)) mine.0 in
-          omega (arith, spare, number, enough)
+      | inl mine ↦ grind (arith, of_region)
       | inr other ↦ let was = room k region other.1 in let count = elsewhere k other.0 in omega (arith, was, count)
     ]

@@ -12,8 +12,7 @@ unsent-requires c =
 pub send_next-requires-clause-can : goal.send_next-requires-clause-can
 send_next-requires-clause-can c = record {
   clean = c.packets.invariant.clean;
-  there = there_still (with_earlier (all_grouped c.args.earlier.now) c.args.mesh.now) (with_earlier (all_grouped c.packets.earlier) c.packets.mesh) c.args.vertex
-      c.packets.invariant.reached c.requires.there;
+  there = there_still _ _ _ c.packets.invariant.reached c.requires.there;
   some = λ none. is_some' c.unsent.result.now c.packets-test.ensures (same_Some _ _ (sym c.unsent.ensures ∙ none));
 }
 
@@ -22,8 +21,7 @@ packets-smaller c = grind (arith, one_less, is_some')
 
 pub packets-preserved : goal.packets-preserved
 packets-preserved c = record {
-  reached = reached_then (with_earlier (all_grouped c.args.earlier.now) c.args.mesh.now) (with_earlier (all_grouped c.packets.earlier) c.packets.mesh)
-      (with_earlier (all_grouped c.send_next.new.earlier) c.send_next.new.mesh) c.packets.invariant.reached c.send_next.ensures.reached;
+  reached = grind (arith, reached_then);
   clean = c.in_ok-last.ensures.clean;
   known = c.in_ok-last.ensures.known;
   last = c.in_ok-last.ensures.last;

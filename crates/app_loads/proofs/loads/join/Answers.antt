@@ -1,4 +1,4 @@
-use Rattle.app_loads.proofs.Common.{AreFreeAgain, AreTaken, CanSettle, Description, HaveRoom, IsDueAlways, List, Range, State, all_grouped, arith, claims_of, refl, subst, sym}
+use Rattle.app_loads.proofs.Common.{AreFreeAgain, AreTaken, CanSettle, Description, HaveRoom, IsDueAlways, List, Range, State, all_grouped, claims_of, subst, sym}
 use Rattle.app_loads.proofs.{JoinLaws.can_settle, JoinLaws.served_on, Kept.can_settle_own}
 use Rattle.app_loads.proofs.loads.join.Goals as goal
 

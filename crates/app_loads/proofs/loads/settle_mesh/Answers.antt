@@ -1,4 +1,4 @@
-use Rattle.app_loads.proofs.Common.{Description, ap, arith, refl, subst, tables_in, with_items_is, ◌∙◌}
+use Rattle.app_loads.proofs.Common.{Description, ap, arith, subst, tables_in, with_items_is, ◌∙◌}
 use Rattle.app_loads.proofs.{AppNets.routed, Settling.ArePlain, Settling.settled_bare, Settling.parted_send, Settling.parted_mesh, Settling.parted_copy, Settling.parted_whole, Settling.parted_settled}
 use Rattle.app_loads.proofs.loads.settle_mesh.Goals as goal
 

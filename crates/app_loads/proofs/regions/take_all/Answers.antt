@@ -1,4 +1,4 @@
-use Rattle.app_loads.proofs.Common.{AreTaken, List, Range, arith, subst, sym}
+use Rattle.app_loads.proofs.Common.{AreTaken, List, Range, subst, sym}
 use Rattle.app_loads.proofs.regions.take_all.Goals as goal
 
 pub returns-in-Err-clause-back : goal.returns-in-Err-clause-back

@@ -29,10 +29,7 @@ put_rows-requires c =
     let next = left_first c.args.rooms.items i c.in-Some.room _ (sym c.loop-range.invariant.left ∙ c.in-Some.ensures.items) in
     let room = c.requires.room.each i _ c.in-Some.room (slice_get-get_or c.args.ranges.now i _ c.loop-range-test.true) next.0 c.in-Rows.chip of.region_is in
     record {
-      has = record {
-        size = T_long _ c.requires c.loop-range-test.true c.loop-range.invariant.copied of c.index-tables-at.result (table_of_sorted c.index-lists-at.result);
-        fits = omega (arith, fits, same, as_long);
-      };
+      has = grind (arith, T_long);
       fits = omega (arith, room, size, same, as_long);
     }
 

@@ -19,12 +19,7 @@ put_together-requires-then-is_err c = subst IsMesh (sym c.take_apart-parts.ensur
 
 pub give_all-requires : goal.give_all-requires
 give_all-requires c = record {
-  taken = (
-    c.args.mesh.setup.machine,
-    c.requires.can.others,
-    taken_still c.args.mesh.setup.machine c.requires.can.others c.args.app.now.ranges c.as_slice-in-Ok.result.now c.args.regions.now
-        c.make_room.new.regions c.make_room.ensures.same c.as_slice-in-Ok.ensures c.requires.can.taken,
-  );
+  taken = grind (arith, taken_still);
   room = subst (λ (l : List Range). HaveRoom l c.make_room.new.regions) (c.as_slice.ensures ∙ sym c.as_slice-in-Ok.ensures)
       (on_ok (HaveRoom c.as_slice.result.now c.make_room.new.regions) c.make_room.result (sym c.is_err.ensures.value ∙ c.if-is_err.false) c.make_room.ensures.room);
 }
