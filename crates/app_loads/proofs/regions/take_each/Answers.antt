@@ -62,6 +62,3 @@ overflow_add-counts c =
       few_held none c.index-regions-at.result c.loop-claim-test.true c.loop-claim.invariant.each_one c.loop-claim.invariant.served c.requires.can c.place-at.ensures
           c.loop-claim.counts 0 c.loop-claim.invariant.counts c.loop-claim.invariant.counted c.requires.few,
     )
-
-pub place-at-requires : goal.place-at-requires
-place-at-requires c = (c.requires.can.1 c.loop-claim.claim-index _ c.loop-claim-test.true).region

@@ -1,21 +1,9 @@
-use Rattle.app_loads.proofs.Common.{All-weaker, HaveRoom, IsLeastUnderWay, IsMesh, List, Range, State, arith, subst, sym, ◌∙◌}
+use Rattle.app_loads.proofs.Common.{All-weaker, HaveRoom, List, Range, arith, subst, sym, ◌∙◌}
 use Rattle.app_loads.proofs.{LeftMesh.can_clear, LeftMesh.parted_whole, LeftMesh.taken_still, LoadedParts.on_ok}
 use Rattle.app_loads.proofs.unloads.leave_mesh.Goals as goal
 
-pub put_together-requires : goal.put_together-requires
-put_together-requires c = subst IsMesh (sym c.take_apart-parts.ensures.parts) c.take_apart-parts.ensures.mesh
-
-pub put_together-requires-in-Err : goal.put_together-requires-in-Err
-put_together-requires-in-Err c = subst IsMesh (sym c.take_apart-parts.ensures.parts) c.take_apart-parts.ensures.mesh
-
-pub returns-in-Some-clause-why : goal.returns-in-Some-clause-why
-returns-in-Some-clause-why c = subst (λ (s : State). IsLeastUnderWay s c.args.app.now c.in-Some.packet) c.take_apart-parts.ensures.parts c.in-Some.ensures.some
-
 pub make_room-requires : goal.make_room-requires
 make_room-requires c = grind (arith, All-weaker)
-
-pub put_together-requires-then-is_err : goal.put_together-requires-then-is_err
-put_together-requires-then-is_err c = subst IsMesh (sym c.take_apart-parts.ensures.parts) c.take_apart-parts.ensures.mesh
 
 pub give_all-requires : goal.give_all-requires
 give_all-requires c = record {
