@@ -34,4 +34,3 @@ mod SplitLaws
 mod Together
 mod Turns
 mod WholeRound
-mod Zipped
