@@ -34,7 +34,7 @@ pub use Rattle.spin_apps.specs.declared.hosts.UnloadAnswer.{TheVariants.Got, The
 pub use Rattle.spin_apps.specs.declared.plans.PlanErr.{PlanErr}
 pub use Rattle.spin_base.proofs.{Equality.spot_eq_same, Equality.spot_eq_true, Members.Contains-at, Members.Contains-cases, Members.Contains-filter, Members.Contains-from_filter}
 pub use Rattle.spin_base.proofs.{Members.Contains-none, Members.among_any, Members.among_contains, Members.among_right, Members.any_among, Members.contains_among, Places.All-at, Places.All-each}
-pub use Rattle.spin_base.proofs.{Places.AllZip-at_first, Places.AllZip-at_second, Places.map_more_at, Places.one_item_at, Places.slice_get_there, Places.take_more_at, Ranges.slice_get-map_range}
+pub use Rattle.spin_base.proofs.{Places.AllZip-at_first, Places.AllZip-at_second, Places.one_item_at, Places.slice_get_there, Places.take_more_at, Ranges.slice_get-map_range}
 pub use Rattle.spin_base.specs.{Equality.spot_eq, declared.blocks.Block.Block, declared.chips.Chip.Chip, declared.chips.Spot.Spot, declared.copies.McCopy.McCopy, declared.copies.Packet.Packet}
 pub use Rattle.spin_base.specs.declared.wants.Memory.{Memory}
 pub use Rattle.std.proofs.Common.{Bool, Err, IfOk, IfSome, List, None, Ok, OnErr, OnOk, Option, Result, Some, [], ap, append-nil, ap₂, arith, cond, drop, false, get_or, inl, inr, length, map, nat_le}
