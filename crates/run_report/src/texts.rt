@@ -112,6 +112,7 @@ trait Told {
 }
 
 // Puts the lines of each at the end.
+#[tactic(auto, using(crate::proofs::Gathering::put_all, crate::proofs::Gathering::put_more))]
 fn put_each<T: Told>(text: &mut Vec<u8>, items: &[T]) -> Result<(), Memory>
     ensures { OnOk result (text.new.items ≡ text.old.items ++ flat_map T.lines items.now) }
 {
@@ -208,6 +209,7 @@ fn put_events(text: &mut Vec<u8>, answers: &[Did]) -> Result<(), Memory>
 }
 
 // Puts the line of an event at the end. The front is that of its number.
+#[tactic(auto, using(crate::proofs::LastDigits::line_put))]
 fn put_event(text: &mut Vec<u8>, front: &EventFront, number: usize, did: Did) -> Result<(), Memory>
     requires front { take front.now.len front.now.bytes ≡ event_front (number / 10) }
     ensures { OnOk result (text.new.items ≡ text.old.items ++ event_line number did) }
@@ -219,6 +221,7 @@ fn put_event(text: &mut Vec<u8>, front: &EventFront, number: usize, did: Did) ->
 
 // Puts what the lines of ten events begin with at the end. The whole array goes to the end, and what is no part of the
 // front is taken away: so few instructions copy it, whatever its length.
+#[tactic(auto, using(crate::proofs::LastDigits::cut_back))]
 fn put_front(text: &mut Vec<u8>, front: &EventFront) -> Result<(), Memory>
     ensures { OnOk result (text.new.items
         ≡ text.old.items ++ take front.now.len front.now.bytes) }
@@ -243,6 +246,7 @@ fn put_did(text: &mut Vec<u8>, digit: u8, did: Did) -> Result<(), Memory>
     Ok(())
 }
 
+#[tactic(auto, using(crate::proofs::Gathering::put_at))]
 fn put_gots(text: &mut Vec<u8>, delivered: &NamedDeliveries) -> Result<(), Memory>
     ensures { OnOk result (text.new.items
         ≡ text.old.items ++ flat_map got_line delivered.now) }
