@@ -128,6 +128,7 @@ fn bytes_of(alloc: Global, vertices: &Seq<Vertex>) -> Result<Seq<u32>, Memory>
 }
 
 // The nets of an application whose vertices have these cores, or the first net with a target that is cut off.
+#[tactic(auto, using(std::proofs::lemmas::List::take_all, crate::proofs::Planning::why_net))]
 fn app_nets(
     alloc: Global,
     machine: &Machine,
@@ -163,6 +164,7 @@ fn unrouted_net(net: u32, e: RepairErr) -> NetErr
 }
 
 // A net with its source, its targets and its tree.
+#[tactic(auto, using(crate::proofs::Planning::net_for, crate::proofs::Planning::net_valid))]
 fn app_net<'x>(
     alloc: Global,
     machine: &'x Machine,
