@@ -13,8 +13,8 @@ pub use Rattle.machine_desc.specs.declared.{nets.NetPlan.NetPlan, trees.Edge.Edg
 pub use Rattle.net_tables.proofs.{Determined.one_port, Determined.same_outputs, Trees.chips_inside, Trees.comes_in_tree, Whole.has_original, Whole.not_after, Whole.originals_apart}
 pub use Rattle.net_tables.specs.{Marks.IsRouted, Marks.TellsPort, Marks.TellsPorts, Marks.TellsRoutes, PlainTable.AreRoutedApart, PlainTable.HasChip, PlainTable.IsPlainTable, PlainTable.row_of}
 pub use Rattle.plan_check.specs.{Boards.IsAmiss, Boards.IsAmissAt, Boards.IsFineBelow, Boards.IsFirstFlaw, Boards.IsFlaw, Boards.IsFlawBy, Boards.entries_at, Boards.verdict_on, MadeImages.IsFinalAt}
-pub use Rattle.plan_check.specs.{MadeImages.IsImageOf, Marks.AreFlags, Marks.AreMarks, Marks.EntersAnew, Marks.EntersNone, Marks.EntersOnce, Marks.HasEdgeOrTarget, Marks.IsAlone, Marks.IsMarkedChip}
-pub use Rattle.plan_check.specs.{Marks.IsReachedChip, Marks.at_root, Marks.by_link, Marks.mark_at, Verdicts.AreFineBefore, Verdicts.GetsRoute, Verdicts.GetsRouteThat, Verdicts.IsFine}
+pub use Rattle.plan_check.specs.{MadeImages.IsImageOf, Marks.AreMarks, Marks.EntersAnew, Marks.EntersNone, Marks.EntersOnce, Marks.IsAlone, Marks.IsMarkedChip}
+pub use Rattle.plan_check.specs.{Marks.IsReachedChip, Marks.going_on, Marks.mark_at, Verdicts.AreFineBefore, Verdicts.GetsRoute, Verdicts.GetsRouteThat, Verdicts.IsFine}
 pub use Rattle.plan_check.specs.Verdicts.{IsFineAll, IsFirstToMeet, IsMisrouted, IsTreeRoute, IsVerdict, IsWrong, LiesInside, Meets, NoneMeets, rows_for}
 pub use Rattle.plan_check.specs.declared.{flaws.Flaw.Flaw, flaws.Flaw.TheVariants.Split, flaws.Flaw.TheVariants.Wrong, verdicts.Verdict.TheVariants.Right, verdicts.Verdict.Verdict}
 pub use Rattle.spin_base.proofs.{Lookups.lookup_hit, Lookups.lookup_miss, Members.Contains-first, Members.Contains-map, Members.Contains-none, Pairs.All-from_map, Pairs.AllPairs-map}
