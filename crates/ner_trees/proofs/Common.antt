@@ -4,7 +4,7 @@ pub use Rattle.machine_desc.proofs.TreeLemmas.{more_chips, more_path, path_more,
 pub use Rattle.machine_desc.specs.{Description.Description, Description.HasSize, EdgeOrder.IsEdgeBefore, Live.IsInside, Live.IsLiveLink, Live.chip_at, Live.far_of, Live.index_of, Live.stepped}
 pub use Rattle.machine_desc.specs.{Live.x_step, Live.y_step, RoutingTree.IsPath, RoutingTree.IsTreeChip, RoutingTree.IsTreeTo, RoutingTree.end_of, declared.steps.Step.Step}
 pub use Rattle.machine_desc.specs.declared.{steps.Step.TheVariants.Ahead, steps.Step.TheVariants.Back, steps.Step.TheVariants.Stay, trees.Edge.Edge}
-pub use Rattle.ner_trees.specs.{EdgeNumbers.IsEdgeNumber, EdgeNumbers.edge_number, EdgeNumbers.edge_numbered, Geometry.IsSmall, Geometry.ahead_by, Geometry.back, Geometry.disp}
+pub use Rattle.ner_trees.specs.{EdgeNumbers.edge_number, Geometry.IsSmall, Geometry.ahead_by, Geometry.back, Geometry.disp}
 pub use Rattle.ner_trees.specs.Geometry.{displacement_of, distance_of, first_differs, forth, is_before, length_of, lesser_disp, on_torus}
 pub use Rattle.ner_trees.specs.Growth.{Grows, IsAdded, IsGrown, IsJoinedBy, IsNear, IsNotFarther, IsWithoutDead, distance_sum, end_of_walk, links_of, next_of, or_stay}
 pub use Rattle.ner_trees.specs.LongestFirst.{is_ahead, is_back, ldf_of, link_run_of, longest_first, median, put_run, run_links, runs_of, sum_of}
