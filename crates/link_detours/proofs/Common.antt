@@ -1,7 +1,7 @@
 -- The names that the proofs of this crate cite from outside of them, passed on from one place. Declares nothing.
 pub use Rattle.link_detours.specs.{Cause.IsRepairCause, LiveRoads.AreRoadsOf, Repair.AreInPlaceOrder, Repair.EdgeStep, Repair.IsCutOff, Repair.IsDetour, Repair.IsFirstTargetCutOff, Repair.IsKeptEdge}
 pub use Rattle.link_detours.specs.Repair.{IsLastLink, IsRepaired, IsTreeLevel, IsWalkTo, Joins, LeadsToTarget, LiveEdgeStep, last_of}
-pub use Rattle.link_detours.specs.{Steps.IsReachedBy, Steps.IsStepLevel, Steps.Steps, Usable.FlaggedStep, Usable.FlagsPlaces, Usable.is_marked, Usable.other_end_of, Waves.AreWaves, Waves.HasBitOf}
+pub use Rattle.link_detours.specs.{Steps.IsReachedBy, Steps.IsStepLevel, Steps.Steps, Usable.FlaggedStep, Usable.is_marked, Usable.other_end_of, Waves.AreWaves, Waves.HasBitOf}
 pub use Rattle.link_detours.specs.Waves.{IsBestStep, IsIn, IsSpread, IsSpreadAt, IsSpreadBut, IsStepFrom, IsWave, IsWithinLinks, LeadsInto}
 pub use Rattle.link_detours.specs.{Whole.GoesOnFrom, Whole.IsWholeTree, declared.repairs.RepairErr.RepairErr, declared.repairs.RepairErr.TheVariants.CutOff}
 pub use Rattle.link_detours.specs.declared.{repairs.RepairErr.TheVariants.Memory, repairs.RepairErr.TheVariants.Memory as NoMemory, roads.Roads.Roads}
