@@ -1,12 +1,9 @@
 -- What was found of edges and targets by marks is what a routing tree has.
-use Rattle.plan_check.proofs.Common.{All, All-contains, All-from_map, All-head, All-map, All-nil, AreMarks, Bool, Chip, Contains, Contains-append_left, Contains-first, Contains-map, Contains-none}
-use Rattle.plan_check.proofs.Common.{Description, Edge, EntersOnce, IsAlone, IsInside, IsLiveLink, IsMarkedChip, IsPath, IsReachedChip, IsRoutingTree, IsTreeChip, IsTrue, List, Some, Spot, [], ap, arith}
-use Rattle.plan_check.proofs.Common.{chip_of, chip_of-inside, end_of, false, false≢true, far_inside, get_or, going_on, index_below, index_of, index_of-chip_of, inl, inr, is_inside, length, length-map}
-use Rattle.plan_check.proofs.Common.{live_ends, live_inside, map, mark_at, path_in_tree, path_more, refl, root_lives_with_edge, subst, suc, sym, tree_cases, true, zero, ℕ, ◌*◌, ◌++◌, ◌<◌, ◌↔◌, ◌∙◌}
-use Rattle.plan_check.proofs.Common.{◌∷◌, ◌≡◌}
-use Rattle.link_detours.specs.{Repair.EdgeStep, Steps.Steps}
-use Rattle.spin_base.proofs.Members.{Contains-unmap}
-use Rattle.std.proofs.lemmas.List.Elements.{Contains-append_cases, Contains-append_right}
+use Rattle.plan_check.proofs.Common.{All, All-contains, All-from_map, All-head, All-map, All-nil, AreMarks, Bool, Chip, Contains, Contains-append_cases, Contains-append_left, Contains-append_right}
+use Rattle.plan_check.proofs.Common.{Contains-first, Contains-map, Contains-none, Contains-unmap, Description, Edge, EdgeStep, EntersOnce, IsAlone, IsInside, IsLiveLink, IsMarkedChip, IsPath}
+use Rattle.plan_check.proofs.Common.{IsReachedChip, IsRoutingTree, IsTreeChip, IsTrue, List, Some, Spot, Steps, [], ap, arith, chip_of, chip_of-inside, end_of, false, false≢true, far_inside, get_or}
+use Rattle.plan_check.proofs.Common.{going_on, index_below, index_of, index_of-chip_of, inl, inr, is_inside, length, length-map, live_ends, live_inside, map, mark_at, path_in_tree, path_more, refl}
+use Rattle.plan_check.proofs.Common.{root_lives_with_edge, subst, suc, sym, tree_cases, true, zero, ℕ, ◌*◌, ◌++◌, ◌<◌, ◌↔◌, ◌∙◌, ◌∷◌, ◌≡◌}
 
 -- ---- a root outside the grid
 

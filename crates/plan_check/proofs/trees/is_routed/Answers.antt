@@ -1,6 +1,5 @@
-use Rattle.plan_check.proofs.Common.{All, All-map, AreMarks, Edge, EntersOnce, IsInside, IsMarkedChip, IsReachedChip, IsRoutingTree, Spot, answers_no, fails, sym, ◌∙◌}
+use Rattle.plan_check.proofs.Common.{All, All-append, All-map, AreMarks, Edge, EntersOnce, IsInside, IsMarkedChip, IsReachedChip, IsRoutingTree, Spot, answers_no, fails, sym, ◌∙◌}
 use Rattle.plan_check.proofs.TreeLaws.{begins_marked, targets_marked, is_tree_tells, once_of, once_inside, has_inside}
-use Rattle.std.proofs.lemmas.List.Elements.{All-append}
 use Rattle.plan_check.proofs.trees.is_routed.Goals as goal
 
 pub returns-then-not-branch : goal.returns-then-not-branch
