@@ -1,10 +1,8 @@
 -- Trees of which nothing has to be taken off.
-use Rattle.link_detours.proofs.Common.{All, All-contains, All-more, Any, AreInPlaceOrder, Bool, Chip, Contains, Contains-append_cases, Contains-get_or, Description, East, Edge, EdgeStep, GoesOnFrom}
-use Rattle.link_detours.proofs.Common.{IsInside, IsTreeChip, IsTreeTo, IsWholeTree, LeadsToTarget, List, Some, Steps, all_pairs_push, arith, end_of, far_inside, get_or, get_or-map, get_or_default}
-use Rattle.link_detours.proofs.Common.{inl, inr, is_marked, length, length-map, link_place, live_ends, map, subst, suc, sym, take, take_more, tree_cases, true, zero, ℕ, ◌++◌, ◌+◌, ◌<◌, ◌↔◌, ◌∙◌, ◌≡◌}
-use Rattle.link_detours.proofs.Common.{◌≤◌}
-use Rattle.std.proofs.lemmas.List.Elements.{All-append, All-map}
-use Rattle.link_detours.proofs.Common.{Contains-unmap}
+use Rattle.link_detours.proofs.Common.{All, All-append, All-contains, All-map, All-more, Any, AreInPlaceOrder, Bool, Chip, Contains, Contains-append_cases, Contains-get_or, Contains-unmap}
+use Rattle.link_detours.proofs.Common.{Description, Edge, EdgeStep, GoesOnFrom, IsInside, IsTreeChip, IsTreeTo, IsWholeTree, LeadsToTarget, List, Some, Steps, all_pairs_push, arith, end_of}
+use Rattle.link_detours.proofs.Common.{far_inside, get_or, inl, inr, is_marked, length, link_place, live_ends, map, subst, suc, sym, take, take_more, tree_cases, true, zero, ℕ, ◌++◌, ◌+◌, ◌<◌, ◌↔◌}
+use Rattle.link_detours.proofs.Common.{◌≡◌, ◌≤◌}
 use Rattle.link_detours.proofs.{Stepping.Steps-first, Stepping.Steps-map, Pruning.tree_kept, Unchanged.tree_leads}
 
 -- one edge more is in order, where its place is no less than the least that may come

@@ -1,7 +1,6 @@
 -- Edges in the order of their numbers are in their order.
-use Rattle.ner_trees.proofs.Common.{All, AllPairs, Description, Edge, HasSize, IsEdgeBefore, IsInside, List, arith, below_six, dir_number, edge_number, get_or, inside_parts, ℕ, ◌%◌, ◌*◌, ◌+◌, ◌<◌}
-use Rattle.ner_trees.proofs.Common.{◌≡◌, ◌≤◌}
-use Rattle.std.specs.List.Sorted.{IsNonDecreasingBy}
+use Rattle.ner_trees.proofs.Common.{All, AllPairs, Description, Edge, HasSize, IsEdgeBefore, IsInside, IsNonDecreasingBy, List, arith, below_six, dir_number, edge_number, get_or, inside_parts, ℕ, ◌%◌}
+use Rattle.ner_trees.proofs.Common.{◌*◌, ◌+◌, ◌<◌, ◌≡◌, ◌≤◌}
 
 -- the last digit of a number
 pub low_digit : (high low n : ℕ) → n ≡ high * 256 + low → low < 256 → n % 256 ≡ low

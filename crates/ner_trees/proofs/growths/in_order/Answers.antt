@@ -1,6 +1,4 @@
-use Rattle.ner_trees.proofs.Common.{All-permutation, IsInside, Edge, IsNonDecreasingBy-from_sort, edge_number}
-use Rattle.std.proofs.Common.{rules}
-use Rattle.std.proofs.lemmas.List.Sorted.{answers_always}
+use Rattle.ner_trees.proofs.Common.{All-permutation, Edge, IsInside, IsNonDecreasingBy-from_sort, answers_always, edge_number, rules}
 use Rattle.ner_trees.proofs.Numbering.{in_order_edges}
 use Rattle.ner_trees.proofs.growths.in_order.Goals as goal
 
