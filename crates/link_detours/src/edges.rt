@@ -27,12 +27,10 @@ pub(crate) fn reached_edges(alloc: Global, marked: MarkedEdges) -> Result<Vec<Ed
         ≡ filter (λ e. is_marked marked.entry.edges.machine.now marked.entry.marks.now e.chip)
         marked.entry.edges.list.now) }
 {
-    let links = marked.edges;
-    let reached = links
-        .list
-        .iter()
-        .copied()
-        .filter(|edge| marked.marks[links.machine.index(edge.chip) as usize]);
+    let MarkedEdges { edges, marks } = marked;
+    let machine = edges.machine;
+    let list = edges.list.iter().copied();
+    let reached = list.filter(|edge| marks[machine.index(edge.chip) as usize]);
     Ok(reached.collect(alloc)?)
 }
 

@@ -141,16 +141,6 @@ pub struct MarkedEdges<'a> {
     pub ghost long: { length marks.now ≡ edges.machine.now.width * edges.machine.now.height },
 }
 
-// An edge, and a mark for each chip of its machine.
-#[derive(Clone, Copy)]
-pub struct MarkedEdge<'a> {
-    pub machine: &'a Machine,
-    pub marks: &'a [bool],
-    pub edge: Edge,
-    pub ghost long: { length marks.now ≡ machine.now.width * machine.now.height },
-    pub ghost inside: { IsInside machine.now edge.chip },
-}
-
 // A flag for each link of a machine.
 #[derive(Clone, Copy)]
 pub struct Flagged<'a> {

@@ -7,7 +7,7 @@ ghost use Rattle.link_detours.specs.Whole.{IsWholeTree, GoesOnFrom};
 ghost use Rattle.spin_base.specs.declared.chips.Chip.{Chip};
 ghost use Rattle.machine_desc.specs.declared.trees.Edge.{Edge};
 
-use crate::grounds::{BrokenTree, Chips, Edges, MarkedEdge, MarkedEdges, TargetedEdges};
+use crate::grounds::{BrokenTree, Chips, Edges, MarkedEdges, TargetedEdges};
 use crate::prunes::pruned;
 use crate::searches::seed_table;
 use crate::tables::{in_place_order, link_place};
@@ -99,27 +99,8 @@ fn ends_are_marked(marked: MarkedEdges) -> bool
         marked.entry.edges.list.now }
 {
     let MarkedEdges { edges, marks } = marked;
-    edges
-        .list
-        .iter()
-        .all(|edge| match edges.machine.far(edge.chip, edge.dir) {
-            Some(far) => marks[edges.machine.index(far) as usize],
-            None => true,
-        })
-}
-
-// Whether the chip at which the edge ends is marked.
-fn end_is_marked(end: MarkedEdge) -> bool
-    ensures { result ≡ true → (c : Chip) → end_of end.entry.machine.now end.entry.edge ≡ Some c
-        → is_marked end.entry.machine.now end.entry.marks.now c ≡ true }
-{
-    let MarkedEdge {
-        machine,
-        marks,
-        edge,
-    } = end;
-    match machine.far(edge.chip, edge.dir) {
-        Some(far) => marks[machine.index(far) as usize],
+    edges.list.iter().all(|edge| match edges.machine.far(edge.chip, edge.dir) {
+        Some(far) => marks[edges.machine.index(far) as usize],
         None => true,
-    }
+    })
 }

@@ -41,12 +41,8 @@ fn next_level(alloc: Global, square: Square) -> Result<Vec<Chip>, Memory>
     let chips = square.chips;
     let lower_left = chips.iter().map(|c| Quarter::LowerLeft.chip(square, *c));
     let upper_left = chips.iter().map(|c| Quarter::UpperLeft.chip(square, *c));
-    let upper_right = chips
-        .iter()
-        .map(|c| Quarter::UpperRight.chip(square, *c));
-    let lower_right = chips
-        .iter()
-        .map(|c| Quarter::LowerRight.chip(square, *c));
+    let upper_right = chips.iter().map(|c| Quarter::UpperRight.chip(square, *c));
+    let lower_right = chips.iter().map(|c| Quarter::LowerRight.chip(square, *c));
     let right = upper_right.chain(lower_right);
     Ok(lower_left.chain(upper_left.chain(right)).collect(alloc)?)
 }
