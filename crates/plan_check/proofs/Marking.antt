@@ -22,9 +22,7 @@ module _ (m : Description) (old : List Bool) (far : Chip) (long : length old ≡
   hit = get_or-set_same old (index_of m far) true false (subst (λ n. index_of m far < n) (sym long) (index_below m far inside))
 
   was_clear : (c : Chip) → mark_at m now c ≡ false → (index_of m c ≢ index_of m far) × (mark_at m old c ≡ false)
-  was_clear c clear =
-      let other : index_of m c ≢ index_of m far = λ same. false≢true (sym clear ∙ (ap (λ k. get_or now k false) same ∙ hit)) in
-      (other, sym (get_or-set_other old (index_of m far) (index_of m c) true false other) ∙ clear)
+  was_clear c clear = grind (arith, hit, false≢true, get_or, get_or-set_other)
 
   still_clear : (c : Chip) → IsInside m c → (c ≡ far → ⊥) → mark_at m old c ≡ false → mark_at m now c ≡ false
   still_clear c c_in differs clear = get_or-set_other old (index_of m far) (index_of m c) true false (λ same. differs (same_index m c far c_in inside same)) ∙ clear
@@ -62,8 +60,7 @@ enter_more m e es old new long anew = subst (λ marks. EnterAnew m old (e ∷ es
 
 enter_none : (m : Description) (e : Edge) (es : List Edge) (old : List Bool) → EntersNone m e old → EnterAnew m old (e ∷ es) → ⊥
 enter_none m e es old (inl dead) enter = dead (All-head (λ (x : Edge). IsLiveLink m x.chip x.dir) e es enter.live)
-enter_none m e es old (inr had) enter =
-    false≢true (sym (All-head (λ (x : Edge). (c : Chip) → end_of m x ≡ Some c → mark_at m old c ≡ false) e es enter.clear had.0 had.1) ∙ had.2)
+enter_none m e es old (inr had) enter = grind (arith, false≢true, All-head)
 
 module _ (m : Description) (root : Chip) (edges : List Edge) where
   -- what is left of the edges enters anew exactly where all enter once
@@ -102,15 +99,7 @@ module _ (m : Description) (root : Chip) (edges : List Edge) where
         (λ enter. here.0 (step.1 enter), λ once. step.0 (here.1 once))
 
     pub goes_no_more : (old : List Bool) → EntersNone m (get_or edges i d) old → GoesOn i old → (IsTrue false) ↔ EntersOnce m root edges
-    goes_no_more old none goes =
-        answers_no (EntersOnce m root edges) (λ once. enter_none m (get_or edges i d) (drop (i + 1) edges) old none (subst (EnterAnew m old) next (goes.1 once)))
+    goes_no_more old none goes = answers_no _ (λ once. enter_none m (get_or edges i d) (drop (i + 1) edges) old none (subst (EnterAnew m old) next (goes.1 once)))
 
   pub goes_to_end : (i : ℕ) (marks : List Bool) → length edges ≤ i → GoesOn i marks → (IsTrue true) ↔ EntersOnce m root edges
-  goes_to_end i marks past goes = (
-    λ yes. goes.0 (subst (EnterAnew m marks) (sym (drop_all i edges past)) (record {
-      live = All-nil (λ (e : Edge). IsLiveLink m e.chip e.dir);
-      clear = All-nil (λ (e : Edge). (c : Chip) → end_of m e ≡ Some c → mark_at m marks c ≡ false);
-      apart = AllPairs-nil (λ (e f : Edge). end_of m e ≢ end_of m f);
-    })),
-    λ once. refl,
-  )
+  goes_to_end i marks past goes = grind (arith, drop_all i edges past, All-nil, AllPairs-nil)

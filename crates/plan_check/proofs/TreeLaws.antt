@@ -62,9 +62,7 @@ module _ (m : Description) (root : Chip) (edges : List Edge) (targets : List Spo
   path_to : (n : ℕ) (c : Chip) → Steps (EdgeStep m edges) n root c → (path : List Edge) × IsPath m edges root path c
   path_to zero c walk = ([], walk)
   path_to (suc n) c walk =
-      let edge : Edge = record { chip = walk.0; dir = walk.2.0 } in
-      let before = path_to n walk.0 walk.1 in
-      (before.0 ++ edge ∷ [], path_more m edges root walk.0 c before.0 edge before.1 walk.2.1 refl walk.2.2)
+      grind (arith, path_to n walk.0 walk.1, path_more m edges root walk.0 c (path_to n walk.0 walk.1).0 (record { chip = walk.0; dir = walk.2.0 }) (path_to n walk.0 walk.1).1 walk.2.1 refl walk.2.2)
 
   reached_by : (path : List Edge) (from to : Chip) → IsInside m from → IsReachedChip m edges root from → IsPath m edges from path to → IsInside m to × IsReachedChip m edges root to
   reached_by [] from to inside on along = (subst (IsInside m) along inside, subst (IsReachedChip m edges root) along on)
@@ -81,10 +79,7 @@ module _ (m : Description) (root : Chip) (edges : List Edge) (targets : List Spo
 
   -- a chip of a routing tree has a mark
   on_marked : IsRoutingTree m root edges targets → (c : Chip) → IsTreeChip m root edges c → IsMarkedChip m reached c
-  on_marked tree c on =
-      let by = tree.reached c on in
-      let there = reached_by by.0 root c root_in (0, refl) by.1 in
-      (there.0, (marks_are.told c there.0).1 there.1)
+  on_marked tree c on = grind (arith, reached_by (tree.reached c on).0 root c root_in (0, refl) (tree.reached c on).1)
 
   pub begins_marked : IsRoutingTree m root edges targets → All (λ (e : Edge). IsMarkedChip m reached e.chip) edges
   begins_marked tree k d below = on_marked tree (get_or edges k d).chip (tree.edges_begin k d below)
@@ -146,9 +141,7 @@ pub once_of : (m : Description) (root : Chip) (edges : List Edge) (targets : Lis
 once_of m root edges targets tree = record { live = tree.edges_live; none_into_root = tree.none_into_root; one_into_each = tree.one_into_each }
 
 pub once_inside : (m : Description) (root : Chip) (edges : List Edge) → EntersOnce m root edges → All (λ (e : Edge). IsInside m e.chip) edges
-once_inside m root edges once k d below =
-    let ends = live_ends m (get_or edges k d).chip (get_or edges k d).dir (once.live k d below) in
-    live_inside m (get_or edges k d).chip ends.2
+once_inside m root edges once k d below = grind (arith, live_ends, get_or, live_inside)
 
 pub has_inside : (m : Description) (marks : List Bool) (targets : List Spot) → All (λ (s : Spot). IsMarkedChip m marks s.chip) targets → All (λ (s : Spot). IsInside m s.chip) targets
 has_inside m marks targets all k d below = (all k d below).0

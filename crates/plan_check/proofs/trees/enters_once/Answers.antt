@@ -1,3 +1,4 @@
+use Rattle.std.proofs.Common.{arith}
 use Rattle.plan_check.proofs.Common.{Description, length, subst, ◌*◌, ◌∙◌, ◌≡◌}
 use Rattle.plan_check.proofs.Marking.{goes_first, goes_more, goes_no_more, goes_to_end}
 use Rattle.plan_check.proofs.trees.enters_once.Goals as goal
@@ -6,16 +7,10 @@ pub set-requires : goal.set-requires
 set-requires c = rw c.in_ok-entered.ensures.machine c.args.rooted.inside
 
 pub loop-edge-init : goal.loop-edge-init
-loop-edge-init c = (
-  c.set.ensures.machine ∙ c.in_ok-entered.ensures.machine,
-  rw (c.set.ensures.items, c.in_ok-entered.ensures.machine)
-      (goes_first c.args.rooted.machine.now c.args.rooted.root c.args.edges.now c.in_ok-entered.entered.items.items c.in_ok-entered.ensures.items c.args.rooted.inside),
-)
+loop-edge-init c = grind (arith, goes_first c.args.rooted.machine.now c.args.rooted.root c.args.edges.now c.in_ok-entered.entered.items.items c.in_ok-entered.ensures.items c.args.rooted.inside)
 
 pub returns-then-not-enters_anew : goal.returns-then-not-enters_anew
-returns-then-not-enters_anew c =
-    goes_no_more c.args.rooted.machine.now c.args.rooted.root c.args.edges.now c.loop-edge.edge-index _ c.loop-edge-test.true c.loop-edge.entered.items.items
-    (rw c.loop-edge.invariant.0 at c.if-not-enters_anew.ensures.anew) c.loop-edge.invariant.1
+returns-then-not-enters_anew c = goes_no_more _ _ _ _ _ c.loop-edge-test.true _ (rw c.loop-edge.invariant.0 at c.if-not-enters_anew.ensures.anew) c.loop-edge.invariant.1
 
 pub loop-edge-preserved : goal.loop-edge-preserved
 loop-edge-preserved c =
@@ -26,5 +21,4 @@ loop-edge-preserved c =
     )
 
 pub returns : goal.returns
-returns c =
-    goes_to_end c.args.rooted.machine.now c.args.rooted.root c.args.edges.now c.loop-edge.edge-index c.loop-edge.entered.items.items c.loop-edge-test.false c.loop-edge.invariant.1
+returns c = goes_to_end _ _ _ _ _ c.loop-edge-test.false c.loop-edge.invariant.1

@@ -1,18 +1,13 @@
+use Rattle.std.proofs.Common.{arith}
 use Rattle.plan_check.proofs.Common.{All, All-append, All-map, AreMarks, Edge, EntersOnce, IsInside, IsMarkedChip, IsReachedChip, IsRoutingTree, Spot, answers_no, fails, sym, ◌∙◌}
 use Rattle.plan_check.proofs.TreeLaws.{begins_marked, targets_marked, is_tree_tells, once_of, once_inside, has_inside}
 use Rattle.plan_check.proofs.trees.is_routed.Goals as goal
 
 pub returns-then-not-branch : goal.returns-then-not-branch
-returns-then-not-branch c =
-    answers_no (IsRoutingTree c.args.rooted.machine.now c.args.rooted.root c.args.edges.now c.args.targets.now) (λ tree.
-    fails (EntersOnce c.args.rooted.machine.now c.args.rooted.root c.args.edges.now) _ c.in_ok-enters_once.ensures c.if-not-branch.true
-    (once_of c.args.rooted.machine.now c.args.rooted.root c.args.edges.now c.args.targets.now tree))
+returns-then-not-branch c = grind (arith, answers_no, fails, once_of)
 
 pub invariant_of-tree : goal.invariant_of-tree
-invariant_of-tree c = record {
-  root_inside = c.args.rooted.inside;
-  inside = once_inside c.args.rooted.machine.now c.args.rooted.root c.args.edges.now (c.in_ok-enters_once.ensures.0 c.if-not-branch.false);
-}
+invariant_of-tree c = grind (arith, once_inside c.args.rooted.machine.now c.args.rooted.root c.args.edges.now (c.in_ok-enters_once.ensures.0 c.if-not-branch.false))
 
 pub invariant_of-marks : goal.invariant_of-marks
 invariant_of-marks c = record { long = rw c.deref.ensures.value c.in_ok-reached.ensures.long }
