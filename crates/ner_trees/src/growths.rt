@@ -46,13 +46,13 @@ fn edge_number(edge: Edge) -> u32
 }
 
 // The edges of the tree in the order of (x, y, link).
-fn in_order(tree: GrowingTree) -> Result<Vec<Edge>, Memory>
-    ensures same_edges { IfOk result (λ v. IsPermutation tree.entry.edges.items v.items) }
-    ensures in_order { IfOk result (λ v. AllPairs (λ e f. IsEdgeBefore f e → ⊥) v.items) }
+fn in_order(tree: GrowingTree) -> Vec<Edge>
+    ensures same_edges { IsPermutation tree.entry.edges.items result.items }
+    ensures in_order { AllPairs (λ e f. IsEdgeBefore f e → ⊥) result.items }
 {
     let mut edges = tree.edges;
-    edges.sort_by_key(|edge| edge_number(*edge))?;
-    Ok(edges)
+    edges.sort_unstable_by_key(|edge| edge_number(*edge));
+    edges
 }
 
 // Joins a target to the tree. The walk to it and the links of its branch are put where those of the target before are.
@@ -158,7 +158,7 @@ pub fn ner(alloc: Global, ends: Ends) -> Result<Grown, Memory>
     Ok(Grown {
         tree: Tree {
             root: ends.root,
-            edges: Seq::from_vec(in_order(tree)?),
+            edges: Seq::from_vec(in_order(tree)),
         },
         joins,
     })
