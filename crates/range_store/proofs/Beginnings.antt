@@ -1,8 +1,6 @@
 -- Which holes begin before a place.
-use Rattle.std.proofs.Common.{◌≡◌, ℕ, ◌+◌, ◌<◌, ◌≤◌, false, List, [], ◌∷◌, length, get_or, take, zero, suc, Some, slice_get, refl, subst₂, arith, inl, inr}
-use Rattle.std.proofs.lemmas.{Bool.cases_lt, Bool.Decides.nat_tests, Option.slice_get_within, Option.get_or_from_slice_get}
-use Rattle.std.specs.List.Sorted.{IsNonDecreasingBy}
-use Rattle.range_store.specs.{declared.holes.Hole.Hole, Regions.AreRuns, Regions.has_range, Regions.is_hole_range, Regions.hole_end}
+use Rattle.range_store.proofs.Common.{AreRuns, Hole, IsNonDecreasingBy, List, Some, [], arith, cases_lt, false, get_or, get_or_from_slice_get, has_range, hole_end, inl, inr, is_hole_range, length}
+use Rattle.range_store.proofs.Common.{nat_tests, refl, slice_get, slice_get_within, subst₂, suc, take, zero, ℕ, ◌+◌, ◌<◌, ◌∷◌, ◌≡◌, ◌≤◌}
 
 -- a hole of the list begins at the list's beginning or later
 pub place_from : (from n : ℕ) (hs : List Hole) → AreRuns from n hs → (k : ℕ) (d : Hole) → k < length hs → from ≤ (get_or hs k d).place

@@ -1,7 +1,6 @@
 -- Holes and the places that are free in them: which ranges fit.
-use Rattle.std.proofs.Common.{◌≡◌, ℕ, ◌+◌, ◌<◌, ◌≤◌, Bool, true, false, List, [], ◌∷◌, refl, inl, inr, arith}
-use Rattle.std.proofs.lemmas.Bool.{both_ways, cases_lt, or_cases, or_left, or_right, Decides.nat_tests}
-use Rattle.range_store.specs.{declared.holes.Hole.Hole, Regions.AreRuns, Regions.has_range, Regions.is_hole_range, Regions.is_free, Regions.hole_end}
+use Rattle.range_store.proofs.Common.{AreRuns, Bool, Hole, List, [], arith, both_ways, cases_lt, false, has_range, hole_end, inl, inr, is_free, is_hole_range, nat_tests, or_cases, or_left, or_right}
+use Rattle.range_store.proofs.Common.{refl, true, ℕ, ◌+◌, ◌<◌, ◌∷◌, ◌≡◌, ◌≤◌}
 
 pub clash : {A : Type 0} {b : Bool} → b ≡ true → b ≡ false → A
 clash t f = absurd (both_ways _ f t)

@@ -33,9 +33,9 @@ pub returns : goal.returns
 returns c =
     let done : Finished c.args.ends.machine.now c.args.ends.root c.args.ends.targets.now c.loop-target.joins c.from_vec.result =
     finished_at c.args.ends.machine.now c.args.ends.root c.args.ends.targets.now c.as_slice-target-items.result.now c.loop-target.joins c.loop-target.tree.on.items.items
-    c.loop-target.tree.edges.items c.in_order.result.items c.from_vec.result c.loop-target.target-index
+    c.loop-target.tree.edges.items c.in_ok-in_order.field-0.items c.from_vec.result c.loop-target.target-index
     (subst HasSize c.loop-target.invariant.machine c.loop-target.tree.on.size) c.args.ends.root_inside c.args.ends.targets_inside
-    c.as_slice-target-items.ensures c.loop-target-test.false c.loop-target.invariant.grown c.in_order.ensures.same_edges c.in_order.ensures.in_order
+    c.as_slice-target-items.ensures c.loop-target-test.false c.loop-target.invariant.grown c.in_ok-in_order.ensures.same_edges c.in_ok-in_order.ensures.in_order
     c.from_vec.ensures in
     record {
       root = refl;
