@@ -33,10 +33,7 @@ loop-i-preserved c =
 
 pub returns-clause-apart : goal.returns-clause-apart
 returns-clause-apart c =
-    blocks_apart c.args.graph.now.nets c.loop-i.blocks (have_fixed c.args.graph.now c.requires)
-    (record { first = c.loop-i.invariant.first; all = omega (arith, ap length c.as_slice-net-items.ensures, c.loop-i.invariant.first.few) })
+    blocks_apart _ _ (have_fixed _ c.requires) (record { first = c.loop-i.invariant.first; all = omega (arith, ap length c.as_slice-net-items.ensures, c.loop-i.invariant.first.few) })
 
 pub returns-clause-enough : goal.returns-clause-enough
-returns-clause-enough c =
-    keys_enough c.args.graph.now.nets c.loop-i.blocks (have_fixed c.args.graph.now c.requires)
-    (record { first = c.loop-i.invariant.first; all = omega (arith, ap length c.as_slice-net-items.ensures, c.loop-i.invariant.first.few) })
+returns-clause-enough c = grind (arith, keys_enough, have_fixed)
