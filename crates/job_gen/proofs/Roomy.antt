@@ -172,11 +172,7 @@ away_length c (s ∷ ss) =
 
 apart_chips : (c d e : Chip) → chip_eq c d ≡ false → chip_eq c e ≡ true → (b : Bool) → chip_eq d e ≡ b → b ≡ false
 apart_chips c d e other same false there = refl
-apart_chips c d e other same true there =
-    let left : c ≡ e = chip_eq_true c e same in
-    let right : d ≡ e = chip_eq_true d e there in
-    let equal : c ≡ d = left ∙ sym right in
-    absurd (true≢false (sym (ap (chip_eq c) (sym equal) ∙ chip_eq_same c) ∙ other))
+apart_chips c d e other same true there = grind (arith, chip_eq_true, true≢false, chip_eq_same)
 
 away_other : (c d : Chip) (ss : List Spot) → chip_eq c d ≡ false → on d (away c ss) ≡ on d ss
 unfolding on one_if away

@@ -1,6 +1,5 @@
 -- So many were drawn.
-use Rattle.job_gen.proofs.Common.{draws, ◌+◌, ◌≡◌}
-use Rattle.job_gen.specs.Draws.{draw}
+use Rattle.job_gen.proofs.Common.{draw, draws, ◌+◌, ◌≡◌}
 use Rattle.job_gen.proofs.draws.draw_numbers.Given as goal
 
 abbrev pub invariant-loop-i : goal.invariant-loop-i
