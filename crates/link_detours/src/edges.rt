@@ -17,8 +17,13 @@ pub(crate) fn live_edges(alloc: Global, ground: Ground, edges: &[Edge]) -> Resul
     ensures { IfOk result (λ v. v.items
         ≡ filter (λ e. is_live_link ground.entry.machine.now e.chip e.dir) edges.now) }
 {
-    let live = edges.iter().copied().filter(|edge| ground.has(*edge));
-    Ok(live.collect(alloc)?)
+    let mut live = Vec::with_capacity(alloc, edges.len())?;
+    for edge in edges {
+        if ground.has(*edge) {
+            live.push(*edge)?;
+        }
+    }
+    Ok(live)
 }
 
 // The edges that begin at a marked chip.
@@ -27,11 +32,14 @@ pub(crate) fn reached_edges(alloc: Global, marked: MarkedEdges) -> Result<Vec<Ed
         ≡ filter (λ e. is_marked marked.entry.edges.machine.now marked.entry.marks.now e.chip)
         marked.entry.edges.list.now) }
 {
-    let MarkedEdges { edges, marks } = marked;
-    let machine = edges.machine;
-    let list = edges.list.iter().copied();
-    let reached = list.filter(|edge| marks[machine.index(edge.chip) as usize]);
-    Ok(reached.collect(alloc)?)
+    let links = marked.edges;
+    let mut reached = Vec::with_capacity(alloc, links.list.len())?;
+    for edge in links.list {
+        if marked.marks[links.machine.index(edge.chip) as usize] {
+            reached.push(*edge)?;
+        }
+    }
+    Ok(reached)
 }
 
 // The same links, each from its other end.
