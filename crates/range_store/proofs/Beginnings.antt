@@ -51,8 +51,5 @@ beyond n hs runs p s at here is begins ends after =
           let b = get_or_from_slice_get hs at here here is in
           let far : hole_end h < here.place = subst₂ (λ (x y : Hole). hole_end x < y.place) a b e in
           grind (arith, nat_tests))
-      | inr from_here ↦ elim (cases_lt at k) [
-        | inl later ↦ (let a = after k h (omega (arith, later)) got in grind (arith, nat_tests))
-        | inr not_later ↦ (let e : k ≡ at = omega (arith, from_here, not_later) in let same : h ≡ here = cc in rw same (grind (arith, nat_tests)))
-      ]
+      | inr from_here ↦ grind (arith, cases_lt at k, nat_tests)
     ])

@@ -83,12 +83,7 @@ runs_without from n p s pre h post runs some low high = grind (arith, runs_split
 multiple : (x y : ℕ) → 0 < y → ((x + (y - x % y) % y) % y ≡ 0) × (x + (y - x % y) % y < x + y)
 multiple x y some =
     elim (cases_eq (x % y) 0) [
-      | inl even ↦ (
-          let whole : y - x % y ≡ y = omega arith in
-          let none : (y - x % y) % y ≡ 0 = ap (λ n. n % y) whole ∙ mod_self y in
-          let same : x + (y - x % y) % y ≡ x = omega (arith, none) in
-          (ap (λ n. n % y) same ∙ even, omega (arith, none))
-          )
+      | inl even ↦ grind (arith, mod_self y)
       | inr odd ↦ (
           let part : (y - x % y) % y ≡ y - x % y = mod-eq_of_lt (omega arith) in
           let next_one : x + (y - x % y) % y ≡ y * (x / y + 1) = omega (arith, part) in
