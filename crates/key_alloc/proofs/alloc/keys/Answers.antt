@@ -8,8 +8,7 @@ returns-in_default-clause-keys_out c = record {
   before = c.loop-i.invariant.first;
   here = c.loop-i.invariant.each_one;
   net = c.net-item.result;
-  is = sym (ap (λ l. slice_get l c.loop-i.i) c.as_slice-net-items.ensures)
-      ∙ slice_get_read c.as_slice-net-items.result.now _ c.loop-i.i c.net-item.result refl c.loop-i-test.true c.net-item.is;
+  is = grind (arith, slice_get, slice_get_read);
   free = rw c.in_default.is at c.in_ok-block.ensures.not_fixed;
   none = (rw c.in_default.is at c.in_ok-block.ensures.none) (fixed_of c.args.graph.now.nets ++ c.loop-i.blocks) c.loop-i.invariant.free;
 }
