@@ -26,10 +26,7 @@ least_size keys size power enough which = record {
     | inl one ↦ omega (arith, which)
     | inr more ↦ elim more [
       | inl two ↦ omega (arith, which)
-      | inr more ↦ elim more [
-        | inl four ↦ omega (arith, which)
-        | inr more ↦ elim more [ inl eight ↦ omega (arith, which) | inr large ↦ omega (arith, which) ]
-      ]
+      | inr more ↦ grind arith
     ]
   ];
 }
