@@ -23,11 +23,12 @@ pub use Rattle.std.proofs.lemmas.{Bool.ne_eqb, Bool.not-false, Bool.not-true, Bo
 pub use Rattle.std.proofs.lemmas.{Grind.get_or-set_at, List.Edits.drop-paste, List.Edits.get_or-insert_at, List.Edits.get_or-insert_below, List.Edits.get_or-remove_above, List.Edits.length-insert}
 pub use Rattle.std.proofs.lemmas.List.{Edits.length-paste, Edits.remove-append_left, Edits.take-paste, Elements.All-append, Elements.All-cons, Elements.All-contains_itself, Elements.All-drop}
 pub use Rattle.std.proofs.lemmas.List.Elements.{All-filter, All-head, All-map, All-nil, All-push, All-replicate, All-tail, All-take, All-weaker, filter-append, filter_map-append, filter_passes}
-pub use Rattle.std.proofs.lemmas.List.{Elements.pair_read, Folds.Any-from_list_any, Folds.list_any-append, Kept.AllPairs-cons, Kept.AllPairs-filter, Quantifiers.all_pairs_push}
-pub use Rattle.std.proofs.lemmas.List.{Sorted.IsPermutation-append_comm, Sorted.IsPermutation-append_left, Sorted.IsPermutation-refl, Sorted.IsPermutation-trans, Sums.count_by-le-length}
-pub use Rattle.std.proofs.lemmas.List.{Sums.length-filter, Sums.sum_by-append, drop-set, drop-set-lt, drop-take, get_or-append_right, get_or-replicate, get_or-set_other, get_or_append_left}
-pub use Rattle.std.proofs.lemmas.List.{get_or_default, get_or_past, get_or_push, length-map, length_push, map-append, take-set-le, take_all, take_at, take_more, take_more_set, take_rest}
-pub use Rattle.std.proofs.lemmas.Nat.Bits.{bit_at-lt, bit_at-trailing_zeros, bit_at-zero, bit_at_above, bit_at_and, bit_at_clear_other, bit_at_clear_same, bit_at_not, bit_at_xor, shr_and_one}
+pub use Rattle.std.proofs.lemmas.List.{Elements.pair_read, Folds.Any-from_list_any, Folds.list_any-append, Folds.position_or_len_push, Kept.AllPairs-cons, Kept.AllPairs-filter}
+pub use Rattle.std.proofs.lemmas.List.{Quantifiers.all_pairs_push, Sorted.IsPartitionPoint-from_clause, Sorted.IsPermutation-append_comm, Sorted.IsPermutation-append_left, Sorted.IsPermutation-refl}
+pub use Rattle.std.proofs.lemmas.List.{Sorted.IsPermutation-trans, Sums.count_by-le-length, Sums.length-filter, Sums.passes_at_first, Sums.prefix_len-le-length, Sums.sum_by-append, drop-set}
+pub use Rattle.std.proofs.lemmas.List.{drop-set-lt, drop-take, get_or-append_right, get_or-replicate, get_or-set_other, get_or_append_left, get_or_default, get_or_past, get_or_push, length-map}
+pub use Rattle.std.proofs.lemmas.{List.length_push, List.map-append, List.take-set-le, List.take_all, List.take_at, List.take_more, List.take_more_set, List.take_rest, Nat.Bits.bit_at-lt}
+pub use Rattle.std.proofs.lemmas.Nat.Bits.{bit_at-trailing_zeros, bit_at-zero, bit_at_above, bit_at_and, bit_at_clear_other, bit_at_clear_same, bit_at_not, bit_at_xor, shr_and_one}
 pub use Rattle.std.proofs.lemmas.{Nat.and_le_l, Option.get_or_from_slice_get, Option.slice_get-get_or, Option.slice_get_within, Simd.map-map, Slice.drop-put_mid}
 pub use Rattle.std.specs.{Int.bit_at, Int.bit_not, Int.trailing_zeros, Int.w32, List.Contains, List.Sorted.IsPermutation, List.cons_option, List.copy_within, List.flat_map, Option.option_copied}
 pub use Rattle.std.specs.{Option.option_map_or, Prelude.All, Prelude.AllPairs, Prelude.Err, Prelude.IfOk, Prelude.MatchOption, Prelude.None, Prelude.Ok, Prelude.OnOk, Prelude.Option, Prelude.Result}

@@ -56,10 +56,6 @@ pub missed_read : (rows : List Row) (s r : ℕ) (first e : Row) (t : Bool) → s
 missed_read rows s r first e t in_s in_r is_first tells came d =
     pair_read rows (λ (x y : Row). Misses x.block y) r s (get_or rows r e) first in_r in_s (get_or_default rows r e (get_or rows r e) in_r) is_first (tells.0 came) d
 
--- no row behind one that was read is of lesser generality
-pub general_behind : (rows : List Row) (place : ℕ) (a : Row) (g : ℕ) → IsOrdered rows → place < length rows → g ≡ generality (get_or rows place a).block → (k : ℕ) (d : Row) → place ≤ k → k < length rows → g ≤ generality (get_or rows k d).block
-general_behind rows place a g ordered inside level k d from within = grind (arith, get_or_default rows place d a inside, cases_lt place k, get_or)
-
 -- ---- a pair
 
 module _ (rows : List Row) (i j : ℕ) (set : IsMergeSet rows (i ∷ j ∷ [])) (sound : IsSound rows) (b : Block) (is : b ≡ merged_block rows (i ∷ j ∷ [])) (g : ℕ) (general : g ≡ generality b) where
@@ -86,10 +82,6 @@ module _ (rows : List Row) (i j : ℕ) (set : IsMergeSet rows (i ∷ j ∷ [])) 
           by_place (zero, inside, at) = subst₂ (λ n p. PassesUp rows (i ∷ j ∷ []) n p) at place_is first
           by_place (suc zero, inside, at) = subst₂ (λ n p. PassesUp rows (i ∷ j ∷ []) n p) at place_is second
           by_place (suc (suc k), inside, at) = absurd (omega arith)
-
--- no row up to one of at most a generality is above it
-pub general_before : (rows : List Row) (place : ℕ) (a : Row) (g : ℕ) → IsOrdered rows → place < length rows → generality (get_or rows place a).block ≤ g → (k : ℕ) (d : Row) → k < place + 1 → generality (get_or rows k d).block ≤ g
-general_before rows place a g ordered inside low k d from = grind (arith, cases_lt k place, get_or_default rows place d a inside, get_or_default rows place a d inside, get_or)
 
 -- a row that is more general stands at the place or behind it
 pub behind_place : (rows : List Row) (r : ℕ) (a : Row) (g : ℕ) → IsOrdered rows → r < length rows → a ≡ get_or rows r a → g < generality a.block → place_for rows g ≤ r

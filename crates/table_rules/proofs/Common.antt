@@ -14,7 +14,7 @@ pub use Rattle.std.proofs.Common.{Bool, List, None, Option, Some, [], ap, append
 pub use Rattle.std.proofs.Common.{length-take, map, min, refl, set, subst, suc, sym, take, take-append-drop, true, zero, ℕ, ◌%◌, ◌++◌, ◌+◌, ◌-◌, ◌<◌, ◌==◌, ◌^◌, ◌↔◌, ◌∙◌, ◌∷◌, ◌≡◌, ◌≤◌, ◌⊎◌}
 pub use Rattle.std.proofs.lemmas.Bool.{Decides.eqb_tells, Decides.nat_tests, cases_Bool, cases_lt, eq-eqb, eqb-true, false≢true, ltb-false}
 pub use Rattle.std.proofs.lemmas.List.{Concat.flat_map-append, Edits.length-insert, Edits.sets-eq, Elements.All-append, Elements.All-cons, Elements.All-drop, Elements.All-head, Elements.All-map}
-pub use Rattle.std.proofs.lemmas.List.Elements.{All-nil, All-tail, All-take, Contains-append_cases, Contains-append_left, Contains-append_right, Contains-get_or, filter-append}
+pub use Rattle.std.proofs.lemmas.List.Elements.{All-nil, All-tail, All-take, Contains-append_cases, Contains-append_left, Contains-append_right, Contains-get_or}
 pub use Rattle.std.proofs.lemmas.List.{Filters.dedup_is, Folds.find-append, Kept.AllPairs-cons, Kept.AllPairs-from_increasing, Kept.Contains-dedup_nat, Kept.Contains-from_dedup}
 pub use Rattle.std.proofs.lemmas.List.{Sorted.All-permutation, Sorted.Contains-permutation, Sorted.IsNonDecreasingBy-from_sort, Sorted.IsPermutation-refl, Sorted.IsPermutation-sym, Sums.fold-append}
 pub use Rattle.std.proofs.lemmas.List.{Sums.sum_by-append, Sums.take_while-cons, append-nil, drop_all, drop_more, get_or-map, get_or_default, length-map, map-append, map_push, take_all, take_more}

@@ -1,7 +1,7 @@
 -- One block more, one route more.
-use Rattle.table_rules.proofs.Common.{Alias, Block, Bool, List, Original, Route, RoutedBlock, Row, [], ap, append-nil, append_assoc, arith, drop, drop_all, drop_more, false, filter-append}
-use Rattle.table_rules.proofs.Common.{flat_map-append, fold-append, get_or, goes_by, if◌then◌else◌, joined_blocks, length, map, map-append, map_push, meets_one, merge_two, others, own_blocks}
-use Rattle.table_rules.proofs.Common.{pieces_of, refl, row_by, rows_by_routes, served_by, set, sets-eq, sym, take, take_all, take_more, true, with_block, ℕ, ◌++◌, ◌+◌, ◌<◌, ◌∙◌, ◌∷◌, ◌≡◌, ◌≤◌}
+use Rattle.table_rules.proofs.Common.{Alias, Block, Bool, List, Original, Route, RoutedBlock, Row, [], ap, append-nil, append_assoc, arith, drop, drop_all, drop_more, false, flat_map-append}
+use Rattle.table_rules.proofs.Common.{fold-append, get_or, if◌then◌else◌, joined_blocks, length, map, map-append, map_push, meets_one, merge_two, others, own_blocks, pieces_of, refl, row_by}
+use Rattle.table_rules.proofs.Common.{rows_by_routes, served_by, set, sets-eq, sym, take, take_all, take_more, true, with_block, ℕ, ◌++◌, ◌+◌, ◌<◌, ◌∙◌, ◌∷◌, ◌≡◌, ◌≤◌}
 
 -- ---- a block is put
 
@@ -24,18 +24,6 @@ module _ (behind : List RoutedBlock) (block : Block) (blocks all : List Block) (
 pub joined_more : (behind : List RoutedBlock) (blocks : List Block) (i : ℕ) (block : Block) (old new : List Block) → i < length blocks → block ≡ get_or blocks i block → old ≡ joined_blocks behind (take i blocks)
     → new ≡ with_block behind old block → new ≡ joined_blocks behind (take (i + 1) blocks)
 joined_more behind blocks i block old new within read so_far put = grind (arith, fold-append (with_block behind), take_more blocks i block within)
-
--- ---- pieces of a route, and of others
-
-module _ (route : Route) (pieces : List RoutedBlock) (i : ℕ) (piece : RoutedBlock) (within : i < length pieces) (read : piece ≡ get_or pieces i piece) where
-  one_more : take (i + 1) pieces ≡ take i pieces ++ piece ∷ []
-  one_more = take_more pieces i piece within ∙ ap (λ x. take i pieces ++ x ∷ []) (sym read)
-
-  pub own_more : (old new : List Block) → old ≡ own_blocks route (take i pieces) → new ≡ old ++ own_blocks route (piece ∷ []) → new ≡ own_blocks route (take (i + 1) pieces)
-  own_more old new so_far put = grind (arith, one_more, filter-append (goes_by route) (take i pieces) (piece ∷ []), map-append)
-
-  pub others_more : (old new : List RoutedBlock) → old ≡ others route (take i pieces) → new ≡ old ++ others route (piece ∷ []) → new ≡ others route (take (i + 1) pieces)
-  others_more old new so_far put = grind (arith, one_more, filter-append)
 
 -- ---- the pieces of rows
 
