@@ -1,7 +1,8 @@
 -- What machines with the same applications have in common, and that unloads and runs keep it.
 use Rattle.app_loads.proofs.Common.{All, All-head, All-tail, Among, AreAlike, AreApps, Contains, Ended, HasMovedMesh, HasUnloaded, Host, IsAtRest, IsMesh, IsQuiet, IsUnderWayAt, List, LoadedApp, Mark}
-use Rattle.app_loads.proofs.Common.{McCopy, MeetsLedgerFor, None, NoneUnderWay, NothingWaits, State, WaitsIn, [], all_nets, ap, arith, asked_of, filter, flat_map, held_packets, is_delivery_of}
-use Rattle.app_loads.proofs.Common.{is_packet_of, length, marks_of, mesh_without, packet_numbers_of, refl, same_lists, setup_after, subst, sym, true, usable_spots, ℕ, ◌++◌, ◌∙◌, ◌∷◌, ◌≡◌}
+use Rattle.app_loads.proofs.Common.{McCopy, MeetsLedgerFor, None, NoneUnderWay, NothingWaits, State, WaitsIn, [], all_nets, ap, arith, asked_of, filter, flat_map, flat_map-append, held_packets}
+use Rattle.app_loads.proofs.Common.{is_delivery_of, is_packet_of, length, marks_of, mesh_without, packet_numbers_of, refl, same_lists, setup_after, subst, sym, true, usable_spots, ℕ, ◌++◌, ◌∙◌, ◌∷◌}
+use Rattle.app_loads.proofs.Common.{◌≡◌}
 use Rattle.app_loads.proofs.{Delivered.HasOneWay, Delivered.no_more, LeavingLeast.listed_waits, LeavingLeast.under_way, LeavingLeast.waits_listed}
 
 pub alike_too : (h g : Host) → AreAlike h g → AreAlike g h
@@ -31,7 +32,7 @@ only_unsent s quiet =
     let inputs = flat_of_none packet_numbers_of [] refl s.inputs quiet.inputs_empty in
     let hands = flat_of_none held_packets None refl s.hands quiet.hands_empty in
     let cores = flat_of_none packet_numbers_of [] refl s.cores quiet.cores_empty in
-    rw (inputs, hands, cores) refl
+    rw (flat_map-append packet_numbers_of (s.unsent ++ s.inputs) s.cores, flat_map-append packet_numbers_of s.unsent s.inputs, inputs, hands, cores) refl
 
 module _ (h g : Host) (alike : AreAlike h g) where
   same_under_way : under_way h.mesh ≡ under_way g.mesh

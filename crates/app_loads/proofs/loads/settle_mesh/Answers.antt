@@ -34,6 +34,3 @@ returns-in-Ok-send-clause-settled c =
     c.deref_mut.ensures.value (with_items_is c.parts.inside.unsent c.send.new.unsent (c.send.auto.unsent ∙ c.deref_mut.ensures.len)) c.in-Ok-send.ensures.sent c.install.ensures.setup
     c.put_together.ensures (subst (λ (m : Description). ArePlain m c.args.app.now (tables_in c.in-Ok.rows)) c.machine.ensures (c.in-Ok.ensures.long, c.in-Ok.ensures.plain))
     (ap tables_in c.as_slice-in-Ok-send.ensures) c.as_slice-in-Ok-send-2.ensures c.install.ensures.copied
-
-pub invariant_of-own : goal.invariant_of-own
-invariant_of-own c = grind arith

@@ -1,7 +1,7 @@
 use Rattle.app_loads.proofs.Common.{AreCopied, [], ap, arith, common_steps, into_iter_items, length, length-drop, length-map, refl, row_of_mark, slice_get-get_or, subst, sym, table_of_sorted}
 use Rattle.app_loads.proofs.Common.{tables_in, take, ◌+◌, ◌∙◌, ◌≡◌}
 use Rattle.app_loads.proofs.Copying.{of_chip, there, place_of_no_rows, j_below, j_in_tables, j_in_rows, T_long, R_fits, R_size, place_small, all_copied, copied_skip, copied_more, put_listed}
-use Rattle.app_loads.proofs.{Copying.rows_listed, Rooms.left_first}
+use Rattle.app_loads.proofs.Copying.{left_first, rows_listed}
 use Rattle.app_loads.proofs.rows.write_rows.Goals as goal
 
 pub bounds-tables-at : goal.bounds-tables-at
