@@ -16,7 +16,7 @@ use Rattle.job_gen.specs.{Board.generated_board, Generated.net_of, Values.gen_va
 use Rattle.job_gen.specs.Generated.{gen_job, generated_run, graph_of, job_of_drawn, packet_of}
 use Rattle.job_gen.proofs.{NameLemmas.found, NameLemmas.named, ListReading.items_clean, ListReading.items_are, ListReading.numbered_are, ListReading.length-numbered, ListReading.following_clean}
 use Rattle.job_gen.proofs.GraphReading.{within, vertex_clean, vertex_is, vertex_named, net_clean, net_is, net_named}
-use Rattle.job_gen.proofs.DrawnLaws.{is_drawn}
+use Rattle.job_gen.proofs.{DrawnLaws.is_drawn, Joined.live_chips}
 
 -- a list that is no longer than its limit
 few_faults : (path : List ℕ) (limit count : ℕ) → count ≤ limit → count_faults path limit count ≡ []
@@ -32,10 +32,6 @@ machine_clean path job = refl
 machine_is : (job : Drawn) → machine_value (job_data job) ≡ generated_board
 unfolding machine_value machine_members number_member flag_member list_member chip_value job_data graph_data machine_data run_data dead_pairs generated_board
 machine_is job = refl
-
-live_chips : live_count_of generated_board ≡ 48
-unfolding generated_board dead_pairs
-live_chips = refl
 
 -- ---- the graph
 

@@ -17,13 +17,8 @@ pub(crate) fn live_edges(alloc: Global, ground: Ground, edges: &[Edge]) -> Resul
     ensures { IfOk result (λ v. v.items
         ≡ filter (λ e. is_live_link ground.entry.machine.now e.chip e.dir) edges.now) }
 {
-    let mut live = Vec::with_capacity(alloc, edges.len())?;
-    for edge in edges {
-        if ground.has(*edge) {
-            live.push(*edge)?;
-        }
-    }
-    Ok(live)
+    let live = edges.iter().copied().filter(|edge| ground.has(*edge));
+    Ok(live.collect(alloc)?)
 }
 
 // The edges that begin at a marked chip.
@@ -32,14 +27,11 @@ pub(crate) fn reached_edges(alloc: Global, marked: MarkedEdges) -> Result<Vec<Ed
         ≡ filter (λ e. is_marked marked.entry.edges.machine.now marked.entry.marks.now e.chip)
         marked.entry.edges.list.now) }
 {
-    let links = marked.edges;
-    let mut reached = Vec::with_capacity(alloc, links.list.len())?;
-    for edge in links.list {
-        if marked.marks[links.machine.index(edge.chip) as usize] {
-            reached.push(*edge)?;
-        }
-    }
-    Ok(reached)
+    let MarkedEdges { edges, marks } = marked;
+    let machine = edges.machine;
+    let list = edges.list.iter().copied();
+    let reached = list.filter(|edge| marks[machine.index(edge.chip) as usize]);
+    Ok(reached.collect(alloc)?)
 }
 
 // The same links, each from its other end.
@@ -47,14 +39,12 @@ pub(crate) fn turned_edges(alloc: Global, links: Edges) -> Result<Vec<Edge>, Mem
     ensures { IfOk result (λ v. v.items ≡ filter_map (other_end_of links.entry.machine.now)
         links.entry.list.now) }
 {
-    let mut turned = Vec::with_capacity(alloc, links.list.len())?;
-    for edge in links.list {
-        if let Some(chip) = links.machine.far(edge.chip, edge.dir) {
-            turned.push(Edge {
-                chip,
-                dir: edge.dir.opposite(),
-            })?;
-        }
-    }
-    Ok(turned)
+    let turned = links.list.iter().filter_map(|edge| {
+        let far = links.machine.far(edge.chip, edge.dir)?;
+        Some(Edge {
+            chip: far,
+            dir: edge.dir.opposite(),
+        })
+    });
+    Ok(turned.collect(alloc)?)
 }

@@ -1,13 +1,12 @@
 // Trees that grow from target to target.
-ghost use Rattle.std.specs.Prelude.{◌≡◌, ◌≢◌, ℕ, ◌+◌, ◌*◌, ◌<◌, ◌≤◌, List, [], Some, length, map, IfOk, All, AllPairs};
+ghost use Rattle.std.specs.Prelude.{◌≡◌, ◌≢◌, ℕ, ◌+◌, ◌*◌, ◌<◌, ◌≤◌, List, [], Some, length, IfOk, All, AllPairs};
 ghost use Rattle.std.specs.List.Sorted.{IsPermutation};
 ghost use Rattle.machine_desc.specs.Live.{IsInside, IsLiveLink};
 ghost use Rattle.machine_desc.specs.RoutingTree.{end_of, IsTreeTo};
 ghost use Rattle.ner_trees.specs.Growth.{IsJoinedBy, IsGrown, IsWithoutDead, distance_sum};
 ghost use Rattle.machine_desc.specs.EdgeOrder.{IsEdgeBefore};
 ghost use Rattle.ner_trees.specs.Search.{TellsTree};
-ghost use Rattle.ner_trees.specs.EdgeNumbers.{edge_numbered, IsEdgeNumber};
-ghost use Rattle.spin_base.specs.Links.{dir_at, dir_number};
+ghost use Rattle.ner_trees.specs.EdgeNumbers.{edge_number};
 ghost use Rattle.spin_base.specs.declared.chips.Chip.{Chip};
 
 use crate::cuts::{mark, new_branch};
@@ -39,68 +38,21 @@ pub struct Grown {
 impl Shared for Grown {}
 
 // The number by which edges are put in order: to compare one number takes less than x, y and link.
-fn edge_number(x: u8, y: u8, dir: Dir) -> u32
-    ensures value { result ≡ x * 65536 + y * 256 + dir_number dir }
-    ensures back { edge_numbered result
-        ≡ (record { chip = record { x = x; y = y }; dir = dir }) }
+fn edge_number(edge: Edge) -> u32
+    ensures { result ≡ edge_number edge }
 {
-    u32::from(x) * 65536 + u32::from(y) * 256 + u32::from(dir.number())
+    let Edge { chip, dir } = edge;
+    u32::from(chip.x) * 65536 + u32::from(chip.y) * 256 + u32::from(dir.number())
 }
 
-// The link of this number. No edge has a number above 5, which is that of no link.
-fn link_numbered(number: u8) -> Dir
-    ensures { result ≡ dir_at number }
-{
-    match Dir::from_number(number) {
-        Some(dir) => dir,
-        None => Dir::East,
-    }
-}
-
-// The edge that has this number.
-fn edge_numbered(number: u32) -> Edge
-    ensures { result ≡ edge_numbered number }
-{
-    let chip = Chip {
-        x: (number / 65536 % 256) as u8,
-        y: (number / 256 % 256) as u8,
-    };
-    let dir = link_numbered((number % 256) as u8);
-    Edge { chip, dir }
-}
-
-// The numbers of these edges.
-fn numbers_of(alloc: Global, edges: &[Edge]) -> Result<Vec<u32>, Memory>
-    ensures back { IfOk result (λ v. map edge_numbered v.items ≡ edges.now) }
-    ensures numbers { IfOk result (λ v. All IsEdgeNumber v.items) }
-{
-    let mut numbers = Vec::with_capacity(alloc, edges.len())?;
-    for edge in edges {
-        let Edge { chip, dir } = *edge;
-        numbers.push(edge_number(chip.x, chip.y, dir))?;
-    }
-    Ok(numbers)
-}
-
-// The edges that have these numbers.
-fn edges_of(alloc: Global, numbers: &[u32]) -> Result<Vec<Edge>, Memory>
-    ensures { IfOk result (λ v. v.items ≡ map edge_numbered numbers.now) }
-{
-    let mut edges = Vec::with_capacity(alloc, numbers.len())?;
-    for number in numbers {
-        edges.push(edge_numbered(*number))?;
-    }
-    Ok(edges)
-}
-
-// The edges in the order of (x, y, link).
-fn in_order(alloc: Global, edges: Vec<Edge>) -> Result<Vec<Edge>, Memory>
-    ensures same_edges { IfOk result (λ v. IsPermutation edges.items v.items) }
+// The edges of the tree in the order of (x, y, link).
+fn in_order(tree: GrowingTree) -> Result<Vec<Edge>, Memory>
+    ensures same_edges { IfOk result (λ v. IsPermutation tree.entry.edges.items v.items) }
     ensures in_order { IfOk result (λ v. AllPairs (λ e f. IsEdgeBefore f e → ⊥) v.items) }
 {
-    let mut numbers = numbers_of(alloc, &edges)?;
-    numbers.sort_unstable();
-    edges_of(alloc, &numbers)
+    let mut edges = tree.edges;
+    edges.sort_by_key(|edge| edge_number(*edge))?;
+    Ok(edges)
 }
 
 // Joins a target to the tree. The walk to it and the links of its branch are put where those of the target before are.
@@ -206,7 +158,7 @@ pub fn ner(alloc: Global, ends: Ends) -> Result<Grown, Memory>
     Ok(Grown {
         tree: Tree {
             root: ends.root,
-            edges: Seq::from_vec(in_order(alloc, tree.edges)?),
+            edges: Seq::from_vec(in_order(tree)?),
         },
         joins,
     })
