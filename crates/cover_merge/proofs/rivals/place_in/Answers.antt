@@ -15,15 +15,7 @@ loop-low-preserved-then-generality-general c =
     }
 
 pub loop-low-preserved : goal.loop-low-preserved
-loop-low-preserved c =
-    let old = c.loop-low.invariant in
-    let middle = c.loop-low.low + (c.loop-low.high - c.loop-low.low) / 2 in
-    let inside : middle < c.loop-low.high = omega (arith, c.loop-low-test.true) in record {
-      order = omega arith;
-      within = omega (arith, inside, old.within);
-      below = old.below;
-      above = λ k d from within. omega (arith, c.if-generality-general.false, general_behind _ middle c.index-rows-middle.result c.generality.result c.args.table.ordered (omega (arith, inside, old.within)) c.generality.ensures.value k d from within);
-    }
+loop-low-preserved c = grind (arith, general_behind)
 
 pub returns-clause-value : goal.returns-clause-value
 returns-clause-value c =
