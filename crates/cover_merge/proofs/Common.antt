@@ -1,3 +1,5 @@
+use Rattle.std.proofs.Common.{arith}
+use Rattle.std.proofs.Common.{rules}
 -- The names that the proofs of this crate cite from outside of them, passed on from one place. Declares nothing.
 pub use Rattle.cover_merge.specs.Covering.{Covers, HasNoChosen, HasNoLargest, HasNoLegalPair, HasRoutesOf, IsChosen, IsFirstLegalPair, IsFirstPartner, IsLargest, IsLegalPair, IsNoRival, merged}
 pub use Rattle.cover_merge.specs.{Covering.places_of, Covering.short, Covering.stuck, Kept.IsGone, Kept.IsKept, Kept.IsLeftBy, Kept.LeadsWithin, Kept.RefinesWithin, Known.AreAllKept, Known.AreChanges}

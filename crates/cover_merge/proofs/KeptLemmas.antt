@@ -260,16 +260,7 @@ module _ (rows : List Row) (merge : List ℕ) (sound : IsSound rows) (set : IsMe
     count_to joined met i = ap (λ n. cond (can_choose joined met i) n 0) (ap length (kept_to met i) ∙ length-map (kept_by rows met i places) to)
 
     narrowed_to : (joined met : Block) (next : List ℕ) → IsNarrowed rows places joined met next → IsNarrowed new (map to places) joined met (map to next)
-    narrowed_to joined met next (inl (i, low, best, is)) = inl (
-      i,
-      low,
-      record {
-        some = omega (arith, best.some, count_to joined met i);
-        most = λ j below. omega (arith, best.most j below, count_to joined met i, count_to joined met j);
-        highest = λ j below behind. omega (arith, best.highest j below behind, count_to joined met i, count_to joined met j);
-      },
-      ap (map to) is ∙ sym (kept_to met i),
-    )
+    narrowed_to joined met next (inl (i, low, best, is)) = grind (arith, count_to, kept_to)
     narrowed_to joined met next (inr none) = inr (λ j below. count_to joined met j ∙ none.0 j below, ap (map to) none.1)
 
     module _ (outer : Block) (low : ℕ) (apart : (Intersects (merged_block rows merge) outer → ⊥) ⊎ (generality (merged_block rows merge) ≤ low)) (lies : LiesIn (merged_block rows places) outer) (high : low ≤ generality (merged_block rows places)) where
@@ -337,8 +328,7 @@ module _ (rows : List Row) (outer : Block) (low : ℕ) where
   module _ (bits size : ℕ) (is_kept : IsKept rows bits size outer low) where
     -- The refined set of the route's rows has as many places as was kept.
     pub size_of_kept : (set : List ℕ) → Refines rows (places_of bits 0 rows) set → length set ≡ size
-    size_of_kept set refined =
-        ap length (one_refined rows (places_of bits 0 rows) set is_kept.set refined (forgets (places_of bits 0 rows) is_kept.set is_kept.refined)) ∙ is_kept.size_is
+    size_of_kept set refined = grind (arith, one_refined, forgets)
 
     -- A route whose kept number loses to another route's set is no rival of it.
     pub no_rival_kept : (other n : ℕ) → size ≤ n → (0 < n → bits < other → size < n) → IsNoRival rows bits other n

@@ -118,13 +118,7 @@ put_high (suc p) zero le = absurd (omega arith)
 put_high (suc p) (suc k) le = ap suc (put_high p k (omega arith))
 
 put_less : (p j k : ℕ) → j < k → put p j < put p k
-put_less p j k less = elim (cases_lt j p) [
-  | inl low ↦ elim (cases_lt k p) [
-    | inl also ↦ omega (arith, put_low p j low, put_low p k also)
-    | inr high ↦ omega (arith, put_low p j low, put_high p k high)
-  ]
-  | inr high ↦ omega (arith, put_high p j high, put_high p k (omega arith))
-]
+put_less p j k less = grind (arith, cases_lt, put_low, put_high)
 
 put_onto : (p j : ℕ) → j ≢ p → (k : ℕ) × (put p k ≡ j)
 put_onto zero zero apart = absurd (apart refl)
@@ -195,10 +189,7 @@ module _ (rows : List Row) (merge : List ℕ) (ordered : IsOrdered rows) (set : 
   member_low k found = All-has (λ t. t < p) merge k (members_before rows merge ordered set) found
 
   stays_put : (k : ℕ) → has_row merge k ≡ false → q (put p k) ≡ true
-  stays_put k out = elim (cases_lt k p) [
-    | inl low ↦ subst (λ n. q n ≡ true) (sym (put_low p k low)) (not_from_false (has_row merge k) out)
-    | inr high ↦ subst (λ n. q n ≡ true) (sym (put_high p k high)) (not_from_false (has_row merge (suc k)) (none_behind (suc k) (omega arith)))
-  ]
+  stays_put k out = grind (arith, cases_lt, put_low, not_from_false, put_high, none_behind)
 
   pub moved_less : (j k : ℕ) → has_row merge j ≡ false → j < k → moved rows merge j < moved rows merge k
   moved_less j k out less = rank_less q (put p j) (put p k) (put_less p j k less) (stays_put j out)

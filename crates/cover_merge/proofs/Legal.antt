@@ -24,9 +24,7 @@ Misses-members b rows misses = All-from_flat_map (λ (a : Alias). Intersects b a
 
 -- what a block misses, a narrower one misses
 pub narrower_misses : (b x : Block) (r : Row) → LiesIn x b → Misses b r → Misses x r
-narrower_misses b x r lies misses k d within meets =
-    let a = (get_or r.aliases k d).block in
-    misses k d within (Intersects-sym a b (Intersects-wider a x b lies (Intersects-sym x a meets)))
+narrower_misses b x r lies misses k d within meets = grind (arith, get_or, Intersects-sym, Intersects-wider)
 
 -- each member lies in the merge
 pub member_lies : (rows : List Row) (places : List ℕ) → IsMergeSet rows places → (b : Block) → b ≡ merged_block rows places → (s : ℕ) (d : Row) → has_row places s ≡ true → LiesIn (get_or rows s d).block b
@@ -59,9 +57,7 @@ module _ (rows : List Row) (places : List ℕ) (sound : IsSound rows) (in_range 
 
   -- a row before the place, by its place in the table
   front_row : (k : ℕ) (d : Row) → k < length (take (insert_place rows places) rows) → (k < insert_place rows places) × (get_or (take (insert_place rows places) rows) k d ≡ get_or rows k d)
-  front_row k d within =
-      let before : k < insert_place rows places = omega (arith, length-take (insert_place rows places) rows, within) in
-      (before, get_or-take (insert_place rows places) rows k d before)
+  front_row k d within = grind (arith, length-take, get_or-take)
 
   back_row : (k : ℕ) (d : Row) → k < length (drop (insert_place rows places) rows) → (insert_place rows places + k < length rows) × (get_or (drop (insert_place rows places) rows) k d ≡ get_or rows (insert_place rows places + k) d)
   back_row k d within = grind (arith, length-drop (insert_place rows places) rows, get_or-drop (insert_place rows places) rows k d)

@@ -132,14 +132,7 @@ module _ (rows : List Row) (merge : List ℕ) (sound : IsSound rows) (set : IsMe
 
     -- each row of the table after the merge has its times
     pub carried_length : length (carried_times p) ≡ length new
-    carried_length =
-        let n = insert_place rows merge in
-        let m = merged_row rows merge in
-        let longer : length (insert times n nothing) ≡ length (insert rows n m) =
-        omega (arith, one_each, length-append (take n times) (nothing ∷ drop n times), length-append (take n rows) (m ∷ drop n rows), length-take n times, length-take n rows, length-drop n times, length-drop n rows) in
-        ap (λ q. length (carried_times q)) place
-        ∙ picked_lengths (λ k. not (has_row merge k)) 0 (insert rows n m) (insert times n nothing) longer
-        ∙ ap length (after_is rows merge sound.ordered set)
+    carried_length = grind (arith, length-append, length-take, length-drop, picked_lengths, after_is)
 
     module _ (now : ℕ) (fresh : IsFresh now nothing) where
       marks_after : AreTouched merge now rows times → AreTriedUpTo now rows times → AreTriedUpTo now new (carried_times (insert_place rows merge))

@@ -256,10 +256,7 @@ module _ (rows : List Row) (places : List ℕ) (sound : IsSound rows) (set : IsM
   place_le = place_for-le rows (generality (merged_block rows places))
 
   pub carried_length : length carried ≡ length new
-  carried_length =
-      picked_lengths (λ j. not (has_row places j)) 0 grown (insert serials (insert_place rows places) n)
-      (length-insert serials (insert_place rows places) n (omega (arith, place_le, one_each)) ∙ ap (λ m. m + 1) one_each ∙ sym (length-insert rows (insert_place rows places) (merged_row rows places) place_le))
-      ∙ ap length (after_is rows places sound.ordered set)
+  carried_length = grind (arith, picked_lengths, length-insert, place_le, after_is)
 
   merged_get : (d : Row) → (at < length new) × (get_or new at d ≡ merged_row rows places)
   merged_get d = subst (λ l. (at < length l) × (get_or l at d ≡ merged_row rows places)) (after_is rows places sound.ordered set) (item_merged rows places sound.ordered set rows (merged_row rows places) refl d)

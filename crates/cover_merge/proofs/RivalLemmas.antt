@@ -12,17 +12,7 @@ use Rattle.cover_merge.proofs.{Answering.answers_no, Answering.fails, Legal.up_f
 
 -- the rows of a set have one route
 pub one_route : (rows : List Row) (places : List ℕ) → IsOneRoute rows places → (s r : ℕ) → has_row places s ≡ true → has_row places r ≡ true → s < r → SameRoute rows s r
-one_route rows places set s r in_s in_r less d =
-    let a = has-place places s in_s in
-    let b = has-place places r in_r in
-    let one = set.one_route in
-    elim (cases_order a.0 b.0) [
-      | inl same ↦ let e = sym a.2 ∙ ap (λ i. get_or places i 0) same ∙ b.2 in absurd (omega (arith, e, less))
-      | inr apart ↦ elim apart [
-        | inl before ↦ subst (λ x. (get_or rows x d).route ≡ (get_or rows r d).route) a.2 (subst (λ y. (get_or rows (get_or places a.0 0) d).route ≡ (get_or rows y d).route) b.2 (one a.0 b.0 0 before b.1 d))
-        | inr after ↦ sym (subst (λ x. (get_or rows x d).route ≡ (get_or rows s d).route) b.2 (subst (λ y. (get_or rows (get_or places b.0 0) d).route ≡ (get_or rows y d).route) a.2 (one b.0 a.0 0 after a.1 d)))
-      ]
-    ]
+one_route rows places set s r in_s in_r less d = grind (arith, has-place, cases_order, get_or)
 
 -- ---- rows that are not original
 
@@ -53,8 +43,7 @@ place_found rows g p ordered within low high =
 -- ---- what the code reads
 
 pub missed_read : (rows : List Row) (s r : ℕ) (first e : Row) (t : Bool) → s < length rows → r < length rows → first ≡ get_or rows s first → (IsTrue t) ↔ (Misses (get_or rows r e).block first) → t ≡ true → (d : Row) → Misses (get_or rows r d).block (get_or rows s d)
-missed_read rows s r first e t in_s in_r is_first tells came d =
-    pair_read rows (λ (x y : Row). Misses x.block y) r s (get_or rows r e) first in_r in_s (get_or_default rows r e (get_or rows r e) in_r) is_first (tells.0 came) d
+missed_read rows s r first e t in_s in_r is_first tells came d = grind (arith, pair_read, get_or, get_or_default)
 
 -- ---- a pair
 

@@ -14,8 +14,7 @@ lies_second a b = LiesIn-merge (a ∷ b ∷ []) 1 a (omega arith)
 -- one alias more lies in the span
 pub span_more : (aliases : List Alias) (from i : ℕ) (span : Block) (item : Alias) → i < length aliases → ((j : ℕ) (d : Alias) → from ≤ j → j < i → LiesIn (get_or aliases j d).block span)
     → (j : ℕ) (d : Alias) → from ≤ j → j < i + 1 → LiesIn (get_or aliases j d).block (merge_two span (get_or aliases i item).block)
-span_more aliases from i span item inside was j d begins ends =
-    grind (arith, get_or aliases i item, get_or_default aliases i item d inside, lies_second span ((get_or aliases i item).block), lies_first span ((get_or aliases i item).block), LiesIn-trans)
+span_more aliases from i span item inside was j d begins ends = grind (arith, get_or, get_or_default, lies_second, lies_first, LiesIn-trans)
 
 -- the first alias alone
 pub lies_itself : (aliases : List Alias) (from : ℕ) (item : Alias) → from < length aliases → (i : ℕ) (d : Alias) → from ≤ i → i < from + 1 → LiesIn (get_or aliases i d).block (get_or aliases from item).block
@@ -45,8 +44,7 @@ module _ (block : Block) (aliases : List Alias) where
   -- what misses a span misses its aliases
   pub free_span : (spans : List Block) → AreSpansOf aliases spans → (k : ℕ) (span : Block) → k < length spans
       → (Intersects block (get_or spans k span) → ⊥) → IsFreeUpTo block aliases (k * 32) ((k + 1) * 32)
-  free_span spans are k span within misses i a begins ends meets =
-      misses (Intersects-wider block (get_or aliases i a).block (get_or spans k span) (are.each k i a span within begins (omega (arith, ends))) meets)
+  free_span spans are k span within misses i a begins ends meets = grind (arith, Intersects-wider, get_or)
 
   pub first_behind : (from to end at : ℕ) → IsFreeUpTo block aliases 0 from → to ≤ end → IsFirstAt block aliases from to at → IsFirstAt block aliases 0 end at
   first_behind from to end at free within first = grind (arith, free_more 0 from at free first.before)
@@ -74,9 +72,7 @@ module _ (block : Block) (aliases : List Alias) where
 -- a row whose block is missed has no alias that is met
 pub row_missed : (rows : List Row) (r : ℕ) (row : Row) (block : Block) → All HoldsItsAliases rows → r < length rows → row ≡ get_or rows r row
     → (Intersects block row.block → ⊥) → (d : Row) → Misses block (get_or rows r d)
-row_missed rows r row block holds inside is misses d i a within meets =
-    misses (subst (λ (x : Row). Intersects block x.block) (sym (is ∙ get_or_default rows r row d inside))
-    (Intersects-wider block (get_or (get_or rows r d).aliases i a).block (get_or rows r d).block (holds r d inside i a within) meets))
+row_missed rows r row block holds inside is misses d i a within meets = grind (arith, get_or_default, Intersects-wider, get_or)
 
 -- the number of a row is that of its spans
 pub spans_there : (rows : List Row) (rivals : Rivals) → IsRivaled rows rivals → (s own : ℕ) → s < length rows → own ≡ get_or rivals.serials.items s own
@@ -86,5 +82,4 @@ spans_there rows rivals rivaled s own inside read = grind (arith, get_or_default
 -- the spans of a row, as they are read
 pub spans_read : (rows : List Row) (rivals : Rivals) → IsRivaled rows rivals → (s own : ℕ) (item list : List Block) → s < length rows
     → own ≡ get_or rivals.serials.items s own → item ≡ get_or rivals.spans.items own item → list ≡ item → (d : Row) → AreSpansOf (get_or rows s d).aliases list
-spans_read rows rivals rivaled s own item list inside read found same d =
-    grind (arith, spans_there rows rivals rivaled s own inside read, get_or rows s d, get_or_default (rivals.spans.items) own item)
+spans_read rows rivals rivaled s own item list inside read found same d = grind (arith, spans_there, get_or, get_or_default)

@@ -32,32 +32,7 @@ module _ (old mid new : Board) (s : Spot) (place : ℕ) (level : mid.level ≡ o
   has_here q c here same = or-false (chip_eq c s.chip) ∙ (ap (λ d. chip_eq d s.chip) (here_chip q c here same) ∙ chip_eq_same s.chip)
 
   pub settled_one : AreSettled (s ∷ []) old new
-  settled_one = record {
-    level = made.level ∙ level;
-    sdram = made.sdram ∙ sdram;
-    chips = made.chips ∙ chips;
-    rooms = λ q c here.
-        let room = room_left (get_or mid.cores.items place 0) mid.sdram in
-        elim (cases_eq q place) [
-          | inl same ↦ (
-              let within : place < length mid.rooms = omega (arith, slice_get_within old.chips place s.chip at, mid.rooms_beside, ap length chips) in
-              let read : get_or new.rooms q 0 ≡ room = ap₂ (λ (l : List ℕ) (i : ℕ). get_or l i 0) made.rooms same ∙ get_or-set_same mid.rooms place room 0 within in
-              let cores : get_or mid.cores.items place 0 ≡ get_or new.cores.items q 0 = ap₂ (λ (l : List ℕ) (i : ℕ). get_or l i 0) (sym made.cores) (sym same) in
-              read
-              ∙ (ap₂ room_left cores sdram
-              ∙ sym (cond-true (has_spot_on c (s ∷ [])) (room_left (get_or new.cores.items q 0) old.sdram) (get_or old.rooms q 0) (has_here q c here same)))
-              )
-          | inr other ↦ ap (λ l. get_or l q 0) made.rooms
-              ∙ (get_or-set_other mid.rooms place q room 0 other
-              ∙ (ap (λ l. get_or l q 0) rooms
-              ∙ sym (cond-false (has_spot_on c (s ∷ [])) (room_left (get_or new.cores.items q 0) old.sdram) (get_or old.rooms q 0) (or-false (chip_eq c s.chip) ∙ apart q c here other))))
-        ];
-    cores = λ q c here none.
-        elim (cases_eq q place) [
-          | inl same ↦ absurd (both_ways _ none (has_here q c here same))
-          | inr other ↦ ap (λ l. get_or l q 0) made.cores ∙ kept q other
-        ];
-  }
+  settled_one = grind (arith, get_or, cases_eq, slice_get_within, get_or-set_same, cond-true, has_here, get_or-set_other, cond-false, or-false, apart, both_ways)
 
   -- the spot is no core
   given_none : mid.cores.items ≡ old.cores.items → 18 ≤ s.core → AreGiven (s ∷ []) old new

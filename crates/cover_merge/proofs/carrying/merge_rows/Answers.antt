@@ -7,9 +7,7 @@ use Rattle.cover_merge.proofs.carrying.merge_rows.Goals as goal
 
 -- the place is the insertion place
 place_here : (c : After-place_in-place) → c.place_in-place.result ≡ insert_place c.args.table.now.rows c.args.places.now
-place_here c =
-    place_is c.args.table.now.rows c.as_slice.result.now c.as_slice-3.result.now c.args.places.now c.as_slice-members.result.now c.merged_rival-merged.result.general c.place_in-place.result
-    c.as_slice.ensures c.as_slice-3.ensures c.as_slice-members.ensures c.merged_rival-merged.ensures.general c.place_in-place.ensures.value
+place_here c = grind (arith, place_is)
 
 -- and the merged row stands before it by as many as are merged
 stands_here : (c : After-place_in-place) → merged_at c.args.table.now.rows c.args.places.now + length c.as_slice-members.result.now ≡ c.place_in-place.result
@@ -17,15 +15,10 @@ stands_here c = grind (arith, merged_at c.args.table.now.rows c.args.places.now,
 
 -- the numbers are carried over
 serials_here : (c : After-replace_all) → c.replace_all.new.items.items ≡ left c.args.places.now 0 (insert c.args.rivals.now.serials.items (insert_place c.args.table.now.rows c.args.places.now) (length c.args.rivals.now.of.items))
-serials_here c =
-    carried_is c.args.table.now.rows c.args.places.now c.requires.rivaled.sound c.requires.merge.set c.args.rivals.now.serials.items c.requires.rivaled.one_each (length c.args.rivals.now.of.items)
-    c.as_slice-members.result.now c.renew_all.new.rivals.serials.items c.replace_all.new.items.items c.place_in-place.result c.merged_rival-merged.result.serial
-    c.as_slice-members.ensures c.in_ok-renew_all.ensures.serials (place_here (goal.at.overflow_sub-at c).After-place_in-place) c.merged_rival-merged.ensures.serial c.replace_all.ensures
+serials_here c = grind (arith, carried_is, place_here)
 
 pub renew_all-requires : goal.renew_all-requires
-renew_all-requires c =
-    subst (λ l. CanMerge l c.args.rivals.now c.as_slice-members.result.now c.args.met.now) (sym c.as_slice-2.ensures)
-    (subst (λ l. CanMerge c.args.table.now.rows c.args.rivals.now l c.args.met.now) (sym c.as_slice-members.ensures) c.requires)
+renew_all-requires c = grind arith
 
 pub invariant_of-gaps : goal.invariant_of-gaps
 invariant_of-gaps c =

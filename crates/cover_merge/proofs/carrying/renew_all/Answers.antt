@@ -4,23 +4,10 @@ use Rattle.cover_merge.proofs.RivalAfter.{none_renewed, next_list, one_renewed, 
 use Rattle.cover_merge.proofs.carrying.renew_all.Goals as goal
 
 pub loop-k-init : goal.loop-k-init
-loop-k-init c = record {
-  serials = refl;
-  one_each = refl;
-  spans = refl;
-  lists = none_renewed c.args.rows.now c.args.rivals.now.serials.items c.args.places.now (merged_block c.args.rows.now c.args.places.now) c.args.merged c.args.met.now c.args.rivals.now.of.items;
-}
+loop-k-init c = grind (arith, none_renewed)
 
 pub renew-requires : goal.renew-requires
-renew-requires c =
-    let s = get_or c.args.met.now c.loop-k.k 0 in
-    let old = c.requires.rivaled in
-    let same = ap length c.loop-k.invariant.serials in
-    let inside : s < length c.args.rivals.now.serials.items = omega (arith, c.requires.met.inside c.loop-k.k 0 c.loop-k-test.true, old.one_each) in record {
-      inside = omega (arith, inside, same);
-      below = omega (arith, old.below s 0 inside, c.loop-k.invariant.one_each, ap (λ l. get_or l s 0) c.loop-k.invariant.serials);
-      in_range = λ k d within. omega (arith, c.requires.merge.set.set.in_range k d within, old.one_each, same);
-    }
+renew-requires c = grind (arith, get_or)
 
 pub loop-k-preserved : goal.loop-k-preserved
 loop-k-preserved c =

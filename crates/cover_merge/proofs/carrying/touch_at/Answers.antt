@@ -7,10 +7,7 @@ use Rattle.cover_merge.proofs.carrying.touch_at.Goals as goal
 -- the number that was read is that of the row's route
 number_is : (rows : List Row) (known : Known) (s n : ℕ) → IsKnown rows known → s < length rows → n ≡ get_or known.numbers.items s n
     → (n ≡ get_or known.numbers.items s 0) × (n < length known.routes.items)
-number_is rows known s n old inside is =
-    let counted : s < length known.numbers.items = omega (arith, as_many known.routes.items rows known.numbers.items old.numbers, inside) in
-    let same : n ≡ get_or known.numbers.items s 0 = is ∙ get_or_default known.numbers.items s n 0 counted in
-    (same, omega (arith, same, old.numbers.below s 0 counted))
+number_is rows known s n old inside is = grind (arith, as_many, get_or, get_or_default)
 
 pub returns-then-not-loses-clause-known : goal.returns-then-not-loses-clause-known
 returns-then-not-loses-clause-known c =

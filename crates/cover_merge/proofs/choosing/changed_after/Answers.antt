@@ -7,11 +7,7 @@ pub index-place-requires : goal.index-place-requires
 index-place-requires c = omega (arith, c.args.behind.behind.inside, c.args.behind.behind.nexts.one_each)
 
 pub loop-place-init : goal.loop-place-init
-loop-place-init c =
-    let b = c.args.behind in
-    let rows = b.linked.table.rows.now in
-    since_first rows b.times.now b.k c.index-place.result.now (suc c.args.time)
-    (link_next rows b.linked.links.now.next.items b.behind.nexts b.k c.index-place.result.now b.behind.inside c.index-place.ensures)
+loop-place-init c = grind (arith, since_first, link_next)
 
 pub bounds-times-place : goal.bounds-times-place
 bounds-times-place c = omega (arith, c.loop-place-test.true, c.args.behind.behind.one_each)

@@ -4,13 +4,7 @@ use Rattle.cover_merge.proofs.KeepLemmas.{all_known, all_more, fresh_more, kept_
 use Rattle.cover_merge.proofs.choosing.keep_all.Goals as goal
 
 pub loop-c-init : goal.loop-c-init
-loop-c-init c = record {
-  linked = c.requires;
-  times = refl;
-  routes = refl;
-  all = λ k less. absurd (omega (arith, less));
-  fresh = λ some. absurd (omega (arith, some, ap length c.new.ensures));
-}
+loop-c-init c = grind arith
 
 pub loop-c-preserved-then-is_known : goal.loop-c-preserved-then-is_known
 loop-c-preserved-then-is_known c =

@@ -4,15 +4,10 @@ use Rattle.cover_merge.proofs.ChooseLemmas.{link_next, places_begin, places_next
 use Rattle.cover_merge.proofs.choosing.places_from.Goals as goal
 
 pub loop-place-init : goal.loop-place-init
-loop-place-init c bits first = record {
-  same = first.same;
-  found = c.new-places.ensures.items ∙ places_begin c.args.linked.table.rows.now bits c.args.first first;
-}
+loop-place-init c bits first = grind (arith, places_begin)
 
 pub loop-place-smaller : goal.loop-place-smaller
-loop-place-smaller c =
-    let next = link_next c.args.linked.table.rows.now c.args.linked.links.now.next.items c.args.linked.nexts c.loop-place.place c.index.result.now c.loop-place-test.true c.index.ensures in
-    omega (arith, next.behind, c.loop-place-test.true)
+loop-place-smaller c = grind (arith, link_next)
 
 pub loop-place-preserved : goal.loop-place-preserved
 loop-place-preserved c bits first =

@@ -74,14 +74,7 @@ carried_over c =
     }
 
 pub merge_rows-requires : goal.merge_rows-requires
-merge_rows-requires c =
-    let rows = c.args.table.now.rows in record {
-      rivaled = subst (IsRivaled rows) (sym (c.forget.ensures.rivals ∙ c.touch.ensures.rivals)) c.requires.known.told.rivaled;
-      merge = record { set = c.requires.merge.0; legal = c.requires.merge.1; block = refl };
-      met = subst (AreMet (merged_block rows c.args.places.now) rows) (sym c.deref-2.ensures.value)
-          (subst (λ b. AreMet b rows c.in_ok-met.met.items) (c.merged_block-block.ensures ∙ ap (λ l. merged_block l c.as_slice-members.result.now) c.as_slice-rows.ensures ∙ ap (merged_block rows) c.as_slice-members.ensures)
-          (subst (λ l. AreMet c.merged_block-block.result l c.in_ok-met.met.items) c.as_slice-rows.ensures c.in_ok-met.ensures));
-    }
+merge_rows-requires c = grind arith
 
 pub returns-clause-known : goal.returns-clause-known
 returns-clause-known c =

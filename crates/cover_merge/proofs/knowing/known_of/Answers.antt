@@ -13,16 +13,4 @@ none c =
     subst (All (λ (o : Option Kept). o ≡ None)) (sym (c.in_ok-kept.ensures.items_if_clones_equal (λ y h. search rules))) (All-replicate (λ (o : Option Kept). o ≡ None) c.len.result None refl)
 
 pub returns : goal.returns
-returns c = record {
-  told = record {
-    rivaled = c.in_ok-rivals.ensures;
-    one_each = omega (arith, c.in_ok-times.ensures.len);
-    one_time = omega (arith, c.in_ok-latest.ensures.len, c.len-2.ensures);
-    latest = λ s d e within. omega (arith, (fresh c s e within).changed);
-    once = c.in_ok-routes.ensures.once;
-    numbers = subst (λ l. AreNumbers l c.args.table.rows.now c.in_ok-numbers.numbers.items) c.deref.ensures.value (c.in_ok-numbers.ensures (subst (AreRoutes c.args.table.rows.now) (sym c.deref.ensures.value) c.in_ok-routes.ensures.routes));
-    one_route = omega (arith, c.in_ok-kept.ensures.len, c.len.ensures);
-    kept = λ k it low is. absurd (none_some it (sym (none c k None (inside_some c.in_ok-kept.kept.items k it is)) ∙ is));
-  };
-  marks = fresh_marked c.args.table.rows.now c.in_ok-times.times.items (fresh c);
-}
+returns c = grind (arith, fresh, none_some, none, inside_some, fresh_marked)

@@ -17,12 +17,7 @@ loop-left-smaller c =
     fewer_bits c.loop-left.counts c.args.counts.now c.loop-left.left c.args.bits c.loop-left.auto.left-fits.fits c.loop-left-test.true old.long old.counted
 
 pub loop-left-preserved : goal.loop-left-preserved
-loop-left-preserved c =
-    let old = c.loop-left.invariant in
-    let i = trailing_zeros w32 c.loop-left.left in record {
-      long = length-set c.loop-left.counts i (get_or c.loop-left.counts i 0 + 1) ∙ old.long;
-      counted = one_counted c.loop-left.counts c.args.counts.now c.loop-left.left c.args.bits c.loop-left.auto.left-fits.fits c.loop-left-test.true old.long old.counted;
-    }
+loop-left-preserved c = grind (arith, length-set, get_or, one_counted)
 
 pub returns : goal.returns
 returns c j low = let none : bit_at c.loop-left.left j ≡ 0 = ap (λ n. bit_at n j) c.loop-left-test.false ∙ bit_at-zero j in omega (arith, none, c.loop-left.invariant.counted j low)

@@ -13,8 +13,7 @@ pub refine_within-requires : goal.refine_within-requires
 refine_within-requires c = subst (λ l. IsOneRoute l c.args.places) (sym c.as_slice-rows.ensures) c.requires.set
 
 pub returns-clause-refined : goal.returns-clause-refined
-returns-clause-refined c =
-    grind (arith, forgets c.as_slice-rows.result.now (c.in_ok-set.field-0).kept.outer (c.in_ok-set.field-0).kept.low c.args.places (c.in_ok-set.field-0).set c.in_ok-set.ensures.refined)
+returns-clause-refined c = grind (arith, forgets)
 
 pub returns-clause-legal : goal.returns-clause-legal
 returns-clause-legal c =

@@ -12,10 +12,7 @@ rest_of : (n : ℕ) (ys xs : List ℕ) → ys ≡ xs → take (length ys - n) (d
 rest_of n ys xs same = take_rest ys n ∙ ap (drop n) same
 
 pub invariant_of-members : goal.invariant_of-members
-invariant_of-members c = record {
-  inside = subst (All (λ s. s < length c.args.table.rows.now)) (sym c.deref.ensures.value) c.requires.set.in_range;
-  some = subst (λ l. 0 < length l) (sym c.deref.ensures.value) (omega (arith, c.requires.two));
-}
+invariant_of-members c = grind arith
 
 pub loop-i-init : goal.loop-i-init
 loop-i-init c =
@@ -148,15 +145,7 @@ loop-i-preserved c =
 
 -- the places that are left
 left_now : (c : After-truncate) → c.truncate.new.self.items ≡ take c.loop-i.i c.loop-i.set.items ++ drop c.loop-i.kept c.loop-i.set.items
-left_now c =
-    let xs = c.loop-i.set.items in
-    let old = c.loop-i.invariant in
-    let many = c.len-len.ensures ∙ c.loop-i.set.ok.0 in
-    let rest = length-drop c.loop-i.kept xs in
-    c.truncate.ensures.items
-    ∙ ap (take (c.loop-i.i + (c.len-len.result - c.loop-i.kept))) c.copy_within.ensures.items
-    ∙ take-paste xs c.loop-i.i (drop c.loop-i.kept xs) (c.len-len.result - c.loop-i.kept) (omega (arith, old.gap, old.within)) (omega (arith, many, rest))
-    ∙ ap (λ l. take c.loop-i.i xs ++ l) (take_all (c.len-len.result - c.loop-i.kept) (drop c.loop-i.kept xs) (omega (arith, many, rest)))
+left_now c = grind (arith, length-drop, take-paste, take_all)
 
 pub returns-then-len-lt2-clause-sifted : goal.returns-then-len-lt2-clause-sifted
 returns-then-len-lt2-clause-sifted c = grind (arith, left_now (goal.at.returns-then-len-lt2-clause-sifted c).After-truncate)

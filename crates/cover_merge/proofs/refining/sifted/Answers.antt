@@ -4,10 +4,7 @@ use Rattle.cover_merge.proofs.SiftLemmas.{all_pass}
 use Rattle.cover_merge.proofs.refining.sifted.Goals as goal
 
 pub invariant_of-members : goal.invariant_of-members
-invariant_of-members c = record {
-  inside = subst (All (λ s. s < length c.args.table.rows.now)) (sym c.deref.ensures.value) c.requires.set.in_range;
-  some = subst (λ l. 0 < length l) (sym c.deref.ensures.value) (omega (arith, c.requires.two));
-}
+invariant_of-members c = grind arith
 
 pub invariant_of-route : goal.invariant_of-route
 invariant_of-route c = record { one_route = subst (IsOneRoute c.args.table.rows.now) (sym c.deref-2.ensures.value) c.requires.set }

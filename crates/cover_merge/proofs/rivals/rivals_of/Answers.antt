@@ -7,9 +7,7 @@ pub loop-s-init : goal.loop-s-init
 loop-s-init c = numbered_none c.args.table.rows.now c.in_ok-serials.serials.items c.in_ok-of.of.items c.in_ok-serials.ensures.items c.in_ok-of.ensures.items
 
 pub loop-s-preserved : goal.loop-s-preserved
-loop-s-preserved c =
-    numbered_more c.args.table.rows.now c.loop-s.s c.loop-s.serials.items c.loop-s.of.items c.loop-s.invariant c.push.new.self.items c.push-in-loop-s.new.self.items c.in_ok-rivals_among.field-0
-    c.in_ok-push.ensures.items c.in_ok-push-2.ensures.items c.in_ok-rivals_among.ensures
+loop-s-preserved c = numbered_more _ _ _ _ c.loop-s.invariant _ _ _ c.in_ok-push.ensures.items c.in_ok-push-2.ensures.items c.in_ok-rivals_among.ensures
 
 pub returns : goal.returns
 returns c =
