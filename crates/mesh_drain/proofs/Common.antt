@@ -1,3 +1,5 @@
+use Rattle.std.proofs.Common.{arith}
+use Rattle.std.proofs.Common.{rules}
 -- The names that the proofs of this crate cite from outside of them, passed on from one place. Declares nothing.
 pub use Rattle.machine_desc.proofs.{Branches.length_le_from_apart, Far.index_below, Far.live_ends, Far.live_inside, Live.index_of-chip_of, Sites.site_parts}
 pub use Rattle.machine_desc.specs.{Description.Description, Live.IsInside, Live.IsLiveChip, Live.IsSite, Live.chip_of, Live.far_of, Live.index_of, Live.is_live_chip, Live.is_live_link}
