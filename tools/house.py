@@ -27,10 +27,10 @@ ALONE = r"\((Tests alone|No command)"
 MOST = {
     "conditions a function, in hundredths": 29,
     "conditions of one function": 4,
-    "lines of proofs": 73015,
-    "lines of proofs longer than 200 characters": 497,
+    "lines of proofs": 69291,
+    "lines of proofs longer than 200 characters": 455,
     "lines of proofs longer than 300 characters": 0,
-    "lines of definitions": 13884,
+    "lines of definitions": 13877,
     "lines of definitions on which the programs' calls rest": 4675,
 }
 PROMISES, LAWS = "| promise | carried by | broken by |", "| law or lemma | stands as |"

@@ -1,18 +1,12 @@
 -- What machines with the same applications have in common, and that unloads and runs keep it.
 use Rattle.app_loads.proofs.Common.{All, All-head, All-tail, Among, AreAlike, AreApps, Contains, Ended, HasMovedMesh, HasUnloaded, Host, IsAtRest, IsMesh, IsQuiet, IsUnderWayAt, List, LoadedApp, Mark}
-use Rattle.app_loads.proofs.Common.{McCopy, MeetsLedgerFor, None, NoneUnderWay, NothingWaits, State, WaitsIn, [], all_nets, ap, arith, asked_of, filter, flat_map, held_packets, is_delivery_of}
-use Rattle.app_loads.proofs.Common.{is_packet_of, length, marks_of, mesh_without, packet_numbers_of, refl, same_lists, setup_after, subst, sym, true, usable_spots, ℕ, ◌++◌, ◌∙◌, ◌∷◌, ◌≡◌}
+use Rattle.app_loads.proofs.Common.{McCopy, MeetsLedgerFor, None, NoneUnderWay, NothingWaits, State, WaitsIn, [], all_nets, ap, arith, asked_of, filter, flat_map, flat_map-append, held_packets}
+use Rattle.app_loads.proofs.Common.{is_delivery_of, is_packet_of, length, marks_of, mesh_without, packet_numbers_of, refl, same_lists, setup_after, subst, sym, true, usable_spots, ℕ, ◌++◌, ◌∙◌, ◌∷◌}
+use Rattle.app_loads.proofs.Common.{◌≡◌}
 use Rattle.app_loads.proofs.{Delivered.HasOneWay, Delivered.no_more, LeavingLeast.listed_waits, LeavingLeast.under_way, LeavingLeast.waits_listed}
 
 pub alike_too : (h g : Host) → AreAlike h g → AreAlike g h
-alike_too h g alike = record {
-  machine = sym alike.machine;
-  apps = sym alike.apps;
-  packets = sym alike.packets;
-  unsent = sym alike.unsent;
-  quiet = alike.other_quiet;
-  other_quiet = alike.quiet;
-}
+alike_too h g alike = grind arith
 
 -- the vertices are the same
 pub same_spots : (h g : Host) → AreApps h → AreApps g → h.mesh.setup.machine ≡ g.mesh.setup.machine → h.mesh.setup.spots ≡ g.mesh.setup.spots
@@ -31,7 +25,7 @@ only_unsent s quiet =
     let inputs = flat_of_none packet_numbers_of [] refl s.inputs quiet.inputs_empty in
     let hands = flat_of_none held_packets None refl s.hands quiet.hands_empty in
     let cores = flat_of_none packet_numbers_of [] refl s.cores quiet.cores_empty in
-    rw (inputs, hands, cores) refl
+    rw (flat_map-append packet_numbers_of (s.unsent ++ s.inputs) s.cores, flat_map-append packet_numbers_of s.unsent s.inputs, inputs, hands, cores) refl
 
 module _ (h g : Host) (alike : AreAlike h g) where
   same_under_way : under_way h.mesh ≡ under_way g.mesh
@@ -42,8 +36,7 @@ module _ (h g : Host) (alike : AreAlike h g) where
   waits_too mesh app n waits = listed_waits g.mesh mesh app n waits.0 (subst (Among n) same_under_way (waits_listed h.mesh app n waits))
 
   pub none_too : IsMesh h.mesh → (app : LoadedApp) → NoneUnderWay h.mesh app → NoneUnderWay g.mesh app
-  none_too mesh app none n waits =
-      none n (listed_waits h.mesh mesh app n waits.0 (subst (Among n) (sym same_under_way) (waits_listed g.mesh app n waits)))
+  none_too mesh app none n waits = grind (arith, listed_waits, Among, same_under_way, waits_listed)
 
 -- ---- deliveries
 

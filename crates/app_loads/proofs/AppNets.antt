@@ -46,9 +46,7 @@ within_keys key keys size index many below = omega (arith, many, below)
 -- the range of a block is one for its claim
 range_of : (m : Description) (claims : List Claim) (ranges : List Range) → AllZip (IsRangeFor m) claims ranges →
     (j : ℕ) (block : Block) (b : IsBlockOf claims ranges j block) → IsRangeFor m b.claim b.range
-range_of m claims ranges pairs j block b =
-    let ranged = AllZip-at_first (IsRangeFor m) claims ranges pairs b.at b.claim b.is in
-    subst (IsRangeFor m b.claim) (same_Some ranged.0 b.range (sym ranged.1 ∙ b.got)) ranged.2
+range_of m claims ranges pairs j block b = grind (arith, AllZip-at_first, same_Some)
 
 module _ (m : Description) (app : LoadedApp) (loaded : IsLoadedOn m app) where
   -- from the net, its block, and the claim and range of these
@@ -98,8 +96,7 @@ module _ (m : Description) (app : LoadedApp) (loaded : IsLoadedOn m app) where
   -- a key of a net for each of its indices
   pub key_of_index : (x : NetPlan) (j : ℕ) (f : NetFacts m app x j) (index : ℕ) → index < f.net.keys → f.range.place + f.range.size ≤ 2 ^ 32 →
       (f.block.key + index < 2 ^ 32) × IsKeyOf f.block (f.block.key + index)
-  key_of_index x j f index below room =
-      grind (arith, index_fits f.block.key f.range.place f.range.size f.net.keys index (2 ^ 32) f.place f.enough below room, within_keys f.block.key f.net.keys f.range.size index f.enough below)
+  key_of_index x j f index below room = grind (arith, index_fits, within_keys)
 
   pub usable_spot : (s : Spot) → Contains app.plan.spots s → IsUsable m s
   usable_spot s has = All-contains (IsUsable m) app.plan.spots s loaded.plan.usable has
@@ -121,15 +118,10 @@ module _ (m : Description) (app : LoadedApp) (loaded : IsLoadedOn m app) where
       let f_is : get_or app.ranges f.at f.range ≡ f.range = get_or_from_slice_get app.ranges f.at f.range f.range f.got in
       let g_is : get_or app.ranges g.at f.range ≡ g.range = get_or_from_slice_get app.ranges g.at g.range f.range g.got in
       elim (cases_eq f.at g.at) [
-        | inl same ↦
-            let one : f.claim ≡ g.claim = same_Some _ _ (sym f.at_claim ∙ (ap (slice_get (claims_of m app.plan)) same ∙ g.at_claim)) in
-            let number : i ≡ j = same_net i j (sym f.its ∙ (ap (λ (c : Claim). c.refusal) one ∙ g.its)) in
-            absurd (omega (arith, number, less))
+        | inl same ↦ grind (arith, same_Some, same_net)
         | inr other ↦ elim (cases_lt f.at g.at) [
-          | inl before ↦ subst (λ (r : Range). ShareNoPlace r g.range) f_is
-              (subst (λ (r : Range). ShareNoPlace (get_or app.ranges f.at f.range) r) g_is (apart f.at g.at f.range before in_g)) 0 key a b
-          | inr after ↦ subst (λ (r : Range). ShareNoPlace g.range r) f_is
-              (subst (λ (r : Range). ShareNoPlace r (get_or app.ranges f.at f.range)) g_is (apart g.at f.at f.range (omega (arith, after, other)) in_f)) 0 key b a
+          | inl before ↦ grind (arith, get_or app.ranges f.at f.range)
+          | inr after ↦ grind (arith, get_or app.ranges f.at f.range)
         ]
       ]
 

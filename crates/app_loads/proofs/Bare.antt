@@ -29,14 +29,7 @@ none_marked : (u : Setup) (k : Mark) → Contains (marks_of (empty_mesh u)) k �
 none_marked u k has = Contains-none k (subst (λ (l : List Mark). Contains l k) (no_marks u) has)
 
 no_nets : (m : Description) (spots : List Spot) → AreNetsOn m spots []
-no_nets m spots = record {
-  disjoint = λ i j d before within. absurd (omega (arith, within));
-  trees = All-nil _;
-  roots = All-nil _;
-  sources = All-nil _;
-  targets = All-nil _;
-  different = All-nil _;
-}
+no_nets m spots = grind (arith, All-nil)
 
 no_ledger : (u : Setup) → MeetsLedgerFor (empty_mesh u) [] (asked_of [])
 no_ledger u = record {
@@ -135,22 +128,7 @@ tables_long m c inside = ap (λ (l : List Entry). length l) (get_or-replicate (m
 -- ---- the host
 
 pub bare_apps : (m : Description) (q : ℕ) → IsMesh (bare_mesh m q) → AreApps (bare_host m q)
-bare_apps m q mesh = record {
-  mesh = mesh;
-  vertices = refl;
-  numbers = λ i j d before within. absurd (omega (arith, within));
-  spots = λ i j d before within. absurd (omega (arith, within));
-  loaded = All-nil _;
-  apart = λ i j d before within. absurd (omega (arith, within));
-  free = record { all = long m; each = none_taken m };
-  disjoint = λ i j d before within. absurd (omega (arith, within));
-  rows = record { long = λ c inside. tables_long m c inside; rows = All-nil _; others = λ c k inside below free. no_entries m c k inside below };
-  right = All-nil _;
-  ledger = no_ledger (bare_mesh m q).setup;
-  ascending = λ i j d before within. absurd (omega (arith, within));
-  counted = All-nil _;
-  few_packets = omega arith;
-}
+bare_apps m q mesh = grind (arith, long m, none_taken m, long, no_ledger (bare_mesh m q).setup, All-nil, tables_long, no_entries)
 
 -- ---- the same of the parts that were made
 

@@ -1,11 +1,12 @@
 -- What the claims of a plan are, and that each net and chip has its own.
-use Rattle.app_loads.proofs.Common.{All-at, Among, AppNet, AppPlan, Block, Bool, Claim, Contains, Description, IfSome, IsAppNet, IsFair, IsPlan, IsUsable, Keys, KeysOut, List, Loaded, Memory}
-use Rattle.app_loads.proofs.Common.{MemoryOut, None, Option, Rows, RowsOut, Some, [], among_contains, among_either, among_gathered, among_left, among_right, ap, arith, both_ways, cases_eq, cases_lt}
-use Rattle.app_loads.proofs.Common.{chip_count, chip_of, chip_of-inside, claims_of, contains_among, count_by, eq-eqb, fails_before_first, false, find, find_at, fixed_claim, flat_map, gathered}
-use Rattle.app_loads.proofs.Common.{gathered_among, get_or, get_or-map-range_with_len, has_chip, if◌then◌else◌, index_below, index_of, index_of-chip_of, inl, inr, key_claim, le-leb, leb, leb-true}
-use Rattle.app_loads.proofs.Common.{length, length-map-range_with_len, live_inside, map, memory_claim, ne_eqb, passes_at_first, place_of, position_or_len, position_or_len_is, pow_pos, range_with_len}
-use Rattle.app_loads.proofs.Common.{refl, row_claim, size_for, size_of, slice_get, slice_get-get_or, slice_get_there, subst, suc, sym, true, unwrap_or, usable_parts, zero, zip, zip-first_at, ℕ, ◌%◌}
-use Rattle.app_loads.proofs.Common.{◌++◌, ◌+◌, ◌-◌, ◌<◌, ◌==◌, ◌^◌, ◌∙◌, ◌∷◌, ◌≡◌, ◌≢◌, ◌≤◌}
+use Rattle.app_loads.proofs.Common.{All-at, Among, AppNet, AppPlan, Block, Bool, Claim, Contains, Description, IfSome, IsAppNet, IsFair, IsPlan, IsUsable, Keys, KeysOut, List, Loaded, MemoryOut, None}
+use Rattle.app_loads.proofs.Common.{Option, Rows, RowsOut, Some, [], among_contains, among_either, among_gathered, among_left, among_right, ap, arith, both_ways, cases_eq, cases_lt, chip_count}
+use Rattle.app_loads.proofs.Common.{chip_of, chip_of-inside, claims_of, contains_among, count_by, eq-eqb, fails_before_first, false, find, find_at, fixed_claim, flat_map, gathered, gathered_among}
+use Rattle.app_loads.proofs.Common.{get_or, get_or-map-range_with_len, has_chip, if◌then◌else◌, index_below, index_of, index_of-chip_of, inl, inr, key_claim, le-leb, leb, leb-true, length}
+use Rattle.app_loads.proofs.Common.{length-map-range_with_len, live_inside, map, memory_claim, ne_eqb, passes_at_first, place_of, position_or_len, position_or_len_is, pow_pos, range_with_len, refl}
+use Rattle.app_loads.proofs.Common.{row_claim, size_for, size_of, slice_get, slice_get-get_or, slice_get_there, subst, suc, sym, true, unwrap_or, usable_parts, zero, zip, zip-first_at, ℕ, ◌%◌, ◌++◌}
+use Rattle.app_loads.proofs.Common.{◌+◌, ◌-◌, ◌<◌, ◌==◌, ◌^◌, ◌∙◌, ◌∷◌, ◌≡◌, ◌≢◌, ◌≤◌}
+use Rattle.app_loads.specs.declared.places.Region.TheVariants.{Memory}
 use Rattle.app_loads.proofs.Blocks.{block_aligned, block_room}
 
 -- ---- the size for a number of keys
@@ -207,22 +208,7 @@ module _ (m : Description) (plan : AppPlan) (valid : IsPlan m plan) where
           })
 
   of_rows : (claim : Claim) → Among claim rows → Facts claim
-  of_rows claim a =
-      let found = among_flat (row_claim m plan.nets) claim (range_with_len 0 n) a in
-      let i : ℕ = found.0 in
-      let below = (among_range i 0 n found.1).1 in
-      let is = unless_zero (count_by (has_chip m (chip_of m i)) plan.nets)
-      (record { region = Rows (chip_of m i); size = count_by (has_chip m (chip_of m i)) plan.nets; align = 1; fixed = None; refusal = RowsOut (chip_of m i) }) claim found.2 in
-      let index = index_of-chip_of m i in
-      subst Facts (sym is.0) (record {
-        fair = record { region = chip_of-inside m i (omega (arith, below)); there = omega (arith, below, index); some = is.1; step = omega arith; fixed = tt };
-        keyed = λ j e. absurd (cc);
-        row = λ j at.
-            let r : 1 + (n + index_of m (chip_of m i)) ≡ 1 + (n + j) = at in
-            let same : i ≡ j = omega (arith, r, index) in
-            ap (λ k. count_by (has_chip m (chip_of m k)) plan.nets) same;
-        due = λ e. cc;
-      })
+  of_rows claim a = grind (arith, found, among_flat, among_range, count_by, index_of-chip_of, chip_of-inside, at)
 
   pub facts : (claim : Claim) → Contains (claims_of m plan) claim → Facts claim
   facts claim has = elim (among_either claim memory (fixed ++ (keys ++ rows)) (contains_among claim (claims_of m plan) has)) [

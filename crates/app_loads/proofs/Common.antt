@@ -8,7 +8,7 @@ pub use Rattle.app_loads.specs.{Groups.deliveries_at, Groups.deliveries_in, Grou
 pub use Rattle.app_loads.specs.Host.{all_ranges, all_spots, asked_of, asked_of_app, either, is_loaded, is_spot_taken, net_with, nets_of, nets_with}
 pub use Rattle.app_loads.specs.{Inner.IsHost, Inner.host_of, Inner.mesh_in, Inner.numbers_of, Joining.AreKeyed, Joining.AreSent, Joining.AreWritten, Joining.CanJoin, Joining.CanSettle}
 pub use Rattle.app_loads.specs.{Joining.IsKeyRange, Joining.IsSent, Joining.IsServedApp, Joining.IsSettled, Joining.NoneUnsent, Leaving.IsLeastUnderWay, Leaving.NoneUnderWay, Leaving.WaitsIn}
-pub use Rattle.app_loads.specs.Leaving.{held_packets, is_delivery_of, is_packet_of, is_record_of, least_own_packet, lesser_of, mesh_without, others_than, own_packet, packet_numbers_of, unsent_numbers}
+pub use Rattle.app_loads.specs.Leaving.{held_packets, is_delivery_of, is_packet_of, least_own_packet, lesser_of, mesh_without, others_than, own_packet, packet_numbers_of, unsent_numbers}
 pub use Rattle.app_loads.specs.{Loading.HasLoaded, Loading.IsLoadRefusal, Loading.IsWhyNotLoaded, Opening.bare_host, Opening.bare_mesh, Opening.grid_spots, Opening.spot_of, Opening.usable_spots}
 pub use Rattle.app_loads.specs.{Plans.IsAppNet, Plans.IsPacketOfApp, Plans.IsPlan, Plans.IsSpotBefore, Plans.MayLoad, Regions.AreFreeBeside, Regions.IsFreeBeside, Regions.IsRangeWithin}
 pub use Rattle.app_loads.specs.Regions.{IsRegion, ShareNoPlace, all_free, chip_count, is_taken, open_regions, place_of, range_has, region_size}
@@ -17,17 +17,17 @@ pub use Rattle.app_loads.specs.{Running.HasMovedMesh, Running.HasSomeUnsent, Run
 pub use Rattle.app_loads.specs.{Sending.CanSend, Sending.IsPacketOn, Sending.IsSameBeside, Sending.IsSendingFrom, Sending.source_at, Sending.source_vertex, Taking.AreFreeAgain, Taking.AreGivenBack}
 pub use Rattle.app_loads.specs.Taking.{AreRegionsOf, AreServedAlways, AreTaken, AreTakenAlways, CanServe, HaveRoom, HaveServed, IsDueAlways, IsDueOf, IsFair, IsFairFor, RefusesClaim, ServesClaim}
 pub use Rattle.app_loads.specs.{Taking.free_places_in, Taking.frees, Taking.range_at, Unloading.HasUnloaded, Unloading.IsWhyNotUnloaded, Unloading.NoneWaits, Writing.AreCopied, Writing.AreUnused}
-pub use Rattle.app_loads.specs.{Writing.AreUnusedFrom, Writing.CanClear, Writing.CanCopy, Writing.HasRoom, Writing.HaveRooms, Writing.tables_in, declared.answers.Ended.Ended}
-pub use Rattle.app_loads.specs.declared.answers.{LoadErr.LoadErr, LoadErr.TheVariants.Refused, LoadRefusal.LoadRefusal, LoadRefusal.TheVariants.KeysOut, LoadRefusal.TheVariants.Loaded}
+pub use Rattle.app_loads.specs.{Writing.AreUnusedFrom, Writing.CanClear, Writing.CanCopy, Writing.HaveRooms, Writing.tables_in, declared.answers.Ended.Ended, declared.answers.LoadErr.LoadErr}
+pub use Rattle.app_loads.specs.declared.answers.{LoadErr.TheVariants.Refused, LoadRefusal.LoadRefusal, LoadRefusal.TheVariants.KeysOut, LoadRefusal.TheVariants.Loaded}
 pub use Rattle.app_loads.specs.declared.answers.{LoadRefusal.TheVariants.MemoryOut, LoadRefusal.TheVariants.RowsOut, UnloadErr.TheVariants.NotLoaded, UnloadErr.TheVariants.Waiting}
 pub use Rattle.app_loads.specs.declared.{answers.UnloadErr.UnloadErr, apps.Apps.TheInside.Inside, arrivals.Arrival.Arrival, group.Sent.Sent, known.KnownBlock.KnownBlock, leaving.Left.Left}
-pub use Rattle.app_loads.specs.declared.{loaded.Claim.Claim, loaded.LoadedApp.LoadedApp, loaded.Range.Range, places.Region.TheVariants.Keys, places.Region.TheVariants.Memory}
-pub use Rattle.app_loads.specs.declared.{places.Region.TheVariants.Rows, plans.AppNet.AppNet, plans.AppPlan.AppPlan}
+pub use Rattle.app_loads.specs.declared.{loaded.Claim.Claim, loaded.LoadedApp.LoadedApp, loaded.Range.Range, places.Region.TheVariants.Keys, places.Region.TheVariants.Rows, plans.AppNet.AppNet}
+pub use Rattle.app_loads.specs.declared.plans.AppPlan.{AppPlan}
 pub use Rattle.key_alloc.proofs.Ranges.{free_of, in_facts, in_from, regroup, room_above}
 pub use Rattle.key_alloc.specs.KeyBlocks.{size_of}
 pub use Rattle.machine_desc.proofs.{Branches.length_le_from_apart, Branches.link_on_branch, Far.far_inside, Far.index_below, Far.live_ends, Far.live_inside, Far.same_index, Live.chip_of-inside}
 pub use Rattle.machine_desc.proofs.{Live.index_of-chip_of, Same.chip_eq-from_same, Same.same_spot, Sites.usable_parts, Sites.usable_site, TreeLemmas.tree_cases, TreeLemmas.tree_end}
-pub use Rattle.machine_desc.specs.{Branch.Exit, Description.Description, Description.HasSize, Live.IsInside, Live.IsSite, Live.IsUsable, Live.chip_of, Live.index_of, Live.is_usable, NetsOn.AreNetsOn}
+pub use Rattle.machine_desc.specs.{Branch.Exit, Description.Description, Description.HasSize, Live.IsInside, Live.IsUsable, Live.chip_of, Live.index_of, Live.is_usable, NetsOn.AreNetsOn}
 pub use Rattle.machine_desc.specs.{NetsOn.HaveDisjointBlocks, NetsOn.IsWayOn, NetsOn.vertex_at, Outputs.is_wanted, RightTables.AreRight, RightTables.IsKeyOf, RightTables.RoutesByTree}
 pub use Rattle.machine_desc.specs.{RightTables.table_at, RoutingTree.IsRoutingTree, RoutingTree.IsTreeChip, RoutingTree.end_of, declared.nets.NetPlan.NetPlan, declared.trees.Edge.Edge}
 pub use Rattle.mesh_core.proofs.{AskedPackets.asked_from, AskedPackets.asked_parts, AskedPackets.net_in_list, Counting.count_covered, Counting.count_le, Counting.count_some, Counting.counted}
@@ -38,9 +38,9 @@ pub use Rattle.mesh_core.proofs.Ways.{vertex_at_stands, vertex_there}
 pub use Rattle.mesh_core.specs.{Expected.IsAtRest, Expected.NothingWaits, Ledger.Asked, Ledger.Label, Ledger.MeetsLedger, Ledger.MeetsLedgerFor, Ledger.all_hand_marks, Ledger.core_marks}
 pub use Rattle.mesh_core.specs.Ledger.{delivered_marks, dumped_marks, hand_marks, input_marks, label_of, marks_at, marks_of, port_of, unsent_marks}
 pub use Rattle.mesh_core.specs.{Opened.asked_at, Opened.asked_by, Opened.copy_from, Opened.empty_mesh, Opened.first_copy, Opened.label_in, Queues.drop_front, State.FitsHand, State.Hand, State.IsMesh}
-pub use Rattle.mesh_core.specs.{State.Queue, State.Setup, State.State, State.behind, State.core, State.input, State.nowhere, State.queue_at, State.vertex_behind, Step.after_event, Step.after_events}
-pub use Rattle.mesh_core.specs.Step.{after_serving, collect_of, dump_of, has_room_behind, inject_of, push_behind, send_of, serves, step_of, take_of}
-pub use Rattle.mesh_core.specs.Trail.{IsUnderWayAt, Mark, Station, at_core, delivered, dumped, in_hand, in_queue, is_on_trail, is_packet_on_trail, on_trail, unsent}
+pub use Rattle.mesh_core.specs.{State.Queue, State.Setup, State.State, State.core, State.input, State.nowhere, State.queue_at, State.vertex_behind, Step.after_event, Step.after_events}
+pub use Rattle.mesh_core.specs.{Step.collect_of, Step.dump_of, Step.has_room_behind, Step.inject_of, Step.push_behind, Step.send_of, Step.step_of, Step.take_of, Trail.IsUnderWayAt, Trail.Mark}
+pub use Rattle.mesh_core.specs.Trail.{Station, at_core, delivered, dumped, in_hand, in_queue, is_on_trail, is_packet_on_trail, on_trail, unsent}
 pub use Rattle.mesh_core.specs.{VertexTable.spot_place, declared.places.Did.Did}
 pub use Rattle.mesh_drain.proofs.{Frame.dumped_reached, Frame.kept_reached, Frame.reached_none, Frame.reached_then, Frame.setup_reached, Moving.after_moved, Moving.after_none, Moving.after_one}
 pub use Rattle.mesh_drain.proofs.{Moving.after_setup, Packets.few_spots, Senders.Unsent, Senders.moved_of_reached, Senders.one_less_sender, Senders.rest_from, Senders.sender_there}
@@ -58,34 +58,36 @@ pub use Rattle.spin_base.proofs.{Gathering.gathered_nothing, Gathering.gathered_
 pub use Rattle.spin_base.proofs.Members.{Contains-from_filter, Contains-later, Contains-map, Contains-none, Contains-unmap, among_any, among_at, among_contains, among_either, among_filter, among_left}
 pub use Rattle.spin_base.proofs.Members.{among_map, among_right, any_among, contains_among, map_among, position_nowhere, position_there}
 pub use Rattle.spin_base.proofs.{Pairs.All-flat_map, Pairs.AllPairs-across, Pairs.AllPairs-append, Pairs.AllPairs-head, Pairs.AllPairs-left, Pairs.AllPairs-right, Pairs.AllPairs-tail, Places.All-at}
-pub use Rattle.spin_base.proofs.Places.{All-each, AllZip-at_first, AllZip-at_second, AllZip-more, enumerate_more, map_more_at, none_within, set-slice_get, slice_get-mapped, slice_get-push_cases}
+pub use Rattle.spin_base.proofs.Places.{All-each, AllZip-at_first, AllZip-at_second, enumerate_more, map_more_at, none_within, set-slice_get, slice_get-mapped, slice_get-push_cases}
 pub use Rattle.spin_base.proofs.{Places.slice_get-set_other, Places.slice_get-set_same, Places.slice_get_there, Places.take_more_at, Places.unmapped, Places.zip-first_at, Ranges.slice_get-map_range}
-pub use Rattle.spin_base.specs.{Equality.chip_eq, Equality.spot_eq, Gathered.gathered, Hops.onward, Lookup.default_route, Lookup.matches, Outputs.IsOutput, Outputs.has, declared.blocks.Block.Block}
+pub use Rattle.spin_base.specs.{Equality.chip_eq, Equality.spot_eq, Gathered.gathered, Lookup.default_route, Lookup.matches, Outputs.IsOutput, Outputs.has, declared.blocks.Block.Block}
 pub use Rattle.spin_base.specs.declared.{blocks.Entry.Entry, chips.Chip.Chip, chips.Port.Port, chips.Spot.Spot, copies.Delivery.Delivery, copies.DumpRec.DumpRec, copies.Event.Event}
 pub use Rattle.spin_base.specs.declared.copies.{Event.TheVariants.Collect, Event.TheVariants.Dump, Event.TheVariants.Inject, Event.TheVariants.Send, Event.TheVariants.Take, McCopy.McCopy}
-pub use Rattle.spin_base.specs.declared.{copies.Packet.Packet, routes.Out.Out, routes.Out.TheVariants.Core, routes.Route.Route}
+pub use Rattle.spin_base.specs.declared.{copies.Packet.Packet, routes.Out.Out, routes.Out.TheVariants.Core, routes.Route.Route, wants.Memory.Memory}
 pub use Rattle.std.proofs.Common.{Bool, Err, Global, IfOk, IsTrue, List, None, Ok, OnErr, OnOk, Option, Result, Some, Vec, [], ap, append-nil, append_assoc, arith, bit_and, cond, count_by, drop}
 pub use Rattle.std.proofs.Common.{false, find, get_or, if◌then◌else◌, inl, inr, leb, length, ltb, map, max, min, not, refl, replicate, rules, set, subst, suc, sym, take, take-append-drop, true, zero}
 pub use Rattle.std.proofs.Common.{ℕ, ◌%◌, ◌&&◌, ◌*◌, ◌++◌, ◌+◌, ◌-◌, ◌/◌, ◌<◌, ◌==◌, ◌^◌, ◌||◌, ◌↔◌, ◌∙◌, ◌∷◌, ◌≡◌, ◌≢◌, ◌≤◌, ◌⊎◌}
-pub use Rattle.std.proofs.{Math.Bool.or-false, Math.Pow.pow_mono, Math.Seq.drop-cons, Math.Seq.take-length, lemmas.Bool.Decides.nat_tests, lemmas.Bool.and_from, lemmas.Bool.and_parts}
-pub use Rattle.std.proofs.lemmas.Bool.{and_right, both_ways, cases_Bool, cases_eq, cases_lt, cases_order, cond-false, cond-true, cond_both, eq-eqb, eqb-true, false_from_ne_true, false≢true, le-leb}
-pub use Rattle.std.proofs.lemmas.Bool.{le-ltb, leb-false, leb-true, lt-leb, lt-ltb, ltb-true, ne_eqb, not-false, not-true, or_cases, or_left, or_parts, or_right}
-pub use Rattle.std.proofs.lemmas.{Grind.common_steps, Grind.flat_map-append, Grind.pow_more, List.Elements.All-append, List.Elements.All-cons, List.Elements.All-contains, List.Elements.All-filter}
-pub use Rattle.std.proofs.lemmas.List.Elements.{All-from_get_or, All-head, All-map, All-nil, All-push, All-replicate, All-set, All-tail, All-weaker, Contains-append_left, Contains-append_right}
-pub use Rattle.std.proofs.lemmas.List.{Elements.Contains-push_cases, Elements.filter-append, Elements.filter_map-append, Filters.length-filter_both, Folds.find_at, Folds.list_any-append}
-pub use Rattle.std.proofs.lemmas.List.{FromFn.filter_of_map_range_with_len_more, FromFn.get_or-map-range_with_len, FromFn.length-map-range_with_len, FromFn.length-range_with_len, Kept.AllPairs-filter}
-pub use Rattle.std.proofs.lemmas.List.{Quantifiers.all_pairs_push, Sorted.All-permutation, Sorted.Contains-permutation, Sorted.IsNonDecreasingBy-from_sort, Sorted.IsPermutation-refl}
-pub use Rattle.std.proofs.lemmas.List.{Sorted.IsPermutation-sym, Sorted.length_permutation, Sorted.sum_by-IsPermutation, Sums.count_by-le-length, Sums.fails_before_first, Sums.length-filter}
-pub use Rattle.std.proofs.lemmas.List.{Sums.passes_at_first, Sums.position_or_len_is, Sums.sum_by-cons, drop-map, drop_all, drop_at, drop_more, flat_map_more, get_or-append_right, get_or-map}
-pub use Rattle.std.proofs.lemmas.List.{get_or-replicate, get_or-take, get_or_append_left, get_or_default, length-append, length-drop, length-map, length-replicate, length-set, length-take}
-pub use Rattle.std.proofs.lemmas.List.{length-take-le, length_push, map-append, map-set, same_lists, set-get_or, set_at, take-append-le, take-map, take_all, take_at, take_more, with_items_is}
-pub use Rattle.std.proofs.lemmas.{Nat.Bits.and_high_mask, Nat.mul-le, Nat.pow_pos, Nat.shr_split, Option.get_or_from_slice_get, Option.none-some, Option.same_Some, Option.slice_get-get_or}
-pub use Rattle.std.proofs.lemmas.{Option.slice_get_past, Option.slice_get_read, Option.slice_get_within, Option.unwrap_or-slice_get, Result.IfErr-at_err, Result.IfOk-at_ok, Result.IfOk-weaker}
-pub use Rattle.std.proofs.lemmas.Slice.Zip.{AllZip-long, length-zip}
+pub use Rattle.std.proofs.{Math.Bool.or-false, Math.Pow.pow_mono, Math.Seq.drop-cons, Math.Seq.take-length, iter.runs.Made.chains, lemmas.Bool.Decides.nat_tests, lemmas.Bool.and_from}
+pub use Rattle.std.proofs.lemmas.Bool.{and_parts, and_right, both_ways, cases_Bool, cases_eq, cases_lt, cases_order, cond-false, cond-true, cond_both, eq-eqb, eqb-true, false_from_ne_true, false≢true}
+pub use Rattle.std.proofs.lemmas.Bool.{le-leb, le-ltb, leb-false, leb-true, lt-leb, lt-ltb, ltb-true, ne_eqb, not-false, not-true, or_cases, or_left, or_parts, or_right}
+pub use Rattle.std.proofs.lemmas.{Grind.common_steps, Grind.flat_map-append, Grind.pow_more, Iterator.Consumers.YieldsList-at, Iterator.Consumers.YieldsList-from_chain}
+pub use Rattle.std.proofs.lemmas.Iterator.{Consumers.YieldsList-from_filter, Consumers.fold_from_yields_List, YieldsList-from_map, YieldsList-from_range, YieldsList-from_slice, items_from_collect}
+pub use Rattle.std.proofs.lemmas.List.Elements.{All-append, All-cons, All-contains, All-filter, All-from_get_or, All-head, All-map, All-nil, All-push, All-replicate, All-set, All-tail, All-weaker}
+pub use Rattle.std.proofs.lemmas.List.Elements.{Contains-append_left, Contains-append_right, Contains-push_cases, filter-append, filter_map-append}
+pub use Rattle.std.proofs.lemmas.List.{Filters.length-filter_both, Folds.find_at, Folds.list_any-append, FromFn.get_or-map-range_with_len, FromFn.length-map-range_with_len}
+pub use Rattle.std.proofs.lemmas.List.{FromFn.length-range_with_len, Kept.AllPairs-filter, Quantifiers.all_pairs_push, Sorted.All-permutation, Sorted.Contains-permutation}
+pub use Rattle.std.proofs.lemmas.List.Sorted.{IsNonDecreasingBy-from_sort, IsPermutation-refl, IsPermutation-sym, length_permutation, sum_by-IsPermutation}
+pub use Rattle.std.proofs.lemmas.List.{Sums.count_by-le-length, Sums.fails_before_first, Sums.length-filter, Sums.passes_at_first, Sums.position_or_len_is, Sums.sum_by-cons, drop-map, drop_all}
+pub use Rattle.std.proofs.lemmas.List.{drop_at, drop_more, flat_map_more, get_or-append_right, get_or-map, get_or-replicate, get_or-take, get_or_append_left, get_or_default, length-append}
+pub use Rattle.std.proofs.lemmas.List.{length-drop, length-map, length-replicate, length-set, length-take, length-take-le, length_push, map-append, map-set, same_lists, set-get_or, set_at}
+pub use Rattle.std.proofs.lemmas.{List.take-append-le, List.take-map, List.take_all, List.take_at, List.with_items_is, Nat.Bits.and_high_mask, Nat.mul-le, Nat.pow_pos, Nat.shr_split}
+pub use Rattle.std.proofs.lemmas.Option.{get_or_from_slice_get, none-some, same_Some, slice_get-get_or, slice_get_past, slice_get_read, slice_get_within, unwrap_or-slice_get}
+pub use Rattle.std.proofs.lemmas.{Result.IfErr-at_err, Result.IfOk-at_ok, Slice.Zip.AllZip-long, Slice.Zip.length-zip}
 pub use Rattle.std.specs.{BTreeMap.BTreeMap, BTreeMap.Updates, BTreeMap.is_at, Int.Bits.and_zero_r, Int.IsPowerOfTwo, List.All, List.AllPairs, List.AllZip, List.Contains, List.Sorted.IsPermutation}
-pub use Rattle.std.specs.List.{cons_option, enumerate_from, filter, filter_map, flat_map, list_any, position_or_len, range_with_len, slice_get, slice_index_or, slice_set, sum_by}
+pub use Rattle.std.specs.List.{cons_option, enumerate_from, filter, filter_map, flat_map, fold, list_any, position_or_len, range_with_len, slice_get, slice_index_or, slice_set, sum_by}
 pub use Rattle.std.specs.{Map.lookup, Option.option_map_or, Option.option_to_list, Ordering.nat_cmp, Prelude.IfNone, Prelude.IfSome, Prelude.is_err, Prelude.is_some, Prelude.position}
 pub use Rattle.std.specs.{Prelude.unwrap_or, Prelude.vec_capacity, Prelude.vec_len, Prelude.zip, Vec.Iter.into_iter_items, Vec.with_items}
 pub use Rattle.tcam_find.specs.Memory.{empty_memory, unused}
 pub use Rattle.tern_word.proofs.BlockLaws.{key_small, range_keys, same_block}
 pub use Rattle.tern_word.specs.{Entries.entry_of, SoundTable.Original, Ternary.Matches, declared.tables.Row.Row, declared.tables.Table.Table}
+pub use borrow.Author.Tests.{tests}

@@ -1,13 +1,20 @@
 -- Rows put into ranges of entries.
-use Rattle.app_loads.proofs.Common.{AllZip, AllZip-more, AreCopied, CanCopy, Chip, Contains, Contains-at, Contains-push_cases, Description, Entry, IsInside, IsRegion, IsTableOf, Keys, List, Memory}
-use Rattle.app_loads.proofs.Common.{Range, Row, Rows, ShareNoPlace, Some, Table, [], and_from, ap, append_assoc, arith, cases_eq, cases_lt, chip_count, clash, drop, drop-cons, drop_at, entry_of}
-use Rattle.app_loads.proofs.Common.{eq-eqb, false, false_from_ne_true, get_or, get_or-take, get_or_from_slice_get, in_from, in_range, index_below, index_of, inl, inr, is_taken, length, length-append}
-use Rattle.app_loads.proofs.Common.{length-drop, length-map, length-set, length-take-le, list_any-append, map, map-append, map_more_at, or_parts, place_of, range_has, refl, row_of_mark, same_Some}
-use Rattle.app_loads.proofs.Common.{set, set_at, slice_get, slice_get-get_or, slice_get-set_other, slice_get-set_same, slice_get_within, slice_set, subst, suc, sym, table_at, table_of_sorted}
-use Rattle.app_loads.proofs.Common.{tables_in, take, take_all, take_at, take_more_at, true, zero, ℕ, ◌&&◌, ◌++◌, ◌+◌, ◌<◌, ◌==◌, ◌||◌, ◌∙◌, ◌∷◌, ◌≡◌, ◌≢◌, ◌≤◌, ◌⊎◌}
+use Rattle.app_loads.proofs.Common.{AllZip, AreCopied, CanCopy, Chip, Contains, Contains-at, Contains-push_cases, Description, Entry, IsInside, IsRegion, IsTableOf, Keys, List, Range, Row, Rows}
+use Rattle.app_loads.proofs.Common.{ShareNoPlace, Some, Table, [], and_from, ap, append_assoc, arith, cases_eq, cases_lt, chip_count, clash, drop, drop-cons, drop_at, entry_of, eq-eqb, false}
+use Rattle.app_loads.proofs.Common.{false_from_ne_true, get_or, get_or-take, get_or_from_slice_get, in_from, in_range, index_below, index_of, inl, inr, is_taken, length, length-append, length-drop}
+use Rattle.app_loads.proofs.Common.{length-map, length-set, length-take-le, list_any-append, map, map-append, map_more_at, or_parts, place_of, range_has, refl, row_of_mark, same_Some, set, set_at}
+use Rattle.app_loads.proofs.Common.{slice_get, slice_get-get_or, slice_get-set_other, slice_get-set_same, slice_get_within, slice_set, subst, suc, sym, table_at, table_of_sorted, tables_in, take}
+use Rattle.app_loads.proofs.Common.{take_all, take_at, take_more_at, true, zero, ℕ, ◌&&◌, ◌++◌, ◌+◌, ◌<◌, ◌==◌, ◌||◌, ◌∙◌, ◌∷◌, ◌≡◌, ◌≢◌, ◌≤◌, ◌⊎◌}
+use Rattle.app_loads.specs.declared.places.Region.{Region, TheVariants.Memory}
 use Rattle.std.proofs.Math.ListN.{get_or-map}
 use Rattle.net_tables.specs.declared.marks.Mark.{Mark}
-use Rattle.app_loads.specs.declared.places.Region.{Region}
+
+-- the first of the items that are left stands at the next place
+pub left_first : {X : Type 0} (xs : List X) (k : ℕ) (x : X) (rest : List X) → drop k xs ≡ x ∷ rest → (slice_get xs k ≡ Some x) × (rest ≡ drop (k + 1) xs)
+left_first [] zero x rest is = cc
+left_first [] (suc k) x rest is = cc
+left_first (y ∷ ys) zero x rest is = let head : y ≡ x = cc in let tail : rest ≡ ys = cc in (ap Some head, tail)
+left_first (y ∷ ys) (suc k) x rest is = grind (arith, left_first ys k x rest is)
 
 -- ---- a list with a part written
 
@@ -108,36 +115,20 @@ module _ (m : Description) (cur : List (List Entry)) (long : length cur ≡ chip
       ∙ get_or_from_slice_get (slice_set cur j table) j table [] (slice_get-set_same cur j (get_or cur j d) table (slice_get-get_or cur j d (omega (arith, below, long))))
 
   pub same_elsewhere : (c : Chip) → IsInside m c → index_of m c ≢ j → table_at m (slice_set cur j table) c ≡ table_at m cur c
-  same_elsewhere c inside other =
-      let got = slice_get-get_or cur (index_of m c) [] (let w = index_below m c inside in omega (arith, w, long)) in
-      get_or_from_slice_get (slice_set cur j table) (index_of m c) (get_or cur (index_of m c) []) [] (slice_get-set_other cur j (index_of m c) table other ∙ got)
+  same_elsewhere c inside other = grind (arith, slice_get-get_or, index_below, get_or_from_slice_get, get_or, slice_get-set_other)
 
   pub was_here : (c : Chip) → index_of m c ≡ j → table_at m cur c ≡ get_or cur j d
   was_here c same = ap (λ k. get_or cur k []) same ∙ get_or_from_slice_get cur j (get_or cur j d) [] (slice_get-get_or cur j d (omega (arith, below, long)))
 
 -- ---- lists of original blocks in order
 
--- one list more
-pub one_more_in_order : (lists sorted more : List (List Mark)) (marks x : List Mark) (rest : List (List Mark)) → drop (length sorted) lists ≡ marks ∷ rest →
-    AllZip IsTableOf (take (length sorted) lists) (tables_in sorted) → more ≡ sorted ++ x ∷ [] →
-    IsTableOf marks (table_of_sorted x) → AllZip IsTableOf (take (length more) lists) (tables_in more) × (rest ≡ drop (length more) lists)
-one_more_in_order lists sorted more marks x rest left so_far is here =
-    let k : ℕ = length sorted in
-    let below : k < length lists = (let d = length-drop k lists in let l = ap length left in omega (arith, d, l)) in
-    let both : marks ∷ rest ≡ get_or lists k marks ∷ drop (suc k) lists = sym left ∙ drop-cons lists k marks below in
-    let long : length more ≡ k + 1 = ap length is ∙ length-append sorted (x ∷ []) in
-    let next : suc k ≡ length more = omega (arith, long) in (
-      subst (λ n. AllZip IsTableOf (take n lists) (tables_in more)) (sym long)
-          (subst (AllZip IsTableOf (take (k + 1) lists)) (sym (ap tables_in is ∙ map-append table_of_sorted sorted (x ∷ [])))
-          (AllZip-more IsTableOf lists (tables_in sorted) k marks (table_of_sorted x) below (ap (λ l. get_or l 0 marks) both) so_far here)),
-      ap (λ l. drop 1 l) both ∙ ap (λ n. drop n lists) next,
-    )
-
--- where no list is left, all are in order
-pub all_in_order : (lists sorted left : List (List Mark)) → left ≡ drop (length sorted) lists → length left ≡ 0 →
-    AllZip IsTableOf (take (length sorted) lists) (tables_in sorted) → AllZip IsTableOf lists (tables_in sorted)
-all_in_order lists sorted left is none so_far =
-    grind (arith, length-drop (length sorted) lists, take_all (length sorted) lists (omega (arith, (length-drop (length sorted) lists), ap length is, none)))
+-- all are in order, where each is
+pub all_in_order : (lists sorted : List (List Mark)) → length lists ≡ length sorted →
+    ((k : ℕ) → k < length lists → IsTableOf (get_or lists k []) (table_of_sorted (get_or sorted k []))) → AllZip IsTableOf lists (tables_in sorted)
+all_in_order [] [] long each = tt
+all_in_order [] (y ∷ ys) long each = absurd (omega (arith, long))
+all_in_order (x ∷ xs) [] long each = absurd (omega (arith, long))
+all_in_order (x ∷ xs) (y ∷ ys) long each = (each 0 (omega arith), all_in_order xs ys (omega (arith, long)) (λ k below. each (suc k) (omega (arith, below))))
 
 -- the rows of a list of original blocks
 pub rows_listed : (marks : List Mark) (lists : List (List Mark)) (j : ℕ) (d : List Mark) → marks ≡ get_or lists j d → (get_or (tables_in lists) j (table_of_sorted d)).rows ≡ map row_of_mark marks

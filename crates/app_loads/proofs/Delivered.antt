@@ -1,9 +1,9 @@
 -- Of packets of which no copy is under way, two meshes that meet the ledger of the same packets have as many deliveries.
 use Rattle.app_loads.proofs.Common.{Among, AreNetsOn, Asked, Bool, Contains, Contains-filter, Delivery, Description, DumpRec, Exit, IsKeyOf, IsUnderWayAt, IsWayOn, List, Mark, McCopy, MeetsLedgerFor}
-use Rattle.app_loads.proofs.Common.{NetPlan, Option, Some, Spot, StandsAt, State, Station, [], all_hand_marks, among_contains, among_filter, and_from, and_parts, ap, arith, at_core, contains_among}
-use Rattle.app_loads.proofs.Common.{core_marks, count_by, count_by-append, count_by-map, count_covered, count_le, counted, delivered, delivered_mark, delivered_marks, dumped, dumped_marks, eq-eqb}
-use Rattle.app_loads.proofs.Common.{eqb-true, filter, in_hand, in_queue, input_marks, is_of, is_of_from, is_of_parts, is_packet_on_trail, label_of, length, length-filter, mark, mark_stands, marks_of}
-use Rattle.app_loads.proofs.Common.{on_trail, one_net, same_Some, subst, sym, true, unsent, unsent_marks, vertex_at_stands, ℕ, ◌&&◌, ◌==◌, ◌∙◌, ◌≡◌, ◌≤◌}
+use Rattle.app_loads.proofs.Common.{NetPlan, Option, Some, Spot, StandsAt, State, Station, [], among_contains, among_filter, and_from, and_parts, ap, arith, at_core, contains_among, count_by}
+use Rattle.app_loads.proofs.Common.{count_by-append, count_by-map, count_covered, count_le, counted, delivered, delivered_mark, dumped, eq-eqb, eqb-true, filter, in_hand, in_queue, is_of, is_of_from}
+use Rattle.app_loads.proofs.Common.{is_of_parts, is_packet_on_trail, label_of, length, length-filter, mark, mark_stands, marks_of, on_trail, one_net, same_Some, subst, sym, true, unsent}
+use Rattle.app_loads.proofs.Common.{vertex_at_stands, ℕ, ◌&&◌, ◌==◌, ◌∙◌, ◌≡◌, ◌≤◌}
 use Rattle.app_loads.proofs.LeavingLists.{after_cores, after_hands, after_inputs, after_unsent}
 
 abbrev mark_of : Delivery → Mark
@@ -11,13 +11,7 @@ mark_of d = mark d.copy (delivered d.vertex)
 
 -- The marks of deliveries are some of all marks.
 few_delivered : (p : Mark → Bool) (s : State) → count_by (λ d. p (mark_of d)) s.delivered ≤ count_by p (marks_of s)
-few_delivered p s =
-    let mapped : count_by p (delivered_marks s) ≡ count_by (λ d. p (mark_of d)) s.delivered = count_by-map p mark_of s.delivered in
-    let first = count_by-append p (unsent_marks s) (after_unsent s) in
-    let second = count_by-append p (input_marks s) (after_inputs s) in
-    let third = count_by-append p (all_hand_marks s) (after_hands s) in
-    let fourth = count_by-append p (core_marks s) (after_cores s) in
-    omega (arith, mapped, first, second, third, fourth, count_by-append p (delivered_marks s) (dumped_marks s))
+few_delivered p s = grind (arith, count_by, count_by-map, count_by-append, after_unsent, after_inputs, after_hands, after_cores)
 
 -- What the ledger says of a delivery: the way on which it came, and what was asked for.
 record HasArrived (s : State) (nets : List NetPlan) (asked : ℕ → Option Asked) (d : Delivery) : Type 0 where

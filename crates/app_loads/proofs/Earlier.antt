@@ -1,12 +1,11 @@
 -- Deliveries that came earlier change nothing of what events do, and where no copy waits, all that is unsent keeps its ledger without
 -- them.
 use Rattle.app_loads.proofs.Common.{Bool, Chip, Collect, Contains, Contains-append_left, Delivery, Dump, Event, Exit, Hand, Inject, IsMesh, IsReachedDropless, Label, List, Mark, McCopy, MeetsLedger}
-use Rattle.app_loads.proofs.Common.{MeetsSomeLedger, NetPlan, None, NothingWaits, Option, Out, Port, Queue, Send, Some, Spot, State, Station, Take, [], after_event, after_events, after_serving}
-use Rattle.app_loads.proofs.Common.{all_hand_marks, among_gathered, among_map, ap, append-nil, append_assoc, arith, at_core, behind, chip_of, collect_of, contains_among, core, core_marks, count_by}
-use Rattle.app_loads.proofs.Common.{count_by-append, count_some, delivered_marks, dump_of, dumped_marks, eq-eqb, false, gathered_of_none, hand_marks, has_room_behind, if◌then◌else◌, in_queue}
-use Rattle.app_loads.proofs.Common.{index_of, inject_of, input, input_marks, is_packet_on_trail, marks_at, marks_of, not, nowhere, on_trail, one_net, onward, port_of, push_behind, queue_at, refl}
-use Rattle.app_loads.proofs.Common.{same_Some, send_of, serves, slice_get, step_of, subst, sym, take_of, true, unsent, unsent_marks, unwrap_or, vertex_at, with_earlier, ℕ, ◌%◌, ◌&&◌, ◌++◌, ◌/◌, ◌∙◌}
-use Rattle.app_loads.proofs.Common.{◌∷◌, ◌≡◌}
+use Rattle.app_loads.proofs.Common.{MeetsSomeLedger, NetPlan, None, NothingWaits, Option, Out, Port, Queue, Send, Some, Spot, State, Station, Take, [], after_event, after_events, all_hand_marks}
+use Rattle.app_loads.proofs.Common.{among_gathered, among_map, ap, append-nil, append_assoc, arith, at_core, chip_of, collect_of, contains_among, core, core_marks, count_by, count_by-append}
+use Rattle.app_loads.proofs.Common.{count_some, delivered_marks, dump_of, dumped_marks, eq-eqb, false, gathered_of_none, hand_marks, has_room_behind, if◌then◌else◌, in_queue, index_of, inject_of}
+use Rattle.app_loads.proofs.Common.{input, input_marks, is_packet_on_trail, marks_at, marks_of, nowhere, on_trail, one_net, port_of, push_behind, queue_at, refl, same_Some, send_of, slice_get}
+use Rattle.app_loads.proofs.Common.{step_of, subst, sym, take_of, true, unsent, unsent_marks, unwrap_or, vertex_at, with_earlier, ℕ, ◌%◌, ◌&&◌, ◌++◌, ◌/◌, ◌∙◌, ◌∷◌, ◌≡◌}
 
 -- ---- events
 
@@ -46,20 +45,12 @@ module _ (ds : List Delivery) where
   taken s c port None q = refl
 
   sent : (s : State) (c : Chip) (o : Out) (hand : Option (Option Hand)) → send_of (we s) c o hand ≡ later (send_of s c o hand)
-  sent s c o (Some (Some h)) =
-      let next = after_serving s c o h in
-      let q = behind s.setup c o in
-      ap (λ b. if serves s c o (Some (Some h)) && b then Some (push_behind (we next) q (onward h.copy)) else None) (roomy s q)
-      ∙ chosen (serves s c o (Some (Some h)) && has_room_behind s q) (push_behind (we next) q (onward h.copy)) (push_behind next q (onward h.copy)) (pushed next q (onward h.copy))
+  sent s c o (Some (Some h)) = grind (arith, roomy, chosen, pushed)
   sent s c o (Some None) = refl
   sent s c o None = refl
 
   dropped : (s : State) (c : Chip) (o : Out) (hand : Option (Option Hand)) → dump_of (we s) c o hand ≡ later (dump_of s c o hand)
-  dropped s c o (Some (Some h)) =
-      let next = after_serving s c o h in
-      let q = behind s.setup c o in
-      let made : State = record next { dumped = next.dumped ++ record { chip = c; out = o; copy = h.copy } ∷ [] } in
-      ap (λ b. if serves s c o (Some (Some h)) && not b then Some (we made) else None) (roomy s q) ∙ chosen (serves s c o (Some (Some h)) && not (has_room_behind s q)) (we made) made refl
+  dropped s c o (Some (Some h)) = grind (arith, roomy, chosen)
   dropped s c o (Some None) = refl
   dropped s c o None = refl
 

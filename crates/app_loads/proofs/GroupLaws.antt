@@ -17,9 +17,7 @@ at_last sent q p at is =
 
 -- the last packet's deliveries come last
 pub last_packet : (sent before : List Sent) (p : Sent) (arrivals : List Arrival) → sent ≡ before ++ p ∷ [] → deliveries_in sent arrivals ≡ deliveries_in before arrivals ++ deliveries_at arrivals p
-last_packet sent before p arrivals is =
-    ap (λ l. deliveries_in l arrivals) is
-    ∙ (flat_map-append (deliveries_at arrivals) before (p ∷ []) ∙ ap (λ l. deliveries_in before arrivals ++ l) (append-nil (deliveries_at arrivals p)))
+last_packet sent before p arrivals is = grind (arith, flat_map-append, before, append-nil)
 
 pub ends_with : (g : Inside) (copy : McCopy) (count : ℕ) (before : List Sent) → g.sent ≡ before ++ sent_of copy ∷ [] → length g.arrivals ≡ count → EndsWith (grouped_of g) (sent_of copy) count
 ends_with g copy count before is long = record { before = deliveries_in before g.arrivals; is = last_packet g.sent before (sent_of copy) g.arrivals is; long = long }
@@ -111,9 +109,7 @@ none_apart p xs none = (none_pass p xs none, all_pass (λ x. not (p x)) xs (All-
 -- what was put into the last of so many groups was put into all
 pub last_put : (b : Bool) (gs : List Grouped) (count : ℕ) (g new : Grouped) (more : List Delivery) → count ≡ length gs → count ≢ 0 → g ≡ slice_index_or gs (count - 1) g →
     HasPut b g.deliveries more new.deliveries → HasPut b (all_grouped gs) more (all_grouped (slice_set gs (count - 1) new))
-last_put b gs count g new more long some value put =
-    let below : count - 1 < length gs = omega (arith, long, some) in
-    put_last b gs (count - 1) g new more (slice_get-get_or gs (count - 1) g below ∙ ap Some (sym value)) (omega (arith, long, some)) put
+last_put b gs count g new more long some value put = grind (arith, put_last, slice_get-get_or)
 
 pub last_put_if : {E : Type 0} (r : Result Bool E) (gs : List Grouped) (count : ℕ) (g new : Grouped) (more : List Delivery) → count ≡ length gs → count ≢ 0 → g ≡ slice_index_or gs (count - 1) g →
     IfOk r (λ put. HasPut put g.deliveries more new.deliveries) → IfOk r (λ put. HasPut put (all_grouped gs) more (all_grouped (slice_set gs (count - 1) new)))

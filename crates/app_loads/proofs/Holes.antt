@@ -1,6 +1,6 @@
 -- The free places of a region tell its holes.
-use Rattle.app_loads.proofs.Common.{AreRuns, Hole, List, [], ap, arith, cases_lt, clash, false, false_from_ne_true, free_within, has_facts, has_from, has_range, hole_end, inl, inr, is_free, or_cases}
-use Rattle.app_loads.proofs.Common.{or_left, or_right, refl, subst, sym, true, ℕ, ◌+◌, ◌<◌, ◌∙◌, ◌∷◌, ◌≡◌, ◌≤◌}
+use Rattle.app_loads.proofs.Common.{AreRuns, Hole, List, [], ap, arith, cases_lt, clash, false, false_from_ne_true, free_within, has_facts, has_from, has_range, hole_end, is_free, or_cases, or_left}
+use Rattle.app_loads.proofs.Common.{or_right, refl, subst, sym, true, ℕ, ◌+◌, ◌<◌, ◌∙◌, ◌∷◌, ◌≡◌, ◌≤◌}
 use Rattle.app_loads.proofs.Others.{same_tests}
 
 -- the first place of the first hole is free, and no place before it
@@ -28,13 +28,7 @@ same_hole g h p l = same_fields g.place g.len h.place h.len p l
 -- what is free behind the first hole
 behind : (from n : ℕ) (g h : Hole) (gs hs : List Hole) → AreRuns from n (g ∷ gs) → g ≡ h →
     ((k : ℕ) → is_free (g ∷ gs) k ≡ is_free (h ∷ hs) k) → (k : ℕ) → is_free gs k ≡ true → is_free hs k ≡ true
-behind from n g h gs hs runs one same k free =
-    let low = free_within (hole_end g + 1) n gs k runs.3 free in
-    let other : is_free (h ∷ hs) k ≡ true = sym (same k) ∙ or_right (has_range k 1 g) (is_free gs k) free in
-    elim (or_cases (has_range k 1 h) (is_free hs k) other) [
-      | inl mine ↦ (let f = has_facts k 1 h mine in let e : hole_end g ≡ hole_end h = ap hole_end one in absurd (omega (arith, f.1, low.0, e)))
-      | inr there ↦ there
-    ]
+behind from n g h gs hs runs one same k free = grind (arith, free_within, or_right, or_cases, has_facts)
 
 -- Two lists of holes with the same free places are one list.
 pub same_holes : (from n : ℕ) (xs ys : List Hole) → AreRuns from n xs → AreRuns from n ys → ((k : ℕ) → is_free xs k ≡ is_free ys k) → xs ≡ ys

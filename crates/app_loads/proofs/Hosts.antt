@@ -1,7 +1,6 @@
 -- The fields of a host are those of one after events of its mesh.
-use Rattle.app_loads.proofs.Common.{AreAlikeInBlocks, AreApps, Did, Err, Event, HasMovedMesh, Host, IfSome, Inside, IsAfter, IsHost, IsMoved, List, MeetsSomeLedger, Ok, OnErr, OnOk, Option, Result}
-use Rattle.app_loads.proofs.Common.{SendAlone, Some, State, after_event, after_none, after_one, ap, arith, host_of, mesh_in, subst, sym, ℕ, ◌≡◌}
-use Rattle.spin_base.specs.declared.wants.Memory.{Memory}
+use Rattle.app_loads.proofs.Common.{AreAlikeInBlocks, AreApps, Did, Err, Event, HasMovedMesh, Host, IfSome, Inside, IsAfter, IsHost, IsMoved, List, MeetsSomeLedger, Memory, Ok, OnErr, OnOk, Option}
+use Rattle.app_loads.proofs.Common.{Result, SendAlone, Some, State, after_event, after_none, after_one, ap, arith, host_of, mesh_in, subst, sym, ℕ, ◌≡◌}
 use Rattle.app_loads.proofs.{Keeping.apps_after, Keeping.apps_kept, OneBlock.alike_in_blocks}
 
 mesh_is : (i : Inside) (m : State) → i.mesh ≡ Some m → (host_of i).mesh ≡ m

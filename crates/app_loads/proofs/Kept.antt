@@ -169,12 +169,7 @@ module _ {xs ys : List Delivery} {s u : State} {v : ℕ} {k : McCopy} {block : B
       (comes (with_earlier xs s) k sends.first.0 may refl sends.first.1 key)
 
   pub sent_again : IsSentAgain xs ys s u v
-  sent_again = record {
-    reached = again_reached;
-    clean = grind (arith, kept_reached (with_earlier xs s) (with_earlier ys u) clean.kept again_reached, is);
-    unsent = λ first rest at. ap (λ (t : State). t.unsent) dropped ∙ ap (drop_front s.unsent v) at;
-    setup = ap (λ (t : State). t.setup) dropped;
-  }
+  sent_again = grind (arith, again_reached, clean, kept_reached (with_earlier xs s) (with_earlier ys u) clean.kept again_reached, is)
 
 -- a list of unsent copies with a first one is not empty
 pub some_first : (q : Option (List McCopy)) (k : McCopy) (rest : List McCopy) → q ≡ Some (k ∷ rest) → q ≢ Some []

@@ -1,10 +1,10 @@
 -- The least packet of an application that is under way, from the lists of the mesh.
 use Rattle.app_loads.proofs.Common.{All, All-at, All-contains, Among, Bool, Chip, Contains, FitsHand, Hand, IfNone, IfSome, IsLeastUnderWay, IsMesh, IsUnderWayAt, List, LoadedApp, Mark, McCopy, None}
 use Rattle.app_loads.proofs.Common.{NoneUnderWay, Option, Out, SendAlone, Some, StandsAt, State, Station, WaitsIn, [], all_hand_marks, among_at, among_contains, among_either, among_left, among_map}
-use Rattle.app_loads.proofs.Common.{among_right, ap, append-nil, arith, at_core, cases_lt, chip_of, contains_among, core_marks, delivered, dumped, false, flat_map, flat_map-append, gathered}
-use Rattle.app_loads.proofs.Common.{gathered_among, get_or, get_or_default, get_or_from_slice_get, hand_marks, held_packets, if◌then◌else◌, in_hand, in_queue, inl, input_marks, inr, is_packet_of}
-use Rattle.app_loads.proofs.Common.{least_own_packet, length, lesser_of, map_among, map_more_at, mark, mark_stands, marks_at, marks_of, min, own_packet, packet_numbers_of, port_of, refl, slice_get}
-use Rattle.app_loads.proofs.Common.{slice_get-get_or, subst, sym, take, take_all, take_more, true, unsent, unsent_marks, unsent_numbers, ℕ, ◌%◌, ◌++◌, ◌+◌, ◌/◌, ◌<◌, ◌∙◌, ◌∷◌, ◌≡◌, ◌≤◌}
+use Rattle.app_loads.proofs.Common.{among_right, ap, arith, at_core, cases_lt, chip_of, contains_among, core_marks, delivered, dumped, false, flat_map, fold, gathered, gathered_among, get_or}
+use Rattle.app_loads.proofs.Common.{get_or_from_slice_get, hand_marks, held_packets, if◌then◌else◌, in_hand, in_queue, inl, input_marks, inr, is_packet_of, least_own_packet, length, lesser_of}
+use Rattle.app_loads.proofs.Common.{map_among, mark, mark_stands, marks_at, marks_of, min, own_packet, packet_numbers_of, port_of, refl, slice_get, slice_get-get_or, subst, sym, true, unsent}
+use Rattle.app_loads.proofs.Common.{unsent_marks, unsent_numbers, ℕ, ◌%◌, ◌++◌, ◌+◌, ◌/◌, ◌<◌, ◌∙◌, ◌∷◌, ◌≡◌, ◌≤◌}
 use Rattle.app_loads.proofs.{ClaimCases.among_flat, ClaimCases.flat_among, LeavingLists.after_cores, LeavingLists.after_hands, LeavingLists.after_inputs, LeavingLists.after_unsent}
 
 -- ---- the least of some numbers
@@ -52,81 +52,50 @@ module _ (app : LoadedApp) where
             )
       ]
 
--- ---- scans, one item more
+-- ---- folds
 
-module _ (app : LoadedApp) (so_far least next : Option ℕ) where
-  -- one list more of those that a function makes
-  pub list_more : {X : Type 0} (f : X → List ℕ) (xs : List X) (i : ℕ) (x : X) → i < length xs → x ≡ get_or xs i x → least ≡ lesser_of so_far (least_own_packet app (flat_map f (take i xs))) →
-      next ≡ lesser_of least (least_own_packet app (f x)) → next ≡ lesser_of so_far (least_own_packet app (flat_map f (take (i + 1) xs)))
-  list_more {X} f xs i x below is was found =
-      least_more app so_far least next (flat_map f (take i xs)) (f x) (flat_map f (take (i + 1) xs)) was found
-      (ap (flat_map f) (take_more xs i x below)
-      ∙ (flat_map-append f (take i xs) (get_or xs i x ∷ []) ∙ (ap (λ l. flat_map f (take i xs) ++ l) (append-nil (f (get_or xs i x))) ∙ ap (λ (y : X). flat_map f (take i xs) ++ f y) (sym is))))
+module _ (app : LoadedApp) where
+  -- over what has lists of numbers
+  pub least_folded : {X : Type 0} (f : X → List ℕ) (xs : List X) (o : Option ℕ) → fold (λ p x. lesser_of p (least_own_packet app (f x))) o xs ≡ lesser_of o (least_own_packet app (flat_map f xs))
+  least_folded f [] o = sym (none_right o)
+  least_folded f (x ∷ xs) o = least_more app o _ _ (f x) (flat_map f xs) (flat_map f (x ∷ xs)) refl (least_folded f xs (lesser_of o (least_own_packet app (f x)))) refl
 
-  -- one copy more
-  pub copy_more : (copies : List McCopy) (i : ℕ) (d : McCopy) → i < length copies → least ≡ lesser_of so_far (least_own_packet app (packet_numbers_of (take i copies))) →
-      next ≡ lesser_of least (own_packet app (get_or copies i d).packet) → next ≡ lesser_of so_far (least_own_packet app (packet_numbers_of (take (i + 1) copies)))
-  copy_more copies i d below was found =
-      least_more app so_far least next (packet_numbers_of (take i copies)) ((get_or copies i d).packet ∷ []) (packet_numbers_of (take (i + 1) copies)) was
-      (found ∙ ap (lesser_of least) (sym (none_right (own_packet app (get_or copies i d).packet))))
-      (map_more_at (λ (k : McCopy). k.packet) copies i (get_or copies i d) (slice_get-get_or copies i d below))
-
-  -- all of them
-  pub all_lists : {X : Type 0} (f : X → List ℕ) (xs : List X) (i : ℕ) → length xs ≤ i → least ≡ lesser_of so_far (least_own_packet app (flat_map f (take i xs))) →
-      least ≡ lesser_of so_far (least_own_packet app (flat_map f xs))
-  all_lists f xs i all was = was ∙ ap (λ l. lesser_of so_far (least_own_packet app (flat_map f l))) (take_all i xs all)
-
--- one more vertex of those that may have packets unsent
-pub sender_more : (app : LoadedApp) (queues : List (List McCopy)) (vertices : List ℕ) (i d : ℕ) (least next : Option ℕ) (q lent : List McCopy) →
-    i < length vertices → All (λ v. v < length queues) vertices →
-    lent ≡ q → q ≡ get_or queues (get_or vertices i d) q → least ≡ least_own_packet app (flat_map (unsent_numbers queues) (take i vertices)) →
-    next ≡ lesser_of least (least_own_packet app (packet_numbers_of lent)) →
-    next ≡ least_own_packet app (flat_map (unsent_numbers queues) (take (i + 1) vertices))
-sender_more app queues vertices i d least next q lent below there lent_is is was found =
-    list_more app None least next (unsent_numbers queues) vertices i (get_or vertices i d) below (get_or_default vertices i d (get_or vertices i d) below) was
-    (found ∙ ap (λ (l : List McCopy). lesser_of least (least_own_packet app (packet_numbers_of l))) (lent_is ∙ (is ∙ get_or_default queues (get_or vertices i d) q [] (there i d below))))
+  -- over copies
+  pub copies_folded : (copies : List McCopy) (o : Option ℕ) → fold (λ p (k : McCopy). lesser_of p (own_packet app k.packet)) o copies ≡ lesser_of o (least_own_packet app (packet_numbers_of copies))
+  copies_folded [] o = sym (none_right o)
+  copies_folded (k ∷ rest) o =
+      least_more app o _ _ (k.packet ∷ []) (packet_numbers_of rest) (packet_numbers_of (k ∷ rest)) (ap (lesser_of o) (sym (none_right (own_packet app k.packet))))
+      (copies_folded rest (lesser_of o (own_packet app k.packet))) refl
 
 -- ---- the packets under way
 
 -- the packets of all copies that are unsent or wait
 abbrev pub under_way : State → List ℕ
-under_way s = ((flat_map packet_numbers_of s.unsent ++ flat_map packet_numbers_of s.inputs) ++ flat_map held_packets s.hands) ++ flat_map packet_numbers_of s.cores
+under_way s = flat_map packet_numbers_of ((s.unsent ++ s.inputs) ++ s.cores) ++ flat_map held_packets s.hands
 
 module _ (s : State) where
-  in_unsent : (n : ℕ) → Among n (flat_map packet_numbers_of s.unsent) → Among n (under_way s)
-  in_unsent n a =
-      among_left n ((flat_map packet_numbers_of s.unsent ++ flat_map packet_numbers_of s.inputs) ++ flat_map held_packets s.hands) (flat_map packet_numbers_of s.cores)
-      (among_left n (flat_map packet_numbers_of s.unsent ++ flat_map packet_numbers_of s.inputs) (flat_map held_packets s.hands)
-      (among_left n (flat_map packet_numbers_of s.unsent) (flat_map packet_numbers_of s.inputs) a))
-
-  in_inputs : (n : ℕ) → Among n (flat_map packet_numbers_of s.inputs) → Among n (under_way s)
-  in_inputs n a =
-      among_left n ((flat_map packet_numbers_of s.unsent ++ flat_map packet_numbers_of s.inputs) ++ flat_map held_packets s.hands) (flat_map packet_numbers_of s.cores)
-      (among_left n (flat_map packet_numbers_of s.unsent ++ flat_map packet_numbers_of s.inputs) (flat_map held_packets s.hands)
-      (among_right n (flat_map packet_numbers_of s.unsent) (flat_map packet_numbers_of s.inputs) a))
-
-  in_hands : (n : ℕ) → Among n (flat_map held_packets s.hands) → Among n (under_way s)
-  in_hands n a =
-      among_left n ((flat_map packet_numbers_of s.unsent ++ flat_map packet_numbers_of s.inputs) ++ flat_map held_packets s.hands) (flat_map packet_numbers_of s.cores)
-      (among_right n (flat_map packet_numbers_of s.unsent ++ flat_map packet_numbers_of s.inputs) (flat_map held_packets s.hands) a)
-
-  in_cores : (n : ℕ) → Among n (flat_map packet_numbers_of s.cores) → Among n (under_way s)
-  in_cores n a = among_right n ((flat_map packet_numbers_of s.unsent ++ flat_map packet_numbers_of s.inputs) ++ flat_map held_packets s.hands) (flat_map packet_numbers_of s.cores) a
-
   place_of : {X : Type 0} (x : X) (xs : List X) → Among x xs → (i : ℕ) × (slice_get xs i ≡ Some x)
   place_of x xs a = let has = among_contains x xs a in (has.0, slice_get-get_or xs has.0 x has.1 ∙ ap Some has.2)
 
-  -- the packet of a copy in a list of queues
-  of_queue : (queues : List (List McCopy)) (i : ℕ) (q : List McCopy) (c : McCopy) → slice_get queues i ≡ Some q → Among c q → Among c.packet (flat_map packet_numbers_of queues)
-  of_queue queues i q c at a = flat_among packet_numbers_of c.packet queues q (among_at queues i q at) (map_among (λ (k : McCopy). k.packet) c q a)
+  -- the packets of a queue are under way
+  of_queue : (q : List McCopy) (n : ℕ) → Among q ((s.unsent ++ s.inputs) ++ s.cores) → Among n (packet_numbers_of q) → Among n (under_way s)
+  of_queue q n there a =
+      among_left n (flat_map packet_numbers_of ((s.unsent ++ s.inputs) ++ s.cores)) (flat_map held_packets s.hands)
+      (flat_among packet_numbers_of n ((s.unsent ++ s.inputs) ++ s.cores) q there a)
+
+  of_unsent : (q : List McCopy) (n : ℕ) → Among q s.unsent → Among n (packet_numbers_of q) → Among n (under_way s)
+  of_unsent q n there = of_queue q n (among_left q (s.unsent ++ s.inputs) s.cores (among_left q s.unsent s.inputs there))
 
   -- a copy that stands there is of one of the packets under way
   listed : (c : McCopy) (at : Station) → IsUnderWayAt at → StandsAt s c at → Among c.packet (under_way s)
-  listed c (unsent v) under (q, at, a) = in_unsent c.packet (of_queue s.unsent v q c at a)
-  listed c (in_queue chip port) under (i, q, at, is_chip, is_port, a) = in_inputs c.packet (of_queue s.inputs i q c at a)
+  listed c (unsent v) under (q, at, a) = of_unsent q c.packet (among_at s.unsent v q at) (map_among (λ (k : McCopy). k.packet) c q a)
+  listed c (in_queue chip port) under (i, q, at, is_chip, is_port, a) =
+      of_queue q c.packet (among_left q (s.unsent ++ s.inputs) s.cores (among_right q s.unsent s.inputs (among_at s.inputs i q at))) (map_among (λ (k : McCopy). k.packet) c q a)
   listed c (in_hand chip out) under (i, h, at, is_chip, is, a) =
-      in_hands c.packet (flat_among held_packets c.packet s.hands (Some h) (among_at s.hands i (Some h) at) (inl (ap (λ (k : McCopy). k.packet) (sym is))))
-  listed c (at_core v) under (q, at, a) = in_cores c.packet (of_queue s.cores v q c at a)
+      among_right c.packet (flat_map packet_numbers_of ((s.unsent ++ s.inputs) ++ s.cores)) (flat_map held_packets s.hands)
+      (flat_among held_packets c.packet s.hands (Some h) (among_at s.hands i (Some h) at) (inl (ap (λ (k : McCopy). k.packet) (sym is))))
+  listed c (at_core v) under (q, at, a) =
+      of_queue q c.packet (among_right q (s.unsent ++ s.inputs) s.cores (among_at s.cores v q at)) (map_among (λ (k : McCopy). k.packet) c q a)
   listed c (delivered v) under stands = absurd under
   listed c (dumped chip out) under stands = absurd under
 
@@ -135,14 +104,13 @@ module _ (s : State) where
   IsMarked n marks = (k : Mark) × Among k marks × (k.copy.packet ≡ n) × IsUnderWayAt k.station
 
   -- a copy in a list of queues has a mark, at the station of its queue
-  queue_marked : (st : ℕ → Station) → ((i : ℕ) → IsUnderWayAt (st i)) → (queues : List (List McCopy)) (n : ℕ) → Among n (flat_map packet_numbers_of queues) →
+  queue_marked : (st : ℕ → Station) → ((i : ℕ) → IsUnderWayAt (st i)) → (queues : List (List McCopy)) (n : ℕ) (q : List McCopy) → Among q queues → Among n (packet_numbers_of q) →
       IsMarked n (gathered (λ i copies. marks_at (st i) copies) 0 queues)
-  queue_marked st under queues n a =
-      let queue = among_flat packet_numbers_of n queues a in
-      let copy = among_map (λ (c : McCopy). c.packet) n queue.0 queue.2 in
-      let at = place_of queue.0 queues queue.1 in (
+  queue_marked st under queues n q there a =
+      let copy = among_map (λ (c : McCopy). c.packet) n q a in
+      let at = place_of q queues there in (
         mark copy.0 (st at.0),
-        gathered_among (λ i copies. marks_at (st i) copies) (mark copy.0 (st at.0)) queues at.0 queue.0 at.1 (map_among (λ (c : McCopy). mark c (st at.0)) copy.0 queue.0 copy.1),
+        gathered_among (λ i copies. marks_at (st i) copies) (mark copy.0 (st at.0)) queues at.0 q at.1 (map_among (λ (c : McCopy). mark c (st at.0)) copy.0 q copy.1),
         sym copy.2,
         under at.0,
       )
@@ -166,26 +134,26 @@ module _ (s : State) where
       of_hand c None some a' = absurd a'
 
   -- what follows wherever a packet is under way
-  by_list : {P : Type 0} (n : ℕ) → (Among n (flat_map packet_numbers_of s.unsent) → P) → (Among n (flat_map packet_numbers_of s.inputs) → P) →
-      (Among n (flat_map held_packets s.hands) → P) → (Among n (flat_map packet_numbers_of s.cores) → P) → Among n (under_way s) → P
+  by_list : {P : Type 0} (n : ℕ) → ((q : List McCopy) → Among q s.unsent → Among n (packet_numbers_of q) → P) → ((q : List McCopy) → Among q s.inputs → Among n (packet_numbers_of q) → P) →
+      (Among n (flat_map held_packets s.hands) → P) → ((q : List McCopy) → Among q s.cores → Among n (packet_numbers_of q) → P) → Among n (under_way s) → P
   by_list n at_start at_ports at_routers at_cores a =
-      elim (among_either n ((flat_map packet_numbers_of s.unsent ++ flat_map packet_numbers_of s.inputs) ++ flat_map held_packets s.hands) (flat_map packet_numbers_of s.cores) a) [
-        | inr b ↦ at_cores b
-        | inl b ↦ elim (among_either n (flat_map packet_numbers_of s.unsent ++ flat_map packet_numbers_of s.inputs) (flat_map held_packets s.hands) b) [
-          | inr d ↦ at_routers d
-          | inl d ↦ elim (among_either n (flat_map packet_numbers_of s.unsent) (flat_map packet_numbers_of s.inputs) d) [ inl e ↦ at_start e | inr e ↦ at_ports e ]
-        ]
+      elim (among_either n (flat_map packet_numbers_of ((s.unsent ++ s.inputs) ++ s.cores)) (flat_map held_packets s.hands) a) [
+        | inr b ↦ at_routers b
+        | inl b ↦ (let q = among_flat packet_numbers_of n ((s.unsent ++ s.inputs) ++ s.cores) b in elim (among_either q.0 (s.unsent ++ s.inputs) s.cores q.1) [
+          | inr d ↦ at_cores q.0 d q.2
+          | inl d ↦ elim (among_either q.0 s.unsent s.inputs d) [ inl e ↦ at_start q.0 e q.2 | inr e ↦ at_ports q.0 e q.2 ]
+        ])
       ]
 
   -- each of the packets under way has a mark
   has_mark : IsMesh s → (n : ℕ) → Among n (under_way s) → IsMarked n (marks_of s)
   has_mark mesh n a =
       by_list n
-      (λ b. let m = queue_marked unsent (λ i. tt) s.unsent n b in (m.0, among_left m.0 (unsent_marks s) (after_unsent s) m.1, m.2, m.3))
-      (λ b. let m = queue_marked (λ i. in_queue (chip_of s.setup.machine (i / 7)) (port_of (i % 7))) (λ i. tt) s.inputs n b in
+      (λ q there b. let m = queue_marked unsent (λ i. tt) s.unsent n q there b in (m.0, among_left m.0 (unsent_marks s) (after_unsent s) m.1, m.2, m.3))
+      (λ q there b. let m = queue_marked (λ i. in_queue (chip_of s.setup.machine (i / 7)) (port_of (i % 7))) (λ i. tt) s.inputs n q there b in
       (m.0, in_after_unsent m.0 (among_left m.0 (input_marks s) (after_inputs s) m.1), m.2, m.3))
       (λ b. let m = hand_marked mesh n b in (m.0, in_after_unsent m.0 (in_after_inputs m.0 (among_left m.0 (all_hand_marks s) (after_hands s) m.1)), m.2, m.3))
-      (λ b. let m = queue_marked at_core (λ i. tt) s.cores n b in
+      (λ q there b. let m = queue_marked at_core (λ i. tt) s.cores n q there b in
       (m.0, in_after_unsent m.0 (in_after_inputs m.0 (among_right m.0 (all_hand_marks s) (after_hands s) (among_left m.0 (core_marks s) (after_cores s) m.1))), m.2, m.3)) a
     where
       in_after_unsent : (k : Mark) → Among k (after_unsent s) → Among k (marks_of s)
@@ -202,40 +170,19 @@ module _ (s : State) where
   pub listed_waits : IsMesh s → (app : LoadedApp) (n : ℕ) → is_packet_of app n ≡ true → Among n (under_way s) → WaitsIn s app n
   listed_waits mesh app n own a = let m = has_mark mesh n a in (own, (m.0, among_contains m.0 (marks_of s) m.1, m.2, m.3))
 
-  -- what a scan of all lists finds
-  pub scanned : (app : LoadedApp) (at_start at_ports at_cores : List (List McCopy)) (of_routers : List (Option Hand)) (a b c d : Option ℕ) →
-      at_start ≡ s.unsent → at_ports ≡ s.inputs → of_routers ≡ s.hands → at_cores ≡ s.cores → a ≡ lesser_of None (least_own_packet app (flat_map packet_numbers_of at_start)) →
-      b ≡ lesser_of a (least_own_packet app (flat_map packet_numbers_of at_ports)) → c ≡ lesser_of b (least_own_packet app (flat_map held_packets of_routers)) →
-      d ≡ lesser_of c (least_own_packet app (flat_map packet_numbers_of at_cores)) →
-      d ≡ least_own_packet app (under_way s)
-  scanned app at_start at_ports at_cores of_routers a b c d is_unsent is_inputs is_hands is_cores is_a is_b is_c is_d =
-      let two = least_more app None a b (flat_map packet_numbers_of at_start) (flat_map packet_numbers_of at_ports)
-      (flat_map packet_numbers_of at_start ++ flat_map packet_numbers_of at_ports) is_a is_b refl in
-      let three = least_more app None b c (flat_map packet_numbers_of at_start ++ flat_map packet_numbers_of at_ports) (flat_map held_packets of_routers)
-      ((flat_map packet_numbers_of at_start ++ flat_map packet_numbers_of at_ports) ++ flat_map held_packets of_routers) two is_c refl in
-      least_more app None c d ((flat_map packet_numbers_of at_start ++ flat_map packet_numbers_of at_ports) ++ flat_map held_packets of_routers)
-      (flat_map packet_numbers_of at_cores) (under_way s) three is_d
-      (sym (ap (λ l. ((flat_map packet_numbers_of l ++ flat_map packet_numbers_of at_ports) ++ flat_map held_packets of_routers) ++ flat_map packet_numbers_of at_cores) is_unsent
-      ∙ (ap (λ l. ((flat_map packet_numbers_of s.unsent ++ flat_map packet_numbers_of l) ++ flat_map held_packets of_routers) ++ flat_map packet_numbers_of at_cores) is_inputs
-      ∙ (ap (λ l. ((flat_map packet_numbers_of s.unsent ++ flat_map packet_numbers_of s.inputs) ++ flat_map held_packets l) ++ flat_map packet_numbers_of at_cores) is_hands
-      ∙ ap (λ l. ((flat_map packet_numbers_of s.unsent ++ flat_map packet_numbers_of s.inputs) ++ flat_map held_packets s.hands) ++ flat_map packet_numbers_of l) is_cores))))
-
   -- what these vertices have unsent is all that is under way, where they alone have packets unsent
   in_sender : (vertices : List ℕ) → SendAlone vertices s → (n : ℕ) → Among n (under_way s) → Among n (flat_map (unsent_numbers s.unsent) vertices)
   in_sender vertices alone n a =
       by_list n
-      (λ e.
-      let queue = among_flat packet_numbers_of n s.unsent e in
-      let at = place_of queue.0 s.unsent queue.1 in
-      flat_among (unsent_numbers s.unsent) n vertices at.0 (contains_among at.0 vertices (sender_of at.0 queue.0 at.1 queue.2))
-      (subst (λ (q : List McCopy). Among n (packet_numbers_of q)) (sym (get_or_from_slice_get s.unsent at.0 queue.0 [] at.1)) queue.2))
-      (λ e. absurd (no_copies s.inputs n alone.quiet.inputs_empty e)) (λ d. absurd (no_hands s.hands n alone.quiet.hands_empty d)) (λ b. absurd (no_copies s.cores n alone.quiet.cores_empty b)) a
+      (λ q there e.
+      let at = place_of q s.unsent there in
+      flat_among (unsent_numbers s.unsent) n vertices at.0 (contains_among at.0 vertices (sender_of at.0 q at.1 e))
+      (subst (λ (l : List McCopy). Among n (packet_numbers_of l)) (sym (get_or_from_slice_get s.unsent at.0 q [] at.1)) e))
+      (no_copies s.inputs alone.quiet.inputs_empty) (λ d. absurd (no_hands s.hands n alone.quiet.hands_empty d)) (no_copies s.cores alone.quiet.cores_empty) a
     where
-      no_copies : (queues : List (List McCopy)) (m : ℕ) → All (λ (q : List McCopy). q ≡ []) queues → Among m (flat_map packet_numbers_of queues) → ⊥
-      no_copies queues m empty b =
-          let queue = among_flat packet_numbers_of m queues b in
-          let none = All-contains (λ (q : List McCopy). q ≡ []) queues queue.0 empty (among_contains queue.0 queues queue.1) in
-          subst (λ (q : List McCopy). Among m (packet_numbers_of q)) none queue.2
+      no_copies : {P : Type 0} (queues : List (List McCopy)) → All (λ (q : List McCopy). q ≡ []) queues → (q : List McCopy) → Among q queues → Among n (packet_numbers_of q) → P
+      no_copies queues empty q there b =
+          absurd (subst (λ (l : List McCopy). Among n (packet_numbers_of l)) (All-contains (λ (l : List McCopy). l ≡ []) queues q empty (among_contains q queues there)) b)
 
       no_hands : (hands : List (Option Hand)) (m : ℕ) → All (λ (h : Option Hand). h ≡ None) hands → Among m (flat_map held_packets hands) → ⊥
       no_hands hands m empty b = grind (arith, among_flat held_packets m hands b, among_contains (among_flat held_packets m hands b).0 hands (among_flat held_packets m hands b).1, All-contains, Among)
@@ -249,7 +196,7 @@ module _ (s : State) where
       let v = among_flat (unsent_numbers s.unsent) n vertices a in
       let there = All-contains (λ w. w < length s.setup.spots) vertices v.0 alone.there (among_contains v.0 vertices v.1) in
       let at = slice_get-get_or s.unsent v.0 [] (omega (arith, there, mesh.unsent_lists)) in
-      in_unsent n (flat_among packet_numbers_of n s.unsent (get_or s.unsent v.0 []) (among_at s.unsent v.0 (get_or s.unsent v.0 []) at) v.2)
+      of_unsent (get_or s.unsent v.0 []) n (among_at s.unsent v.0 (get_or s.unsent v.0 []) at) v.2
 
   -- so where a list has all that are under way, the least found in it is the least that waits, and where none is found, none waits
   module _ (app : LoadedApp) (own : List ℕ) (all : (n : ℕ) → Among n (under_way s) → Among n own) (o : Option ℕ) (is : o ≡ least_own_packet app own) where

@@ -4,9 +4,9 @@ use Rattle.app_loads.proofs.Common.{Contains-later, Description, Entry, Exit, Ha
 use Rattle.app_loads.proofs.Common.{MeetsLedgerFor, NetPlan, None, NoneUnderWay, Option, Some, Spot, State, Station, [], all_hand_marks, all_nets, among_contains, among_gathered, among_left}
 use Rattle.app_loads.proofs.Common.{among_map, among_right, and_from, and_parts, ap, arith, asked_at, asked_by, asked_of, asked_of_app, asked_parts, cases_Bool, cases_lt, chip_of, cond}
 use Rattle.app_loads.proofs.Common.{contains_among, core_marks, count_by, delivered_marks, dumped_marks, either, eq-eqb, eqb-true, false, filter, filter-append, hand_marks, if◌then◌else◌, in_hand}
-use Rattle.app_loads.proofs.Common.{in_queue, inl, input_marks, inr, is_on_trail, is_packet_of, is_packet_on_trail, label_of, leb, leb-true, length, lt-ltb, ltb, ltb-true, mark, marks_at, marks_of}
-use Rattle.app_loads.proofs.Common.{mesh_without, nat_tests, net_in_list, nets_of, not, not-true, one_net, others_than, port_of, refl, slice_get_past, subst, sym, true, unsent_marks, ℕ, ◌%◌, ◌++◌}
-use Rattle.app_loads.proofs.Common.{◌+◌, ◌-◌, ◌/◌, ◌<◌, ◌==◌, ◌∙◌, ◌∷◌, ◌≡◌, ◌≢◌, ◌≤◌, ◌⊎◌}
+use Rattle.app_loads.proofs.Common.{inl, input_marks, inr, is_on_trail, is_packet_of, is_packet_on_trail, label_of, leb, leb-true, length, lt-ltb, ltb, ltb-true, mark, marks_of, mesh_without}
+use Rattle.app_loads.proofs.Common.{nat_tests, net_in_list, nets_of, not, not-true, one_net, others_than, refl, slice_get_past, subst, sym, true, unsent_marks, ℕ, ◌++◌, ◌+◌, ◌-◌, ◌<◌, ◌==◌, ◌∙◌, ◌∷◌}
+use Rattle.app_loads.proofs.Common.{◌≡◌, ◌≢◌, ◌≤◌, ◌⊎◌}
 use Rattle.app_loads.proofs.{Ledgers.own_net, LeavingLists.after_cores, LeavingLists.after_hands, LeavingLists.after_inputs, LeavingLists.after_unsent, LeavingLists.filter_stays}
 use Rattle.app_loads.proofs.{LeavingLists.filter_of_map, LeavingLists.count_of_filter, LeavingLists.either_pair, Others.All-left_in, Others.AllPairs-left_in, Others.Contains-left_in, Others.only_one}
 
@@ -26,11 +26,7 @@ module _ (s : State) where
   unsent_under_way k a = grind (arith, among_gathered, among_map, mark, under_way_by)
 
   pub inputs_under_way : (k : Mark) → Among k (input_marks s) → IsUnderWayAt k.station
-  inputs_under_way k a =
-      let at = among_gathered (λ i (q : List McCopy). marks_at (in_queue (chip_of s.setup.machine (i / 7)) (port_of (i % 7))) q) k s.inputs a in
-      let place : Station = in_queue (chip_of s.setup.machine (at.0 / 7)) (port_of (at.0 % 7)) in
-      let m = among_map (λ (c : McCopy). mark c place) k at.1 at.3 in
-      under_way_by k m.0 place tt m.2
+  inputs_under_way k a = grind (arith, among_gathered, among_map, mark, under_way_by)
 
   pub hands_under_way : (k : Mark) → Among k (all_hand_marks s) → IsUnderWayAt k.station
   hands_under_way k a =

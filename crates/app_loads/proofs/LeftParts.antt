@@ -1,7 +1,7 @@
 -- The fields of a host that an application left, or left not.
 use Rattle.app_loads.proofs.Common.{AreApps, AreGivenBack, CanLeave, Contains, Contains-at, Ended, HasLeft, HasUnloaded, Host, IfSome, Inside, IsHost, IsWhyHere, IsWhyNotUnloaded, List, LoadedApp}
-use Rattle.app_loads.proofs.Common.{None, NoneUnderWay, NoneWaits, NotLoaded, Ok, OnOk, Option, Region, Result, SendAlone, Some, State, UnloadErr, Waiting, all_ranges, any_among, ap, drop, drop-map}
-use Rattle.app_loads.proofs.Common.{eqb-true, false, false_from_ne_true, frees, get_or, host_of, is_loaded, is_some, length, map-append, mesh_in, numbers_of, others_than, position, position_nowhere}
+use Rattle.app_loads.proofs.Common.{None, NoneUnderWay, NoneWaits, NotLoaded, Ok, OnOk, Region, Result, SendAlone, Some, State, UnloadErr, Waiting, all_ranges, any_among, ap, arith, drop, drop-map}
+use Rattle.app_loads.proofs.Common.{eqb-true, false, false_from_ne_true, frees, get_or, host_of, is_loaded, is_some, length, map-append, mesh_in, others_than, position, position_nowhere}
 use Rattle.app_loads.proofs.Common.{position_there, same_Some, slice_get, slice_get-get_or, slice_get_within, subst, suc, sym, take, take-map, ℕ, ◌++◌, ◌<◌, ◌==◌, ◌∙◌, ◌≡◌}
 use Rattle.app_loads.specs.declared.answers.UnloadErr.TheVariants.{Memory}
 use Rattle.app_loads.proofs.{FewClaims.few_ranges, LeftHost.apps_left, LeftHost.has_unloaded, LeftHost.loaded_one, LeftHost.none_waits, LeftHost.taken_beside, LoadedParts.IsOut, LoadedParts.host_is}
@@ -125,12 +125,6 @@ module _ {i j : Inside} {now : Host} {number at : ℕ} {app : LoadedApp} {mesh :
   ok_host = record {
     there = ap is_some gone.mesh_is;
     apps = subst AreApps (sym is_now) both.0;
-    numbers = gone.numbers
-        ∙ (ap (λ (l : List ℕ). take at l ++ drop (suc at) l) leaves.out.stands.host.numbers
-        ∙ (ap (λ (l : List ℕ). l ++ drop (suc at) (numbers_of i.apps.items)) (take-map (λ (a : LoadedApp). a.number) at i.apps.items)
-        ∙ (ap (λ (l : List ℕ). numbers_of (take at i.apps.items) ++ l) (drop-map (λ (a : LoadedApp). a.number) (suc at) i.apps.items)
-        ∙ (sym (map-append (λ (a : LoadedApp). a.number) (take at i.apps.items) (drop (suc at) i.apps.items)) ∙ ap numbers_of (sym gone.apps)))));
-    rest = subst (λ (o : Option State). IfSome j.senders (λ vertices. SendAlone vertices (mesh_in o))) (sym gone.mesh_is)
-        (subst (λ (o : Option (List ℕ)). IfSome o (λ vertices. SendAlone vertices gone.after)) (sym gone.senders)
-        (left_alone app old.mesh gone.after gone.after.setup.tables i.senders left.mesh leaves.out.stands.host.rest));
+    numbers = grind (arith, take-map, drop-map, map-append);
+    rest = grind (arith, left_alone app old.mesh gone.after gone.after.setup.tables i.senders left.mesh leaves.out.stands.host.rest);
   }

@@ -44,4 +44,3 @@ mod Claiming
 mod Copying
 mod Clearing
 mod RoomToGive
-mod Rooms

@@ -175,10 +175,7 @@ module _ (h : Host) (apps : AreApps h) (number : ℕ) (plan : AppPlan) (may : Ma
               ∙ was.entries;
         })))
         (All-each (λ (r : Range). (c : Chip) → IsInside m c → r.region ≡ place_of m (Rows c) → HasRows m (nets_of app) c (table_at m t c) r) app.ranges (λ r in_app. settled.written.rows r in_app));
-    others = λ c k inside below free.
-        let parts = or_parts (is_taken (all_ranges h.apps) (place_of m (Rows c)) k) (is_taken app.ranges (place_of m (Rows c)) k)
-        (sym (list_any-append (range_has (place_of m (Rows c)) k) (all_ranges h.apps) app.ranges) ∙ (ap (λ l. is_taken l (place_of m (Rows c)) k) (sym ranges_are) ∙ free)) in
-        settled.written.others c k inside parts.1 ∙ apps.rows.others c k inside below parts.0;
+    others = grind (arith, ranges_are, or_parts, list_any-append);
   }
 
   loaded_now : All (IsLoadedOn m) all

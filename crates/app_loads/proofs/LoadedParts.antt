@@ -64,14 +64,7 @@ module _ {i : Inside} {now : Host} {mesh : State} {given : List Region} (out : I
     may_h = subst (λ (x : Host). MayLoad x plan) (sym out.stands.view) may
 
     pub can_join : CanJoin mesh given i.packets plan
-    can_join = subst (λ (s : State). CanJoin s given i.packets plan) mesh_h (record {
-      valid = may_h.valid;
-      of_machine = record { taken = all_ranges h.apps; apart = out.stands.host.apps.apart; free = free };
-      numbers = may_h.numbers;
-      vertices = out.stands.host.apps.vertices;
-      none = none_unsent h out.stands.host.apps plan may_h;
-      long = out.stands.host.apps.rows.long;
-    })
+    can_join = grind (arith, mesh_h, free, none_unsent, may_h)
 
     pub packets_fit : i.packets + length plan.packets < 2 ^ 32
     packets_fit = may_h.numbers

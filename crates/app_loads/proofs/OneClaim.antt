@@ -1,8 +1,9 @@
 -- Each net of a plan has one claim of keys, and so one block.
-use Rattle.app_loads.proofs.Common.{AppNet, AppPlan, Block, Bool, Claim, Description, IsBlockOf, Keys, List, LoadRefusal, Memory, None, Option, Range, Rows, Some, [], among_at, ap, arith, chip_count}
-use Rattle.app_loads.proofs.Common.{chip_of, claims_of, count_by, count_by-append, count_by-cons, count_some, counts_one, eq-eqb, eqb-true, false, fixed_claim, flat_map, gathered, has_chip}
-use Rattle.app_loads.proofs.Common.{if◌then◌else◌, key_claim, memory_claim, ne_eqb, range_with_len, refl, row_claim, same_Some, same_block, size_for, size_of, slice_get, suc, sym, true, zero, zip, ℕ}
-use Rattle.app_loads.proofs.Common.{◌++◌, ◌+◌, ◌<◌, ◌==◌, ◌∙◌, ◌∷◌, ◌≡◌, ◌≤◌}
+use Rattle.app_loads.proofs.Common.{AppNet, AppPlan, Block, Bool, Claim, Description, IsBlockOf, Keys, List, LoadRefusal, None, Option, Range, Rows, Some, [], among_at, ap, arith, chip_count, chip_of}
+use Rattle.app_loads.proofs.Common.{claims_of, count_by, count_by-append, count_by-cons, count_some, counts_one, eq-eqb, eqb-true, false, fixed_claim, flat_map, gathered, has_chip, if◌then◌else◌}
+use Rattle.app_loads.proofs.Common.{key_claim, memory_claim, ne_eqb, range_with_len, refl, row_claim, same_Some, same_block, size_for, size_of, slice_get, suc, sym, true, zero, zip, ℕ, ◌++◌, ◌+◌, ◌<◌}
+use Rattle.app_loads.proofs.Common.{◌==◌, ◌∙◌, ◌∷◌, ◌≡◌, ◌≤◌}
+use Rattle.app_loads.specs.declared.places.Region.TheVariants.{Memory}
 use Rattle.app_loads.specs.declared.answers.LoadRefusal.TheVariants as refusals
 
 -- whether a claim is for the keys of a net

@@ -31,11 +31,8 @@ module _ (app : LoadedApp) (asked : ℕ → Option Asked) where
   upto_at : (n j : ℕ) → app.first ≤ j → j < app.first + n → upto n j ≡ asked_by (nets_of app) app.plan.packets (j - app.first)
   upto_at zero j low high = absurd (omega (arith, low, high))
   upto_at (suc n) j low high = elim (cases_eq j (app.first + n)) [
-    | inl same ↦
-        let place : j - app.first ≡ n = omega (arith, same) in
-        ap (λ b. if b then asked_by (nets_of app) app.plan.packets n else upto n j) (eq-eqb j (app.first + n) same) ∙ ap (asked_by (nets_of app) app.plan.packets) (sym place)
-    | inr other ↦
-        ap (λ b. if b then asked_by (nets_of app) app.plan.packets n else upto n j) (ne_eqb j (app.first + n) other) ∙ upto_at n j low (omega (arith, high, other))
+    | inl same ↦ grind (arith, eq-eqb j (app.first + n) same)
+    | inr other ↦ grind (arith, ne_eqb j (app.first + n) other, upto_at n j low (omega (arith, high, other)))
   ]
 
   module _ (s : State) (nets : List NetPlan) (ledger : MeetsLedgerFor s nets asked) (none : (i : ℕ) → app.first ≤ i → asked i ≡ None)
@@ -86,8 +83,7 @@ none_past (a ∷ apps) packets j counted past =
 
 pub asked_is : (apps : List LoadedApp) (app : LoadedApp) → ((i : ℕ) → app.first ≤ i → asked_of apps i ≡ None) → (j : ℕ) →
     upto app (asked_of apps) (length app.plan.packets) j ≡ asked_of (apps ++ app ∷ []) j
-asked_is apps app none j =
-    grind (arith, cases_lt j app.first, either_none (asked_of apps j), asked_more apps app j, cases_lt j (app.first + length app.plan.packets), upto_else, lt-leb, upto_at, le-leb, past_app)
+asked_is apps app none j = grind (arith, cases_lt, either_none, asked_more, upto_else, lt-leb, upto_at, le-leb, past_app)
 
 -- the ledger holds of the same packets, whatever the tables
 pub same_packets : (s : State) (nets : List NetPlan) (f g : ℕ → Option Asked) → ((j : ℕ) → f j ≡ g j) → MeetsLedgerFor s nets f → MeetsLedgerFor s nets g

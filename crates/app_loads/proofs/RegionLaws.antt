@@ -1,7 +1,6 @@
 -- What serving a claim in its region answers, from what the region's calls promise.
-use Rattle.app_loads.proofs.Common.{AreRuns, Claim, Err, Free, HasNoFit, Hole, IfNone, IfOk, IfSome, IsFirstFit, IsFreeBeside, List, None, Ok, Option, RefusesClaim, Region, Result, ServesClaim, Some}
-use Rattle.app_loads.proofs.Common.{false, free_places_in, in_range, is_free, is_hole_range, not, place_of, refl, subst, sym, true, ℕ, ◌%◌, ◌&&◌, ◌<◌, ◌≡◌}
-use Rattle.spin_base.specs.declared.wants.Memory.{Memory}
+use Rattle.app_loads.proofs.Common.{AreRuns, Claim, Err, Free, HasNoFit, Hole, IfNone, IfOk, IfSome, IsFirstFit, IsFreeBeside, List, Memory, None, Ok, Option, RefusesClaim, Region, Result}
+use Rattle.app_loads.proofs.Common.{ServesClaim, Some, false, free_places_in, in_range, is_free, is_hole_range, not, place_of, refl, subst, sym, true, ℕ, ◌%◌, ◌&&◌, ◌<◌, ◌≡◌}
 use Rattle.app_loads.proofs.Taking.{taken_more, least_from_fit, refused_from_fit, least_from_fixed, refused_from_fixed}
 
 module _ (claim : Claim) (before after : Region) (some : 0 < claim.size) (size : after.size ≡ before.size) (runs : AreRuns 0 after.size after.holes) where

@@ -4,9 +4,9 @@ use Rattle.app_loads.proofs.Common.{Contains-map, Contains-none, Contains-permut
 use Rattle.app_loads.proofs.Common.{IsLoadedOn, IsOriginalOf, IsOutput, IsPermutation-sym, IsPlainTable, IsRangeFor, IsRoutingTree, List, LoadedApp, NetPlan, Original, Out, Port, Range, Route}
 use Rattle.app_loads.proofs.Common.{RoutesByTree, Row, Rows, Some, [], all_nets, all_ranges, among_contains, and_parts, and_zero_r, ap, arith, bit_and, cases_Bool, chip_of, chip_of-index_of}
 use Rattle.app_loads.proofs.Common.{chip_of-inside, chips_inside, claims_of, comes_in_tree, cond, contains_among, count_by, count_some, default_route, drop, entry_of, eq-eqb, eqb-true, false}
-use Rattle.app_loads.proofs.Common.{false≢true, find, from_net, get_or, has, has_chip, has_original, in_range, index_below, index_of, index_of-chip_of, inl, inr, is_taken, is_wanted, leb, leb-true}
-use Rattle.app_loads.proofs.Common.{length, ltb, ltb-true, map, matches, nets_of, one_net, option_map_or, place_of, range_has, refl, row_of, same_Some, slice_get, slice_get-get_or, slice_get-mapped}
-use Rattle.app_loads.proofs.Common.{subst, suc, sym, table_at, take, true, unmapped, unused, zero, ℕ, ◌*◌, ◌+◌, ◌-◌, ◌<◌, ◌==◌, ◌∙◌, ◌∷◌, ◌≡◌, ◌≤◌}
+use Rattle.app_loads.proofs.Common.{false≢true, find, from_net, get_or, has, has_chip, has_original, index_below, index_of, index_of-chip_of, inl, inr, is_taken, is_wanted, leb-true, length, ltb-true}
+use Rattle.app_loads.proofs.Common.{map, matches, nets_of, one_net, option_map_or, place_of, range_has, refl, row_of, same_Some, slice_get, slice_get-get_or, slice_get-mapped, subst, suc, sym}
+use Rattle.app_loads.proofs.Common.{table_at, take, true, unmapped, unused, zero, ℕ, ◌*◌, ◌+◌, ◌-◌, ◌<◌, ◌==◌, ◌∙◌, ◌∷◌, ◌≡◌, ◌≤◌}
 use Rattle.spin_base.specs.Lookup.{lookup}
 use Rattle.app_loads.proofs.{AppNets.facts_of, AppNets.member_at, AppNets.spot_inside, ClaimCases.among_flat, ClaimCases.flat_among, ClaimCases.chip_claim, Serving.by_taken, Settling.has_chip-true}
 
@@ -16,8 +16,7 @@ found : (key : ℕ) (o : Out) (w : Bool) (other : Route) (es : List Entry) → (
     matches x key ≡ true → has (option_map_or (λ (e : Entry). e.route) (find (λ (e : Entry). matches e key) es) other) o ≡ w
 found key o w other [] each x there hit = absurd (Contains-none x there)
 found key o w other (e ∷ es) each x there hit = elim (cases_Bool (matches e key)) [
-  | inl mine ↦
-      ap (λ b. has (option_map_or (λ (e' : Entry). e'.route) (cond b (Some e) (find (λ (e' : Entry). matches e' key) es)) other) o) mine ∙ each e (Contains-first e es) mine
+  | inl mine ↦ grind (arith, Contains-first e es)
   | inr not_mine ↦
       ap (λ b. has (option_map_or (λ (e' : Entry). e'.route) (cond b (Some e) (find (λ (e' : Entry). matches e' key) es)) other) o) not_mine
       ∙ found key o w other es (λ l has_l. each l (Contains-later e es l has_l)) x (elim (Contains-cases e es x there) [
@@ -46,10 +45,7 @@ of_part (y ∷ ys) zero (suc s) (suc j) x e = let z : 0 + suc j ≡ suc (0 + j) 
 of_part (y ∷ ys) (suc p) s j x e = let z : suc p + j ≡ suc (p + j) = omega arith in ap (slice_get (y ∷ ys)) z ∙ of_part ys p s j x e
 
 in_parts : (range : Range) (region k : ℕ) → range_has region k range ≡ true → (range.region ≡ region) × (range.place ≤ k) × (k < range.place + range.size)
-in_parts range region k e =
-    let parts = and_parts (range.region == region) (in_range range.place range.size k) e in
-    let inside = and_parts (leb range.place k) (ltb k (range.place + range.size)) parts.1 in
-    (eqb-true range.region region parts.0, leb-true range.place k inside.0, ltb-true k (range.place + range.size) inside.1)
+in_parts range region k e = grind (arith, and_parts, eqb-true, leb-true, ltb-true)
 
 module _ (m : Description) (tables : List (List Entry)) (apps : List LoadedApp) (loaded : All (IsLoadedOn m) apps) (disjoint : HaveDisjointBlocks (all_nets apps)) (rows : HaveRows m tables apps) where
   -- the net of an application
@@ -86,10 +82,7 @@ module _ (m : Description) (tables : List (List Entry)) (apps : List LoadedApp) 
         let y : NetPlan = get_or (nets_of app) from.0 x in
         let in_y = in_all app y in_apps (Contains-at (nets_of app) from.0 y (slice_get-get_or (nets_of app) from.0 x from.1)) in
         let block_is : row.block ≡ y.block = ap (λ (z : Row). z.block) (sym made.2) ∙ its.keys in
-        let y_key : IsKeyOf y.block key = record {
-          fits = keyed.fits;
-          matches = ap (λ (b : Block). bit_and key b.mask) (sym block_is) ∙ (eqb-true (bit_and key row.block.mask) row.block.key hit ∙ ap (λ (b : Block). b.key) block_is);
-        } in
+        let y_key : IsKeyOf y.block key = grind (arith, eqb-true (bit_and key row.block.mask) row.block.key hit, bit_and key row.block.mask) in
         let same : y ≡ x = one_net (all_nets apps) disjoint y x in_y in_x key y_key keyed in
         (made.0, subst (λ (n : NetPlan). IsOriginalOf m n c made.0) same its, made.2)
 

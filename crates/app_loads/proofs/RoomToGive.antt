@@ -1,6 +1,6 @@
 -- Room made in regions for ranges that are to be given back.
-use Rattle.app_loads.proofs.Common.{All, HaveRoom, List, Range, Region, Some, [], ap, arith, count_by-le-length, free_places_in, frees, get_or, inl, inr, length, length-take, map-set, set-slice_get}
-use Rattle.app_loads.proofs.Common.{slice_get, slice_get-get_or, slice_get-mapped, slice_set, sym, take, take_more_at, ℕ, ◌++◌, ◌+◌, ◌<◌, ◌∙◌, ◌∷◌, ◌≡◌, ◌≢◌, ◌≤◌}
+use Rattle.app_loads.proofs.Common.{All, HaveRoom, List, Range, Region, Some, [], ap, arith, count_by-le-length, frees, get_or, inl, inr, length, length-take, map-set, set-slice_get, slice_get}
+use Rattle.app_loads.proofs.Common.{slice_get-get_or, slice_get-mapped, slice_set, sym, take, take_more_at, ℕ, ◌++◌, ◌+◌, ◌<◌, ◌∙◌, ◌∷◌, ◌≡◌, ◌≢◌, ◌≤◌}
 use Rattle.app_loads.proofs.{Serving.counted_push, Serving.more_here, Serving.none_elsewhere, Serving.of_region, Serving.set_cases, RegionLaws.one_free}
 
 module _ (ranges : List Range) {i : ℕ} (d : Range) (below : i < length ranges) where
@@ -39,16 +39,10 @@ module _ (ranges : List Range) {i : ℕ} (d : Range) (below : i < length ranges)
     at_place = slice_get-get_or regions range.region e there
 
     pub frees_still : frees (slice_set regions range.region after) ≡ frees regions
-    frees_still =
-        map-set free_places_in regions range.region after
-        ∙ (ap (slice_set (frees regions) range.region) (one_free after.size before.size after.holes before.holes same.0 same.1)
-        ∙ set-slice_get (frees regions) range.region (free_places_in before) (slice_get-mapped free_places_in regions range.region before at_place))
+    frees_still = grind (arith, map-set, one_free, set-slice_get, slice_get-mapped, at_place)
 
     pub room_more : HaveRoom (take i ranges) regions → of_region range.region (take (i + 1) ranges) ≤ after.spare → HaveRoom (take (i + 1) ranges) (slice_set regions range.region after)
     room_more room enough k region at = elim (set_cases regions range.region k before after region at_place at) [
-      | inl mine ↦
-          let spare : region.spare ≡ after.spare = ap (λ (x : Region). x.spare) mine.1 in
-          let number : of_region k (take (i + 1) ranges) ≡ of_region range.region (take (i + 1) ranges) = ap (λ r. of_region r (take (i + 1) ranges)) mine.0 in
-          omega (arith, spare, number, enough)
+      | inl mine ↦ grind (arith, of_region)
       | inr other ↦ let was = room k region other.1 in let count = elsewhere k other.0 in omega (arith, was, count)
     ]

@@ -1,12 +1,11 @@
 -- How many entries nets need of a chip, counted in the list of the chips of their trees.
 use Rattle.app_loads.proofs.Common.{All, All-at, All-cons, All-contains, All-flat_map, All-head, All-nil, All-permutation, All-tail, All-weaker, AllPairs, AllPairs-head, AllPairs-tail, AppNet, Bool}
-use Rattle.app_loads.proofs.Common.{Chip, Claim, Description, Edge, Err, HasTree, HasTreeInside, IsInside, IsPermutation, IsRunEnd, List, None, Ok, OnOk, Option, Result, Some, [], among_contains}
-use Rattle.app_loads.proofs.Common.{any_among, ap, append-nil, append_assoc, arith, cases_eq, cases_lt, chip_count, chip_eq, chip_eq-from_same, chip_eq_true, chip_of, chip_of-inside, chip_places}
-use Rattle.app_loads.proofs.Common.{count_by, count_by-append, count_by-cons, end_of, end_places, entries_claim, eq-eqb, false, false_from_ne_true, far_inside, flat_map, flat_map-append}
+use Rattle.app_loads.proofs.Common.{Chip, Claim, Description, Edge, Err, HasTree, HasTreeInside, IsInside, IsPermutation, IsRunEnd, List, Memory, None, Ok, OnOk, Option, Result, Some, []}
+use Rattle.app_loads.proofs.Common.{among_contains, any_among, ap, append-nil, append_assoc, arith, cases_eq, cases_lt, chip_count, chip_eq, chip_eq-from_same, chip_eq_true, chip_of, chip_of-inside}
+use Rattle.app_loads.proofs.Common.{chip_places, count_by, count_by-append, count_by-cons, end_of, end_places, entries_claim, eq-eqb, false, false_from_ne_true, far_inside, flat_map, flat_map-append}
 use Rattle.app_loads.proofs.Common.{flat_map_more, get_or, get_or_from_slice_get, has_chip, index_below, index_of, index_of-chip_of, inl, inr, length, list_any, live_ends, live_inside, ne_eqb}
 use Rattle.app_loads.proofs.Common.{option_map_or, range_with_len, refl, row_claim, run_claim, same_index, slice_get, slice_get_there, slice_get_within, suc, sum_by, sum_by-IsPermutation, sum_by-cons}
 use Rattle.app_loads.proofs.Common.{sym, take, take_more_at, tree_places, true, zero, ℕ, ◌*◌, ◌++◌, ◌+◌, ◌-◌, ◌<◌, ◌==◌, ◌||◌, ◌∙◌, ◌∷◌, ◌≡◌, ◌≢◌, ◌≤◌}
-use Rattle.spin_base.specs.declared.wants.Memory.{Memory}
 use Rattle.app_loads.proofs.LeavingLists.{one_if}
 
 -- of two tests at most one of which holds

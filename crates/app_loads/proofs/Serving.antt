@@ -47,9 +47,7 @@ module _ (ranges : List Range) (range : Range) where
   pub counted_push : (counts : List ℕ) (count next : ℕ) → slice_get counts range.region ≡ Some count → ((k n : ℕ) → slice_get counts k ≡ Some n → n ≡ of_region k ranges) → next ≡ count + 1 →
       (k n : ℕ) → slice_get (slice_set counts range.region next) k ≡ Some n → n ≡ of_region k (ranges ++ range ∷ [])
   counted_push counts count next there counted is k n at = elim (set_cases counts range.region k count next n there at) [
-    | inl mine ↦
-        let all : n ≡ of_region range.region (ranges ++ range ∷ []) = let value = mine.1 in omega (arith, value, is, counted range.region count there, more_here) in
-        all ∙ ap (λ r. of_region r (ranges ++ range ∷ [])) (sym mine.0)
+    | inl mine ↦ grind (arith, counted range.region count there, more_here)
     | inr other ↦ counted k n other.1 ∙ sym (none_elsewhere k other.0)
   ]
 
@@ -93,10 +91,7 @@ free_beside_more m taken old p before after range its beside at here = record {
 -- a range that is open for a claim shares no place with those that are taken
 apart_from_open : (m : Description) (taken : List Range) (claim : Claim) (place : ℕ) → IsOpenRange m taken claim place →
     (other : Range) → Contains taken other → ShareNoPlace other (range_at m claim place)
-apart_from_open m taken claim place may other has region k in_other in_mine =
-    let parts = and_parts ((place_of m claim.region) == region) (in_range place claim.size k) in_mine in
-    let region_is : (place_of m claim.region) ≡ region = eqb-true (place_of m claim.region) region parts.0 in
-    clash (taken_by taken (place_of m claim.region) k other has (subst (λ r. range_has r k other ≡ true) (sym region_is) in_other)) (may.untaken k parts.1)
+apart_from_open m taken claim place may other has region k in_other in_mine = grind (arith, and_parts, eqb-true, clash, taken_by)
 
 -- ---- one claim more is served
 
@@ -343,8 +338,7 @@ module _ (ranges : List Range) {others : List Range} {i : ℕ} {regions : List R
           let same : region.spare ≡ after.spare = ap (λ (x : Region). x.spare) mine.1 in
           let number : count_by (λ (x : Range). x.region == n) rest ≡ count_by (λ (x : Range). x.region == range.region) rest = ap (λ k. count_by (λ (x : Range). x.region == k) rest) mine.0 in
           omega (arith, room range.region before at_place, counted range.region, one, same, number, spare)
-      | inr other ↦
-          omega (arith, room n region other.1, counted n)
+      | inr other ↦ grind (arith, counted n)
     ]
 
 -- where all are given back, none is left

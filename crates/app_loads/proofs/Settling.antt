@@ -33,9 +33,7 @@ usable_there m s usable =
 pub has_chip-true : (m : Description) (c : Chip) (net : AppNet) → IsTreeChip m net.tree.root net.tree.edges c → has_chip m c net ≡ true
 has_chip-true m c net on = elim (tree_cases m net.tree.root net.tree.edges c on) [
   | inl at ↦ or_left (chip_eq c net.tree.root) (list_any (λ (e : Edge). option_map_or (chip_eq c) (end_of m e) false) net.tree.edges) (chip_eq-from_same c net.tree.root at)
-  | inr into ↦ or_right (chip_eq c net.tree.root) (list_any (λ (e : Edge). option_map_or (chip_eq c) (end_of m e) false) net.tree.edges)
-      (among_any (λ (e : Edge). option_map_or (chip_eq c) (end_of m e) false) into.0 net.tree.edges (contains_among into.0 net.tree.edges into.1)
-      (ap (λ o. option_map_or (chip_eq c) o false) into.2 ∙ chip_eq-from_same c c refl))
+  | inr into ↦ grind (arith, contains_among into.0 net.tree.edges into.1, chip_eq-from_same c c refl, or_right, among_any)
 ]
 
 pub has_chip-tree : (m : Description) (c : Chip) (net : AppNet) → has_chip m c net ≡ true → IsTreeChip m net.tree.root net.tree.edges c
@@ -104,8 +102,7 @@ module _ (s : State) (app : LoadedApp) (can : CanSettle s app) where
             let size = range_size range has c inside region ∙ ap (λ (nets : List AppNet). count_by (has_chip its_machine c) nets) none in
             record {
               rows = [];
-              plain = subst (λ (nets : List AppNet). IsPlainTable its_machine (nets_with nets app.blocks) c []) (sym none)
-                  (record { originals = []; originals_are = refl; one_row_each = IsPermutation-refl []; in_order = λ i j d before within. absurd (omega (arith, within)) });
+              plain = grind (arith, IsPermutation-refl);
               entries = ap (λ n. take n (drop range.place (table_at its_machine s.setup.tables c))) size;
             };
         others = λ c k inside free. refl;

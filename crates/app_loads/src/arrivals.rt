@@ -86,15 +86,7 @@ impl Arrivals {
 fn are_same(arrivals: &[Arrival], others: &[Arrival]) -> bool
     ensures { result ≡ true → others.now ≡ arrivals.now }
 {
-    if arrivals.len() != others.len() {
-        return false;
-    }
-    for (at, arrival) in arrivals.iter().enumerate() {
-        if !is_same(*arrival, others[at]) {
-            return false;
-        }
-    }
-    true
+    arrivals.len() == others.len() && arrivals.iter().zip(others).all(|(a, b)| is_same(*a, *b))
 }
 
 fn is_same(a: Arrival, b: Arrival) -> bool

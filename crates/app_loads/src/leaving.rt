@@ -1,5 +1,5 @@
 // What leaves a mesh with an application: its deliveries and dump records, once none of its packets is under way.
-ghost use Rattle.std.specs.Prelude.{◌≡◌, [], ◌∷◌, ◌++◌, not, if◌then◌else◌, ◌<◌, filter, All, length, IfOk, IfSome, IfNone, OnOk};
+ghost use Rattle.std.specs.Prelude.{◌≡◌, not, filter, IfOk, IfSome, IfNone};
 ghost use Rattle.std.specs.List.{flat_map};
 ghost use Rattle.mesh_core.specs.State.{IsMesh};
 ghost use Rattle.app_loads.specs.Running.{AreKnownIn};
@@ -9,14 +9,6 @@ use crate::loaded::LoadedApp;
 use mesh_core::{Hand, MeshParts};
 use spin_base::{Delivery, DumpRec, Fifo, McCopy, Memory, Seq};
 use std::alloc::Global;
-
-// Vertices, each of which has its queue among those of unsent copies.
-#[derive(Clone, Copy)]
-struct Senders<'a> {
-    unsent: &'a [Fifo<McCopy>],
-    vertices: &'a [usize],
-    ghost there: { All (λ v. v < length unsent.now) vertices.now },
-}
 
 /// What an application leaves: deliveries and dump records.
 #[derive(Drop)]
@@ -56,14 +48,15 @@ fn part_deliveries(
         (lists.0 ≡ filter (is_delivery_of app.now) deliveries.now)
         × (lists.1 ≡ filter (λ d. not (is_delivery_of app.now d)) deliveries.now)) }
 {
-    let mut own = Seq::new(alloc);
-    let mut others = Seq::new(alloc);
-    for delivery in deliveries {
-        let is_own = is_packet_of(app, delivery.copy.packet);
-        push_where(&mut own, *delivery, is_own)?;
-        push_where(&mut others, *delivery, !is_own)?;
-    }
-    Ok((own, others))
+    let all = deliveries.iter().copied();
+    let own = all
+        .filter(|d| is_packet_of(app, d.copy.packet))
+        .collect(alloc)?;
+    let all = deliveries.iter().copied();
+    let others = all
+        .filter(|d| !is_packet_of(app, d.copy.packet))
+        .collect(alloc)?;
+    Ok((Seq::from_vec(own), Seq::from_vec(others)))
 }
 
 // The dump records of the application's packets, and all others.
@@ -76,24 +69,15 @@ fn part_records(
         (lists.0 ≡ filter (is_record_of app.now) records.now)
         × (lists.1 ≡ filter (λ r. not (is_record_of app.now r)) records.now)) }
 {
-    let mut own = Seq::new(alloc);
-    let mut others = Seq::new(alloc);
-    for record in records {
-        let is_own = is_packet_of(app, record.copy.packet);
-        push_where(&mut own, *record, is_own)?;
-        push_where(&mut others, *record, !is_own)?;
-    }
-    Ok((own, others))
-}
-
-// Puts an item at the back of a list, where it belongs there.
-fn push_where<T: Copy>(list: &mut Seq<T>, item: T, belongs: bool) -> Result<(), Memory>
-    ensures { OnOk result (list.new ≡ list.old ++ (if belongs then item ∷ [] else [])) }
-{
-    if belongs {
-        list.push(item)?;
-    }
-    Ok(())
+    let all = records.iter().copied();
+    let own = all
+        .filter(|r| is_packet_of(app, r.copy.packet))
+        .collect(alloc)?;
+    let all = records.iter().copied();
+    let others = all
+        .filter(|r| !is_packet_of(app, r.copy.packet))
+        .collect(alloc)?;
+    Ok((Seq::from_vec(own), Seq::from_vec(others)))
 }
 
 // Whether a packet number is one of the application's.
@@ -115,27 +99,35 @@ pub(crate) fn least_waiting<'x>(
     ensures none { IfNone result (NoneUnderWay parts.now app.now) }
 {
     match senders {
-        Some(known) => {
-            let unsent = parts.unsent.as_slice();
-            let vertices = known.as_slice();
-            let these = Senders { unsent, vertices };
-            least_unsent(these, app)
-        }
+        Some(known) => least_unsent(parts.unsent.as_slice(), known.as_slice(), app),
         None => least_of_all(parts, app),
     }
 }
 
 // The least of the application's packets that these vertices have not sent.
-fn least_unsent(senders: Senders, app: &LoadedApp) -> Option<u32>
+fn least_unsent(unsent: &[Fifo<McCopy>], vertices: &[usize], app: &LoadedApp) -> Option<u32>
     ensures { result ≡ least_own_packet app.now
-        (flat_map (unsent_numbers senders.entry.unsent.now) senders.entry.vertices.now) }
+        (flat_map (unsent_numbers unsent.now) vertices.now) }
 {
-    let unsent = senders.unsent;
-    let mut least = None;
-    for vertex in senders.vertices {
-        least = least_in(unsent[*vertex].as_slice(), app, least);
+    vertices.iter().fold(None, |least, vertex| {
+        least_of_vertex(unsent, *vertex, app, least)
+    })
+}
+
+// The lesser of the least so far and the least of the application's packets that a vertex has not sent.
+fn least_of_vertex(
+    unsent: &[Fifo<McCopy>],
+    vertex: usize,
+    app: &LoadedApp,
+    so_far: Option<u32>,
+) -> Option<u32>
+    ensures { result
+        ≡ lesser_of so_far (least_own_packet app.now (unsent_numbers unsent.now vertex)) }
+{
+    match unsent.get(vertex) {
+        Some(queue) => least_in(queue.as_slice(), app, so_far),
+        None => so_far,
     }
-    least
 }
 
 // The least of all packets of the application that are unsent or wait anywhere.
@@ -143,33 +135,20 @@ fn least_of_all(parts: &MeshParts, app: &LoadedApp) -> Option<u32>
     ensures some { IsMesh parts.now → IfSome result (IsLeastUnderWay parts.now app.now) }
     ensures none { IfNone result (NoneUnderWay parts.now app.now) }
 {
-    let unsent = least_in_queues(parts.unsent.as_slice(), app, None);
-    let inputs = least_in_queues(parts.inputs.as_slice(), app, unsent);
-    let hands = least_in_hands(parts.hands.as_slice(), app, inputs);
-    least_in_queues(parts.cores.as_slice(), app, hands)
+    let sources = parts.unsent.as_slice().iter();
+    let queues = sources.chain(parts.inputs.as_slice());
+    let all = queues.chain(parts.cores.as_slice());
+    let least = all.fold(None, |least, queue| least_in(queue.as_slice(), app, least));
+    least_in_hands(parts.hands.as_slice(), app, least)
 }
 
-// The lesser of the least so far and the least of the application's packets in these queues.
-fn least_in_queues(queues: &[Fifo<McCopy>], app: &LoadedApp, so_far: Option<u32>) -> Option<u32>
-    ensures { result
-        ≡ lesser_of so_far (least_own_packet app.now (flat_map packet_numbers_of queues.now)) }
-{
-    let mut least = so_far;
-    for queue in queues {
-        least = least_in(queue.as_slice(), app, least);
-    }
-    least
-}
-
-// The same of the copies of one queue.
+// The lesser of the least so far and the least of the application's packets in a queue.
 fn least_in(copies: &[McCopy], app: &LoadedApp, so_far: Option<u32>) -> Option<u32>
     ensures { result ≡ lesser_of so_far (least_own_packet app.now (packet_numbers_of copies.now)) }
 {
-    let mut least = so_far;
-    for copy in copies {
-        least = lesser(copy.packet, app, least);
-    }
-    least
+    copies
+        .iter()
+        .fold(so_far, |least, copy| lesser(copy.packet, app, least))
 }
 
 // The same of what routers hold in hand.
@@ -177,11 +156,9 @@ fn least_in_hands(hands: &[Option<Hand>], app: &LoadedApp, so_far: Option<u32>) 
     ensures { result
         ≡ lesser_of so_far (least_own_packet app.now (flat_map held_packets hands.now)) }
 {
-    let mut least = so_far;
-    for hand in hands {
-        least = lesser_held(hand, app, least);
-    }
-    least
+    hands
+        .iter()
+        .fold(so_far, |least, hand| lesser_held(hand, app, least))
 }
 
 // The same of what one router holds in hand.

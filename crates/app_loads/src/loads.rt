@@ -15,7 +15,7 @@ use crate::loaded::{Claim, LoadedApp, Range};
 use crate::meshes::KeptMesh;
 use crate::plans::AppPlan;
 use crate::regions::{give_all, take_all};
-use crate::rows::{RangesOn, originals_of, rooms_for, write_rows};
+use crate::rows::{originals_of, rooms_for, write_rows};
 use crate::sends::{send, with_sources};
 use machine_desc::Machine;
 use mesh_core::{Mesh, MeshSetup};
@@ -187,11 +187,7 @@ fn settle_mesh(alloc: Global, mesh: Mesh, app: &LoadedApp) -> (Mesh, Result<(), 
     let Ok(rows) = originals_of(alloc, mesh.machine(), app) else {
         return (mesh, Err(Memory));
     };
-    let own = RangesOn {
-        machine: mesh.machine(),
-        list: app.ranges.as_slice(),
-    };
-    let Ok(rooms) = rooms_for(alloc, own) else {
+    let Ok(rooms) = rooms_for(alloc, mesh.machine(), app.ranges.as_slice()) else {
         return (mesh, Err(Memory));
     };
     let mut parts = mesh.take_apart();

@@ -46,26 +46,14 @@ fn usable_spots(alloc: Global, machine: &Machine) -> Result<Seq<Spot>, Memory>
     ensures sites { IfOk result (All (IsSite machine.now)) }
     ensures different { IfOk result (AllPairs (λ a b. a ≢ b)) }
 {
-    let mut spots = Seq::new(alloc);
-    for number in 0..CORES * machine.chips() as u32 {
-        let spot = Spot {
+    let spots = (0..CORES * machine.chips() as u32)
+        .map(|number| Spot {
             chip: machine.chip_at(number / CORES),
             core: (number % CORES) as u8 + 1,
-        };
-        push_usable(machine, &mut spots, spot)?;
-    }
-    Ok(spots)
-}
-
-// Puts the spot at the back of the list, where it is usable.
-fn push_usable(machine: &Machine, spots: &mut Seq<Spot>, spot: Spot) -> Result<(), Memory>
-    ensures { OnOk result (spots.new ≡ spots.old
-        ++ filter (is_usable machine.now) (spot ∷ [])) }
-{
-    if machine.usable(spot) {
-        spots.push(spot)?;
-    }
-    Ok(())
+        })
+        .filter(|spot| machine.usable(*spot))
+        .collect(alloc)?;
+    Ok(Seq::from_vec(spots))
 }
 
 // So many tables of unused entries.

@@ -69,11 +69,7 @@ impl AppNet {
 fn copied_nets(alloc: Global, nets: &[AppNet]) -> Result<Seq<AppNet>, Memory>
     ensures { IfOk result (λ copy. copy ≡ nets.now) }
 {
-    let mut copy = Seq::new(alloc);
-    for net in nets {
-        copy.push(net.copy(alloc)?)?;
-    }
-    Ok(copy)
+    Ok(Seq::from_vec(nets.iter().map(|net| net.copy(alloc)).try_collect(alloc)?))
 }
 
 // The same list once more.

@@ -1,5 +1,5 @@
 // The plain rows of an application, and their ranges in the tables.
-ghost use Rattle.std.specs.Prelude.{◌≡◌, ◌+◌, ◌*◌, ◌≤◌, ◌++◌, All, IfOk, drop, length, map, take};
+ghost use Rattle.std.specs.Prelude.{◌≡◌, ◌+◌, ◌*◌, ◌≤◌, ◌++◌, IfOk, drop, length, map, take};
 ghost use Rattle.std.specs.List.{AllZip};
 ghost use Rattle.machine_desc.specs.declared.nets.NetPlan.{NetPlan as Plan};
 ghost use Rattle.tern_word.specs.Entries.{entry_of};
@@ -8,7 +8,6 @@ ghost use Rattle.net_tables.specs.PlainTable.{AtEach, IsPlainTable};
 ghost use Rattle.app_loads.specs.Host.{net_with, nets_of};
 ghost use Rattle.app_loads.specs.Joining.{HasRoutes};
 ghost use Rattle.app_loads.specs.Writing.{AreCopied, AreUnused, AreUnusedFrom, CanClear, CanCopy, HasEntriesFrom, HasRoom, HaveRooms, tables_in};
-ghost use Rattle.app_loads.specs.Regions.{IsRangeWithin, chip_count};
 
 use crate::loaded::{LoadedApp, Range};
 use crate::places::Region;
@@ -16,7 +15,7 @@ use crate::plans::AppNet;
 use machine_desc::{Machine, NetPlan};
 use net_tables::marks::Mark;
 use net_tables::{in_row_order, original_blocks};
-use spin_base::{Block, Entry, Memory, Seq};
+use spin_base::{Block, Entry, Memory, ROUTER_ENTRIES, Seq};
 use std::alloc::Global;
 use tcam_find::{Room, RoomyTcam, Tcam};
 
@@ -47,11 +46,12 @@ pub(crate) fn originals_of(
 fn in_order(alloc: Global, lists: Vec<Seq<Mark>>) -> Result<Seq<Seq<Mark>>, Memory>
     ensures { IfOk result (λ sorted. AllZip IsTableOf lists.items (tables_in sorted)) }
 {
-    let mut sorted = Seq::new(alloc);
-    for marks in lists {
-        sorted.push(sorted_marks(marks)?)?;
-    }
-    Ok(sorted)
+    Ok(Seq::from_vec(
+        lists
+            .into_iter()
+            .map(|marks| sorted_marks(marks))
+            .try_collect(alloc)?,
+    ))
 }
 
 // Original blocks in the order of the rows of their plain table. Most chips have none, or one.
@@ -83,48 +83,37 @@ fn net_with(alloc: Global, net: &AppNet, block: Block) -> Result<NetPlan, Memory
     })
 }
 
-// Ranges, each within its region of a machine.
-#[derive(Clone, Copy)]
-pub(crate) struct RangesOn<'a> {
-    pub machine: &'a Machine,
-    pub list: &'a [Range],
-    pub ghost within: { All (IsRangeWithin machine.now
-        (1 + (chip_count machine.now + chip_count machine.now))) list.now },
-}
-
-// One of them.
-#[derive(Clone, Copy)]
-struct RangeOn<'a> {
-    machine: &'a Machine,
-    range: &'a Range,
-    ghost within: { IsRangeWithin machine.now
-        (1 + (chip_count machine.now + chip_count machine.now)) range.now },
-}
-
 // Room for the places of each range of entries, in their tables.
-pub(crate) fn rooms_for(alloc: Global, ranges: RangesOn) -> Result<Vec<Room>, Memory>
-    ensures { IfOk result (λ rooms. HaveRooms ranges.entry.machine.now ranges.entry.list.now
-        rooms.items) }
+pub(crate) fn rooms_for(
+    alloc: Global,
+    machine: &Machine,
+    ranges: &[Range],
+) -> Result<Vec<Room>, Memory>
+    ensures { IfOk result (λ rooms. HaveRooms machine.now ranges.now rooms.items) }
 {
-    let mut rooms = Vec::with_capacity(alloc, ranges.list.len())?;
-    for range in ranges.list {
-        let one = RangeOn {
-            machine: ranges.machine,
-            range,
-        };
-        rooms.push(room_for(alloc, one)?)?;
-    }
-    Ok(rooms)
+    Ok(
+        ranges
+            .iter()
+            .map(|range| room_for(alloc, machine, range))
+            .try_collect(alloc)?,
+    )
 }
 
 // Room for the places of a range, if it is one of entries.
-fn room_for(alloc: Global, one: RangeOn) -> Result<Room, Memory>
-    ensures { IfOk result (HasRoom one.entry.machine.now one.entry.range.now) }
+fn room_for(alloc: Global, machine: &Machine, range: &Range) -> Result<Room, Memory>
+    ensures { IfOk result (HasRoom machine.now range.now) }
 {
-    match Region::at(one.machine, one.range.region) {
-        Region::Rows(_) => Room::new(alloc, (one.range.place + one.range.size) as u32),
-        _ => Ok(Room::none(alloc)),
+    if range.region <= machine.chips() {
+        return Ok(Room::none(alloc));
     }
+    // (a range of entries ends with the table at the latest)
+    let Some(end) = range.place.checked_add(range.size) else {
+        return Err(Memory);
+    };
+    if end > ROUTER_ENTRIES as u64 {
+        return Err(Memory);
+    }
+    Room::new(alloc, end as u32)
 }
 
 // Puts the rows of each chip's original blocks into the range of its table.

@@ -40,12 +40,11 @@ pub(crate) fn send(
 fn source_vertices(alloc: Global, setup: &MeshSetup, nets: &[AppNet]) -> Result<Vec<usize>, Memory>
     ensures { IfOk result (λ sources. sources.items ≡ map (source_at setup.now.spots) nets.now) }
 {
-    let mut vertices = Vec::new(alloc);
-    for net in nets {
-        let vertex = setup.vertex_at(net.source).unwrap_or(0);
-        vertices.push(vertex)?;
-    }
-    Ok(vertices)
+    Ok(
+        nets.iter()
+            .map(|net| setup.vertex_at(net.source).unwrap_or(0))
+            .collect(alloc)?,
+    )
 }
 
 // Puts each packet to its net's source.

@@ -20,8 +20,8 @@ pub use Rattle.spin_base.specs.declared.chips.{Dir.TheVariants.NorthEast, Dir.Th
 pub use Rattle.spin_base.specs.declared.{copies.Delivery.Delivery, copies.DumpRec.DumpRec, copies.McCopy.McCopy, routes.Out.Out, routes.Out.TheVariants.Core, routes.Route.Route}
 pub use Rattle.std.proofs.Common.{Bool, List, None, Option, Some, [], ap, append-nil, append_assoc, arith, cond, false, filter, get_or, inl, inr, length, length-append, map, option_to_list, refl}
 pub use Rattle.std.proofs.Common.{replicate, set, slice_set, subst, suc, sym, take, true, zero, ℕ, ◌%◌, ◌*◌, ◌++◌, ◌+◌, ◌<◌, ◌==◌, ◌∙◌, ◌∷◌, ◌≡◌, ◌≢◌, ◌≤◌, ◌⊎◌}
-pub use Rattle.std.proofs.{Math.ListN.length-set, lemmas.Bool.cases_eq, lemmas.Bool.cases_lt, lemmas.Bool.cond-false, lemmas.Bool.cond-true, lemmas.Bool.eq-eqb, lemmas.Bool.false≢true}
-pub use Rattle.std.proofs.lemmas.{Bool.ne_eqb, Grind.flat_map-append, List.Elements.All-append, List.Elements.All-cons, List.Elements.All-contains, List.Elements.All-filter, List.Elements.All-map}
+pub use Rattle.std.proofs.{Math.ListN.length-set, lemmas.Bool.cases_eq, lemmas.Bool.cases_lt, lemmas.Bool.cond-false, lemmas.Bool.cond-true, lemmas.Bool.eq-eqb, lemmas.Bool.ne_eqb}
+pub use Rattle.std.proofs.lemmas.{Grind.flat_map-append, List.Elements.All-append, List.Elements.All-cons, List.Elements.All-contains, List.Elements.All-filter, List.Elements.All-map}
 pub use Rattle.std.proofs.lemmas.List.{Elements.All-nil, Elements.All-replicate, Elements.All-set, Elements.All-weaker, get_or-set_other, get_or-set_same, get_or_default, length-map, length-replicate}
 pub use Rattle.std.proofs.lemmas.{List.map-append, List.replicate_more, List.take_all, List.take_more, List.take_rest, Option.get_or_from_slice_get, Option.same_Some, Option.slice_get-get_or}
 pub use Rattle.std.proofs.lemmas.Option.{slice_get_read, slice_get_within}

@@ -17,6 +17,7 @@ impl CoreBank {
     /// for it or `all` says to look everywhere; and looks at the queues of its vertices, from a start that goes round with the turn's
     /// number, until one gives a copy, which is logged. A refused offer leaves the copy unsent, in its place. The chip's router is awake
     /// where a copy was sent. No clause says at which vertex it begins.
+    #[tactic(auto, using(crate::proofs::Banking::halves_act))]
     pub fn turn<R: Wait>(
         &self,
         rt: &R,

@@ -79,6 +79,7 @@ impl RouterNode<'_> {
 
     // Looks at the queue of a port: its first copy leaves it, where there is one and room for its turn. A lane that is found empty isn't
     // marked any more.
+    #[tactic(auto, using(crate::proofs::Flows::goes_none, crate::proofs::Looking::idle_past, crate::proofs::Flows::ready_router_on, crate::proofs::Stays::stays_same))]
     fn look<R: Wait>(
         self,
         rt: &R,
@@ -123,6 +124,7 @@ impl RouterNode<'_> {
     }
 
     // Takes the first copy of the link of a port, where there is room at each output.
+    #[tactic(auto, using(crate::proofs::Stays::stays_same))]
     fn take_over<R: Wait>(self, rt: &R, around: Around, hold: &mut Holdings, port: Port) -> Look
         requires ready { IsReadyRouter around.links.now self hold.old }
         requires place { port_place self.index port < length hold.old.ends.items }
@@ -189,6 +191,7 @@ impl RouterNode<'_> {
     }
 
     // Serves a copy at these outputs.
+    #[tactic(auto, using(crate::proofs::Serving::serves_none))]
     fn serve_all<R: Wait>(
         self,
         rt: &R,
@@ -213,6 +216,7 @@ impl RouterNode<'_> {
     /// Serves one output of a copy: offers the copy, with one hop more, up to `patience` times. `Sent` exactly where an offer of this call
     /// was taken. `Dumped` exactly where all of them were refused: one record of the copy as it was handed in is logged then. An output
     /// with no queue behind it refuses every offer. Who takes from the queue is awake.
+    #[tactic(auto, using(crate::proofs::Sending::sent_nowhere, crate::proofs::Placing::served_elsewhere))]
     pub fn serve<R: Wait>(
         self,
         rt: &R,

@@ -27,8 +27,3 @@ module _ (rows : List Row) (places : List ℕ) (s r : ℕ) (first later : Row) (
 
   pub missed_from : IsClearOf rows places s r → has_row places r ≡ false → Misses later.block first
   missed_from clear outside = grind (arith, get_or_default rows r first later in_r, get_or rows s first)
-
--- a row that does not miss is clear where it is of the set
-pub answer_of : (M : Type 0) (found missed has : Bool) → found ≡ has → (IsTrue missed) ↔ M → missed ≡ false → (IsTrue found) ↔ (has ≡ false → M)
-answer_of M true missed has is tells came = (λ t outside. absurd (true≢false (is ∙ outside)), λ clear. refl)
-answer_of M false missed has is tells came = (λ t. absurd (false≢true t), λ clear. absurd (fails M missed tells came (clear (sym is))))

@@ -1,10 +1,10 @@
 -- Counting, for each bit, the places that it keeps: one pass over the places, with a counter a bit.
-use Rattle.cover_merge.proofs.Common.{Block, Bool, IsBestBit, List, MatchOption, None, Option, Row, Some, [], and_le_l, ap, arith, bit_and, bit_at, bit_at-lt, bit_at-trailing_zeros, bit_at-zero}
-use Rattle.cover_merge.proofs.Common.{bit_at_and, bit_at_clear_other, bit_at_clear_same, bit_at_not, bit_at_xor, bit_not, bit_xor, cases_eq, cond, count_by-le-length, false, filter, filter-append}
-use Rattle.cover_merge.proofs.Common.{get_or, get_or-set_at, get_or-set_other, inl, inr, keeps, kept_by, kept_count, length, length-append, length-filter, length-take, min, not, refl, set, subst, suc}
-use Rattle.cover_merge.proofs.Common.{sym, take, take_all, take_more, trailing_zeros, true, w32, zero, ℕ, ◌%◌, ◌&&◌, ◌*◌, ◌++◌, ◌+◌, ◌-◌, ◌<◌, ◌==◌, ◌^◌, ◌∙◌, ◌∷◌, ◌≡◌, ◌≢◌, ◌≤◌, ◌⊎◌}
+use Rattle.cover_merge.proofs.Common.{Block, Bool, List, Row, [], and_le_l, ap, arith, bit_and, bit_at, bit_at-lt, bit_at-trailing_zeros, bit_at_and, bit_at_clear_other, bit_at_clear_same, bit_at_not}
+use Rattle.cover_merge.proofs.Common.{bit_at_xor, bit_not, bit_xor, cases_eq, cond, count_by-le-length, false, filter, filter-append, get_or, get_or-set_at, get_or-set_other, inl, inr, keeps, kept_by}
+use Rattle.cover_merge.proofs.Common.{kept_count, length, length-append, length-filter, length-take, min, not, refl, set, subst, suc, sym, take, take_more, trailing_zeros, true, w32, zero, ℕ, ◌%◌}
+use Rattle.cover_merge.proofs.Common.{◌&&◌, ◌*◌, ◌++◌, ◌+◌, ◌-◌, ◌<◌, ◌==◌, ◌^◌, ◌∙◌, ◌∷◌, ◌≡◌, ◌≢◌, ◌≤◌, ◌⊎◌}
 use Rattle.cover_merge.specs.Refinement.{can_choose, parts}
-use Rattle.cover_merge.proofs.RefineLemmas.{keeps_inside, keeps_outside}
+use Rattle.cover_merge.proofs.RefineLemmas.{keeps_inside}
 
 -- ---- the words
 
@@ -67,9 +67,6 @@ keeping_bit b met free j =
 pub keeping_inside : (rows : List Row) (met : Block) (free j s : ℕ) (d : Row) → s < length rows
     → bit_at (bit_and (bit_and free (get_or rows s d).block.mask) (bit_xor (get_or rows s d).block.key met.key)) j ≡ cond (keeps rows met j s) (bit_at free j) 0
 keeping_inside rows met free j s d within = keeping_bit (get_or rows s d).block met free j ∙ ap (λ t. cond t (bit_at free j) 0) (keeps_inside rows met j s d within)
-
-pub keeping_outside : (rows : List Row) (met : Block) (free j s : ℕ) → length rows ≤ s → bit_at 0 j ≡ cond (keeps rows met j s) (bit_at free j) 0
-keeping_outside rows met free j s past = bit_at-zero j ∙ ap (λ t. cond t (bit_at free j) 0) (keeps_outside rows met j s past)
 
 -- ---- the bits of a word, one after another
 
@@ -145,25 +142,3 @@ module _ (rows : List Row) (places : List ℕ) (merged met : Block) (k : ℕ) (w
   pub kept_more : (free word s : ℕ) → s ≡ get_or places k 0 → ((j : ℕ) → j < 32 → bit_at free j ≡ cond (can_choose merged met j) 1 0) → ((j : ℕ) → j < 32 → bit_at word j ≡ cond (keeps rows met j s) (bit_at free j) 0)
       → (new : List ℕ) → ((j : ℕ) → j < 32 → get_or new j 0 ≡ get_or counts j 0 + bit_at word j) → AreKeptCounts new rows (take (k + 1) places) merged met
   kept_more free word s read free_is word_is new new_is j low = grind (arith, low, more (keeps rows met j) (can_choose merged met j) (take k places) s, take_more places k 0 within)
-
--- the place of the greatest count is the best bit
-pub best_of : (rows : List Row) (places : List ℕ) (merged met : Block) (counts : List ℕ) (n : ℕ) → length places ≤ n → AreKeptCounts counts rows (take n places) merged met → (found : Option ℕ)
-    → MatchOption found ((j : ℕ) → j < 32 → get_or counts j 0 ≡ 0) (λ i. (i < 32) × (0 < get_or counts i 0) × ((j : ℕ) → j < 32 → get_or counts j 0 ≤ get_or counts i 0) × ((j : ℕ) → j < 32 → i < j → get_or counts j 0 < get_or counts i 0))
-    → MatchOption found ((j : ℕ) → j < 32 → kept_count rows places merged met j ≡ 0) (λ i. (i < 32) × (IsBestBit rows places merged met i))
-best_of rows places merged met counts n whole so_far found greatest = by_answer found greatest
-  where
-    all : AreKeptCounts counts rows places merged met
-    all = subst (λ l. AreKeptCounts counts rows l merged met) (take_all n places whole) so_far
-
-    by_answer : (o : Option ℕ)
-        → MatchOption o ((j : ℕ) → j < 32 → get_or counts j 0 ≡ 0) (λ i. (i < 32) × (0 < get_or counts i 0) × ((j : ℕ) → j < 32 → get_or counts j 0 ≤ get_or counts i 0) × ((j : ℕ) → j < 32 → i < j → get_or counts j 0 < get_or counts i 0))
-        → MatchOption o ((j : ℕ) → j < 32 → kept_count rows places merged met j ≡ 0) (λ i. (i < 32) × (IsBestBit rows places merged met i))
-    by_answer None zero_all = λ j low. sym (all j low) ∙ zero_all j low
-    by_answer (Some i) best = (
-      best.0,
-      record {
-        some = omega (arith, all i best.0, best.1);
-        most = λ j low. omega (arith, all i best.0, all j low, best.2 j low);
-        highest = λ j low less. omega (arith, all i best.0, all j low, best.3 j low less);
-      },
-    )

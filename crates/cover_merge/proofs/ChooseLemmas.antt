@@ -146,9 +146,6 @@ places_next rows bits place x old new inside same next before now =
     next.between m e (omega (arith, from)) (omega (arith, less, there)) within (equal ∙ sym (same e))))
     ∙ ap (λ j. places_of bits 0 (take j rows)) there
 
-pub places_end : (rows : List Row) (bits place : ℕ) (found : List ℕ) → length rows ≤ place → found ≡ places_of bits 0 (take place rows) → found ≡ places_of bits 0 rows
-places_end rows bits place found all is = is ∙ ap (places_of bits 0) (take_all place rows all)
-
 -- ---- which rows the places of a route are of
 
 -- each row of the route is at one of them

@@ -30,36 +30,10 @@ less_of k c apart less = by_case (cases_lt k c)
 
 -- ---- the greatest
 
-pub most_first : (routes : List ℕ) (kept : List (Option Kept)) (most : Most) → most.size ≡ 0 → IsMostBefore routes kept 0 most
-most_first routes kept most none = grind arith
-
 module _ (routes : List ℕ) (kept : List (Option Kept)) (c : ℕ) (most : Most) (old : IsMostBefore routes kept c most) where
   module _ (own : Kept) (here_is : get_or kept c None ≡ Some own) (bits : ℕ) (read : bits ≡ get_or routes c 0) where
     last_is : (k : ℕ) (it : Kept) → k < c + 1 → c ≤ k → get_or kept k None ≡ Some it → (it ≡ own) × (get_or routes k 0 ≡ bits)
     last_is k it less from is = grind (arith, some_same, get_or)
-
-    pub most_stays : (own.size < most.size) ⊎ ((own.size ≡ most.size) × (most.bits ≤ bits)) → IsMostBefore routes kept (c + 1) most
-    most_stays loses = record {
-      inside = old.inside;
-      own = old.own;
-      bits = old.bits;
-      no_larger = λ k it less is. elim (cases_lt k c) [
-        | inl before ↦ old.no_larger k it before is
-        | inr from ↦ let same = last_is k it less from is in subst (λ (x : Kept). x.size ≤ most.size) (sym same.0) (no_more loses)
-      ];
-      smaller = λ k it less is. elim (cases_lt k c) [
-        | inl before ↦ old.smaller k it before is
-        | inr from ↦ λ some low. let same = last_is k it less from is in subst (λ (x : Kept). x.size < most.size) (sym same.0) (fewer loses (omega (arith, low, same.1)))
-      ];
-    }
-      where
-        no_more : (own.size < most.size) ⊎ ((own.size ≡ most.size) × (most.bits ≤ bits)) → own.size ≤ most.size
-        no_more (inl less) = omega (arith, less)
-        no_more (inr tie) = omega (arith, tie.0)
-
-        fewer : (own.size < most.size) ⊎ ((own.size ≡ most.size) × (most.bits ≤ bits)) → bits < most.bits → own.size < most.size
-        fewer (inl less) low = less
-        fewer (inr tie) low = absurd (omega (arith, tie.1, low))
 
     pub most_new : (new : Most) → new.number ≡ c → new.bits ≡ bits → new.size ≡ own.size → c < length routes → (most.size < own.size) ⊎ ((own.size ≡ most.size) × (bits < most.bits)) → IsMostBefore routes kept (c + 1) new
     most_new new at bits_is size_is within wins = record {

@@ -1,94 +1,37 @@
 -- Numbers of routes, and the rows of one route one after another.
-use Rattle.cover_merge.proofs.Common.{All, All-append, All-cons, All-drop, All-take, AreLinks, AreNumbers, AreRoutes, Bool, IsAhead, IsEachOnce, IsFirstOfRoute, IsMergeSet, IsNextOfRoute, IsOrdered}
-use Rattle.cover_merge.proofs.Common.{IsRouteAdded, List, Route, Row, [], after, ap, arith, cases_lt, cond, drop, eq-eqb, eqb_tells, false, get_or, get_or-append_seam, get_or_append_left}
-use Rattle.cover_merge.proofs.Common.{get_or_default, has_row, inl, inr, insert, insert_place, length, length-append, map, merge_rows, merged_row, not, picked, place_of_route, refl, subst, suc, sym}
-use Rattle.cover_merge.proofs.Common.{take, take_all, true, zero, ℕ, ◌++◌, ◌+◌, ◌<◌, ◌==◌, ◌∙◌, ◌∷◌, ◌≡◌, ◌≢◌, ◌≤◌, ◌⊎◌}
+use Rattle.cover_merge.proofs.Common.{All-append, All-cons, All-drop, All-take, AreLinks, AreNumbers, Bool, IsAhead, IsEachOnce, IsFirstOfRoute, IsMergeSet, IsNextOfRoute, IsOrdered, IsRouteAdded}
+use Rattle.cover_merge.proofs.Common.{List, Route, Row, [], after, ap, arith, cases_lt, cond, drop, eqb-true, false, get_or, get_or-append_seam, get_or_append_left, get_or_default, has_row, insert}
+use Rattle.cover_merge.proofs.Common.{insert_place, length, length-append, map, merge_rows, merged_row, nat_tests, not, passes_at_first, picked, position_or_len_push, prefix_len-le-length, refl}
+use Rattle.cover_merge.proofs.Common.{subst, suc, sym, take, true, zero, ℕ, ◌++◌, ◌+◌, ◌<◌, ◌==◌, ◌∙◌, ◌∷◌, ◌≡◌, ◌≤◌}
+use Rattle.cover_merge.specs.Links.{place_of_route}
 use Rattle.cover_merge.proofs.{Lists.All-picked, ApplyLemmas.left, ApplyLemmas.after_is, ApplyLemmas.route_is}
 
 -- ---- the place of a route
 
 -- that route stands there
 pub route_there : (routes : List ℕ) (bits : ℕ) → place_of_route routes bits < length routes → get_or routes (place_of_route routes bits) 0 ≡ bits
-route_there [] bits inside = absurd (omega arith)
-route_there (r ∷ routes) bits inside = by_test (eqb_tells r bits) inside (route_there routes bits)
-  where
-    by_test : ((r == bits) ≡ true) × (r ≡ bits) ⊎ ((r == bits) ≡ false) × (r ≢ bits) → cond (r == bits) 0 (suc (place_of_route routes bits)) < suc (length routes)
-        → (place_of_route routes bits < length routes → get_or routes (place_of_route routes bits) 0 ≡ bits) → get_or (r ∷ routes) (cond (r == bits) 0 (suc (place_of_route routes bits))) 0 ≡ bits
-    by_test (inl same) within rest = subst (λ b. get_or (r ∷ routes) (cond b 0 (suc (place_of_route routes bits))) 0 ≡ bits) (sym same.0) same.1
-    by_test (inr other) within rest =
-        subst (λ b. get_or (r ∷ routes) (cond b 0 (suc (place_of_route routes bits))) 0 ≡ bits) (sym other.0)
-        (rest (omega (arith, subst (λ b. cond b 0 (suc (place_of_route routes bits)) < suc (length routes)) other.0 within)))
-
--- the first of the routes that is it tells its place
-pub route_found : (routes : List ℕ) (bits k d : ℕ) → k < length routes → get_or routes k d ≡ bits → ((j : ℕ) → j < k → get_or routes j d ≡ bits → ⊥) → k ≡ place_of_route routes bits
-route_found [] bits k d inside same before = absurd (omega arith)
-route_found (r ∷ routes) bits zero d inside same before = sym (ap (λ b. cond b 0 (suc (place_of_route routes bits))) (eq-eqb r bits same))
-route_found (r ∷ routes) bits (suc k) d inside same before =
-    by_test (eqb_tells r bits) (route_found routes bits k d (omega arith) same (λ j less. before (suc j) (omega arith)))
-  where
-    by_test : ((r == bits) ≡ true) × (r ≡ bits) ⊎ ((r == bits) ≡ false) × (r ≢ bits) → k ≡ place_of_route routes bits → suc k ≡ cond (r == bits) 0 (suc (place_of_route routes bits))
-    by_test (inl here) rest = absurd (before 0 (omega arith) here.1)
-    by_test (inr other) rest = ap suc rest ∙ sym (ap (λ b. cond b 0 (suc (place_of_route routes bits))) other.0)
-
-pub route_nowhere : (routes : List ℕ) (bits d : ℕ) → ((j : ℕ) → j < length routes → get_or routes j d ≡ bits → ⊥) → length routes ≡ place_of_route routes bits
-route_nowhere [] bits d none = refl
-route_nowhere (r ∷ routes) bits d none = by_test (eqb_tells r bits) (route_nowhere routes bits d (λ j less. none (suc j) (omega arith)))
-  where
-    by_test : ((r == bits) ≡ true) × (r ≡ bits) ⊎ ((r == bits) ≡ false) × (r ≢ bits) → length routes ≡ place_of_route routes bits → suc (length routes) ≡ cond (r == bits) 0 (suc (place_of_route routes bits))
-    by_test (inl here) rest = absurd (none 0 (omega arith) here.1)
-    by_test (inr other) rest = ap suc rest ∙ sym (ap (λ b. cond b 0 (suc (place_of_route routes bits))) other.0)
+unfolding place_of_route
+route_there routes bits inside = eqb-true _ _ (passes_at_first (λ r. r == bits) routes 0 inside)
 
 -- ---- one route more
 
 -- a route that stands among them stays where it is
 route_stays : (routes : List ℕ) (new bits : ℕ) → place_of_route routes bits < length routes → place_of_route (routes ++ new ∷ []) bits ≡ place_of_route routes bits
-route_stays [] new bits inside = absurd (omega arith)
-route_stays (r ∷ routes) new bits inside = by_test (eqb_tells r bits) inside (route_stays routes new bits)
-  where
-    by_test : ((r == bits) ≡ true) × (r ≡ bits) ⊎ ((r == bits) ≡ false) × (r ≢ bits) → cond (r == bits) 0 (suc (place_of_route routes bits)) < suc (length routes)
-        → (place_of_route routes bits < length routes → place_of_route (routes ++ new ∷ []) bits ≡ place_of_route routes bits)
-        → cond (r == bits) 0 (suc (place_of_route (routes ++ new ∷ []) bits)) ≡ cond (r == bits) 0 (suc (place_of_route routes bits))
-    by_test (inl same) within rest = subst (λ b. cond b 0 (suc (place_of_route (routes ++ new ∷ []) bits)) ≡ cond b 0 (suc (place_of_route routes bits))) (sym same.0) refl
-    by_test (inr other) within rest =
-        subst (λ b. cond b 0 (suc (place_of_route (routes ++ new ∷ []) bits)) ≡ cond b 0 (suc (place_of_route routes bits))) (sym other.0)
-        (ap suc (rest (omega (arith, subst (λ b. cond b 0 (suc (place_of_route routes bits)) < suc (length routes)) other.0 within))))
+unfolding place_of_route
+route_stays routes new bits inside = grind (arith, nat_tests, position_or_len_push (λ r. r == bits) routes new)
 
 -- and one that does not comes behind them
 route_last : (routes : List ℕ) (bits : ℕ) → place_of_route routes bits ≡ length routes → place_of_route (routes ++ bits ∷ []) bits ≡ length routes
-route_last [] bits none = ap (λ b. cond b 0 1) (eq-eqb bits bits refl)
-route_last (r ∷ routes) bits none = by_test (eqb_tells r bits) none (route_last routes bits)
-  where
-    by_test : ((r == bits) ≡ true) × (r ≡ bits) ⊎ ((r == bits) ≡ false) × (r ≢ bits) → cond (r == bits) 0 (suc (place_of_route routes bits)) ≡ suc (length routes)
-        → (place_of_route routes bits ≡ length routes → place_of_route (routes ++ bits ∷ []) bits ≡ length routes)
-        → cond (r == bits) 0 (suc (place_of_route (routes ++ bits ∷ []) bits)) ≡ suc (length routes)
-    by_test (inl same) whole rest = let low = ap (λ b. cond b 0 (suc (place_of_route routes bits))) same.0 in absurd (omega (arith, whole, low))
-    by_test (inr other) whole rest =
-        let high = ap (λ b. cond b 0 (suc (place_of_route routes bits))) other.0 in
-        subst (λ b. cond b 0 (suc (place_of_route (routes ++ bits ∷ []) bits)) ≡ suc (length routes)) (sym other.0) (ap suc (rest (omega (arith, whole, high))))
+unfolding place_of_route
+route_last routes bits none = grind (arith, nat_tests, position_or_len_push (λ r. r == bits) routes bits)
 
 pub added_last : (bits n : ℕ) (old new : List ℕ) → n ≡ place_of_route old bits → n ≡ length old → new ≡ old ++ bits ∷ [] → IsRouteAdded bits old new
 added_last bits n old new is none now =
     grind (arith, length-append old (bits ∷ []), route_last old bits (sym is ∙ none), get_or-append_seam old bits, route_stays, cases_lt, get_or, get_or_append_left)
 
-pub added_again : (bits n : ℕ) (old : List ℕ) → n ≡ place_of_route old bits → n ≢ length old → n ≤ length old → IsRouteAdded bits old old
-added_again bits n old is there most = record {
-  found = by_case (cases_lt n (length old));
-  stays = λ other before. before;
-  one_more = omega arith;
-  once = λ each. each;
-}
-  where
-    by_case : (n < length old) ⊎ (length old ≤ n) → place_of_route old bits < length old
-    by_case (inl less) = omega (arith, is, less)
-    by_case (inr all) = absurd (there (omega (arith, all, most)))
-
 pub place_le : (routes : List ℕ) (bits : ℕ) → place_of_route routes bits ≤ length routes
-place_le [] bits = omega arith
-place_le (r ∷ routes) bits = by_test (r == bits) (place_le routes bits)
-  where
-    by_test : (t : Bool) → place_of_route routes bits ≤ length routes → cond t 0 (suc (place_of_route routes bits)) ≤ suc (length routes)
-    by_test true rest = omega arith
-    by_test false rest = omega (arith, rest)
+unfolding place_of_route
+place_le routes bits = prefix_len-le-length (λ r. not (r == bits)) routes
 
 -- ---- numbers
 
@@ -117,15 +60,6 @@ numbers_insert : (routes : List ℕ) (m : Row) (p : ℕ) (rows : List Row) → i
 numbers_insert routes m zero rows = refl
 numbers_insert routes m (suc p) [] = refl
 numbers_insert routes m (suc p) (r ∷ rows) = ap (λ l. place_of_route routes r.route.bits ∷ l) (numbers_insert routes m p rows)
-
-pub numbers_done : (routes : List ℕ) (rows : List Row) (numbers : List ℕ) (s : ℕ) → AreRoutes rows routes → length rows ≤ s → numbers ≡ numbers_for routes (take s rows) → AreNumbers routes rows numbers
-numbers_done routes rows numbers s are all is =
-    let whole : numbers ≡ numbers_for routes rows = is ∙ ap (numbers_for routes) (take_all s rows all) in record {
-      each = whole;
-      below = subst (All (λ c. c < length routes)) (sym whole) (λ k d within.
-          let inside : k < length rows = omega (arith, within, numbers_length routes rows) in
-          subst (λ n. n < length routes) (sym (get_or_default (numbers_for routes rows) k d 0 within ∙ numbers_read routes rows k (merge_rows []) inside)) (are.found k (merge_rows []) inside));
-    }
 
 -- two rows have one number exactly where they have one route
 module _ (routes : List ℕ) (rows : List Row) (numbers : List ℕ) (are : AreNumbers routes rows numbers) where

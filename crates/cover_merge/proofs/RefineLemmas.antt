@@ -60,11 +60,6 @@ parts_wants b met i h = by_mask (eqb_tells (bit_at b.mask i) 1) (eqb_tells (bit_
 pub keeps_inside : (rows : List Row) (met : Block) (i s : ℕ) (d : Row) → s < length rows → parts (get_or rows s d).block met i ≡ keeps rows met i s
 keeps_inside rows met i s d within = sym (ap (λ (o : Option Row). option_map_or (λ (r : Row). parts r.block met i) o false) (slice_get-get_or rows s d within))
 
-pub keeps_outside : (rows : List Row) (met : Block) (i s : ℕ) → length rows ≤ s → false ≡ keeps rows met i s
-keeps_outside [] met i s past = refl
-keeps_outside (r ∷ rows) met i zero past = absurd (omega arith)
-keeps_outside (r ∷ rows) met i (suc s) past = keeps_outside rows met i s (omega arith)
-
 -- ---- a step is shorter
 
 -- a filter drops something, or keeps all

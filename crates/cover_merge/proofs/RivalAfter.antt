@@ -143,9 +143,6 @@ pub record AreRenewed (rows : List Row) (serials places : List ℕ) (block : Blo
   pub done : (i : ℕ) → i < k → AreRivalsAfter rows serials places block merged (get_or met i 0) (get_or now (get_or serials (get_or met i 0) 0) [])
   pub others : (s : ℕ) → s < length rows → ((i : ℕ) → i < k → get_or met i 0 ≢ s) → get_or now (get_or serials s 0) [] ≡ get_or old (get_or serials s 0) []
 
-pub none_renewed : (rows : List Row) (serials places : List ℕ) (block : Block) (merged : Rival) (met : List ℕ) (old : List (List Rival)) → AreRenewed rows serials places block merged met 0 old old
-none_renewed rows serials places block merged met old = grind arith
-
 module _ (rows : List Row) (serials places : List ℕ) (block : Block) (merged : Rival) (met : List ℕ) (are_met : AreMet block rows met) (old : List (List Rival))
     (each : (s : ℕ) → s < length rows → AreRivalsAt rows serials s (get_or old (get_or serials s 0) [])) (apart : (i j : ℕ) → i < length rows → j < length rows → get_or serials i 0 ≡ get_or serials j 0 → i ≡ j) (set : IsMergeSet rows places) where
   met_inside : (i : ℕ) → i < length met → get_or met i 0 < length rows

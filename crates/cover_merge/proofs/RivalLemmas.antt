@@ -56,10 +56,6 @@ pub missed_read : (rows : List Row) (s r : ℕ) (first e : Row) (t : Bool) → s
 missed_read rows s r first e t in_s in_r is_first tells came d =
     pair_read rows (λ (x y : Row). Misses x.block y) r s (get_or rows r e) first in_r in_s (get_or_default rows r e (get_or rows r e) in_r) is_first (tells.0 came) d
 
--- no row behind one that was read is of lesser generality
-pub general_behind : (rows : List Row) (place : ℕ) (a : Row) (g : ℕ) → IsOrdered rows → place < length rows → g ≡ generality (get_or rows place a).block → (k : ℕ) (d : Row) → place ≤ k → k < length rows → g ≤ generality (get_or rows k d).block
-general_behind rows place a g ordered inside level k d from within = grind (arith, get_or_default rows place d a inside, cases_lt place k, get_or)
-
 -- ---- a pair
 
 module _ (rows : List Row) (i j : ℕ) (set : IsMergeSet rows (i ∷ j ∷ [])) (sound : IsSound rows) (b : Block) (is : b ≡ merged_block rows (i ∷ j ∷ [])) (g : ℕ) (general : g ≡ generality b) where
@@ -86,10 +82,6 @@ module _ (rows : List Row) (i j : ℕ) (set : IsMergeSet rows (i ∷ j ∷ [])) 
           by_place (zero, inside, at) = subst₂ (λ n p. PassesUp rows (i ∷ j ∷ []) n p) at place_is first
           by_place (suc zero, inside, at) = subst₂ (λ n p. PassesUp rows (i ∷ j ∷ []) n p) at place_is second
           by_place (suc (suc k), inside, at) = absurd (omega arith)
-
--- no row up to one of at most a generality is above it
-pub general_before : (rows : List Row) (place : ℕ) (a : Row) (g : ℕ) → IsOrdered rows → place < length rows → generality (get_or rows place a).block ≤ g → (k : ℕ) (d : Row) → k < place + 1 → generality (get_or rows k d).block ≤ g
-general_before rows place a g ordered inside low k d from = grind (arith, cases_lt k place, get_or_default rows place d a inside, get_or_default rows place a d inside, get_or)
 
 -- a row that is more general stands at the place or behind it
 pub behind_place : (rows : List Row) (r : ℕ) (a : Row) (g : ℕ) → IsOrdered rows → r < length rows → a ≡ get_or rows r a → g < generality a.block → place_for rows g ≤ r
@@ -160,10 +152,6 @@ module _ (rows : List Row) (rivals : Rivals) (rivaled : IsRivaled rows rivals) w
                   | inr last ↦ let same : n ≡ k = omega (arith, from, last) in subst (λ i. g < (get_or list i e).general) same here
                 ]
 
-        -- one rival more
-        pub passed_more : (v : Rival) → n < length list → is_at_one rivals.serials.items places (get_or list n v).serial ≡ true → (k : ℕ) → k < n + 1 → (e : Rival) → is_at_one rivals.serials.items places (get_or list k e).serial ≡ true
-        passed_more v inside here = below_more (λ k. (e : Rival) → is_at_one numbers places (get_or list k e).serial ≡ true) n passed (λ e. subst (λ (w : Rival). is_at_one numbers places w.serial ≡ true) (get_or_default list n v e inside) here)
-
       -- a rival that is at most so general, and of another route or at none of the places, comes before the row
       module _ (alike : (r : ℕ) → s < r → has_row places r ≡ true → SameRoute rows s r) (n : ℕ) (v : Rival) (within : n < length list) (low : (get_or list n v).general ≤ g) where
         comes_before : ((r : ℕ) → s < r → (get_or list n v).serial ≡ get_or numbers r 0 → ((d : Row) → (get_or list n v).bits ≡ (get_or rows r d).route.bits) → has_row places r ≡ true → ⊥) → PassesUp rows places s (place_for rows g) → ⊥
@@ -188,9 +176,6 @@ pub record AreJoinedTo (rows : List Row) (n : ℕ) (joined : List ℕ) : Type 0 
   pub before : All (λ s. s < n) joined
   pub original : (s : ℕ) (d : Row) → s < n → has_row joined s ≡ false → IsOriginal (get_or rows s d)
 
-pub joined_none : (rows : List Row) (joined : List ℕ) → joined ≡ [] → AreJoinedTo rows 0 joined
-joined_none rows joined is = subst (AreJoinedTo rows 0) (sym is) (record { ascending = AllPairs-nil (λ s t. s < t); before = All-nil (λ s. s < 0); original = λ s d less outside. absurd (omega (arith, less)) })
-
 module _ (rows : List Row) (n : ℕ) (joined : List ℕ) (are : AreJoinedTo rows n joined) where
   -- an original row more
   pub joined_stay : (a : Row) → n < length rows → a ≡ get_or rows n a → IsOriginal a → AreJoinedTo rows (n + 1) joined
@@ -206,9 +191,6 @@ module _ (rows : List Row) (n : ℕ) (joined : List ℕ) (are : AreJoinedTo rows
         let apart = eqb-false n s (or_parts (n == s) false none.1).0 in
         are.original s d (omega (arith, less, apart)) none.0;
   })
-
-  pub joined_all : n ≡ length rows → AreJoined rows joined
-  joined_all all = grind (arith, All-weaker)
 
 -- ---- rivals, found from the front
 

@@ -1,8 +1,8 @@
 -- Pairs that were tried stay illegal until one of their rows loses a row behind it.
-use Rattle.cover_merge.proofs.Common.{All, All-head, AreNewerOf, AreNoLater, AreTried, AreTriedUpTo, Bool, IsEachOnce, IsFresh, IsLegalPair, IsMergeSet, IsNextOfRoute, IsNextSince, IsOrdered}
-use Rattle.cover_merge.proofs.Common.{IsTriedNow, List, Route, Row, Times, [], after, ap, arith, cases_Bool, cases_eq, cases_lt, cases_order, drop, false, get_or, get_or-drop, get_or-set_at}
-use Rattle.cover_merge.proofs.Common.{get_or-set_other, get_or-take, get_or_default, has_row, inl, inr, insert_place, kept, length, length-drop, length-set, length-take, merge_rows, merged_row, not}
-use Rattle.cover_merge.proofs.Common.{place_of_route, set, subst, suc, sym, take, true, ℕ, ◌+◌, ◌-◌, ◌<◌, ◌∙◌, ◌∷◌, ◌≡◌, ◌≢◌, ◌≤◌, ◌⊎◌}
+use Rattle.cover_merge.proofs.Common.{All, All-head, AreNewerOf, AreNoLater, AreTried, AreTriedUpTo, Bool, IsEachOnce, IsLegalPair, IsMergeSet, IsNextSince, IsOrdered, IsTriedNow, List, Route, Row}
+use Rattle.cover_merge.proofs.Common.{Times, [], after, ap, arith, cases_Bool, cases_eq, cases_lt, cases_order, drop, false, get_or, get_or-drop, get_or-set_at, get_or-set_other, get_or-take}
+use Rattle.cover_merge.proofs.Common.{get_or_default, has_row, inl, inr, insert_place, kept, length, length-drop, length-set, length-take, merge_rows, merged_row, not, place_of_route, set, subst, suc}
+use Rattle.cover_merge.proofs.Common.{sym, take, true, ℕ, ◌+◌, ◌-◌, ◌<◌, ◌∙◌, ◌∷◌, ◌≡◌, ◌≢◌, ◌≤◌, ◌⊎◌}
 use Rattle.cover_merge.proofs.{ChooseLemmas.ArePlaces, Lists.All-left, Lists.All-right, Lists.picked-at}
 
 -- ---- the times of one row in place of others
@@ -35,10 +35,6 @@ module _ (now : ℕ) (rows : List Row) (gs : List Times) (s : ℕ) (g : Times) (
       by_place k e within (inl same) = subst (λ (x : Times). (x.tried ≤ now) × (x.changed ≤ now)) (sym (get_or-set_at gs s k g e same inside)) pairs.bound
       by_place k e within (inr other) = subst (λ (x : Times). (x.tried ≤ now) × (x.changed ≤ now)) (sym (get_or-set_other gs s k g e other)) (marks.bound k e within)
 
-  -- that of a row that changed now
-  pub fresh_put : IsFresh now g → AreTriedUpTo now rows (set gs s g)
-  fresh_put fresh = grind (arith, tried_put)
-
   -- that of a row that is no legal pair with a later one
   pub marked_put : (old : Times) → old ≡ get_or gs s old → IsTriedNow now old g → ((b : ℕ) → IsLegalPair rows s b → ⊥) → AreTriedUpTo now rows (set gs s g)
   marked_put old is_old mark none = tried_put (record {
@@ -52,17 +48,6 @@ module _ (now : ℕ) (rows : List Row) (gs : List Times) (s : ℕ) (g : Times) (
 
 -- the time of a route, and those of a row of it, are put
 module _ (routes latest : List ℕ) (rows : List Row) (gs : List Times) (now : ℕ) (bounds : All (λ (g : Times). (g.tried ≤ now) × (g.changed ≤ now)) gs) where
-  -- a later time of a route
-  pub latest_put : (c : ℕ) → c < length latest → AreNoLater routes latest rows gs → AreNoLater routes (set latest c now) rows gs
-  latest_put c inside all k d e within = by_route (cases_eq (place_of_route routes (get_or rows k d).route.bits) c)
-    where
-      n : ℕ
-      n = place_of_route routes (get_or rows k d).route.bits
-
-      by_route : (n ≡ c) ⊎ (n ≢ c) → (get_or gs k e).changed ≤ get_or (set latest c now) n 0
-      by_route (inl same) = omega (arith, get_or-set_at latest c n now 0 same inside, (bounds k e within).1)
-      by_route (inr other) = omega (arith, get_or-set_other latest c n now 0 other, all k d e within)
-
   pub times_no_later : (s : ℕ) (g : Times) → s < length gs → ((d : Row) → g.changed ≤ get_or latest (place_of_route routes (get_or rows s d).route.bits) 0) → AreNoLater routes latest rows gs → AreNoLater routes latest rows (set gs s g)
   times_no_later s g inside own all k d e within = by_place (cases_eq k s)
     where
@@ -75,9 +60,6 @@ module _ (routes latest : List ℕ) (rows : List Row) (gs : List Times) (now : �
           (all k d e (omega (arith, length-set gs s g, within)))
 
 -- ---- the times of all rows
-
-pub fresh_marked : (rows : List Row) (gs : List Times) → All (IsFresh 0) gs → AreTriedUpTo 0 rows gs
-fresh_marked rows gs all = grind arith
 
 pub marked_later : (now : ℕ) (rows : List Row) (gs : List Times) (then : ℕ) → now ≤ then → AreTriedUpTo now rows gs → AreTriedUpTo then rows gs
 marked_later now rows gs then le marks = grind arith
@@ -111,10 +93,6 @@ module _ (rows : List Row) (places : List ℕ) (ordered : IsOrdered rows) (merge
       by_case (inr out) = outside k d within (ap not out) (cases_lt k n)
 
 -- ---- the rows that changed since a row was tried
-
--- up to the next row of the route there is none of it
-pub since_first : (rows : List Row) (gs : List Times) (k x time : ℕ) → IsNextOfRoute rows k x → IsNextSince rows gs k time x
-since_first rows gs k x time next = grind arith
 
 -- from a row that changed no later on to the next that did
 since_more : (rows : List Row) (gs : List Times) (k x y time t : ℕ) → x < length rows → IsNextSince rows gs k time x → ((e : Times) → (get_or gs x e).changed < time) → t ≤ time → IsNextSince rows gs x t y → IsNextSince rows gs k time y

@@ -1,11 +1,11 @@
 -- The rows of one route, one after another. They save going over rows of other routes.
-use Rattle.std.specs.Prelude.{◌≡◌, ◌==◌, ℕ, suc, ◌+◌, ◌<◌, ◌≤◌, if◌then◌else◌, List, [], ◌∷◌, All, length, map, slice_index, slice_index_or}
+use Rattle.std.specs.Prelude.{◌≡◌, ◌==◌, ℕ, ◌+◌, ◌<◌, ◌≤◌, List, All, length, map, slice_index, slice_index_or}
+use Rattle.std.specs.List.{position_or_len}
 use Rattle.tern_word.specs.declared.tables.Row.{Row}
 
 -- the place of the route of these bits among the routes, and their number where it is not there
-abbrev pub place_of_route : List ℕ → ℕ → ℕ
-place_of_route [] bits = 0
-place_of_route (r ∷ routes) bits = if r == bits then 0 else suc (place_of_route routes bits)
+unfoldable pub place_of_route : List ℕ → ℕ → ℕ
+place_of_route routes bits = position_or_len (λ r. r == bits) routes
 
 -- each route stands once among the routes
 abbrev pub IsEachOnce : List ℕ → Type 0

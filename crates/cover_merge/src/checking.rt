@@ -60,13 +60,7 @@ pub fn place_for(rows: &[Row], g: u32) -> usize
     ensures value { result ≡ place_for rows.now g }
     ensures bound { result ≤ length rows.now }
 {
-    let mut place = 0;
-    for row in rows {
-        if generality(row.block) <= g {
-            place += 1;
-        }
-    }
-    place
+    rows.iter().filter(|row| generality(row.block) <= g).count()
 }
 
 /// Whether no row outside the set between the places `s` and `p` meets an alias of row `s`.

@@ -64,24 +64,19 @@ pub(crate) fn numbers_of(alloc: Global, rows: &[Row], routes: &[u32]) -> Result<
     requires { length routes.now < 2 ^ 32 }
     ensures { IfOk result (λ v. AreRoutes rows.now routes.now → AreNumbers routes.now rows.now v.items) }
 {
-    let mut numbers = Vec::with_capacity(alloc, rows.len())?;
-    for s in 0..rows.len() {
-        numbers.push(number_of(routes, rows[s].route.bits) as u32)?;
-    }
-    Ok(numbers)
+    let numbers = rows
+        .iter()
+        .map(|row| number_of(routes, row.route.bits) as u32);
+    Ok(numbers.collect(alloc)?)
 }
 
 // The place of the route of these bits among the routes, and their number where it is not there.
+#[tactic(auto, unfolding(crate::specs::Links::place_of_route))]
 fn number_of(routes: &[u32], bits: u32) -> usize
     ensures value { result ≡ place_of_route routes.now bits }
     ensures bound { result ≤ length routes.now }
 {
-    for k in 0..routes.len() {
-        if routes[k] == bits {
-            return k;
-        }
-    }
-    routes.len()
+    routes.iter().take_while(|route| **route != bits).count()
 }
 
 /// The numbers of the rows of the table after the merge.

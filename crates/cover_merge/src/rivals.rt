@@ -171,12 +171,7 @@ pub(crate) fn is_at_one(numbered: NumberedPlaces, serial: usize) -> bool
 {
     let serials = numbered.serials;
     let places = numbered.places;
-    for s in places {
-        if serials[*s as usize] == serial {
-            return true;
-        }
-    }
-    false
+    places.iter().any(|s| serials[*s as usize] == serial)
 }
 
 /// The number of rows whose generality is at most `general`: the place behind them.
@@ -185,17 +180,7 @@ pub(crate) fn place_in(table: OrderedRows, general: u32) -> usize
     ensures bound { result ≤ length table.entry.rows.now }
 {
     let rows = table.rows;
-    let mut low = 0;
-    let mut high = rows.len();
-    while low < high {
-        let middle = low + (high - low) / 2;
-        if generality(rows[middle].block) <= general {
-            low = middle + 1;
-        } else {
-            high = middle;
-        }
-    }
-    low
+    rows.partition_point(|row| generality(row.block) <= general)
 }
 
 /// Whether the merge of two rows of one route is legal.

@@ -18,5 +18,5 @@ pub use Rattle.std.proofs.lemmas.{List.reverse-append, List.reverse-reverse, Lis
 pub use Rattle.std.proofs.lemmas.Option.{slice_get_within}
 pub use Rattle.std.specs.{List.Contains, List.Sorted.IsPermutation, List.cons_option, Option.option_map_or, Prelude.All, Prelude.AllPairs, Prelude.IsTrue, Prelude.MatchBool, Prelude.bit_and}
 pub use Rattle.std.specs.Prelude.{find, if◌then◌else◌, map, slice_get, ◌↔◌}
-pub use Rattle.tern_word.specs.{Entries.entry_of, SoundTable.HoldsItsAliases, SoundTable.IsSound, SoundTable.Misses, SoundTable.Original, SoundTable.served, SoundTable.served_by, Ternary.Matches}
-pub use Rattle.tern_word.specs.declared.tables.{Alias.Alias, Row.Row}
+pub use Rattle.tern_word.specs.{Entries.entry_of, SoundTable.IsSound, SoundTable.Misses, SoundTable.Original, SoundTable.served, SoundTable.served_by, Ternary.Matches, declared.tables.Alias.Alias}
+pub use Rattle.tern_word.specs.declared.tables.Row.{Row}

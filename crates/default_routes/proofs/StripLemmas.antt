@@ -1,11 +1,11 @@
 -- Kept rows route as all rows do.
 use Rattle.default_routes.proofs.Common.{Alias, All, All-append, All-cons, All-flat_map, All-head, All-map, All-more, All-nil, All-tail, All-weaker, AllPairs, AllPairs-cons, AllPairs-nil, AreKept}
-use Rattle.default_routes.proofs.Common.{ArePlaces, Bool, Dir, East, Entry, HoldsItsAliases, IsSound, IsStrippable, IsTrue, KeptFrom, Link, List, MatchBool, Matches, Misses, North, NorthEast}
-use Rattle.default_routes.proofs.Common.{Original, Port, Routes, RoutesAll, Row, Some, South, SouthWest, West, [], all_pairs_push, ap, arith, bit_and, cases_lt, cond, cons_option, default_route, ends}
-use Rattle.default_routes.proofs.Common.{entry_of, eq-eqb, eqb_tells, fails, false, find, get_or, get_or-reverse, get_or_default, get_or_from_slice_get, goes, has-at, has-place, has_row}
-use Rattle.default_routes.proofs.Common.{if◌then◌else◌, inl, inr, length, length-reverse, lookup, map, matches, option_map_or, refl, reverse, reverse-append, reverse-reverse, rows_at, rows_at-from}
-use Rattle.default_routes.proofs.Common.{rows_at-has, same_route, served, served_by, slice_get, slice_get_read, slice_get_within, stays, straight_on, subst, suc, sym, take, take_more, true, ℕ, ◌++◌}
-use Rattle.default_routes.proofs.Common.{◌+◌, ◌-◌, ◌<◌, ◌==◌, ◌^◌, ◌↔◌, ◌∙◌, ◌∷◌, ◌≡◌, ◌≤◌, ◌⊎◌}
+use Rattle.default_routes.proofs.Common.{ArePlaces, Bool, Dir, East, Entry, IsSound, IsStrippable, IsTrue, KeptFrom, Link, List, MatchBool, Matches, Misses, North, NorthEast, Original, Port, Routes}
+use Rattle.default_routes.proofs.Common.{RoutesAll, Row, Some, South, SouthWest, West, [], all_pairs_push, ap, arith, bit_and, cases_lt, cond, cons_option, default_route, ends, entry_of, eq-eqb}
+use Rattle.default_routes.proofs.Common.{eqb_tells, fails, false, find, get_or, get_or-reverse, get_or_default, get_or_from_slice_get, goes, has-at, has-place, has_row, if◌then◌else◌, inl, inr}
+use Rattle.default_routes.proofs.Common.{length, length-reverse, lookup, map, matches, option_map_or, refl, reverse, reverse-append, reverse-reverse, rows_at, rows_at-from, rows_at-has, same_route}
+use Rattle.default_routes.proofs.Common.{served, served_by, slice_get, slice_get_read, slice_get_within, stays, straight_on, subst, suc, sym, take, take_more, true, ℕ, ◌++◌, ◌+◌, ◌-◌, ◌<◌, ◌==◌, ◌^◌}
+use Rattle.default_routes.proofs.Common.{◌↔◌, ◌∙◌, ◌∷◌, ◌≡◌, ◌≤◌, ◌⊎◌}
 
 -- ---- lookup, entry by entry
 
@@ -215,11 +215,6 @@ ascends_more rows i d least mask key within is masked low ascending below = (
       (λ k f h. let before : (get_or (take i rows) k f).block.key < least = (below k f h).0 in (omega (arith, before, low), (below k f h).1))
       (subst (λ n. n < key + 1) is (omega arith), masked),
 )
-
--- rows of one mask whose keys ascend are apart
-pub apart_from_keys : (rows : List Row) (mask : ℕ) → All HoldsItsAliases rows → AllPairs (λ (r s : Row). r.block.key < s.block.key) rows →
-    All (λ (r : Row). r.block.mask ≡ mask) rows → AllPairs (λ (r s : Row). Misses s.block r) rows
-apart_from_keys rows mask hold ascending masked i j d less inside m e among met = grind arith
 
 -- then no later kept row meets an alias of the row before, as it was read
 pub missed : (rows : List Row) (kept list : List ℕ) → list ≡ kept → (i : ℕ) (row : Row) → row ≡ get_or rows (i - 1) row → AllPairs (λ (r s : Row). Misses s.block r) rows →

@@ -1,8 +1,7 @@
 -- Drawing one thing after another.
 use Rattle.job_gen.proofs.Common.{All, All-nil, All-push, Drawn, DrawnNet, DrawnPacket, List, [], add-one, ap, arith, drawn_sdram, drawn_target, get_or, length, length-append, mod_below, plus_plus}
 use Rattle.job_gen.proofs.Common.{refl, suc, zero, ℕ, ◌%◌, ◌++◌, ◌+◌, ◌/◌, ◌<◌, ◌∙◌, ◌∷◌, ◌≡◌}
-use Rattle.job_gen.specs.Draws.{draw, draws}
-use Rattle.job_gen.specs.Draws.{drawn_from, drawn_net, drawn_packet, keys_at}
+use Rattle.job_gen.specs.Draws.{draw, drawn_from, drawn_net, drawn_packet, draws, keys_at}
 
 -- a draw is what the generator's next word gives
 pub draw_from : (m w : ℕ) (before after : List ℕ) → (w, after) ≡ plus_plus before → (w % m, after) ≡ draw m before

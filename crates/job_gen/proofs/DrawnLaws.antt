@@ -1,8 +1,6 @@
 -- What holds of all that a job draws.
-use Rattle.job_gen.proofs.Common.{All, All-get_or, All-map, DrawnNet, IsDrawn, IsDrawnNet, IsDrawnPacket, List, NeedsKey, arith, draw, draws, length, length-map, map, seeded, ℕ, ◌+◌, ◌/◌, ◌<◌, ◌≡◌}
-use Rattle.job_gen.proofs.Common.{◌≤◌}
-use Rattle.job_gen.specs.Draws.{drawn, drawn_from, drawn_net, drawn_packet, drawn_sdram, drawn_target}
-use Rattle.job_gen.specs.Draws.{keys_at}
+use Rattle.job_gen.proofs.Common.{All, All-get_or, All-map, DrawnNet, IsDrawn, IsDrawnNet, IsDrawnPacket, List, NeedsKey, arith, draw, draws, length, length-map, map, seeded, ℕ, ◌+◌, ◌<◌, ◌≡◌, ◌≤◌}
+use Rattle.job_gen.specs.Draws.{drawn, drawn_from, drawn_net, drawn_packet, drawn_sdram, drawn_target, keys_at}
 use Rattle.job_gen.proofs.DrawLemmas.{draw_below, length-draws, draws_each}
 
 sdram_few : (i : ℕ) (g : List ℕ) → (drawn_sdram i g).0 ≤ 1048576
@@ -43,14 +41,7 @@ keys_some nets i all below =
 -- a packet of one of 1,200 numbers, whatever the words are
 packet_drawn : (nets : List DrawnNet) (i : ℕ) (g : List ℕ) → length nets ≡ 300 → All NeedsKey nets → i < 1200 → IsDrawnPacket nets (drawn_packet nets i g).0
 unfolding drawn_packet
-packet_drawn nets i g many all below =
-    let index = draw (keys_at nets (i / 4)) g in
-    let payload : (draw 4294967296 index.1).0 < 4294967296 = draw_below 4294967296 index.1 (omega arith) in
-    record {
-      net = omega arith;
-      index = draw_below (keys_at nets (i / 4)) g (keys_some nets (i / 4) all (omega arith));
-      payload = omega (arith, payload);
-    }
+packet_drawn nets i g many all below = grind (arith, draw_below, keys_some)
 
 -- nets that are drawn need keys
 pub nets_drawn : (n : ℕ) (g : List ℕ) → All IsDrawnNet (draws drawn_net n g).0

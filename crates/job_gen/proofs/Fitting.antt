@@ -2,8 +2,7 @@
 use Rattle.job_gen.proofs.Common.{All, All-at, All-cons, All-head, All-nil, All-tail, AreKeysOut, Chip, Drawn, DrawnNet, HasDeviceRoom, HasNoRoom, IsCoreFor, IsDrawn, IsDrawnNet, IsFirstNetCutOff}
 use Rattle.job_gen.proofs.Common.{IsLiveChip, IsPlacement, List, MatchOption, Net, Some, Spot, [], and_parts, arith, device_spot, drawn, fixed_of, generated_board, is_live_chip, length, length-map}
 use Rattle.job_gen.proofs.Common.{packet_of, refl, slice_get, slice_get_there, slice_get_within, subst, sym, take, ℕ, ◌+◌, ◌<◌, ◌∙◌, ◌∷◌, ◌≡◌, ◌≤◌}
-use Rattle.job_gen.specs.Values.{numbered}
-use Rattle.job_gen.specs.Generated.{gen_job, generated_run, generated_vertex, graph_of, job_of_drawn, net_of}
+use Rattle.job_gen.specs.{Generated.gen_job, Generated.generated_run, Generated.generated_vertex, Generated.graph_of, Generated.job_of_drawn, Generated.net_of, Values.numbered}
 use Rattle.job_gen.proofs.{DrawnLaws.is_drawn, ListReading.length-numbered, Joined.not_cut_off, Keyed.NeedsFew, Keyed.keys_are_left, Roomy.IsSmall, Roomy.room_is_left}
 
 -- what each numbered item has

@@ -2,12 +2,11 @@
 use Rattle.job_gen.proofs.Common.{All, DrawnNet, IsDrawnNet, List, Net, None, Some, Vertex, [], and_from, ap, arith, codes, decimal, generated_vertex_name, has_item, if◌then◌else◌, is_some, is_within}
 use Rattle.job_gen.proofs.Common.{le-leb, length, list_of-items_of, map, map-id, name_place_in, next_net_faults, next_vertex_faults, option_and_then, refl, slice_get, suc, true, unwrap_or, zero, ℕ}
 use Rattle.job_gen.proofs.Common.{◌+◌, ◌<◌, ◌∙◌, ◌∷◌, ◌≡◌, ◌≤◌}
-use Rattle.job_readers.specs.{Members.list_member, Members.member_since, Members.number_member, Members.number_member_faults, Places.reference_faults, Places.reference_value}
-use Rattle.job_readers.specs.{GraphPart.at_faults, GraphPart.at_value, GraphPart.device_faults, GraphPart.device_value, GraphPart.name_faults, GraphPart.name_value, Places.new_name_faults}
-use Rattle.job_readers.specs.GraphPart.{net_source_faults, sender_at, sender_in, source_value, target_faults, target_value, vertex_faults, vertex_names_of, vertex_value}
-use Rattle.job_readers.specs.GraphPart.{fixed_faults, fixed_value, keys_value, net_faults, net_names, net_value, some_faults, targets_faults, targets_value}
-use Rattle.job_gen.specs.Values.{name_data, net_data, numbered, vertex_data}
-use Rattle.job_gen.specs.Generated.{generated_vertex, net_of}
+use Rattle.job_readers.specs.{Members.list_member, Members.member_since, Members.number_member, Members.number_member_faults, Places.new_name_faults, Places.reference_faults, Places.reference_value}
+use Rattle.job_readers.specs.GraphPart.{at_faults, at_value, device_faults, device_value, name_faults, name_value, net_source_faults, sender_at, sender_in, source_value, target_faults, target_value}
+use Rattle.job_readers.specs.GraphPart.{fixed_faults, fixed_value, keys_value, net_faults, net_names, net_value, some_faults, targets_faults, vertex_faults, vertex_names_of, vertex_value}
+use Rattle.job_readers.specs.GraphPart.{targets_value}
+use Rattle.job_gen.specs.{Generated.generated_vertex, Generated.net_of, Values.name_data, Values.net_data, Values.numbered, Values.vertex_data}
 use Rattle.job_gen.proofs.{NameLemmas.AreBelow, NameLemmas.absent, NameLemmas.found, NameLemmas.named, ListReading.items_clean, ListReading.items_are}
 
 pub within : (low high n : ℕ) → low ≤ n → n ≤ high → is_within low high n ≡ true
@@ -101,13 +100,7 @@ module _ (sdrams : List ℕ) (many : length sdrams ≡ 200) where
   pub net_clean : (before : List Net) (path : List ℕ) (i : ℕ) (net : DrawnNet) → AreBelow 110 i (map (λ (n : Net). n.name) before) → i < 1000 → IsDrawnNet net
       → next_net_faults 1 (numbered generated_vertex 0 sdrams) before path (net_data i net) ≡ []
   unfolding net_faults fixed_faults member_since net_data
-  net_clean before path i net below small drawn =
-      rw (
-        own_name before path i net below small,
-        source_clean path i net drawn.source,
-        targets_clean path i net drawn.some_target drawn.targets,
-        keys_clean path i net drawn.some_key drawn.few_keys,
-      ) refl
+  net_clean before path i net below small drawn = grind (arith, own_name, source_clean, targets_clean, keys_clean)
 
   pub net_is : (i : ℕ) (net : DrawnNet) → IsDrawnNet net → net_value 1 (numbered generated_vertex 0 sdrams) (net_data i net) ≡ net_of i net
   unfolding net_value name_value keys_value number_member fixed_value member_since net_data net_of

@@ -1,22 +1,20 @@
 -- A generated job is read without a fault, as its definition gives it.
 use Rattle.job_gen.proofs.Common.{Bool, Drawn, DrawnNet, DrawnPacket, IsDrawn, IsDrawnNet, IsDrawnPacket, List, Net, None, Some, TooMany, Vertex, [], ap, arith, codes, count_faults, decimal, drawn}
-use Rattle.job_gen.proofs.Common.{generated_net_name, generated_vertex, if◌then◌else◌, le-leb, length, length-map, list_of-items_of, live_count_of, map, name_place_in, next_net_faults}
-use Rattle.job_gen.proofs.Common.{next_vertex_faults, refl, slice_index, unwrap_or, vertex_data, vertex_value, ℕ, ◌+◌, ◌-◌, ◌<◌, ◌∙◌, ◌∷◌, ◌≡◌, ◌≤◌}
+use Rattle.job_gen.proofs.Common.{generated_net_name, generated_vertex, if◌then◌else◌, le-leb, length, length-map, list_of-items_of, map, name_place_in, next_net_faults, next_vertex_faults, refl}
+use Rattle.job_gen.proofs.Common.{slice_index, unwrap_or, vertex_data, vertex_value, ℕ, ◌+◌, ◌-◌, ◌<◌, ◌∙◌, ◌∷◌, ◌≡◌, ◌≤◌}
 use Rattle.app_graph.specs.RunPart.{key_count_of}
-use Rattle.job_readers.specs.{Items.items_faults, Members.flag_member, Members.flag_member_faults, Members.number_member, Members.number_member_faults, Members.optional_number}
-use Rattle.job_readers.specs.{Entries.chip_faults, Entries.chip_value, Members.list_member, Members.list_member_faults, Members.long_list_member_faults, Places.reference_faults}
-use Rattle.job_readers.specs.{Job.job_own_faults, Job.version_faults, Job.version_value, MachinePart.entries_faults, MachinePart.machine_members_faults, Places.reference_value}
-use Rattle.job_readers.specs.{GraphPart.name_value, MachinePart.machine_faults, MachinePart.machine_members, MachinePart.machine_value}
-use Rattle.job_readers.specs.GraphPart.{graph_faults, graph_members, graph_members_faults, graph_value, net_names, net_value, nets_faults, nets_value, vertices_faults, vertices_value}
-use Rattle.job_readers.specs.RunPart.{events_faults, events_value, packet_faults, packet_net, packet_net_faults, packet_value, packets_faults, packets_value, places_faults, run_members_faults}
-use Rattle.job_readers.specs.{RunPart.run_faults, RunPart.run_members, RunPart.run_value, WholeJob.job_faults, WholeJob.job_value}
-use Rattle.job_gen.specs.Draws.{keys_at}
-use Rattle.job_gen.specs.Values.{dead_pairs, net_data, numbered, packet_data}
-use Rattle.job_gen.specs.{Board.generated_board, Generated.net_of, Values.gen_value, Values.graph_data, Values.job_data, Values.machine_data, Values.run_data}
-use Rattle.job_gen.specs.Generated.{gen_job, generated_run, graph_of, job_of_drawn, packet_of}
+use Rattle.job_readers.specs.{Items.items_faults, Members.flag_member, Members.flag_member_faults, Members.list_member, Members.number_member, Members.number_member_faults, Members.optional_number}
+use Rattle.job_readers.specs.{Entries.chip_faults, Entries.chip_value, Job.job_own_faults, Members.list_member_faults, Members.long_list_member_faults, Places.reference_faults, Places.reference_value}
+use Rattle.job_readers.specs.{Job.version_faults, Job.version_value, MachinePart.entries_faults, MachinePart.machine_faults, MachinePart.machine_members, MachinePart.machine_members_faults}
+use Rattle.job_readers.specs.{GraphPart.graph_faults, GraphPart.graph_members, GraphPart.graph_members_faults, GraphPart.graph_value, GraphPart.name_value, MachinePart.machine_value}
+use Rattle.job_readers.specs.{GraphPart.net_names, GraphPart.net_value, GraphPart.nets_faults, GraphPart.nets_value, GraphPart.vertices_faults, GraphPart.vertices_value, RunPart.events_faults}
+use Rattle.job_readers.specs.RunPart.{events_value, packet_faults, packet_net, packet_net_faults, packet_value, packets_faults, packets_value, places_faults, run_faults, run_members_faults}
+use Rattle.job_readers.specs.{RunPart.run_members, RunPart.run_value, WholeJob.job_faults, WholeJob.job_value}
+use Rattle.job_gen.specs.{Draws.keys_at, Values.dead_pairs, Values.gen_value, Values.graph_data, Values.job_data, Values.machine_data, Values.net_data, Values.numbered, Values.packet_data}
+use Rattle.job_gen.specs.{Board.generated_board, Generated.gen_job, Generated.generated_run, Generated.graph_of, Generated.job_of_drawn, Generated.net_of, Generated.packet_of, Values.run_data}
 use Rattle.job_gen.proofs.{NameLemmas.found, NameLemmas.named, ListReading.items_clean, ListReading.items_are, ListReading.numbered_are, ListReading.length-numbered, ListReading.following_clean}
 use Rattle.job_gen.proofs.GraphReading.{within, vertex_clean, vertex_is, vertex_named, net_clean, net_is, net_named}
-use Rattle.job_gen.proofs.DrawnLaws.{is_drawn}
+use Rattle.job_gen.proofs.{DrawnLaws.is_drawn, Joined.live_chips}
 
 -- a list that is no longer than its limit
 few_faults : (path : List ℕ) (limit count : ℕ) → count ≤ limit → count_faults path limit count ≡ []
@@ -32,10 +30,6 @@ machine_clean path job = refl
 machine_is : (job : Drawn) → machine_value (job_data job) ≡ generated_board
 unfolding machine_value machine_members number_member flag_member list_member chip_value job_data graph_data machine_data run_data dead_pairs generated_board
 machine_is job = refl
-
-live_chips : live_count_of generated_board ≡ 48
-unfolding generated_board dead_pairs
-live_chips = refl
 
 -- ---- the graph
 
@@ -124,16 +118,7 @@ module _ (job : Drawn) (drawn : IsDrawn job) where
 
   packet_clean : (path : List ℕ) (p : DrawnPacket) → IsDrawnPacket job.nets p → packet_faults (numbered net_of 0 job.nets) path (packet_data p) ≡ []
   unfolding packet_faults packet_data
-  packet_clean path p of_nets =
-      let net : p.net < 300 = of_nets.net in
-      let keys : key_count_of (numbered net_of 0 job.nets) (packet_net (numbered net_of 0 job.nets) (packet_data p)) ≡ keys_at job.nets p.net =
-      ap (key_count_of (numbered net_of 0 job.nets)) (packet_net_is p net) ∙ same_keys p.net in
-      let index : p.index < keys_at job.nets p.net = of_nets.index in
-      rw (
-        packet_net_clean path p net,
-        index_clean path p (key_count_of (numbered net_of 0 job.nets) (packet_net (numbered net_of 0 job.nets) (packet_data p)) - 1) (omega (arith, keys, index)),
-        payload_clean path p of_nets.payload,
-      ) refl
+  packet_clean path p of_nets = grind (arith, packet_net_is, same_keys, packet_net_clean, index_clean, payload_clean)
 
   packet_is : (p : DrawnPacket) → IsDrawnPacket job.nets p → packet_value (numbered net_of 0 job.nets) (packet_data p) ≡ packet_of p
   unfolding packet_value number_member optional_number packet_data packet_of

@@ -102,10 +102,7 @@ home : (k : ℕ) (c : Chip) → steps_of c ≤ k → IsLiveChip generated_board 
 home zero c few live = grind (arith, step c live, at_origin)
 home (suc k) c few live = elim (step c live) [
   | inl same ↦ at_origin c same
-  | inr nearer ↦ (
-      let rest = home k nearer.next (omega (arith, nearer.less)) nearer.live in
-      (join c nearer.next origin (by_link c nearer.next nearer.forth) rest.0, join origin nearer.next c rest.1 (by_link nearer.next c nearer.back))
-      )
+  | inr nearer ↦ grind (arith, home k nearer.next (omega (arith, nearer.less)) nearer.live, by_link nearer.next c nearer.back, by_link c nearer.next nearer.forth, join)
 ]
 
 pub joined : (a b : Chip) → IsLiveChip generated_board a → IsLiveChip generated_board b → (walk : List Chip) × IsWalkTo generated_board a b walk

@@ -1,7 +1,7 @@
 -- Nets that need at most 16 keys each, and have none fixed: the first i nets take keys below 16 * i, so a range is left.
 use Rattle.job_gen.proofs.Common.{AreFirstBlocks, AreKeysOut, Block, IsLeastBlock, IsOpenPlace, IsPowerOfTwo, IsSizeFor, List, MatchOption, MissesRange, Net, None, Some, [], and_parts, arith}
-use Rattle.job_gen.proofs.Common.{cases_lt, fixed_of, get_or, get_or-take, inl, inr, leb, leb-true, length, length-take, ltb, ltb-true, pow_mono, refl, size_of, slice_get, slice_get-get_or}
-use Rattle.job_gen.proofs.Common.{slice_get_within, subst, suc, sym, take, take_all, zero, ℕ, ◌%◌, ◌*◌, ◌++◌, ◌+◌, ◌<◌, ◌^◌, ◌∷◌, ◌≡◌, ◌≤◌, ◌⊎◌}
+use Rattle.job_gen.proofs.Common.{cases_lt, fixed_of, get_or, get_or-take, inl, inr, leb-true, length, length-take, ltb-true, pow_mono, refl, size_of, slice_get, slice_get-get_or, slice_get_within}
+use Rattle.job_gen.proofs.Common.{subst, suc, sym, take, take_all, zero, ℕ, ◌%◌, ◌*◌, ◌++◌, ◌+◌, ◌<◌, ◌^◌, ◌∷◌, ◌≡◌, ◌≤◌, ◌⊎◌}
 
 -- ---- sizes
 
@@ -26,10 +26,7 @@ least_size keys size power enough which = record {
     | inl one ↦ omega (arith, which)
     | inr more ↦ elim more [
       | inl two ↦ omega (arith, which)
-      | inr more ↦ elim more [
-        | inl four ↦ omega (arith, which)
-        | inr more ↦ elim more [ inl eight ↦ omega (arith, which) | inr large ↦ omega (arith, which) ]
-      ]
+      | inr more ↦ grind arith
     ]
   ];
 }
@@ -67,10 +64,7 @@ some_at (x ∷ xs) (suc i) below = some_at xs i (omega arith)
 
 -- a block that ends at or below a place misses what begins there
 misses : (place size : ℕ) (b : Block) → b.key + size_of b ≤ place → MissesRange place size b
-misses place size b ends k mine its =
-    let upper : k < b.key + size_of b = ltb-true k (b.key + size_of b) (and_parts (leb b.key k) (ltb k (b.key + size_of b)) mine).1 in
-    let lower : place ≤ k = leb-true place k (and_parts (leb place k) (ltb k (place + size)) its).0 in
-    omega (arith, upper, lower, ends)
+misses place size b ends k mine its = grind (arith, ltb-true, and_parts, leb-true)
 
 abbrev EndAt : ℕ → List Block → Type 0
 EndAt i blocks = (k : ℕ) (b : Block) → k < i → slice_get blocks k ≡ Some b → b.key + size_of b ≤ 16 * (k + 1)

@@ -2,11 +2,10 @@
 use Rattle.job_gen.proofs.Common.{All, All-cons, All-get_or, All-head, All-map, All-nil, All-tail, Bool, Data, Drawn, DrawnNet, DrawnPacket, IsDrawn, IsDrawnNet, IsDrawnPacket, Items, List, Members}
 use Rattle.job_gen.proofs.Common.{[], and_parts, arith, array, codes, comma_if, compact_text, cond_both, decimal, drawn, escape, false, generated_net_name, generated_vertex_name, item, items_of}
 use Rattle.job_gen.proofs.Common.{items_text, length, length-append, length-decimal-le, length-map, list_all, ltb-true, map, member, members_text, nat_lt, no_items, no_members, number, object}
-use Rattle.job_gen.proofs.Common.{pair_data, quoted, refl, string, suc, true, unsigned, zero, ℕ, ◌&&◌, ◌*◌, ◌++◌, ◌+◌, ◌<◌, ◌^◌, ◌∷◌, ◌≡◌, ◌≤◌}
+use Rattle.job_gen.proofs.Common.{pair_data, quoted, refl, string, suc, true, unsigned, zero, ℕ, ◌&&◌, ◌*◌, ◌+◌, ◌<◌, ◌^◌, ◌∷◌, ◌≡◌, ◌≤◌}
 use Rattle.json.specs.Print.{escape_byte}
-use Rattle.job_gen.specs.Draws.{keys_at}
-use Rattle.job_gen.specs.Values.{name_data, net_data, vertex_data}
-use Rattle.job_gen.specs.Values.{dead_pairs, gen_text_of, gen_value, graph_data, job_data, machine_data, numbered, packet_data, run_data}
+use Rattle.job_gen.specs.{Draws.keys_at, Values.dead_pairs, Values.gen_text_of, Values.gen_value, Values.graph_data, Values.job_data, Values.name_data, Values.net_data, Values.vertex_data}
+use Rattle.job_gen.specs.Values.{machine_data, numbered, packet_data, run_data}
 use Rattle.job_gen.proofs.DrawnLaws.{is_drawn}
 
 -- ---- strings
@@ -43,15 +42,13 @@ none_short = record { text = λ later. omega arith }
 
 member_short : (k : List ℕ) (d : Data) (few long : ℕ) {ms : Members} {rest : ℕ} → length k ≤ few → length (compact_text d) ≤ long → AreShort ms rest →
     AreShort (member k d ms) (6 * few + 4 + long + rest)
-member_short k d few long {ms} {rest} name value others =
-    grind (arith, quoted_short k, length-append (quoted k) (58 ∷ (compact_text d ++ members_text true ms)), length-append (compact_text d) (members_text true ms), comma_short)
+member_short k d few long {ms} {rest} name value others = grind (arith, quoted_short, length-append, comma_short)
 
 object_short : {ms : Members} {n : ℕ} (long : ℕ) → AreShort ms n → n < long → length (compact_text (object ms)) ≤ long
 object_short {ms} {n} long short few = let inside : length (members_text false ms) ≤ n = short.text false in omega (arith, inside, few)
 
 item_short : (later : Bool) (d : Data) (ds : Items) (long rest : ℕ) → length (compact_text d) ≤ long → length (items_text true ds) ≤ rest → length (items_text later (item d ds)) ≤ 1 + long + rest
-item_short later d ds long rest value others =
-    grind (arith, comma_short later, length-append (comma_if later) (compact_text d ++ items_text true ds), length-append (compact_text d) (items_text true ds))
+item_short later d ds long rest value others = grind (arith, comma_short, length-append)
 
 -- ---- lists
 

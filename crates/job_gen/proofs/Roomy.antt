@@ -65,11 +65,7 @@ on_without s [] there = absurd cc
 on_without s (t ∷ ss) there =
     elim (spot_eq s t) as (λ b. spot_eq s t ≡ b → (b || list_any (spot_eq s) ss) ≡ true →
     on s.chip (if b then without s ss else t ∷ without s ss) + 1 ≤ one_if (chip_eq s.chip t.chip) + on s.chip ss) [
-      | true ↦ λ same was. (
-          let here : chip_eq s.chip t.chip ≡ true = (and_parts (chip_eq s.chip t.chip) _ same).0 in
-          let one : one_if (chip_eq s.chip t.chip) ≡ 1 = ap one_if here in
-          omega (arith, on_without_le s ss, one)
-          )
+      | true ↦ grind (arith, one_if (chip_eq s.chip t.chip), on_without_le s ss, and_parts)
       | false ↦ λ other was. (let rest = on_without s ss was in omega (arith, rest))
     ] refl there
 
@@ -80,12 +76,7 @@ stays s r [] other there = there
 stays s r (t ∷ ss) other there =
     elim (spot_eq s t) as (λ b. spot_eq s t ≡ b → list_any (spot_eq r) (if b then without s ss else t ∷ without s ss) ≡ true) [
       | true ↦ λ same. elim (or_cases (spot_eq r t) (list_any (spot_eq r) ss) there) [
-        | inl is ↦ (
-            let left : s ≡ t = spot_eq_true s t same in
-            let right : r ≡ t = spot_eq_true r t is in
-            let equal : s ≡ r = left ∙ sym right in
-            absurd (true≢false (sym (ap (spot_eq s) (sym equal) ∙ spot_eq_same s) ∙ other))
-            )
+        | inl is ↦ grind (arith, spot_eq_true s t same, spot_eq_true r t is, spot_eq_same s, true≢false)
         | inr later ↦ stays s r ss other later
       ]
       | false ↦ λ differs. elim (or_cases (spot_eq r t) (list_any (spot_eq r) ss) there) [
@@ -147,10 +138,7 @@ memory_left used count sdram a b d = omega arith
 -- a chip without room has seventeen spots
 full : (c : Chip) (vs : List Vertex) (ss : List Spot) (v : Vertex) → IsLiveChip generated_board c → All IsSmall vs → IsSmall v → (HasRoom generated_board vs ss v c → ⊥) → 17 ≤ on c ss
 full c vs ss v live small one none = elim (cases_lt (on c ss) 17) [
-  | inl few ↦ (
-      let core = free_core c ss live few in
-      absurd (none (record { core = core.0; free = core.1; memory = memory_left (used_on c vs ss) (on c ss) v.sdram (used_few c vs ss small) few one.sdram }))
-      )
+  | inl few ↦ grind (arith, free_core c ss live few, memory_left (used_on c vs ss) (on c ss) v.sdram (used_few c vs ss small) few one.sdram, on c ss, used_few c vs ss small)
   | inr many ↦ many
 ]
 
@@ -172,11 +160,7 @@ away_length c (s ∷ ss) =
 
 apart_chips : (c d e : Chip) → chip_eq c d ≡ false → chip_eq c e ≡ true → (b : Bool) → chip_eq d e ≡ b → b ≡ false
 apart_chips c d e other same false there = refl
-apart_chips c d e other same true there =
-    let left : c ≡ e = chip_eq_true c e same in
-    let right : d ≡ e = chip_eq_true d e there in
-    let equal : c ≡ d = left ∙ sym right in
-    absurd (true≢false (sym (ap (chip_eq c) (sym equal) ∙ chip_eq_same c) ∙ other))
+apart_chips c d e other same true there = grind (arith, chip_eq_true, true≢false, chip_eq_same)
 
 away_other : (c d : Chip) (ss : List Spot) → chip_eq c d ≡ false → on d (away c ss) ≡ on d ss
 unfolding on one_if away
@@ -184,10 +168,7 @@ away_other c d [] other = refl
 away_other c d (s ∷ ss) other =
     let rest = away_other c d ss other in
     elim (chip_eq c s.chip) as (λ b. chip_eq c s.chip ≡ b → on d (if b then away c ss else s ∷ away c ss) ≡ one_if (chip_eq d s.chip) + on d ss) [
-      | true ↦ λ same. (
-          let not_there : one_if (chip_eq d s.chip) ≡ 0 = ap one_if (apart_chips c d s.chip other same (chip_eq d s.chip) refl) in
-          omega (arith, rest, not_there)
-          )
+      | true ↦ grind (arith, one_if (chip_eq d s.chip), apart_chips)
       | false ↦ λ differs. ap (λ k. one_if (chip_eq d s.chip) + k) rest
     ] refl
 

@@ -1,8 +1,7 @@
 -- How deep the value of a generated job nests, and that no number of it is a float.
 use Rattle.job_gen.proofs.Common.{Data, Drawn, DrawnNet, DrawnPacket, IsUtf8, List, Some, [], ap, arith, compact_text, dead_pairs, depth, drawn, false, has_float, items_depth, items_have_float}
 use Rattle.job_gen.proofs.Common.{items_of, json_of, json_of-utf8, map, pair_data, read, refl, ℕ, ◌+◌, ◌∙◌, ◌∷◌, ◌≡◌, ◌≤◌}
-use Rattle.job_gen.specs.Values.{name_data, net_data, vertex_data}
-use Rattle.job_gen.specs.Values.{gen_text_of, gen_value, graph_data, job_data, machine_data, numbered, packet_data, run_data}
+use Rattle.job_gen.specs.Values.{gen_text_of, gen_value, graph_data, job_data, machine_data, name_data, net_data, numbered, packet_data, run_data, vertex_data}
 
 -- ---- lists
 

@@ -7,8 +7,7 @@ use Rattle.job_gen.proofs.Common.{of_members, option_and_then, option_map, outli
 use Rattle.job_gen.proofs.Common.{◌%◌, ◌++◌, ◌+◌, ◌<◌, ◌^◌, ◌∙◌, ◌∷◌, ◌≡◌, ◌≤◌}
 use Rattle.json.specs.Json as json
 use Rattle.json.specs.Tree as tree
-use Rattle.job_gen.specs.Values.{gen_text_of, gen_value, graph_data, job_data}
-use Rattle.job_gen.specs.Values.{machine_data, name_data, net_data, numbered, packet_data, run_data, vertex_data}
+use Rattle.job_gen.specs.Values.{gen_text_of, gen_value, graph_data, job_data, machine_data, name_data, net_data, numbered, packet_data, run_data, vertex_data}
 use Rattle.job_gen.proofs.{DrawnLaws.is_drawn, LengthLemmas.IsLow, LengthLemmas.keys_few, LengthLemmas.pairs_low, TextLemmas.depth-gen}
 
 -- ---- what a value needs so that its text is read as it
@@ -62,8 +61,7 @@ one_byte c small = IsUtf8-are_ascii (c ∷ []) (rw (lt-ltb c 128 small) refl)
 
 digits : (n : ℕ) → n < 2 ^ 64 → IsUtf8 (decimal n)
 digits n small =
-    decimal_by_steps (λ m ds. IsUtf8 ds) (λ m low. one_byte (48 + m) (omega (arith, low)))
-    (λ m ds high rest. IsUtf8-append ds ((48 + m % 10) ∷ []) rest (one_byte (48 + m % 10) (omega arith))) n small
+    decimal_by_steps (λ m ds. IsUtf8 ds) (λ m low. one_byte (48 + m) (omega (arith, low))) (λ m ds high rest. IsUtf8-append ds ((48 + m % 10) ∷ []) rest (one_byte (48 + m % 10) (omega arith))) _ small
 
 number_back : (n : ℕ) → n < 2 ^ 64 → ReadsBack (number (unsigned n))
 number_back n small = record { numbers = IsNumber-decimal n small; same = ap (option_map number) (number_of-decimal n small); text = digits n small }

@@ -1,6 +1,6 @@
 // What a generated job draws.
 ghost use Rattle.std.specs.Prelude.{◌≡◌, ◌<◌, ◌/◌, ◌+◌, length, All, IfOk};
-ghost use Rattle.job_gen.specs.Draws.{seeded, draw, draws, drawn_sdram, drawn_target, drawn_net, drawn_packet, drawn, NeedsKey};
+ghost use Rattle.job_gen.specs.Draws.{seeded, draw, draws, drawn_net, drawn_packet, drawn, NeedsKey};
 
 use rand_core::SeedableRng;
 use rand_core::utils::NextWord;
@@ -58,7 +58,7 @@ pub fn draw_job(alloc: Global, n: u64) -> Result<Drawn, Memory>
     ensures { IfOk result (λ job. job ≡ drawn n) }
 {
     let mut generator = Xoshiro256PlusPlus::seed_from_u64(n);
-    let sdrams = draw_sdrams(alloc, &mut generator)?;
+    let sdrams = draw_numbers(alloc, &mut generator, VERTICES, 1_048_576)?;
     let nets = draw_nets(alloc, &mut generator)?;
     let all = AllNets {
         nets: nets.as_slice(),
@@ -80,17 +80,22 @@ fn draw(generator: &mut Xoshiro256PlusPlus, m: u64) -> u64
     generator.next_word() % m
 }
 
-// The memory of each vertex.
-fn draw_sdrams(alloc: Global, generator: &mut Xoshiro256PlusPlus) -> Result<Seq<u32>, Memory>
-    ensures { IfOk result (λ sdrams. (sdrams, generator.new)
-        ≡ draws drawn_sdram 200 generator.old) }
+// So many numbers, each this one at most.
+fn draw_numbers(
+    alloc: Global,
+    generator: &mut Xoshiro256PlusPlus,
+    count: u32,
+    most: u32,
+) -> Result<Seq<u32>, Memory>
+    ensures { IfOk result (λ numbers. (numbers, generator.new)
+        ≡ draws (λ i. draw (most + 1)) count generator.old) }
 {
-    let mut sdrams = Vec::new(alloc);
-    for i in 0..VERTICES {
-        let sdram = draw(generator, 1_048_577) as u32;
-        sdrams.push(sdram)?;
+    let mut numbers = Vec::new(alloc);
+    for i in 0..count {
+        let number = draw(generator, u64::from(most) + 1) as u32;
+        numbers.push(number)?;
     }
-    Ok(Seq::from_vec(sdrams))
+    Ok(Seq::from_vec(numbers))
 }
 
 // The nets.
@@ -111,30 +116,13 @@ fn draw_net(alloc: Global, generator: &mut Xoshiro256PlusPlus) -> Result<DrawnNe
 {
     let source = draw(generator, 200) as u32;
     let count = 1 + draw(generator, 8) as u32;
-    let targets = draw_targets(alloc, generator, count)?;
+    let targets = draw_numbers(alloc, generator, count, 199)?;
     let keys = 1 + draw(generator, 16) as u32;
     Ok(DrawnNet {
         source,
         targets,
         keys,
     })
-}
-
-// So many targets.
-fn draw_targets(
-    alloc: Global,
-    generator: &mut Xoshiro256PlusPlus,
-    count: u32,
-) -> Result<Seq<u32>, Memory>
-    ensures { IfOk result (λ targets. (targets, generator.new)
-        ≡ draws drawn_target count generator.old) }
-{
-    let mut targets = Vec::new(alloc);
-    for i in 0..count {
-        let target = draw(generator, 200) as u32;
-        targets.push(target)?;
-    }
-    Ok(Seq::from_vec(targets))
 }
 
 // The packets of these nets.

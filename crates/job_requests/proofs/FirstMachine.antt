@@ -1,12 +1,8 @@
 -- Of the machines of a list's loads the first alone is kept.
-use Rattle.std.proofs.Common.{◌≡◌, ℕ, ◌+◌, ◌<◌, refl, sym, ap, ◌∙◌, List, [], ◌∷◌, ◌++◌, length, map, take, get_or, Bool, true, false, ◌||◌}
-use Rattle.std.specs.{List.list_any, Prelude.bytes_eq, Prelude.codes, Prelude.if◌then◌else◌, Prelude.is_some, Prelude.unwrap_or}
-use Rattle.std.proofs.{lemmas.List.map-append, lemmas.List.Folds.list_any-append, Math.Bool.or-false}
-use Rattle.serde_json.specs.Data.{Data}
-use Rattle.job_readers.specs.RunPart.{items_in, head_word, after_head}
-use Rattle.job_readers.proofs.ItemSteps.{values-more}
-use Rattle.job_requests.specs.{declared.steps.Step.Step, declared.steps.Step.TheVariants.Load, declared.steps.Step.TheVariants.Unload, declared.steps.Step.TheVariants.Run, Steps.first_machine_alone}
-use Rattle.job_requests.specs.{Steps.is_load, Steps.kept_step, Steps.load_of, Steps.step_value, Steps.unload_of, Steps.without_machine, Steps.worded_step, Valid.HasFirstMachine}
+use Rattle.job_requests.proofs.Common.{Bool, Data, HasFirstMachine, List, Load, Run, Step, Unload, [], after_head, ap, bytes_eq, codes, false, first_machine_alone, get_or, head_word, if◌then◌else◌}
+use Rattle.job_requests.proofs.Common.{is_load, is_some, items_in, kept_step, length, list_any, list_any-append, load_of, map, map-append, or-false, refl, sym, take, true, unload_of, unwrap_or}
+use Rattle.job_requests.proofs.Common.{values-more, without_machine, ℕ, ◌++◌, ◌+◌, ◌<◌, ◌||◌, ◌∙◌, ◌∷◌, ◌≡◌}
+use Rattle.job_requests.specs.Steps.{step_value, worded_step}
 
 -- ---- one step more
 

@@ -1,16 +1,10 @@
 -- A job of version 1 or 2 has no device.
-use Rattle.std.proofs.Common.{◌≡◌, ℕ, ◌≤◌, refl, ap, subst, arith, List, [], Bool, true, false, Option, Some, None, unwrap_or}
-use Rattle.std.specs.{List.All, Prelude.option_map, Prelude.nat_le, Prelude.codes, Prelude.if◌then◌else◌}
-use Rattle.std.proofs.lemmas.Bool.{and_parts, leb-true, lt-leb}
-use Rattle.serde_json.specs.Data.{Data}
-use Rattle.spin_base.proofs.{Members.Contains-unmap, Places.All-each}
-use Rattle.app_graph.specs.declared.graphs.Vertex.{Vertex}
-use Rattle.job_text.specs.{Members.member_of, Members.whole_number, Paths.member_at, Fields.is_within, Fields.number_faults, Fields.number_value, Fields.object_value, Fields.range_unless}
-use Rattle.job_text.specs.Fields.{typed_faults}
-use Rattle.job_readers.specs.{Entries.link_value, Job.job_own_faults, Job.version_faults, Job.version_value, GraphPart.device_value, GraphPart.graph_members, GraphPart.graph_value}
-use Rattle.job_readers.specs.{GraphPart.vertex_value, GraphPart.vertices_value, Members.list_member, Members.member_since, Members.number_member, Members.number_member_faults, WholeJob.job_faults}
+use Rattle.job_requests.proofs.Common.{All, All-each, Bool, Contains-unmap, Data, List, None, Option, Some, Vertex, [], and_parts, ap, arith, codes, false, if◌then◌else◌, is_within, job_own_faults}
+use Rattle.job_requests.proofs.Common.{leb-true, link_value, list_member, lt-leb, member_at, member_of, nat_le, none_first, none_inside, number_faults, number_value, object_value, option_map}
+use Rattle.job_requests.proofs.Common.{range_unless, refl, subst, true, typed_faults, unwrap_or, whole_number, ℕ, ◌≡◌, ◌≤◌}
+use Rattle.job_readers.specs.{GraphPart.device_value, GraphPart.graph_members, GraphPart.graph_value, Job.version_faults, Job.version_value}
+use Rattle.job_readers.specs.{GraphPart.vertex_value, GraphPart.vertices_value, Members.member_since, Members.number_member, Members.number_member_faults, WholeJob.job_faults}
 use Rattle.job_readers.specs.WholeJob.{job_value}
-use Rattle.job_readers.proofs.NoFaults.{none_first, none_inside}
 
 -- a number without a fault is no greater than the greatest
 no_more : (path : List ℕ) (low high : ℕ) (o : Option Data) → number_faults path low high None o ≡ [] → number_value None o ≤ high

@@ -1,11 +1,4 @@
 // Trees and bytes of a request.
-ghost use Rattle.std.specs.Prelude.{◌≡◌, map};
-ghost use Rattle.serde_json.specs.View.{view};
-ghost use Rattle.job_text.specs.Reading.{GivesOrFaults};
-ghost use Rattle.job_readers.specs.Items.{items_faults};
-ghost use Rattle.job_requests.specs.Requests.{byte_faults, byte_value};
-ghost use Rattle.job_text.specs.Paths.{path_text, item_at};
-
 use job_readers::{ItemReader, Links, each_item};
 use job_text::{Path, TextErr, list, range, shape};
 use machine_desc::Edge;
@@ -43,28 +36,27 @@ impl ItemReader for Trees {
     }
 }
 
-// The byte that an item is. Its path is made where it is none.
-fn byte_in(alloc: Global, item: &Value, path: &Path<'_>, i: u64) -> Result<u8, TextErr>
-    ensures { GivesOrFaults (λ b. b) result
-        (byte_faults (item_at (path_text path.now) i) (view item.now))
-        (byte_value (view item.now)) }
-{
-    match item.as_u64() {
-        Some(n) if n < 256 => Ok(n as u8),
-        Some(_) => Err(range(alloc, &Path::Item(path, i))),
-        None => Err(shape(alloc, &Path::Item(path, i))),
-    }
-}
+// What reads the bytes of an image.
+#[derive(Clone, Copy)]
+pub(crate) struct Bytes;
 
-// The bytes that the items of a list are.
-pub(crate) fn bytes_in(alloc: Global, items: &[Value], path: &Path<'_>) -> Result<Seq<u8>, TextErr>
-    ensures { GivesOrFaults (λ bs. bs) result (items_faults byte_faults (path_text path.now) 0
-        (map view items.now)) (map byte_value (map view items.now)) }
-{
-    let mut bytes = Seq::from_vec(Vec::with_capacity(alloc, items.len())?);
-    for (i, item) in items.iter().enumerate() {
-        let byte = byte_in(alloc, item, path, i as u64)?;
-        bytes.push(byte)?;
+impl ItemReader for Bytes {
+    ghost use Rattle.std.specs.Prelude.{⊤};
+    ghost use Rattle.job_requests.specs.Requests.{byte_faults, byte_value};
+
+    type Item = u8;
+
+    ghost faults = { λ _. byte_faults };
+
+    ghost value = { λ _. byte_value };
+
+    ghost Holds = { λ _ _. ⊤ };
+
+    fn read(&self, alloc: Global, item: &Value, path: &Path<'_>) -> Result<u8, TextErr> {
+        match item.as_u64() {
+            Some(n) if n < 256 => Ok(n as u8),
+            Some(_) => Err(range(alloc, path)),
+            None => Err(shape(alloc, path)),
+        }
     }
-    Ok(bytes)
 }

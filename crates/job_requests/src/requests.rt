@@ -7,7 +7,7 @@ ghost use Rattle.job_readers.specs.Named.{HasNamesApart};
 ghost use Rattle.job_requests.specs.Requests.{request_own_faults, job_member, one_each_faults, trees_faults, trees_value, image_faults, image_value, request_faults, request_value};
 ghost use Rattle.job_text.specs.Paths.{path_text};
 
-use crate::entries::{Trees, bytes_in};
+use crate::entries::{Bytes, Trees};
 use job_readers::{GREATEST_VERSION, Job, each_item, job_of};
 use job_text::{Path, TextErr, list, member, range, shape};
 use machine_desc::Edge;
@@ -104,5 +104,5 @@ fn image_of(alloc: Global, value: &Value, path: &Path<'_>) -> Result<Seq<u8>, Te
 {
     let path = Path::Member(path, "image");
     let items = list(alloc, member(value, "image"), &path, true)?;
-    bytes_in(alloc, items, &path)
+    each_item(alloc, items, &path, &Bytes)
 }

@@ -1,8 +1,8 @@
 -- The fixed blocks of nets: each is a range of enough keys, and no two share a key.
 use Rattle.key_alloc.proofs.Common.{All, All-at, All-contains, All-each, All-permutation, All-weaker, AllPairs, AllPairs-cons, AllPairs-head, AllPairs-nil, AllPairs-permutation, AllPairs-tail}
 use Rattle.key_alloc.proofs.Common.{AreDownwards, AreFixedApart, Block, Contains, Contains-append_left, Contains-at, Contains-filter_map, Contains-from_filter_map, Graph, HaveRanges, IfSome}
-use Rattle.key_alloc.proofs.Common.{IsFixedFor, IsPermutation, IsValidGraph, List, Net, None, Option, ShareNoKey, Some, [], ap, arith, cases_lt, cons_option, filter_map-append, fixed_of, get_or}
-use Rattle.key_alloc.proofs.Common.{get_or_from_slice_get, refl, size_of, slice_get, slice_get_within, subst, take, take_more_at, ℕ, ◌++◌, ◌+◌, ◌<◌, ◌∙◌, ◌∷◌, ◌≡◌, ◌≤◌}
+use Rattle.key_alloc.proofs.Common.{IsFixedFor, IsPermutation, IsValidGraph, List, Net, None, Option, ShareNoKey, Some, [], arith, cases_lt, cons_option, fixed_of, get_or, get_or_from_slice_get, refl}
+use Rattle.key_alloc.proofs.Common.{size_of, slice_get, slice_get_within, subst, ℕ, ◌++◌, ◌+◌, ◌<◌, ◌∷◌, ◌≡◌, ◌≤◌}
 use Rattle.key_alloc.proofs.BlockRanges.{IsRange, range_of_fixed}
 
 pub record HaveFixed (nets : List Net) : Type 0 where
@@ -62,10 +62,6 @@ sorted_fixed nets blocks fixed moved sorted =
       downwards = λ i j d less inside. ends_before (get_or blocks i d) (get_or blocks j d) (ranges i d (omega (arith, less, inside))) (ranges j d inside) (apart i j d less inside) (sorted i j d less inside);
       ranges = λ i d inside. ((ranges i d inside).some, (ranges i d inside).within);
     }
-
--- the fixed blocks of one net more
-pub fixed_more : (nets : List Net) (i : ℕ) (net : Net) → slice_get nets i ≡ Some net → fixed_of (take (i + 1) nets) ≡ fixed_of (take i nets) ++ fixed_of (net ∷ [])
-fixed_more nets i net is = ap fixed_of (take_more_at nets i net is) ∙ filter_map-append (λ (n : Net). n.fixed) (take i nets) (net ∷ [])
 
 -- a net's fixed block is among what is taken
 pub fixed_among : (nets : List Net) (blocks : List Block) (i : ℕ) (net : Net) → slice_get nets i ≡ Some net → IfSome net.fixed (Contains (fixed_of nets ++ blocks))

@@ -83,8 +83,7 @@ module _ (taken : List Block) (free : FreeKeys) (state : AreKeysFreeBeside taken
       limit = omega (arith, limit, at);
       free = λ k. free_now k ∙ is_free_now k ∙ ap (λ z. ltb k z && not (list_any (has_key k) taken)) (sym at);
       ahead = subst (λ x. AreAhead taken x after.frontier) (sym same) (subst (AreAhead taken free.ahead.items) (sym at) (record {
-        behind = All-weaker (λ (c : Block). (c.key + size_of c ≤ free.frontier) ⊎ Contains free.ahead.items c) (λ (c : Block). (c.key + size_of c ≤ end) ⊎ Contains free.ahead.items c)
-            (λ c place. elim place [ inl behind ↦ inl (omega (arith, behind, more)) | inr beyond ↦ inr beyond ]) taken state.ahead.behind;
+        behind = grind (arith, All-weaker);
         beyond = All-each (λ (c : Block). (end ≤ c.key) × Contains taken c) free.ahead.items
             (λ c has. (run.first c has, (All-contains (λ (c : Block). (free.frontier ≤ c.key) × Contains taken c) free.ahead.items c state.ahead.beyond has).1));
         ranges = state.ahead.ranges;

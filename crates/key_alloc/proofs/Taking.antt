@@ -63,12 +63,7 @@ taken_more taken b free after state some fits runs size same_frontier same_ahead
   runs = runs;
   size = size ∙ state.size;
   limit = omega (arith, state.limit, same_frontier);
-  free = λ k.
-      is_free_now k
-      ∙ ap (λ z. z && not (has_key k b)) (state.free k)
-      ∙ regroup (ltb k free.frontier) (list_any (has_key k) taken) (has_key k b)
-      ∙ ap (λ z. ltb k free.frontier && not z) (sym (list_any-append (has_key k) taken (b ∷ [])))
-      ∙ ap (λ z. ltb k z && not (list_any (has_key k) (taken ++ b ∷ []))) (sym same_frontier);
+  free = grind (arith, regroup, list_any-append);
   ahead = subst (λ x. AreAhead (taken ++ b ∷ []) x after.frontier) (sym same_ahead) (subst (AreAhead (taken ++ b ∷ []) free.ahead.items) (sym same_frontier)
       (ahead_more taken b free.ahead.items free.frontier state.ahead (inl (below_frontier taken free state (size_of b) some b.key fits))));
   whole = λ s p o low. omega (arith, same_frontier, state.whole s p (open_before taken b s p o) (omega (arith, same_frontier, low)));

@@ -26,21 +26,7 @@ pub(crate) fn keys_not_fixed(alloc: Global, graph: &Graph) -> Result<FreeKeys, M
 fn fixed_blocks(alloc: Global, nets: &[Net]) -> Result<Vec<Block>, Memory>
     ensures blocks { IfOk result (λ fixed. fixed.items ≡ fixed_of nets.now) }
 {
-    let mut fixed = Vec::new(alloc);
-    for net in nets {
-        push_fixed(&mut fixed, net)?;
-    }
-    Ok(fixed)
-}
-
-// Puts a net's fixed block at the back, if it has one.
-fn push_fixed(fixed: &mut Vec<Block>, net: &Net) -> Result<(), Memory>
-    ensures pushed { OnOk result (fixed.new.items ≡ fixed.old.items ++ fixed_of (net.now ∷ [])) }
-{
-    if let Some(block) = net.fixed {
-        fixed.push(block)?;
-    }
-    Ok(())
+    Ok(nets.iter().filter_map(|net| net.fixed).collect(alloc)?)
 }
 
 // Sorts blocks by their keys, the least at the back.

@@ -1,36 +1,38 @@
 -- The names that the proofs of this crate cite from outside of them, passed on from one place. Declares nothing.
 pub use Rattle.link_detours.specs.{Cause.IsRepairCause, LiveRoads.AreRoadsOf, Repair.AreInPlaceOrder, Repair.EdgeStep, Repair.IsCutOff, Repair.IsDetour, Repair.IsFirstTargetCutOff, Repair.IsKeptEdge}
 pub use Rattle.link_detours.specs.Repair.{IsLastLink, IsRepaired, IsTreeLevel, IsWalkTo, Joins, LeadsToTarget, LiveEdgeStep, last_of}
-pub use Rattle.link_detours.specs.{Steps.IsReachedBy, Steps.IsStepLevel, Steps.Steps, Usable.FlaggedStep, Usable.FlagsPlaces, Usable.is_marked, Usable.other_end_of, Waves.AreWaves, Waves.HasBitOf}
-pub use Rattle.link_detours.specs.Waves.{IsBestStep, IsIn, IsSpread, IsSpreadAt, IsSpreadBut, IsStepFrom, IsWave, IsWithinLinks, LeadsInto}
-pub use Rattle.link_detours.specs.{Whole.GoesOnFrom, Whole.IsWholeTree, declared.repairs.RepairErr.RepairErr, declared.repairs.RepairErr.TheVariants.CutOff}
-pub use Rattle.link_detours.specs.declared.{repairs.RepairErr.TheVariants.Memory, repairs.RepairErr.TheVariants.Memory as NoMemory, roads.Roads.Roads}
+pub use Rattle.link_detours.specs.{Steps.IsReachedBy, Steps.IsStepLevel, Steps.Steps, Usable.FlaggedStep, Usable.is_marked, Usable.other_end_of, Waves.AreWaves, Waves.HasBitOf, Waves.IsBestStep}
+pub use Rattle.link_detours.specs.{Waves.IsIn, Waves.IsSpread, Waves.IsSpreadAt, Waves.IsSpreadBut, Waves.IsStepFrom, Waves.IsWave, Waves.IsWithinLinks, Waves.LeadsInto, Whole.GoesOnFrom}
+pub use Rattle.link_detours.specs.{Whole.IsWholeTree, declared.repairs.RepairErr.RepairErr, declared.repairs.RepairErr.TheVariants.CutOff, declared.repairs.RepairErr.TheVariants.Memory}
+pub use Rattle.link_detours.specs.declared.{repairs.RepairErr.TheVariants.Memory as NoMemory, roads.Roads.Roads}
 pub use Rattle.machine_desc.proofs.{Branches.edge_on_branch, Branches.exit_of, Far.far_back, Far.far_inside, Far.far_parts, Far.index_below, Far.inside_from, Far.inside_parts, Far.live_back}
-pub use Rattle.machine_desc.proofs.{Far.live_ends, Far.live_inside, Far.opposite_of-opposite, Far.same_index, Listing.Tells-more, Listing.Tells-none, Same.below_six, Same.chip_eq-from_same}
-pub use Rattle.machine_desc.proofs.{Same.edge_eq-true, Same.edge_eq_self, Same.same_chip, Same.same_dir, Same.same_edge, TreeLemmas.more_chips, TreeLemmas.path_more, TreeLemmas.tree_cases}
-pub use Rattle.machine_desc.proofs.TreeLemmas.{tree_end}
+pub use Rattle.machine_desc.proofs.{Far.live_ends, Far.live_inside, Far.opposite_of-opposite, Far.same_index, Listing.Tells-more, Listing.Tells-none, Live.chip_of-inside, Live.index_of-chip_of}
+pub use Rattle.machine_desc.proofs.{Same.below_six, Same.chip_eq-from_same, Same.edge_eq-true, Same.edge_eq_self, Same.same_chip, Same.same_dir, Same.same_edge, TreeLemmas.more_chips}
+pub use Rattle.machine_desc.proofs.TreeLemmas.{path_more, tree_cases, tree_end}
 pub use Rattle.machine_desc.specs.{Branch.Exit, Branch.GoesOn, Branch.IsWay, Description.Description, Equality.edge_eq, Flags.is_flagged, Flags.link_place, Live.IsInside, Live.IsLiveLink}
-pub use Rattle.machine_desc.specs.{Live.IsLiveWalk, Live.LeadsTo, Live.far_of, Live.index_of, Live.is_inside, Live.is_live_link, Live.stepped, Live.x_step, Live.y_step, RoutingTree.IsPath}
-pub use Rattle.machine_desc.specs.{RoutingTree.IsTreeChip, RoutingTree.IsTreeTo, RoutingTree.end_of, Tables.TellsListed, declared.steps.Step.Step, declared.steps.Step.TheVariants.Ahead}
-pub use Rattle.machine_desc.specs.declared.{steps.Step.TheVariants.Back, steps.Step.TheVariants.Stay, trees.Edge.Edge}
+pub use Rattle.machine_desc.specs.Live.{IsLiveWalk, LeadsTo, chip_of, far_of, index_of, is_inside, is_live_link, stepped, x_step, y_step}
+pub use Rattle.machine_desc.specs.{RoutingTree.IsPath, RoutingTree.IsTreeChip, RoutingTree.IsTreeTo, RoutingTree.end_of, Tables.TellsListed, declared.steps.Step.Step}
+pub use Rattle.machine_desc.specs.declared.{steps.Step.TheVariants.Ahead, steps.Step.TheVariants.Back, steps.Step.TheVariants.Stay, trees.Edge.Edge}
 pub use Rattle.spin_base.proofs.{Ascending.same_in_order, Equality.chip_eq_same, Equality.chip_eq_true, Members.Contains-filter, Members.Contains-filter_map, Members.Contains-from_filter}
 pub use Rattle.spin_base.proofs.{Members.Contains-from_filter_map, Members.Contains-later, Members.Contains-map, Members.Contains-unmap, Pairs.AllPairs-from_map, Spots.dir_number-dir_at}
-pub use Rattle.spin_base.specs.{Equality.chip_eq, Links.all_dirs, Links.dir_number, Links.opposite_of, Outputs.out_of, declared.chips.Chip.Chip, declared.chips.Dir.Dir}
+pub use Rattle.spin_base.specs.{Equality.chip_eq, Links.all_dirs, Links.dir_at, Links.dir_number, Links.opposite_of, Outputs.out_of, declared.chips.Chip.Chip, declared.chips.Dir.Dir}
 pub use Rattle.spin_base.specs.declared.{chips.Dir.TheVariants.East, chips.Spot.Spot, routes.Out.Out, routes.Out.TheVariants.Core, routes.Out.TheVariants.Link}
 pub use Rattle.std.proofs.Common.{Bool, IfErr, List, None, Option, Some, [], add-one, ap, append-nil, append_assoc, arith, cond, drop, eqb, false, get_or, inl, inr, length, lit<, map, max, min, refl}
-pub use Rattle.std.proofs.Common.{replicate, rules, set, subst, suc, sym, take, true, zero, ℕ, ◌%◌, ◌*◌, ◌++◌, ◌+◌, ◌-◌, ◌/◌, ◌<◌, ◌^◌, ◌↔◌, ◌∙◌, ◌∷◌, ◌≡◌, ◌≢◌, ◌≤◌, ◌⊎◌}
-pub use Rattle.std.proofs.{Math.ListN.length-set, Math.Nat.add-mod_right, Math.Nat.add-zero, Math.Nat.mod-eq_of_lt, Math.Nat.mod_self, lemmas.Bool.cases_Bool, lemmas.Bool.cases_eq}
-pub use Rattle.std.proofs.lemmas.Bool.{cases_lt, cases_order, cond-false, cond-true, eq-eqb, eqb-true, false_from_ne_true, false≢true, le-ltb, lt-ltb, ne_eqb}
-pub use Rattle.std.proofs.lemmas.List.Elements.{All-contains, All-filter, All-more, All-push, All-set, All-weaker, Contains-append_cases, Contains-append_left, Contains-append_right, Contains-get_or}
-pub use Rattle.std.proofs.lemmas.List.{Elements.Contains-push, Elements.Contains-push_cases, Elements.filter_map-append, Filters.dedup_is, Folds.list_any_at, Kept.AllPairs-from_increasing}
-pub use Rattle.std.proofs.lemmas.List.{Kept.Contains-dedup_nat, Kept.Contains-from_dedup, Quantifiers.all_pairs_push, Sorted.Contains-permutation, Sorted.IsPermutation-sym, Sums.sum_by-cons}
-pub use Rattle.std.proofs.lemmas.List.{Sums.sum_by-le, Sums.sum_by-set, drop_at, ext_get_or, get_or-map, get_or-replicate, get_or-set_other, get_or-set_same, get_or-take, get_or_append_left}
-pub use Rattle.std.proofs.lemmas.List.{get_or_at, get_or_default, get_or_past, length-append, length-map, length-replicate, length-take, map-append, take_all, take_at, take_more}
+pub use Rattle.std.proofs.Common.{replicate, rules, set, subst, suc, sym, take, tests, true, zero, ℕ, ◌%◌, ◌*◌, ◌++◌, ◌+◌, ◌-◌, ◌/◌, ◌<◌, ◌^◌, ◌↔◌, ◌∙◌, ◌∷◌, ◌≡◌, ◌≢◌, ◌≤◌, ◌⊎◌}
+pub use Rattle.std.proofs.{Math.Nat.add-mod_right, Math.Nat.add-zero, Math.Nat.mod-eq_of_lt, Math.Nat.mod_self, lemmas.Bool.cases_Bool, lemmas.Bool.cases_eq, lemmas.Bool.cases_lt}
+pub use Rattle.std.proofs.lemmas.Bool.{cases_order, cond-false, cond-true, eq-eqb, false_from_ne_true, false≢true, le-ltb, lt-ltb, ne_eqb}
+pub use Rattle.std.proofs.lemmas.Iterator.{Consumers.YieldsList-from_filter, Consumers.map_from_collect, YieldsList-from_map_by, YieldsList-from_range, YieldsList-from_slice, items_from_collect}
+pub use Rattle.std.proofs.lemmas.List.Elements.{All-append, All-contains, All-filter, All-map, All-more, All-push, All-set, All-weaker, Contains-append_cases, Contains-append_left}
+pub use Rattle.std.proofs.lemmas.List.{Elements.Contains-append_right, Elements.Contains-get_or, Elements.Contains-push, Elements.Contains-push_cases, Filters.dedup_is, Folds.list_any_at}
+pub use Rattle.std.proofs.lemmas.List.{FromFn.get_or-range_with_len, FromFn.length-range_with_len, Kept.AllPairs-filter, Kept.AllPairs-from_increasing, Kept.Contains-dedup_nat}
+pub use Rattle.std.proofs.lemmas.List.{Kept.Contains-from_dedup, Quantifiers.all_pairs_push, Sorted.Contains-permutation, Sorted.IsPermutation-sym, Sums.sum_by-cons, Sums.sum_by-le, Sums.sum_by-set}
+pub use Rattle.std.proofs.lemmas.List.{drop_at, ext_get_or, get_or-replicate, get_or-set_other, get_or-set_same, get_or-take, get_or_append_left, get_or_at, get_or_default, get_or_past, length-append}
+pub use Rattle.std.proofs.lemmas.List.{length-replicate, length-set, length-take, map-append, map-id, take_all, take_at, take_more}
 pub use Rattle.std.proofs.lemmas.{Map.Keys.IsStrictlyIncreasing-dedup, Map.Views.Contains-from_any, Nat.Bits.bit_at-lt, Nat.Bits.bit_at-suc, Nat.Bits.bit_at-trailing_zeros, Nat.Bits.bit_at-zero}
 pub use Rattle.std.proofs.lemmas.Nat.Bits.{bit_at_above, bit_at_and, bit_at_cat_high, bit_at_cat_low, bit_at_clear_other, bit_at_clear_same, bit_at_lowest, bit_at_ones, bit_at_ones_above, bit_at_or}
 pub use Rattle.std.proofs.lemmas.Nat.{Bits.bit_at_set_other, Bits.bit_at_set_same, and_le_l, div-add-mod', le_or_l, mod_below, mul-le, one_shl, pow_pos, same_from_place}
-pub use Rattle.std.proofs.lemmas.{Option.get_or_from_slice_get, Option.slice_get-get_or, Option.slice_get_within, Result.IfErr-weaker, Slice.between_to_end}
+pub use Rattle.std.proofs.lemmas.{Option.get_or_from_slice_get, Option.slice_get-get_or, Option.slice_get_within, Result.IfErr-weaker, Result.IfOk-at_ok, Slice.between_to_end}
 pub use Rattle.std.specs.{Int.RustNames.bit_or, Int.bit_at, Int.bit_not, Int.trailing_zeros, Int.w64, List.All, List.AllPairs, List.Any, List.Contains, List.between, List.dedup, List.filter}
-pub use Rattle.std.specs.{List.filter_map, List.slice_get, List.sum_by, Option.option_map}
+pub use Rattle.std.specs.{List.filter_map, List.range_with_len, List.slice_get, List.sum_by, Option.option_map}
 pub use lib.Bits.{bit_and}
 pub use mir.Val.{bits}

@@ -1,8 +1,8 @@
 -- Words that name columns: those in which a set has more, and those beside them.
 use Rattle.link_detours.proofs.Common.{Ahead, All, All-set, Back, Bool, Chip, Description, IsIn, IsInside, IsSpread, IsSpreadAt, IsSpreadBut, List, Some, Stay, Step, and_le_l, ap, arith, bit_and}
 use Rattle.link_detours.proofs.Common.{bit_at, bit_at-lt, bit_at-zero, bit_at_and, bit_at_clear_other, bit_at_clear_same, bit_at_ones, bit_not, bit_or, bits, cases_eq, ext_get_or, far_parts, get_or}
-use Rattle.link_detours.proofs.Common.{get_or-set_other, get_or-set_same, inl, inr, inside_parts, length, min, stepped, subst, sym, w64, ℕ, ◌%◌, ◌*◌, ◌+◌, ◌-◌, ◌<◌, ◌^◌, ◌↔◌, ◌∙◌, ◌≡◌, ◌≢◌, ◌≤◌, ◌⊎◌}
-use Rattle.std.proofs.lemmas.List.{length-set}
+use Rattle.link_detours.proofs.Common.{get_or-set_other, get_or-set_same, inl, inr, inside_parts, length, length-set, min, stepped, subst, sym, w64, ℕ, ◌%◌, ◌*◌, ◌+◌, ◌-◌, ◌<◌, ◌^◌, ◌↔◌, ◌∙◌, ◌≡◌}
+use Rattle.link_detours.proofs.Common.{◌≢◌, ◌≤◌, ◌⊎◌}
 use Rattle.link_detours.proofs.{RoadBits.chip_of_column, Spreading.or_left, Spreading.or_right, TurnedWords.turned_ahead, TurnedWords.turned_back, TurnedWords.turned_stay}
 
 -- the columns from which a step leads to one that is named

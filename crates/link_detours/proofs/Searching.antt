@@ -2,9 +2,8 @@
 use Rattle.link_detours.proofs.Common.{All, All-contains, All-push, Bool, Chip, Contains, Contains-get_or, Description, Dir, East, FlaggedStep, IsInside, IsReachedBy, List, None, Some, Steps, []}
 use Rattle.link_detours.proofs.Common.{all_dirs, ap, arith, cases_Bool, cases_eq, chip_eq, chip_eq-from_same, chip_eq_true, cond, cond-false, cond-true, dir_number, dir_number-dir_at, false}
 use Rattle.link_detours.proofs.Common.{false≢true, far_inside, far_of, get_or, get_or-set_other, get_or-set_same, get_or_append_left, get_or_at, get_or_default, index_below, index_of, inl, inr}
-use Rattle.link_detours.proofs.Common.{is_flagged, is_marked, length, length-append, refl, same_dir, same_index, set, subst, suc, sum_by, sum_by-set, sym, true, zero, ℕ, ◌*◌, ◌++◌, ◌+◌, ◌<◌, ◌↔◌, ◌∙◌}
-use Rattle.link_detours.proofs.Common.{◌∷◌, ◌≡◌, ◌≢◌, ◌≤◌, ◌⊎◌}
-use Rattle.std.proofs.lemmas.List.{length-set}
+use Rattle.link_detours.proofs.Common.{is_flagged, is_marked, length, length-append, length-set, refl, same_dir, same_index, set, subst, suc, sum_by, sum_by-set, sym, true, zero, ℕ, ◌*◌, ◌++◌, ◌+◌}
+use Rattle.link_detours.proofs.Common.{◌<◌, ◌↔◌, ◌∙◌, ◌∷◌, ◌≡◌, ◌≢◌, ◌≤◌, ◌⊎◌}
 
 -- two chips are the same or not
 pub cases_chip : (a b : Chip) → (a ≡ b) ⊎ (a ≢ b)

@@ -1,8 +1,8 @@
 -- Trees of which nothing has to be taken off.
-use Rattle.link_detours.proofs.Common.{All, All-contains, All-more, Any, AreInPlaceOrder, Bool, Chip, Contains, Contains-append_cases, Contains-get_or, Description, East, Edge, EdgeStep, GoesOnFrom}
-use Rattle.link_detours.proofs.Common.{IsInside, IsTreeChip, IsTreeTo, IsWholeTree, LeadsToTarget, List, Some, Steps, all_pairs_push, arith, end_of, far_inside, get_or, get_or-map, get_or_default}
-use Rattle.link_detours.proofs.Common.{inl, inr, is_marked, length, length-map, link_place, live_ends, map, subst, suc, sym, take, take_more, tree_cases, true, zero, ℕ, ◌++◌, ◌+◌, ◌<◌, ◌↔◌, ◌∙◌, ◌≡◌}
-use Rattle.link_detours.proofs.Common.{◌≤◌}
+use Rattle.link_detours.proofs.Common.{All, All-append, All-contains, All-map, All-more, Any, AreInPlaceOrder, Bool, Chip, Contains, Contains-append_cases, Contains-get_or, Contains-unmap}
+use Rattle.link_detours.proofs.Common.{Description, Edge, EdgeStep, GoesOnFrom, IsInside, IsTreeChip, IsTreeTo, IsWholeTree, LeadsToTarget, List, Some, Steps, all_pairs_push, arith, end_of}
+use Rattle.link_detours.proofs.Common.{far_inside, get_or, inl, inr, is_marked, length, link_place, live_ends, map, subst, suc, sym, take, take_more, tree_cases, true, zero, ℕ, ◌++◌, ◌+◌, ◌<◌, ◌↔◌}
+use Rattle.link_detours.proofs.Common.{◌≡◌, ◌≤◌}
 use Rattle.link_detours.proofs.{Stepping.Steps-first, Stepping.Steps-map, Pruning.tree_kept, Unchanged.tree_leads}
 
 -- one edge more is in order, where its place is no less than the least that may come
@@ -22,23 +22,12 @@ order_more m edges i d least place within is low ordered below = (
 
 -- what an item of a mapped list comes from
 map_has : (edges : List Edge) (c : Chip) → Contains (map (λ e. e.chip) edges) c → Any (λ e. e.chip ≡ c) edges
-map_has edges c has =
-    let nothing : Edge = record { chip = c; dir = East } in
-    let within : has.0 < length edges = subst (λ n. has.0 < n) (length-map edges (λ e. e.chip)) has.1 in
-    let e : Edge = get_or edges has.0 nothing in
-    (has.0, e, within, get_or_default edges has.0 e nothing within, sym (get_or-map (λ e. e.chip) edges has.0 nothing c within) ∙ has.2)
+map_has edges c has = let (e, (k, within, at), is) = Contains-unmap (λ (e : Edge). e.chip) edges c has in (k, e, within, at, is)
 
 -- targets and chips at which edges begin are inside the grid
 pub chips_inside : (m : Description) (edges : List Edge) (targets : List Chip) → All (λ e. IsInside m e.chip) edges → All (IsInside m) targets →
     All (IsInside m) (targets ++ map (λ e. e.chip) edges)
-chips_inside m edges targets inside targets_inside k d h =
-    let c : Chip = get_or (targets ++ map (λ e. e.chip) edges) k d in
-    elim (Contains-append_cases targets (map (λ e. e.chip) edges) c (Contains-get_or (targets ++ map (λ e. e.chip) edges) k d h)) [
-      | inl target ↦ All-contains (IsInside m) targets c targets_inside target
-      | inr begin ↦
-          let at = map_has edges c begin in
-          subst (λ (x : Chip). IsInside m x) at.4 (All-contains (λ e. IsInside m e.chip) edges at.1 inside (at.0, at.2, at.3))
-    ]
+chips_inside m edges targets inside targets_inside = All-append (IsInside m) targets (map (λ e. e.chip) edges) targets_inside (All-map (IsInside m) (λ (e : Edge). e.chip) edges inside)
 
 -- edges that end at chips which a table lists go on
 pub goes_on : (m : Description) (edges : List Edge) (targets chips : List Chip) (table : List Bool) → chips ≡ targets ++ map (λ e. e.chip) edges →

@@ -1,5 +1,5 @@
 -- The steps that flagged links allow.
-use Rattle.std.specs.Prelude.{◌≡◌, ◌↔◌, ℕ, Bool, true, false, List, Contains, slice_index_or, Option, Some}
+use Rattle.std.specs.Prelude.{◌≡◌, Bool, true, false, List, slice_index_or, Option, Some}
 use Rattle.std.specs.Option.{option_map}
 use Rattle.spin_base.specs.declared.chips.Chip.{Chip}
 use Rattle.spin_base.specs.declared.chips.Dir.{Dir}
@@ -16,10 +16,6 @@ FlaggedStep m table a b = IsInside m a × ((d : Dir) × (is_flagged m table a d 
 -- whether a table with a place for each chip marks a chip
 abbrev pub is_marked : Description → List Bool → Chip → Bool
 is_marked m marks c = slice_index_or marks (index_of m c) false
-
--- a table flags a place exactly where it is one of these
-abbrev pub FlagsPlaces : List Bool → List ℕ → Type 0
-FlagsPlaces table places = (p : ℕ) → (slice_index_or table p false ≡ true) ↔ Contains places p
 
 -- the same link from its other end, where it leads anywhere
 abbrev pub other_end_of : Description → Edge → Option Edge

@@ -17,16 +17,20 @@ use machine_desc::Edge;
 use spin_base::{Chip, Dir, Memory};
 use std::alloc::Global;
 
-// A table that marks the chips that the edges join to their root.
-pub(crate) fn tree_reach(alloc: Global, tree: RootedEdges) -> Result<Vec<bool>, Memory>
-    ensures long { IfOk result (λ t. length t.items ≡ tree.entry.ground.machine.now.width *
-        tree.entry.ground.machine.now.height) }
-    ensures reach { IfOk result (λ t. (c : Chip) → IsInside tree.entry.ground.machine.now c →
-        (is_marked tree.entry.ground.machine.now t.items c ≡ true)
-        ↔ ((n : ℕ) × Steps (EdgeStep tree.entry.ground.machine.now tree.entry.list.now) n
+/// A table that marks the chips that the edges join to their root.
+///
+/// # Errors
+///
+/// `Memory` where memory runs out.
+pub fn tree_reach(alloc: Global, tree: RootedEdges) -> Result<Vec<bool>, Memory>
+    ensures long { IfOk result (λ t. length t.items ≡ tree.entry.machine.now.width *
+        tree.entry.machine.now.height) }
+    ensures reach { IfOk result (λ t. (c : Chip) → IsInside tree.entry.machine.now c →
+        (is_marked tree.entry.machine.now t.items c ≡ true)
+        ↔ ((n : ℕ) × Steps (EdgeStep tree.entry.machine.now tree.entry.list.now) n
         tree.entry.root c)) }
 {
-    let machine = tree.ground.machine;
+    let machine = tree.machine;
     let links = Edges {
         machine,
         list: tree.list,

@@ -47,14 +47,12 @@ pub(crate) fn turned_edges(alloc: Global, links: Edges) -> Result<Vec<Edge>, Mem
     ensures { IfOk result (λ v. v.items ≡ filter_map (other_end_of links.entry.machine.now)
         links.entry.list.now) }
 {
-    let mut turned = Vec::with_capacity(alloc, links.list.len())?;
-    for edge in links.list {
-        if let Some(chip) = links.machine.far(edge.chip, edge.dir) {
-            turned.push(Edge {
-                chip,
-                dir: edge.dir.opposite(),
-            })?;
-        }
-    }
-    Ok(turned)
+    let turned = links.list.iter().filter_map(|edge| {
+        let far = links.machine.far(edge.chip, edge.dir)?;
+        Some(Edge {
+            chip: far,
+            dir: edge.dir.opposite(),
+        })
+    });
+    Ok(turned.collect(alloc)?)
 }

@@ -21,12 +21,7 @@ impl<'a> Ground<'a> {
     pub fn carry(self, edges: &[Edge]) -> bool
         ensures { IsTrue result ↔ All (λ e. IsLiveLink self.entry.machine.now e.chip e.dir) edges.now }
     {
-        for edge in edges {
-            if !self.has(*edge) {
-                return false;
-            }
-        }
-        true
+        edges.iter().all(|edge| self.has(*edge))
     }
 
     // Whether the edge is a live link.
@@ -60,9 +55,19 @@ pub struct BrokenTree<'a> {
     pub ghost targets_inside: { All (IsInside ground.machine.now) targets.now },
 }
 
-// The edges of a tree on a ground, and its root.
+/// Edges that begin inside a machine's grid, and a root there.
 #[derive(Clone, Copy)]
 pub struct RootedEdges<'a> {
+    pub machine: &'a Machine,
+    pub root: Chip,
+    pub list: &'a [Edge],
+    pub ghost root_inside: { IsInside machine.now root },
+    pub ghost inside: { All (λ e. IsInside machine.now e.chip) list.now },
+}
+
+// The edges of a tree on a ground, and its root.
+#[derive(Clone, Copy)]
+pub struct GroundedTree<'a> {
     pub ground: Ground<'a>,
     pub root: Chip,
     pub list: &'a [Edge],
@@ -120,7 +125,7 @@ pub struct TargetedEdges<'a> {
     pub ghost inside: { All (IsInside edges.machine.now) targets.now },
 }
 
-// Chips of a machine.
+/// Chips of a machine's grid.
 #[derive(Clone, Copy)]
 pub struct Chips<'a> {
     pub machine: &'a Machine,
@@ -134,16 +139,6 @@ pub struct MarkedEdges<'a> {
     pub edges: Edges<'a>,
     pub marks: &'a [bool],
     pub ghost long: { length marks.now ≡ edges.machine.now.width * edges.machine.now.height },
-}
-
-// An edge, and a mark for each chip of its machine.
-#[derive(Clone, Copy)]
-pub struct MarkedEdge<'a> {
-    pub machine: &'a Machine,
-    pub marks: &'a [bool],
-    pub edge: Edge,
-    pub ghost long: { length marks.now ≡ machine.now.width * machine.now.height },
-    pub ghost inside: { IsInside machine.now edge.chip },
 }
 
 // A flag for each link of a machine.

@@ -15,6 +15,8 @@ mod sets;
 mod tables;
 mod trims;
 
-pub use grounds::{BrokenTree, Ground};
+pub use detours::tree_reach;
+pub use grounds::{BrokenTree, Chips, Ground, RootedEdges};
 pub use repairs::{RepairErr, repair};
 pub use roads::Roads;
+pub use searches::seed_table;

@@ -10,7 +10,7 @@ ghost use Rattle.machine_desc.specs.declared.trees.Edge.{Edge};
 
 use crate::detours::{join, tree_reach};
 use crate::edges::{live_edges, reached_edges};
-use crate::grounds::{Aim, BrokenTree, Edges, MarkedEdges, RootedEdges};
+use crate::grounds::{Aim, BrokenTree, Edges, GroundedTree, MarkedEdges, RootedEdges};
 use crate::sets::{empty_set, put_tree};
 use crate::trims::trimmed;
 use machine_desc::{Edge, Tree};
@@ -82,7 +82,7 @@ fn kept_edges(alloc: Global, broken: BrokenTree) -> Result<Vec<Edge>, Memory>
         list: &live,
     };
     let tree = RootedEdges {
-        ground: broken.ground,
+        machine: links.machine,
         root: broken.root,
         list: links.list,
     };
@@ -112,7 +112,7 @@ fn join_all(alloc: Global, broken: BrokenTree, kept: Vec<Edge>) -> Result<Vec<Ed
     let mut whole = kept;
     let mut words = empty_set(alloc, ground.machine)?;
     let chips: &mut [u64] = &mut words;
-    let edges = RootedEdges {
+    let edges = GroundedTree {
         ground,
         root,
         list: &whole,

@@ -24,8 +24,12 @@ fn flagged_far(from: FlaggedChip, d: Dir) -> Option<Chip>
     }
 }
 
-// A table that marks the seeds, and no other chip.
-pub(crate) fn seed_table(alloc: Global, seeds: Chips) -> Result<Vec<bool>, Memory>
+/// A table that marks the seeds, and no other chip.
+///
+/// # Errors
+///
+/// `Memory` where memory runs out.
+pub fn seed_table(alloc: Global, seeds: Chips) -> Result<Vec<bool>, Memory>
     ensures long { IfOk result (λ t. length t.items
         ≡ seeds.entry.machine.now.width * seeds.entry.machine.now.height) }
     ensures seeds { IfOk result (λ t. (c : Chip) → IsInside seeds.entry.machine.now c

@@ -9,7 +9,7 @@ ghost use Rattle.machine_desc.specs.Live.{IsInside, IsLiveLink, far_of, x_step, 
 ghost use Rattle.machine_desc.specs.RoutingTree.{IsTreeChip};
 ghost use Rattle.link_detours.specs.Waves.{IsIn, HasBitOf, IsEmptySet, LeadsInto, IsSpread, IsSpreadBut, IsSpreadAt};
 
-use crate::grounds::{Column, Front, Ring, RootedEdges};
+use crate::grounds::{Column, Front, GroundedTree, Ring};
 use machine_desc::Machine;
 use spin_base::{Chip, Dir, Memory};
 use std::alloc::Global;
@@ -41,7 +41,7 @@ pub(crate) fn empty_set(alloc: Global, machine: &Machine) -> Result<Vec<u64>, Me
 }
 
 // Puts the chips of the tree that these edges make into an empty set.
-pub(crate) fn put_tree(edges: RootedEdges, set: &mut [u64])
+pub(crate) fn put_tree(edges: GroundedTree, set: &mut [u64])
     requires { IsEmptySet edges.ground.machine.now set.old }
     ensures { (c : Chip) → IsIn set.new c
         ↔ IsTreeChip edges.entry.ground.machine.now edges.entry.root edges.entry.list.now c }

@@ -7,7 +7,7 @@ ghost use Rattle.link_detours.specs.Whole.{IsWholeTree, GoesOnFrom};
 ghost use Rattle.spin_base.specs.declared.chips.Chip.{Chip};
 ghost use Rattle.machine_desc.specs.declared.trees.Edge.{Edge};
 
-use crate::grounds::{BrokenTree, Chips, Edges, MarkedEdge, MarkedEdges, TargetedEdges};
+use crate::grounds::{BrokenTree, Chips, Edges, MarkedEdges, TargetedEdges};
 use crate::prunes::pruned;
 use crate::searches::seed_table;
 use crate::tables::{in_place_order, link_place};
@@ -87,12 +87,8 @@ fn ends_go_on(alloc: Global, aimed: TargetedEdges) -> Result<bool, Memory>
 fn chips_before(alloc: Global, edges: &[Edge], targets: &[Chip]) -> Result<Vec<Chip>, Memory>
     ensures { IfOk result (λ v. v.items ≡ targets.now ++ map (λ e. e.chip) edges.now) }
 {
-    let mut chips = Vec::with_capacity(alloc, targets.len() + edges.len())?;
-    chips.extend_from_slice(targets)?;
-    for edge in edges {
-        chips.push(edge.chip)?;
-    }
-    Ok(chips)
+    let begins = edges.iter().map(|edge| edge.chip);
+    Ok(targets.iter().copied().chain(begins).collect(alloc)?)
 }
 
 // Whether each chip at which an edge ends is marked.
@@ -102,31 +98,9 @@ fn ends_are_marked(marked: MarkedEdges) -> bool
         → is_marked marked.entry.edges.machine.now marked.entry.marks.now c ≡ true)
         marked.entry.edges.list.now }
 {
-    for edge in marked.edges.list {
-        let end = MarkedEdge {
-            machine: marked.edges.machine,
-            marks: marked.marks,
-            edge: *edge,
-        };
-        if !end_is_marked(end) {
-            return false;
-        }
-    }
-    true
-}
-
-// Whether the chip at which the edge ends is marked.
-fn end_is_marked(end: MarkedEdge) -> bool
-    ensures { result ≡ true → (c : Chip) → end_of end.entry.machine.now end.entry.edge ≡ Some c
-        → is_marked end.entry.machine.now end.entry.marks.now c ≡ true }
-{
-    let MarkedEdge {
-        machine,
-        marks,
-        edge,
-    } = end;
-    match machine.far(edge.chip, edge.dir) {
-        Some(far) => marks[machine.index(far) as usize],
+    let MarkedEdges { edges, marks } = marked;
+    edges.list.iter().all(|edge| match edges.machine.far(edge.chip, edge.dir) {
+        Some(far) => marks[edges.machine.index(far) as usize],
         None => true,
-    }
+    })
 }

@@ -42,9 +42,4 @@ key_of_net nets packets of_nets i p net at is = grind (arith, same_Some (of_nets
 -- what is asked for is of one of the nets, and has a key of it
 pub asked_of_net : (nets : List NetPlan) (packets : List Packet) → AreOfNets nets packets → (i : ℕ) (a : Asked) → asked_by nets packets i ≡ Some a →
     Contains nets a.net × IsKeyOf a.net.block a.label.key
-asked_of_net nets packets of_nets i a asked =
-    let parts = asked_parts nets packets i a asked in
-    subst (λ (b : Asked). Contains nets b.net × IsKeyOf b.net.block b.label.key) (sym parts.is_asked) (
-      net_in_list nets parts.packet parts.net parts.is_net,
-      key_of_net nets packets of_nets i parts.packet parts.net parts.is_packet parts.is_net,
-    )
+asked_of_net nets packets of_nets i a asked = grind (arith, net_in_list, key_of_net)

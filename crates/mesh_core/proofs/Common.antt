@@ -1,3 +1,4 @@
+use Rattle.std.proofs.Common.{arith}
 -- The names that the proofs of this crate cite from outside of them, passed on from one place. Declares nothing.
 pub use Rattle.machine_desc.proofs.Branches.{ComesBy, ExitLeads, branch_inside, branch_short, comes_by, end_on_branch, exit_leads, exit_of, last_exit, length_le_from_apart, link_on_branch, same_exit}
 pub use Rattle.machine_desc.proofs.{Branches.same_place, Branches.way_first, Far.far_inside, Far.index_below, Far.live_back, Far.live_ends, Far.live_inside, Far.same_index, Live.index_of-chip_of}

@@ -24,9 +24,7 @@ pub is_of_from : (i v : ℕ) (d : Delivery) → d.copy.packet ≡ i → d.vertex
 is_of_from i v d e f = and_from (d.copy.packet == i) (d.vertex == v) (eq-eqb d.copy.packet i e) (eq-eqb d.vertex v f)
 
 pub is_of_parts : (i v : ℕ) (d : Delivery) → is_of i v d ≡ true → (d.copy.packet ≡ i) × (d.vertex ≡ v)
-is_of_parts i v d e =
-    let parts = and_parts (d.copy.packet == i) (d.vertex == v) e in
-    (eqb-true d.copy.packet i parts.0, eqb-true d.vertex v parts.1)
+is_of_parts i v d e = grind (arith, and_parts, eqb-true)
 
 -- the delivery of a packet at a vertex, without its hop number
 abbrev pub bare : ℕ → ℕ → NetPlan → Packet → Delivery
@@ -199,20 +197,7 @@ module _ (s : State) (nets : List NetPlan) (packets : List Packet) (mesh : IsMes
 
   -- so a delivery of the list was made
   pub listed_made : (y : Delivery) → Among y the_list → (d : Delivery) × Among d s.delivered × (without_hop d ≡ y)
-  listed_made y there =
-      let l = listed_parts s.setup.spots nets packets y there in
-      let once = listed_once y there in
-      let found = counted (is_of y.copy.packet y.vertex) s.delivered (omega (arith, once)) in
-      let d : Delivery = found.0 in
-      let a = asked d found.1 in
-      let of = is_of_parts y.copy.packet y.vertex d found.2 in
-      let number : a.number ≡ l.number = sym (ap (λ (c : McCopy). c.packet) a.is_copy) ∙ (of.0 ∙ ap (λ (e : Delivery). e.copy.packet) l.is_delivery) in
-      let vertex : d.vertex ≡ l.vertex = of.1 ∙ ap (λ (e : Delivery). e.vertex) l.is_delivery in
-      let packets_both : Some a.packet ≡ Some l.packet = sym a.is_packet ∙ (ap (slice_get packets) number ∙ l.is_packet) in
-      let packet : a.packet ≡ l.packet = (let e = packets_both in cc) in
-      let nets_both : Some a.net ≡ Some l.net = sym a.is_net ∙ (ap (λ (p : Packet). slice_get nets p.net) packet ∙ l.is_net) in
-      let net : a.net ≡ l.net = (let e = nets_both in cc) in
-      (d, found.1, asked_bare d a ∙ (bare_alike d.vertex l.vertex a.number l.number a.net l.net a.packet l.packet vertex number net packet ∙ sym l.is_delivery))
+  listed_made y there = grind (arith, listed_parts, listed_once, counted, asked, is_of_parts, asked_bare, bare_alike)
 
   pub in_order_is_list : (sorted : List Delivery) → IsPermutation s.delivered sorted → AllPairs IsDeliveryNotAfter sorted → map without_hop sorted ≡ the_list
   in_order_is_list sorted perm pairs =

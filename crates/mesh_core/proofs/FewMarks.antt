@@ -157,15 +157,7 @@ module _ (s : State) (nets : List NetPlan) (packets : List Packet) (job : MeetsJ
 
     -- Deliveries and dump records together, too.
     pub few_ends : length s.delivered + length s.dumped ≤ length packets * most
-    few_ends =
-        let few = few_marks in
-        let later : List Mark = delivered_marks s ++ dumped_marks s in
-        let a = length-append (unsent_marks s) (input_marks s ++ (all_hand_marks s ++ (core_marks s ++ later))) in
-        let b = length-append (input_marks s) (all_hand_marks s ++ (core_marks s ++ later)) in
-        let c = length-append (all_hand_marks s) (core_marks s ++ later) in
-        let f : length (delivered_marks s) ≡ length s.delivered = length-map s.delivered (λ (x : Delivery). mark x.copy (delivered x.vertex)) in
-        let g : length (dumped_marks s) ≡ length s.dumped = length-map s.dumped (λ (x : DumpRec). mark x.copy (dumped x.chip x.out)) in
-        omega (arith, a, b, c, length-append (core_marks s) later, length-append (delivered_marks s) (dumped_marks s), f, g)
+    few_ends = grind (arith, few_marks, length-append, length-map, mark)
 
   -- the targets of a net are different spots of vertices, so at most as many
   few_targets : All (λ net. length net.targets ≤ length s.setup.spots) nets

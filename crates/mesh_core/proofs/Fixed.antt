@@ -34,9 +34,7 @@ module _ (P : State → Type 0) (s : State) (still : P s) where
 
   pub by_send : ((hands : List (Option Hand)) (b : Queue) (k : McCopy) → P (push_behind (record s { hands = hands }) b k)) →
       (c : Chip) (o : Out) (hand : Option (Option Hand)) → P (unwrap_or (send_of s c o hand) s)
-  by_send moved c o (Some (Some h)) =
-      chosen (serves s c o (Some (Some h)) && has_room_behind s (behind s.setup c o)) (push_behind (after_serving s c o h) (behind s.setup c o) (onward h.copy))
-      (moved _ (behind s.setup c o) (onward h.copy))
+  by_send moved c o (Some (Some h)) = grind (arith, chosen)
   by_send moved c o (Some None) = still
   by_send moved c o None = still
 

@@ -36,10 +36,7 @@ count_of_packet : (n m from to : ℕ) (branch : List Exit) (come : List Mark) �
     (same : Bool) → (m == n) ≡ same → (leaves : Mark) → leaves.copy.packet ≡ m →
     (same ≡ true → count_by (is_on_trail from to branch) come ≡ (if is_on_trail from to branch leaves then 1 else 0)) →
     count_by (is_packet_on_trail n from to branch) come ≡ (if is_packet_on_trail n from to branch leaves then 1 else 0)
-count_of_packet n m from to branch come of_m true is leaves leaves_m counts =
-    count_agree (is_packet_on_trail n from to branch) (is_on_trail from to branch) come
-    (λ y a. ap (λ b. b && is_on_trail from to branch y) (ap (λ k. k == n) (of_m y a) ∙ is))
-    ∙ (counts refl ∙ ap (λ b. if b && is_on_trail from to branch leaves then 1 else 0) (sym (ap (λ k. k == n) leaves_m ∙ is)))
+count_of_packet n m from to branch come of_m true is leaves leaves_m counts = grind (arith, count_agree)
 count_of_packet n m from to branch come of_m false is leaves leaves_m counts =
     count_agree (is_packet_on_trail n from to branch) (λ y. false) come
     (λ y a. ap (λ b. b && is_on_trail from to branch y) (ap (λ k. k == n) (of_m y a) ∙ is))
@@ -178,9 +175,7 @@ module _ (s t : State) (nets : List NetPlan) (labels : ℕ → Label)
 
     left_counts : (p : Mark → Bool) (v : Moved s) (moves : List (Moved s)) → Among v moves → p v.leaves ≡ true → 1 ≤ count_left p moves
     left_counts p v [] a passes = absurd a
-    left_counts p v (w ∷ moves) (inl here) passes =
-        let first = counts_one (p w.leaves) (ap (λ (u : Moved s). p u.leaves) (sym here) ∙ passes) in
-        omega arith
+    left_counts p v (w ∷ moves) (inl here) passes = grind (arith, counts_one)
     left_counts p v (w ∷ moves) (inr later) passes = let rest = left_counts p v moves later passes in omega arith
 
     come_counts : (k : Mark) (moves : List (Moved s)) → 1 ≤ count_come (mark_eq k) moves → (v : Moved s) × Among v moves × Among k v.come
@@ -193,11 +188,7 @@ module _ (s t : State) (nets : List NetPlan) (labels : ℕ → Label)
 
     -- a mark that passes on one side of the balance is on the other
     occurs_of_count : (k : Mark) → 1 ≤ count_by (mark_eq k) (marks_of s) + count_come (mark_eq k) bag.moves → Occurs k
-    occurs_of_count k some = elim (cases_order (count_by (mark_eq k) (marks_of s)) 0) [
-      | inl none ↦ inr (come_counts k bag.moves (omega arith))
-      | inr (inl below) ↦ absurd (omega arith)
-      | inr (inr more) ↦ inl (among_of_count k (marks_of s) (omega arith))
-    ]
+    occurs_of_count k some = grind (arith, cases_order, count_by, mark_eq, come_counts, among_of_count)
 
     leaves_occurs : (v : Moved s) → Among v bag.moves → Occurs v.leaves
     leaves_occurs v a =

@@ -47,14 +47,11 @@ two_alike f a a' b b' e e' = cc
 station_true : (a b : Station) → station_eq a b ≡ true → a ≡ b
 unfolding station_eq
 station_true (unsent v) (unsent w) e = ap unsent (eqb-true v w e)
-station_true (in_queue c p) (in_queue d q) e =
-    two_alike in_queue c d p q (chip_eq_true c d ((and_parts (chip_eq c d) (port_eq p q) e).0)) (port_eq_true p q ((and_parts (chip_eq c d) (port_eq p q) e).1))
-station_true (in_hand c o) (in_hand d p) e =
-    two_alike in_hand c d o p (chip_eq_true c d ((and_parts (chip_eq c d) (out_eq o p) e).0)) (out_eq_true o p ((and_parts (chip_eq c d) (out_eq o p) e).1))
+station_true (in_queue c p) (in_queue d q) e = grind (arith, two_alike, chip_eq_true, and_parts, port_eq_true)
+station_true (in_hand c o) (in_hand d p) e = grind (arith, two_alike, chip_eq_true, and_parts, out_eq_true)
 station_true (at_core v) (at_core w) e = ap at_core (eqb-true v w e)
 station_true (delivered v) (delivered w) e = ap delivered (eqb-true v w e)
-station_true (dumped c o) (dumped d p) e =
-    two_alike dumped c d o p (chip_eq_true c d ((and_parts (chip_eq c d) (out_eq o p) e).0)) (out_eq_true o p ((and_parts (chip_eq c d) (out_eq o p) e).1))
+station_true (dumped c o) (dumped d p) e = grind (arith, two_alike, chip_eq_true, and_parts, out_eq_true)
 station_true _ _ e = cc
 
 copy_eq : McCopy → McCopy → Bool
@@ -70,13 +67,7 @@ mark_eq a b = copy_eq a.copy b.copy && station_eq a.station b.station
 
 pub mark_eq_same : (a : Mark) → mark_eq a a ≡ true
 unfolding mark_eq copy_eq
-mark_eq_same a =
-    and_from (copy_eq a.copy a.copy) (station_eq a.station a.station)
-    (and_from (a.copy.packet == a.copy.packet) ((a.copy.key == a.copy.key) && (payload_eq a.copy.payload a.copy.payload && (a.copy.hop == a.copy.hop)))
-    (eq-eqb a.copy.packet a.copy.packet refl)
-    (and_from (a.copy.key == a.copy.key) (payload_eq a.copy.payload a.copy.payload && (a.copy.hop == a.copy.hop)) (eq-eqb a.copy.key a.copy.key refl)
-    (and_from (payload_eq a.copy.payload a.copy.payload) (a.copy.hop == a.copy.hop) (payload_same a.copy.payload) (eq-eqb a.copy.hop a.copy.hop refl))))
-    (station_same a.station)
+mark_eq_same a = grind (arith, and_from, copy_eq, station_eq, payload_eq, eq-eqb, payload_same, station_same)
 
 marks_alike : (c d : McCopy) (a b : Station) → c ≡ d → a ≡ b → mark c a ≡ mark d b
 marks_alike c d a b e f = cc
@@ -133,11 +124,7 @@ below_last n within other = grind arith
 -- a station behind a router, of the copy with one hop more
 onward_raises : (k : McCopy) (at to : Station) → ((last : Bool) → stage last at ≤ 3) → stage true at ≤ 2 → ((last : Bool) → 1 ≤ stage last to) → stage true to ≡ 3 → k.hop ≤ last_hop →
     (last : Bool) → (k.hop == last_hop) ≡ last → 5 * k.hop + stage last at < 5 * min (k.hop + 1) last_hop + stage (min (k.hop + 1) last_hop == last_hop) to
-onward_raises k at to to_three to_two from_one three within true is =
-    let here : k.hop ≡ last_hop = eqb-true k.hop last_hop is in
-    let there : min (k.hop + 1) last_hop ≡ last_hop = omega arith in
-    let test : (min (k.hop + 1) last_hop == last_hop) ≡ true = eq-eqb (min (k.hop + 1) last_hop) last_hop there in
-    rw (test, three) (omega arith)
+onward_raises k at to to_three to_two from_one three within true is = grind (arith, eqb-true, eq-eqb)
 onward_raises k at to to_three to_two from_one three within false is = grind (arith, below_last k.hop within is)
 
 -- each mark that comes is further on than the one that leaves

@@ -30,8 +30,7 @@ pub step_of-inject : (s : State) (v : ℕ) (spot : Spot) (k : McCopy) (unsent in
     unsent ≡ drop_front s.unsent v (slice_get s.unsent v) →
     inputs ≡ push_at s.inputs (queue_at s.setup.machine spot.chip Local) k (slice_get s.inputs (queue_at s.setup.machine spot.chip Local)) →
     step_of s (Inject v) ≡ Some (record s { unsent = unsent; inputs = inputs })
-step_of-inject s v spot k unsent inputs at_spot front room is_unsent is_inputs =
-    rw (is_unsent, is_inputs, at_spot) (inject_by s v spot k (slice_get s.unsent v) refl (sym front) room)
+step_of-inject s v spot k unsent inputs at_spot front room is_unsent is_inputs = grind (arith, inject_by)
 
 -- a live chip took a copy
 take_by : (s : State) (c : Chip) (port : Port) (k : McCopy) (q : Option (List McCopy)) → front_of q ≡ Some k → is_live_chip s.setup.machine c ≡ true →
@@ -49,8 +48,7 @@ pub step_of-take : (s : State) (c : Chip) (port : Port) (k : McCopy) (inputs : L
     inputs ≡ drop_front s.inputs (queue_at s.setup.machine c port) (slice_get s.inputs (queue_at s.setup.machine c port)) →
     hands ≡ set s.hands (index_of s.setup.machine c) (in_hand k port (outputs s.setup c port k)) →
     step_of s (Take c port) ≡ Some (record s { inputs = inputs; hands = hands })
-step_of-take s c port k inputs hands live free front is_inputs is_hands =
-    rw (is_inputs, is_hands, free) (take_by s c port k (slice_get s.inputs (queue_at s.setup.machine c port)) (sym front) live)
+step_of-take s c port k inputs hands live free front is_inputs is_hands = grind (arith, take_by)
 
 -- the mesh where a copy came into the queue behind an output
 arrived_is : (s : State) (b : Queue) (k : McCopy) → push_behind s b k ≡ record s { inputs = inputs_after s.inputs b k; cores = cores_after s.cores b k }
@@ -65,13 +63,7 @@ send_by : (s : State) (c : Chip) (o : Out) (k : McCopy) (hand : Option (Option H
       cores = cores_after s.cores (behind s.setup c o) (onward k);
       hands = hands_after s.hands (index_of s.setup.machine c) o hand;
     })
-send_by s c o k (Some (Some h)) copy room =
-    let to : Queue = behind s.setup c o in
-    let parts : (serves s c o (Some (Some h)) ≡ true) × (h.copy ≡ k) = if_some (serves s c o (Some (Some h))) h.copy k copy in
-    let asked : (serves s c o (Some (Some h)) && has_room_behind s to) ≡ true = and_from _ _ parts.0 room in
-    ap (λ b. if b then Some (push_behind (after_serving s c o h) to (onward h.copy)) else None) asked
-    ∙ (ap (λ x. Some (push_behind (after_serving s c o h) to (onward x))) parts.1
-    ∙ ap Some (arrived_is (after_serving s c o h) to (onward k)))
+send_by s c o k (Some (Some h)) copy room = grind (arith, if_some, and_from, arrived_is)
 send_by s c o k (Some None) copy room = cc
 send_by s c o k None copy room = cc
 
@@ -83,8 +75,7 @@ pub step_of-send : (s : State) (c : Chip) (o : Out) (k : McCopy) (inputs cores :
     cores ≡ cores_after s.cores (behind s.setup c o) (onward k) →
     hands ≡ hands_after s.hands (index_of s.setup.machine c) o (slice_get s.hands (index_of s.setup.machine c)) →
     step_of s (Send c o) ≡ Some (record s { inputs = inputs; cores = cores; hands = hands })
-step_of-send s c o k inputs cores hands copy room is_inputs is_cores is_hands =
-    rw (is_inputs, is_cores, is_hands) (send_by s c o k (slice_get s.hands (index_of s.setup.machine c)) (sym copy) room)
+step_of-send s c o k inputs cores hands copy room is_inputs is_cores is_hands = grind (arith, send_by)
 
 dump_by : (s : State) (c : Chip) (o : Out) (k : McCopy) (hand : Option (Option Hand)) → copy_served s c o hand ≡ Some k →
     has_room_behind s (behind s.setup c o) ≡ false →
@@ -103,8 +94,7 @@ pub step_of-dump : (s : State) (c : Chip) (o : Out) (k : McCopy) (hands : List (
     hands ≡ hands_after s.hands (index_of s.setup.machine c) o (slice_get s.hands (index_of s.setup.machine c)) →
     dumped ≡ s.dumped ++ record { chip = c; out = o; copy = k } ∷ [] →
     step_of s (Dump c o) ≡ Some (record s { hands = hands; dumped = dumped })
-step_of-dump s c o k hands dumped copy full is_hands is_dumped =
-    rw (is_hands, is_dumped) (dump_by s c o k (slice_get s.hands (index_of s.setup.machine c)) (sym copy) full)
+step_of-dump s c o k hands dumped copy full is_hands is_dumped = grind (arith, dump_by)
 
 collect_by : (s : State) (v : ℕ) (k : McCopy) (q : Option (List McCopy)) → front_of q ≡ Some k →
     collect_of s v q ≡ Some (record s { cores = drop_front s.cores v q; delivered = s.delivered ++ record { vertex = v; copy = k } ∷ [] })
@@ -116,5 +106,4 @@ collect_by s v k None front = cc
 pub step_of-collect : (s : State) (v : ℕ) (k : McCopy) (cores : List (List McCopy)) (delivered : List Delivery) → Some k ≡ front_of (slice_get s.cores v) →
     cores ≡ drop_front s.cores v (slice_get s.cores v) → delivered ≡ s.delivered ++ record { vertex = v; copy = k } ∷ [] →
     step_of s (Collect v) ≡ Some (record s { cores = cores; delivered = delivered })
-step_of-collect s v k cores delivered front is_cores is_delivered =
-    rw (is_cores, is_delivered) (collect_by s v k (slice_get s.cores v) (sym front))
+step_of-collect s v k cores delivered front is_cores is_delivered = grind (arith, collect_by)

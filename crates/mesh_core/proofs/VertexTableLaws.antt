@@ -45,27 +45,19 @@ same_eq a b e = subst (λ (s : Spot). spot_eq a s ≡ true) e (spot_eq_same a)
 
 -- a spot that no chip of the machine has is no vertex's
 pub vertex_at-nowhere : (m : Description) (spots : List Spot) (s : Spot) → All (IsSite m) spots → IsSpotPlace m s None → vertex_at spots s ≡ None
-vertex_at-nowhere m spots s sites nowhere =
-    vertex_at-from spots s
-    ∙ no_place (spot_eq s) spots 0 (λ k d below. differs s (get_or spots k d) (λ e.
-    let at = site_inside m s (subst (IsSite m) (sym e) (sites k d below)) in
-    nowhere at.0 at.1))
+vertex_at-nowhere m spots s sites nowhere = grind (arith, vertex_at-from, no_place, differs, get_or, site_inside)
 
 -- the vertex on a spot, where one vertex more is known
 vertex_at-push_other : (spots : List Spot) (y s : Spot) → s ≢ y → vertex_at (spots ++ y ∷ []) s ≡ vertex_at spots s
-vertex_at-push_other spots y s other =
-    vertex_at-from (spots ++ y ∷ []) s ∙ (position-push_other (spot_eq s) spots y 0 (differs s y other) ∙ sym (vertex_at-from spots s))
+vertex_at-push_other spots y s other = grind (arith, vertex_at-from, position-push_other, differs)
 
 vertex_at-push_new : (spots : List Spot) (y s : Spot) → s ≡ y → All (λ x. y ≢ x) spots → vertex_at (spots ++ y ∷ []) s ≡ Some (length spots)
-vertex_at-push_new spots y s same different =
-    let none : All (λ x. spot_eq s x ≡ false) spots = λ k d below. differs s _ (λ e. different k d below (sym same ∙ e)) in
-    vertex_at-from (spots ++ y ∷ []) s ∙ (position-push_new (spot_eq s) spots y 0 (same_eq s y same) none ∙ ap Some (omega arith))
+vertex_at-push_new spots y s same different = grind (arith, differs, vertex_at-from, position-push_new, same_eq)
 
 -- what the table has at a spot's place is the vertex there
 pub vertex_told : (m : Description) (spots : List Spot) (table : List (Option ℕ)) (s : Spot) (place : ℕ) (x d : Option ℕ) → TellsVertices m spots table →
     IsSpotPlace m s (Some place) → x ≡ get_or table place d → x ≡ vertex_at spots s
-vertex_told m spots table s place x d tells at is =
-    is ∙ get_or_from_slice_get table place (vertex_at spots s) d (ap (slice_get table) at.2 ∙ tells.told s at.0 at.1)
+vertex_told m spots table s place x d tells at is = grind (arith, get_or_from_slice_get)
 
 -- the table of no vertices
 pub TellsVertices-none : (m : Description) (spots : List Spot) → TellsVertices m (take 0 spots) (replicate (24 * (m.width * m.height)) None)

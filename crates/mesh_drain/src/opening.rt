@@ -63,10 +63,9 @@ fn source_vertices(alloc: Global, setup: &MeshSetup, nets: &[NetPlan]) -> Result
     ensures { IfOk result (λ vertices. vertices.items
         ≡ map (source_vertex_of setup.now.spots) nets.now) }
 {
-    let mut vertices = Vec::new(alloc);
-    for net in nets {
-        let vertex = setup.vertex_at(net.source).unwrap_or(0);
-        vertices.push(vertex)?;
-    }
-    Ok(vertices)
+    Ok(
+        nets.iter()
+            .map(|net| setup.vertex_at(net.source).unwrap_or(0))
+            .collect(alloc)?,
+    )
 }

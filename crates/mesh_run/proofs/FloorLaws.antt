@@ -1,11 +1,11 @@
 -- Floors chip by chip: the vertices on a chip, the queues behind its outputs, and that there are few vertices.
-use Rattle.mesh_run.proofs.Common.{AddsBehind, All, All-at, AllPairs, Among, AreVerticesOf, AreVerticesOn, Behind, Chip, Contains-at, CoreBank, Description, Floor, HasSize, IsBankOf, IsFloorOf}
-use Rattle.mesh_run.proofs.Common.{IsFloorSoFar, IsLiveIndex, IsOutput, IsSite, IsVertexOn, List, None, Option, Out, Setup, Some, Spot, [], among_contains, among_either, among_left, among_only}
-use Rattle.mesh_run.proofs.Common.{among_right, ap, append_assoc, arith, cases_eq, cases_lt, chip_of, contains_among, get_or, get_or-map, get_or_from_slice_get, grid_size, index_below, inl, inr}
-use Rattle.mesh_run.proofs.Common.{length, length-append, length-map, length_le_from_apart, length_push, live_inside, live_one, map, mul-le-mul_left, none-some, option_to_list, out_number}
-use Rattle.mesh_run.proofs.Common.{out_number_below, out_number_injective, place_behind, place_in, place_of_slot, port_count, refl, same_spot_place, site_inside, slice_get, slice_get-append_left}
-use Rattle.mesh_run.proofs.Common.{slice_get-get_or, slice_get-push_cases, slice_get-pushed, slice_get_there, slice_get_within, spot_place, spot_place-below, subst, suc, sym, vertex_at}
-use Rattle.mesh_run.proofs.Common.{vertex_at_stands, vertex_there, ℕ, ◌*◌, ◌++◌, ◌+◌, ◌<◌, ◌∙◌, ◌∷◌, ◌≡◌, ◌≢◌, ◌≤◌}
+use Rattle.mesh_run.proofs.Common.{AddsBehind, All, All-at, AllPairs, AreVerticesOf, Behind, Chip, Contains-at, Contains-filter_map, Contains-from_filter_map, CoreBank, Description, Floor, HasSize}
+use Rattle.mesh_run.proofs.Common.{IsBankOf, IsFloorOf, IsFloorSoFar, IsLiveIndex, IsOutput, IsSite, List, None, Option, Out, Setup, Some, Spot, [], ap, append_assoc, arith, cases_eq, cases_lt}
+use Rattle.mesh_run.proofs.Common.{chip_of, get_or, get_or-map, get_or-range_with_len, get_or_from_slice_get, grid_size, index_below, inl, inr, length, length-append, length-map}
+use Rattle.mesh_run.proofs.Common.{length-range_with_len, length_le_from_apart, length_push, live_inside, live_one, map, mul-le-mul_left, none-some, out_number, out_number_below, out_number_injective}
+use Rattle.mesh_run.proofs.Common.{place_behind, place_in, place_of_slot, port_count, range_with_len, refl, same_spot_place, site_inside, slice_get, slice_get-append_left, slice_get-get_or}
+use Rattle.mesh_run.proofs.Common.{slice_get-push_cases, slice_get-pushed, slice_get_there, slice_get_within, spot_place, spot_place-below, subst, suc, sym, vertex_at_stands, vertex_on, vertex_there}
+use Rattle.mesh_run.proofs.Common.{vertices_by, ℕ, ◌*◌, ◌++◌, ◌+◌, ◌<◌, ◌∙◌, ◌∷◌, ◌≡◌, ◌≢◌, ◌≤◌}
 
 -- ---- few vertices
 
@@ -77,54 +77,27 @@ one_place {X} xs x v w differ first second = elim (cases_lt v w) [
 spot_is : (spot : Spot) (chip : Chip) (n : ℕ) → spot.chip ≡ chip → spot.core ≡ n → spot ≡ record { chip = chip; core = n }
 spot_is spot chip n here number = ap (λ (x : Chip). let t : Spot = record { chip = x; core = spot.core } in t) here ∙ ap (λ (k : ℕ). let t : Spot = record { chip = chip; core = k } in t) number
 
-module _ (u : Setup) (i : ℕ) where
-  pub vertices_none : (vs : List ℕ) → vs ≡ [] → AreVerticesOn u i 0 vs
-  vertices_none vs none = grind (arith, Among, contains_among)
+-- the vertices that are found core by core are those on the chip
+pub vertices_found : (u : Setup) (i : ℕ) (vs : List ℕ) → AllPairs (λ a b. a ≢ b) u.spots → All (IsSite u.machine) u.spots → vs ≡ vertices_by u.spots (chip_of u.machine i) → AreVerticesOf u i vs
+vertices_found u i vs differ sites is = subst (AreVerticesOf u i) (sym is) (record {
+  each = λ v has.
+      let found = Contains-from_filter_map (vertex_on u.spots chip) (range_with_len 0 24) v has in
+      record { spot = spot_of found.0; stands = vertex_at_stands u.spots (spot_of found.0) v found.2; here = refl };
+  all = λ v on.
+      let core = on.spot.core in
+      let below = (site_inside u.machine on.spot (All-at (IsSite u.machine) u.spots v on.spot sites on.stands)).1 in
+      let stands : slice_get u.spots v ≡ Some (spot_of core) = on.stands ∙ ap Some (spot_is on.spot chip core on.here refl) in
+      let there = vertex_there u.spots (spot_of core) (Contains-at u.spots v (spot_of core) stands) in
+      let same = one_place u.spots (spot_of core) there.0 v differ (vertex_at_stands u.spots (spot_of core) there.0 there.1) stands in
+      Contains-filter_map (vertex_on u.spots chip) (range_with_len 0 24) core v (core, subst (λ n. core < n) (sym (length-range_with_len 0 24)) below, get_or-range_with_len 0 24 core core below ∙ omega arith)
+      (there.1 ∙ ap Some same);
+})
+  where
+    chip : Chip
+    chip = chip_of u.machine i
 
-  more_by : (n : ℕ) (old new : List ℕ) (found : Option ℕ) → AllPairs (λ a b. a ≢ b) u.spots → AreVerticesOn u i n old → vertex_at u.spots (record { chip = chip_of u.machine i; core = n }) ≡ found →
-      new ≡ old ++ option_to_list found → AreVerticesOn u i (n + 1) new
-  more_by n old new None differ so_far none is = record {
-    each = λ v has. elim (among_either v old [] (subst (λ (l : List ℕ). Among v l) is (contains_among v new has))) [
-      | inl before ↦ so_far.each v (among_contains v old before)
-      | inr nowhere ↦ absurd nowhere
-    ];
-    all = λ v spot stands here below. elim (cases_eq spot.core n) [
-      | inl same ↦
-          let t : Spot = record { chip = chip_of u.machine i; core = n } in
-          let is_t : spot ≡ t = spot_is spot (chip_of u.machine i) n here same in
-          let there = vertex_there u.spots t (Contains-at u.spots v t (stands ∙ ap Some is_t)) in
-          absurd (none-some there.0 (sym none ∙ there.1))
-      | inr other ↦ among_contains v new (subst (λ (l : List ℕ). Among v l) (sym is) (among_left v old [] (contains_among v old (so_far.all v spot stands here (omega (arith, below, other))))))
-    ];
-  }
-  more_by n old new (Some w) differ so_far found is = record {
-    each = λ v has. elim (among_either v old (w ∷ []) (subst (λ (l : List ℕ). Among v l) is (contains_among v new has))) [
-      | inl before ↦ so_far.each v (among_contains v old before)
-      | inr last ↦
-          let t : Spot = record { chip = chip_of u.machine i; core = n } in
-          subst (λ (k : ℕ). IsVertexOn u i k) (sym (among_only w v (w ∷ []) refl last)) (record { spot = t; stands = vertex_at_stands u.spots t w found; here = refl })
-    ];
-    all = λ v spot stands here below. elim (cases_eq spot.core n) [
-      | inl same ↦
-          let t : Spot = record { chip = chip_of u.machine i; core = n } in
-          let is_t : spot ≡ t = spot_is spot (chip_of u.machine i) n here same in
-          among_contains v new (subst (λ (l : List ℕ). Among v l) (sym is)
-          (among_right v old (w ∷ []) (inl (one_place u.spots t v w differ (stands ∙ ap Some is_t) (vertex_at_stands u.spots t w found)))))
-      | inr other ↦ among_contains v new (subst (λ (l : List ℕ). Among v l) (sym is) (among_left v old (w ∷ []) (contains_among v old (so_far.all v spot stands here (omega (arith, below, other))))))
-    ];
-  }
-
-  pub vertices_more : (n : ℕ) (old new : List ℕ) → AllPairs (λ a b. a ≢ b) u.spots → AreVerticesOn u i n old →
-      new ≡ old ++ option_to_list (vertex_at u.spots (record { chip = chip_of u.machine i; core = n })) → AreVerticesOn u i (n + 1) new
-  vertices_more n old new differ so_far is = more_by n old new (vertex_at u.spots (record { chip = chip_of u.machine i; core = n })) differ so_far refl is
-
-  pub vertices_all : (n : ℕ) (vs : List ℕ) → All (IsSite u.machine) u.spots → 24 ≤ n → AreVerticesOn u i n vs → AreVerticesOf u i vs
-  vertices_all n vs sites past so_far = record {
-    each = so_far.each;
-    all = λ v on.
-        let site = site_inside u.machine on.spot (All-at (IsSite u.machine) u.spots v on.spot sites on.stands) in
-        so_far.all v on.spot on.stands on.here (omega (arith, site.1, past));
-  }
+    spot_of : ℕ → Spot
+    spot_of core = record { chip = chip; core = core }
 
 -- ---- the queues behind outputs
 

@@ -1,6 +1,6 @@
 -- What the shares so far have logged.
 use Rattle.mesh_run.proofs.Common.{AreEmptied, Bool, IsAnyMoved, IsEmptied, List, MeshLogs, Share, arith, drop, flat_map, get_or, get_or_from_slice_get, length, list_any, slice_get_within, sum_by}
-use Rattle.mesh_run.proofs.Common.{take, take_all, ℕ, ◌++◌, ◌+◌, ◌≡◌, ◌≤◌}
+use Rattle.mesh_run.proofs.Common.{take, take_all, ℕ, ◌++◌, ◌≡◌, ◌≤◌}
 use Rattle.mesh_run.proofs.Going.{GoneTo, gone_all}
 
 -- what the shares before a place logged was gathered, and there is room for what the others did

@@ -308,3 +308,5 @@ cuts_more homes n home cuts new at_n so_far (inr other) = subst (CutsTo homes (n
 
 pub cuts_all : (homes : List Home) (n : ℕ) (cuts : List Cut) → n ≡ length homes → length homes < 2 ^ 32 → CutsTo homes n cuts → AreCutsOf homes cuts
 cuts_all homes n cuts past small so_far = grind (arith, slice_get_within)
+
+pub ruleset cut_steps = (cuts_none, cuts_more, cuts_all, slice_get-get_or)

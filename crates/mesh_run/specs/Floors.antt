@@ -1,10 +1,12 @@
 -- What actors stand on, for a mesh's setup (this project's own).
 use Rattle.std.specs.Prelude.{◌≡◌, ℕ, ◌+◌, ◌*◌, ◌<◌, Bool, true, false, List, [], ◌++◌, length, Option, Some, None, Contains, slice_get, slice_index_or}
+use Rattle.std.specs.List.{filter_map, range_with_len}
 use Rattle.spin_base.specs.declared.chips.Chip.{Chip}
 use Rattle.spin_base.specs.declared.chips.Spot.{Spot}
 use Rattle.spin_base.specs.declared.routes.Out.{Out}
 use Rattle.spin_base.specs.Outputs.{out_number, IsOutput}
 use Rattle.machine_desc.specs.Live.{chip_of, is_live_chip}
+use Rattle.machine_desc.specs.NetsOn.{vertex_at}
 use Rattle.mesh_core.specs.State.{Setup}
 use Rattle.chip_node.specs.declared.nodes.Behind.{Behind}
 use Rattle.chip_node.specs.declared.nodes.{CoreBank.CoreBank, RouterNode.RouterNode}
@@ -61,10 +63,13 @@ pub record IsFloorSoFar (u : Setup) (n : ℕ) (f : Floor) : Type 0 where
       → place_in (slice_get f.behind.items (24 * i + out_number o)) ≡ place_behind u (chip_of u.machine i) o
   pub banks : (i : ℕ) (b : CoreBank) → slice_get f.banks.items i ≡ Some b → IsBankOf u i b
 
--- the vertices on the cores below a number, and on the devices' links numbered so, of the chip of an index
-pub record AreVerticesOn (u : Setup) (i n : ℕ) (vertices : List ℕ) : Type 0 where
-  pub each : (v : ℕ) → Contains vertices v → IsVertexOn u i v
-  pub all : (v : ℕ) (spot : Spot) → slice_get u.spots v ≡ Some spot → spot.chip ≡ chip_of u.machine i → spot.core < n → Contains vertices v
+-- the vertex on a core of a chip, or on the link of a device that is numbered so
+abbrev pub vertex_on : List Spot → Chip → ℕ → Option ℕ
+vertex_on spots chip core = vertex_at spots (record { chip = chip; core = core })
+
+-- the vertices on a chip, core by core
+abbrev pub vertices_by : List Spot → Chip → List ℕ
+vertices_by spots chip = filter_map (vertex_on spots chip) (range_with_len 0 24)
 
 -- all vertices on the chip of an index, and none else
 pub record AreVerticesOf (u : Setup) (i : ℕ) (vertices : List ℕ) : Type 0 where

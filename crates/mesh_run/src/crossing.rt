@@ -17,6 +17,7 @@ use link_queue::{Rx, Tx};
 use std::mem;
 
 /// Each cut's share of the sender gets the sending end of its link, and that of the receiver the receiving end.
+#[tactic(auto, using(crate::proofs::CrossingLaws::dealt_all, crate::proofs::CrossingLaws::dealt_none))]
 pub(crate) fn deal(shares: &mut Vec<Share>, standing: &mut Standing, cuts: &[Cut])
     requires cuts { AreCuts cuts.now shares.old.items }
     requires ends { (ends : List LinkEnds) × HoldsAll ends standing.old
@@ -48,6 +49,7 @@ pub(crate) fn deal(shares: &mut Vec<Share>, standing: &mut Standing, cuts: &[Cut
 }
 
 /// The ends of all links are with the links again.
+#[tactic(auto, using(crate::proofs::CrossingLaws::collected_none))]
 pub(crate) fn collect(shares: &mut Vec<Share>, standing: &mut Standing, cuts: &[Cut])
     requires cuts { AreCuts cuts.now shares.old.items }
     requires laid { AreLaid standing.old.links.items shares.old.items cuts.now }
@@ -69,6 +71,7 @@ pub(crate) fn collect(shares: &mut Vec<Share>, standing: &mut Standing, cuts: &[
 }
 
 /// Another end stands at a place of a share. The one that stood there.
+#[tactic(auto, using(crate::proofs::CrossingLaws::end_inside, crate::proofs::CrossingLaws::read_end, crate::proofs::CrossingLaws::share_inside))]
 pub(crate) fn put_end(shares: &mut Vec<Share>, share: usize, queue: usize, end: End) -> End
     requires { (e : End) × (end_at shares.old.items share queue ≡ Some e) }
     ensures stood { end_at shares.old.items share queue ≡ Some result }

@@ -1,11 +1,11 @@
 // What actors stand on, made once for a run: who is behind each output, and which vertices are on each chip.
-ghost use Rattle.std.specs.Prelude.{◌≡◌, ℕ, ◌+◌, ◌*◌, ◌<◌, ◌≤◌, ◌++◌, IfOk, OnOk, length, option_to_list};
+ghost use Rattle.std.specs.Prelude.{◌≡◌, ℕ, ◌+◌, ◌*◌, ◌<◌, ◌≤◌, ◌++◌, IfOk, OnOk, length};
 ghost use Rattle.spin_base.specs.declared.routes.Out.{Out as AnOut};
 ghost use Rattle.spin_base.specs.Outputs.{IsOutput, out_number};
 ghost use Rattle.machine_desc.specs.Live.{chip_of, is_live_chip};
 ghost use Rattle.machine_desc.specs.NetsOn.{vertex_at};
 ghost use Rattle.mesh_core.specs.State.{Setup};
-ghost use Rattle.mesh_run.specs.Floors.{AddsBehind, AreVerticesOf, IsFloorOf, IsFloorSoFar, grid_size, live_if, place_of_slot};
+ghost use Rattle.mesh_run.specs.Floors.{AddsBehind, IsFloorOf, IsFloorSoFar, grid_size, live_if, place_of_slot, vertices_by};
 ghost use Rattle.mesh_run.specs.Played.{place_behind, IsLiveIndex};
 
 use chip_node::{Behind, CoreBank};
@@ -29,6 +29,7 @@ impl Shared for Floor {}
 
 impl Floor {
     /// The floor of a mesh.
+    #[tactic(auto, using(crate::proofs::FloorLaws::floor_none, crate::proofs::FloorLaws::floor_all))]
     pub fn of(alloc: Global, setup: &MeshSetup) -> Result<Floor, Memory>
         ensures { length setup.now.tables ≡ grid_size setup.now → IfOk result (IsFloorOf setup.now) }
     {
@@ -53,6 +54,7 @@ impl Floor {
         ensures { OnOk result (IsFloorSoFar setup.now index self.old
             → IsFloorSoFar setup.now (index + 1) self.new) }
     {
+        every_setup_has_sites(setup);
         let chip = setup.machine().chip_at(index);
         let cores = Port::COUNT * setup.machine().chips() as u32;
         let vertices = vertices_on(alloc, setup, chip)?;
@@ -67,6 +69,7 @@ impl Floor {
     }
 
     /// The place of the queue behind an output of the chip of an index, by the output's bit number, where both are there.
+    #[tactic(auto, using(crate::proofs::FloorLaws::behind_inside, crate::proofs::FloorLaws::read_behind))]
     pub fn place_behind(&self, index: usize, number: usize) -> Option<u32>
         ensures { (u : Setup) (out : AnOut) → IsFloorOf u self.now → IsLiveIndex u index → IsOutput out
             → out_number out ≡ number → result ≡ place_behind u (chip_of u.machine index) out }
@@ -100,17 +103,12 @@ fn live_chip(setup: &MeshSetup, chip: Chip) -> Option<Chip>
     }
 }
 
-// The vertices on a chip.
+// The vertices on a chip, core by core.
 fn vertices_on(alloc: Global, setup: &MeshSetup, chip: Chip) -> Result<Vec<u32>, Memory>
-    ensures { (index : ℕ) → chip ≡ chip_of setup.now.machine index
-        → IfOk result (λ vertices. AreVerticesOf setup.now index vertices.items) }
+    ensures { IfOk result (λ vertices. vertices.items ≡ vertices_by setup.now.spots chip) }
 {
-    every_setup_has_sites(setup);
-    let mut vertices = Vec::new(alloc);
-    for core in 0..OUT_COUNT as u8 {
-        push_number(&mut vertices, number_at(setup, Spot { chip, core }))?;
-    }
-    Ok(vertices)
+    let vertices = (0..OUT_COUNT as u8).filter_map(|core| number_at(setup, Spot { chip, core }));
+    Ok(vertices.collect(alloc)?)
 }
 
 // The number of the vertex on a spot.
@@ -124,16 +122,6 @@ fn number_at(setup: &MeshSetup, spot: Spot) -> Option<u32>
     }
 }
 
-// One number more, where there is one.
-fn push_number(numbers: &mut Vec<u32>, number: Option<u32>) -> Result<(), Memory>
-    ensures { OnOk result (numbers.new.items ≡ numbers.old.items ++ option_to_list number) }
-{
-    if let Some(number) = number {
-        numbers.push(number)?;
-    }
-    Ok(())
-}
-
 // No two vertices are on one site, so there are few, and there are few chips.
 fn few_vertices(setup: &MeshSetup)
     ensures vertices { length setup.now.spots ≤ 98304 }
@@ -144,6 +132,7 @@ fn few_vertices(setup: &MeshSetup)
 }
 
 // The queues behind all outputs of a chip, at the end of a list.
+#[tactic(auto, using(crate::proofs::FloorLaws::behind_none, crate::proofs::FloorLaws::behind_more))]
 fn push_behind(list: &mut Vec<Option<Behind>>, setup: &MeshSetup, chip: Chip) -> Result<(), Memory>
     ensures { OnOk result (AddsBehind setup.now chip 24 list.old.items list.new.items) }
 {
@@ -165,6 +154,7 @@ fn out_at(number: u8) -> Out
 }
 
 // The queue behind an output, with who takes from it.
+#[tactic(auto, using(mesh_core::proofs::VertexTableLaws::site_inside))]
 fn behind_of(setup: &MeshSetup, chip: Chip, out: Out) -> Option<Behind>
     ensures { place_of_slot result ≡ place_behind setup.now chip out }
 {

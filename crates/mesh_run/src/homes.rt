@@ -8,7 +8,7 @@ use crate::floors::OUT_COUNT;
 use crate::footing::Footing;
 use mesh_core::MeshSetup;
 use mesh_core::laws::every_setup_has_sites;
-use spin_base::{Memory, Port};
+use spin_base::Memory;
 use std::alloc::Global;
 
 /// The numbers of the shares of a queue's sender and of its receiver.
@@ -20,7 +20,7 @@ pub(crate) struct Home {
 
 /// Where the runs of actors end, one behind the other: meant as runs of equal length, one for each worker, the last shorter, where the
 /// actors of live chips count. No clause says how many they are, nor how long.
-#[tactic(auto, using(crate::proofs::HomeLaws::rise_none, crate::proofs::HomeLaws::rise_more))]
+#[tactic(auto, using(crate::proofs::HomeLaws::rise_none, crate::proofs::HomeLaws::rise_more, crate::proofs::HomeLaws::runs_all))]
 pub(crate) fn runs_of(alloc: Global, footing: Footing, workers: u32) -> Result<Vec<usize>, Memory>
     ensures { IfOk result (λ ends. AreShareRuns (2 * grid_size footing.entry.setup.now) ends.items) }
 {
@@ -54,6 +54,7 @@ fn end_run(ends: &mut Vec<usize>, place: usize, here: usize, size: usize) -> Res
 }
 
 /// The number of the run of each actor.
+#[tactic(auto, using(crate::proofs::HomeLaws::table_none, crate::proofs::HomeLaws::run_from, crate::proofs::HomeLaws::run_more, crate::proofs::HomeLaws::run_all, crate::proofs::HomeLaws::table_all))]
 pub(crate) fn share_table(alloc: Global, ends: &[usize], count: u32) -> Result<Vec<u32>, Memory>
     requires { AreShareRuns count ends.now }
     ensures { IfOk result (λ table. IsShareTable count ends.now table.items) }
@@ -69,6 +70,7 @@ pub(crate) fn share_table(alloc: Global, ends: &[usize], count: u32) -> Result<V
 
 /// The homes of all queues: an output's router sends to the queue behind it, and a bank to its chip's injection queue; a router takes from
 /// its ports' queues, and a bank from those of its vertices.
+#[tactic(auto, using(crate::proofs::HomeLaws::homes_none, crate::proofs::HomeLaws::ports_more))]
 pub(crate) fn homes_of(alloc: Global, footing: Footing, table: &[u32]) -> Result<Vec<Home>, Memory>
     requires { length table.now ≡ 2 * grid_size footing.setup.now }
     ensures { IfOk result (λ homes. AreHomesOf footing.entry.setup.now table.now homes.items) }
@@ -107,16 +109,15 @@ fn chips_of(setup: &MeshSetup) -> usize
 fn push_ports(homes: &mut Vec<Home>, router: u32, bank: u32) -> Result<(), Memory>
     ensures { OnOk result (homes.new.items ≡ homes.old.items ++ homes_of_ports router bank) }
 {
-    for _port in 0..Port::COUNT - 1 {
-        homes.push(Home {
-            sender: router,
-            receiver: router,
-        })?;
-    }
-    homes.push(Home {
+    let own = Home {
+        sender: router,
+        receiver: router,
+    };
+    let injection = Home {
         sender: bank,
         receiver: router,
-    })?;
+    };
+    homes.extend_from_slice(&[own, own, own, own, own, own, injection])?;
     Ok(())
 }
 
@@ -155,6 +156,7 @@ pub(crate) struct Cut {
 }
 
 /// The queues between two shares, in order of their places.
+#[tactic(auto, using(crate::proofs::HomeLaws::cut_steps))]
 pub(crate) fn cuts_of(alloc: Global, homes: &[Home]) -> Result<Vec<Cut>, Memory>
     requires { length homes.now < 2 ^ 32 }
     ensures { IfOk result (λ cuts. AreCutsOf homes.now cuts.items) }

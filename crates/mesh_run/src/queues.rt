@@ -41,6 +41,7 @@ impl Places {
 }
 
 /// A link for each queue, at its place, with the queue as its first list, and with places for a round of so many turns.
+#[tactic(auto, using(crate::proofs::BringingUp::may_rise, crate::proofs::BringingUp::up_none))]
 pub(crate) fn bring_up<R: Wait>(
     rt: &R,
     alloc: Global,
@@ -72,6 +73,7 @@ fn copied(alloc: Global, list: &[McCopy]) -> Result<Seq<McCopy>, Memory>
 }
 
 /// All links rest: each keeps what it holds.
+#[tactic(auto, using(crate::proofs::Resting::none_rest))]
 pub(crate) fn rest_all<R: Wait>(rt: &R, standing: &mut Standing, cap: u32) -> Rested
     requires { (ends : List LinkEnds) × HoldsAll ends standing.old × All (WasUp cap) ends }
     ensures { (ends : List LinkEnds) → HoldsAll ends standing.old
@@ -88,6 +90,7 @@ pub(crate) fn rest_all<R: Wait>(rt: &R, standing: &mut Standing, cap: u32) -> Re
 }
 
 // The link at a place rests. How many copies it holds.
+#[tactic(auto, using(std::proofs::lemmas::Option::slice_get_within))]
 fn rest_at<R: Wait>(rt: &R, standing: &mut Standing, place: usize) -> usize
     requires { (ends : List LinkEnds) × (old : LinkEnds) × HoldsAll ends standing.old
         × (slice_get ends place ≡ Some old) × AreEnds old }
@@ -117,6 +120,7 @@ fn free_places(places: usize, held: usize, cap: u32) -> usize
 }
 
 /// Gives each link places for a round of so many turns. After a refusal some have them, and all hold what they held.
+#[tactic(auto, using(crate::proofs::Resting::StaysAs, crate::proofs::Resting::none_done))]
 pub(crate) fn widen_all<R: Wait>(
     rt: &R,
     alloc: Global,
@@ -180,6 +184,7 @@ fn widen_at<R: Wait>(
 }
 
 /// Brings all links down: at the place of each, what it holds.
+#[tactic(auto, using(crate::proofs::Holding::as_many, crate::proofs::Holding::down_none))]
 pub(crate) fn bring_down<R: Wait>(rt: &R, standing: Standing, queues: &mut Vec<Fifo<McCopy>>)
     requires ends { (ends : List LinkEnds) × HoldsAll ends standing × All AreEnds ends
         × (length ends ≤ length queues.old.items) }

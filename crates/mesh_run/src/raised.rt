@@ -143,6 +143,7 @@ impl<'l> RaisedMesh<'l> {
     }
 
     /// The mesh with its queues. It takes no memory.
+    #[tactic(auto, using(crate::proofs::Lowering::cuts_none))]
     pub fn lower<R: Wait>(self, rt: &R, alloc: Global) -> MeshParts
         requires { (m : State) × IsMesh m × IsRaisedFrom m 0 self }
         ensures { (m : State) → IsMesh m → IsRaisedFrom m 0 self.entry → result ≡ m }

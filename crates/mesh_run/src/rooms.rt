@@ -102,6 +102,7 @@ impl Share {
 }
 
 /// Makes room for a round in all shares. After a refusal some have it, and all hold what they held.
+#[tactic(auto, using(crate::proofs::Raising::copies_so_far, crate::proofs::Going::gone_none, crate::proofs::Going::gone_more))]
 pub(crate) fn make_room_in_all(
     shares: &mut Vec<Share>,
     floor: &Floor,

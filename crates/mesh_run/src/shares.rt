@@ -45,6 +45,7 @@ pub(crate) struct Ground<'a, 'l> {
 
 impl Share {
     /// The share's turns of a round. Its worker enters the gate before each turn, and once more after the last.
+    #[tactic(auto, using(crate::proofs::Acting::round_more))]
     pub(crate) fn play<R: Wait, G: Gate>(&mut self, rt: &R, ground: Ground, round: &Round<G>)
         requires { IsShareOf ground.footing.setup.now ground.around.links.now self.old }
         ensures plays { PlaysRound ground.entry.footing.setup.now ground.entry.around.patience
@@ -60,6 +61,7 @@ impl Share {
     }
 
     // One turn of each actor that is awake, or of all.
+    #[tactic(auto, using(crate::proofs::Acting::each_none))]
     fn turn_each<R: Wait>(&mut self, rt: &R, ground: Ground, number: u32, all: bool)
         requires { IsShareOf ground.footing.setup.now ground.around.links.now self.old }
         ensures plays { PlaysTurns ground.entry.footing.setup.now ground.entry.around.patience 1 self.old

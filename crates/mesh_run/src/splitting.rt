@@ -36,6 +36,7 @@ pub(crate) struct SplitPlan {
 
 impl SplitPlan {
     /// How a mesh is split, at a pace, on its layout.
+    #[tactic(auto, using(crate::proofs::PlanLaws::cuts_fit, crate::proofs::PlanLaws::cuts_inside))]
     pub fn of<R: Wait>(
         rt: &R,
         alloc: Global,
@@ -139,6 +140,7 @@ fn empty_holdings(alloc: Global, queues: usize, vertices: usize) -> Result<Holdi
 
 /// The queues that no two shares are between, and what vertices did not send, move into their shares. Who takes from another share is
 /// polled. It takes no memory.
+#[tactic(auto, using(crate::proofs::SplitLaws::holds_self, crate::proofs::SplitLaws::lanes_none, crate::proofs::SplitLaws::vertices_to_none))]
 pub(crate) fn move_in(
     alloc: Global,
     parts: &mut MeshParts,
@@ -203,6 +205,7 @@ fn poll(shares: &mut Vec<Share>, share: usize, taker: usize)
 }
 
 /// All that shares hold moves back. It takes no memory.
+#[tactic(auto, using(crate::proofs::SplitLaws::out_none, crate::proofs::SplitLaws::unsent_out_none))]
 pub(crate) fn move_out(
     alloc: Global,
     parts: &mut MeshParts,

@@ -91,6 +91,7 @@ impl Standing {
     }
 
     /// Both ends of the link at a place leave.
+    #[tactic(auto, using(crate::proofs::Slots::ends_gone))]
     pub(crate) fn take_ends(&mut self, place: usize) -> (Tx, Rx)
         requires { (ends : List LinkEnds) × (old : LinkEnds) × HoldsAll ends self.old
             × (slice_get ends place ≡ Some old) }
@@ -129,6 +130,7 @@ impl Standing {
 }
 
 // The end at a place leaves.
+#[tactic(auto, using(std::proofs::lemmas::Option::get_or_from_slice_get))]
 pub(crate) fn take_at<T>(slots: &mut Vec<Option<T>>, place: usize) -> T
     requires { (x : T) × (slice_get slots.old.items place ≡ Some (Some x)) }
     ensures stood { slice_get slots.old.items place ≡ Some (Some result) }

@@ -86,11 +86,8 @@ fn numbers_of(alloc: Global, edges: &[Edge]) -> Result<Vec<u32>, Memory>
 fn edges_of(alloc: Global, numbers: &[u32]) -> Result<Vec<Edge>, Memory>
     ensures { IfOk result (λ v. v.items ≡ map edge_numbered numbers.now) }
 {
-    let mut edges = Vec::with_capacity(alloc, numbers.len())?;
-    for number in numbers {
-        edges.push(edge_numbered(*number))?;
-    }
-    Ok(edges)
+    let edges = numbers.iter().map(|number| edge_numbered(*number));
+    Ok(edges.collect(alloc)?)
 }
 
 // The edges in the order of (x, y, link).

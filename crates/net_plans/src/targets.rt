@@ -32,7 +32,8 @@ fn sorted_targets(alloc: Global, targets: TargetVertices) -> Result<Seq<Spot>, M
 {
     let mut numbers = spot_numbers(alloc, targets)?;
     each_once(&mut numbers);
-    spots_of(alloc, &numbers)
+    let spots = spots_of(alloc, &numbers)?;
+    Ok(Seq::from_vec(spots))
 }
 
 /// The chips of a net's targets, each once, in the order of their distance from the root, then x, then y.
@@ -46,7 +47,8 @@ pub fn target_chips(alloc: Global, ends: NetEnds) -> Result<Seq<Chip>, Memory>
 {
     let mut keys = chip_keys(alloc, ends)?;
     each_once(&mut keys);
-    chips_at(alloc, &keys)
+    let chips = chips_at(alloc, &keys)?;
+    Ok(Seq::from_vec(chips))
 }
 
 // The number by which targets are put in order: to compare one number takes less than x, y and core.
@@ -86,14 +88,11 @@ fn spot_numbers(alloc: Global, targets: TargetVertices) -> Result<Vec<u32>, Memo
     Ok(numbers)
 }
 
-fn spots_of(alloc: Global, numbers: &[u32]) -> Result<Seq<Spot>, Memory>
-    ensures { IfOk result (λ spots. spots ≡ map spot_numbered numbers.now) }
+fn spots_of(alloc: Global, numbers: &[u32]) -> Result<Vec<Spot>, Memory>
+    ensures { IfOk result (λ spots. spots.items ≡ map spot_numbered numbers.now) }
 {
-    let mut spots = Vec::with_capacity(alloc, numbers.len())?;
-    for number in numbers {
-        spots.push(spot_numbered(*number))?;
-    }
-    Ok(Seq::from_vec(spots))
+    let spots = numbers.iter().map(|number| spot_numbered(*number));
+    Ok(spots.collect(alloc)?)
 }
 
 /// The chip of a net's source and the net's targets, all on the machine.
@@ -137,13 +136,9 @@ fn ends_at(keys: &[(u32, u8, u8)], chip: Chip) -> bool
     }
 }
 
-fn chips_at(alloc: Global, keys: &[(u32, u8, u8)]) -> Result<Seq<Chip>, Memory>
-    ensures { IfOk result (λ chips. chips ≡ map chip_of_key keys.now) }
+fn chips_at(alloc: Global, keys: &[(u32, u8, u8)]) -> Result<Vec<Chip>, Memory>
+    ensures { IfOk result (λ chips. chips.items ≡ map chip_of_key keys.now) }
 {
-    let mut chips = Vec::with_capacity(alloc, keys.len())?;
-    for key in keys {
-        let (_, x, y) = *key;
-        chips.push(Chip { x, y })?;
-    }
-    Ok(Seq::from_vec(chips))
+    let chips = keys.iter().map(|key| Chip { x: key.1, y: key.2 });
+    Ok(chips.collect(alloc)?)
 }

@@ -1,3 +1,4 @@
+use Rattle.std.proofs.Common.{arith}
 -- The names that the proofs of this crate cite from outside of them, passed on from one place. Declares nothing.
 pub use Rattle.machine_desc.proofs.{Far.far_inside, Far.index_below, Far.live_ends, Far.live_inside, Far.same_index, Live.chip_of-inside, Live.index_of-chip_of, Same.edge_eq-true, Same.edge_eq_self}
 pub use Rattle.machine_desc.proofs.{TreeLemmas.one_edge_into, TreeLemmas.tree_cases, Wanted.edge_wanted, Wanted.end_wanted, Wanted.leads_to_own, Wanted.spot_of_out}

@@ -91,12 +91,10 @@ module _ (m : Description) (nets : List NetPlan) (routed : AreRoutedApart m nets
       (originals_apart m c nets os are routed.apart))
 
   rows_rise : (rows : List Row) → IsPlainTable m nets c rows → AllPairs (λ r s. number r < number s) rows
-  rows_rise rows is i j d less below =
-      rises (get_or rows i d) (get_or rows j d) (is.in_order i j d less below) (rows_apart is.originals rows is.originals_are is.one_row_each i j d less below)
+  rows_rise rows is i j d less below = rises (get_or _ i d) (get_or _ j d) (is.in_order i j d less below) (rows_apart is.originals _ is.originals_are is.one_row_each i j d less below)
 
   carried : (os : List Original) (xs ys : List Row) → IsPermutation (map row_of os) xs → IsPermutation (map row_of os) ys → (r : Row) → Contains xs r → Contains ys r
-  carried os xs ys a b r mine =
-      Contains-permutation (map row_of os) ys r b (Contains-permutation xs (map row_of os) r (IsPermutation-sym (map row_of os) xs a) mine)
+  carried os xs ys a b r mine = Contains-permutation _ _ _ b (Contains-permutation _ _ _ (IsPermutation-sym _ _ a) mine)
 
   -- the nets have one plain table at the chip
   pub one_table : (xs ys : List Row) → IsPlainTable m nets c xs → IsPlainTable m nets c ys → xs ≡ ys

@@ -17,14 +17,7 @@ HaveTurning m nets lists = (c : Chip) → IsInside m c →
     (marks : List Mark) × AreOriginals m c nets (map original_of marks) × (get_or lists (index_of m c) [] ≡ filter turns marks)
 
 pub turning_none : (m : Description) (n : ℕ) (kept : List (List Mark)) → kept ≡ replicate n [] → HaveTurning m [] kept
-turning_none m n kept is c inside = (
-  [],
-  refl,
-  ap (λ ls. get_or ls (index_of m c) []) is ∙ elim (cases_lt (index_of m c) n) [
-    | inl below ↦ get_or-replicate n (index_of m c) [] [] below
-    | inr past ↦ get_or_past (replicate n []) (index_of m c) [] (subst (λ k. k ≤ index_of m c) (sym (length-replicate n [])) past)
-  ],
-)
+turning_none m n kept is c inside = grind (arith, get_or, cases_lt, get_or-replicate, get_or_past, length-replicate)
 
 pub turning_more : (m : Description) (front part : List NetPlan) (lists kept new : List (List Mark)) → AreBlocksOf m part lists → length kept ≡ m.width * m.height →
     ((i : ℕ) → i < length kept → get_or new i [] ≡ get_or kept i [] ++ filter turns (get_or lists i [])) → HaveTurning m front kept → HaveTurning m (front ++ part) new

@@ -10,8 +10,7 @@ use Rattle.net_tables.proofs.Common.{◌∙◌, ◌∷◌, ◌≡◌, ◌≢◌,
 
 ports_start : (m : Description) (root : Chip) (edges : List Edge) (p : ℕ) (ports : List (Option Port)) → IsBlank m None ports → IsInside m root → p ≡ index_of m root →
     p < length ports → TellsPorts m root (take 0 edges) (set ports p (Some Local))
-ports_start m root edges p ports clear root_in at below c inside =
-    grind (arith, cases_eq (index_of m c) p, get_or-set_same ports p (Some Local) None below, tree_cases m root, same_index, get_or, get_or-set_other, Contains-none)
+ports_start m root edges p ports clear root_in at below c inside = grind (arith, cases_eq, get_or-set_same, tree_cases, same_index, get_or, get_or-set_other, Contains-none)
 
 pub ports_first : (m : Description) (root : Chip) (edges : List Edge) (p : ℕ) (ports : List (Option Port)) → IsBlank m None ports →
     IsInside m root → p ≡ index_of m root → p < m.width * m.height →

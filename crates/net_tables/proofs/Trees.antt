@@ -5,9 +5,7 @@ use Rattle.net_tables.proofs.Common.{props, refl, subst, sym, tree_cases, with_m
 
 module _ (m : Description) (root : Chip) (edges : List Edge) (targets : List Spot) (tree : IsRoutingTree m root edges targets) where
   pub edges_inside : All (λ (e : Edge). IsInside m e.chip) edges
-  edges_inside k d below =
-      let ends = live_ends m (get_or edges k d).chip (get_or edges k d).dir (tree.edges_live k d below) in
-      live_inside m (get_or edges k d).chip ends.2
+  edges_inside k d below = grind (arith, live_ends, get_or, live_inside)
 
   pub chips_inside : IsInside m root → (c : Chip) → IsTreeChip m root edges c → IsInside m c
   chips_inside root_in c on = grind (arith, tree_cases m root edges c on, far_inside, All-contains, edges_inside)

@@ -6,8 +6,8 @@ pub use Rattle.place_fit.specs.Boards.{AreCores, AreFreeOn, AreGiven, AreOthersK
 pub use Rattle.place_fit.specs.Boards.{IsPlaceWithRoom, IsPut, IsPutAtLink, IsPutOnCore, IsWholeBoard, IsWith, IsWithout, has_spot_on, room_left}
 pub use Rattle.place_fit.specs.{Curve.IsChipOrder, Curve.IsCurveLevel, Curve.four_quarters, Curve.hilbert, Curve.moved, Curve.raised, Curve.swapped, Curve.turned, Placement.AreFirstMemories}
 pub use Rattle.place_fit.specs.Placement.{AreFirstSpots, FindsNoRoom, HasDeviceRoom, HasNoRoom, HasRoom, IsCoreFor, IsFirstChip, IsPlacement, IsSpotFor, choices, core_spot, device_spot, is_free_core}
-pub use Rattle.place_fit.specs.{Placement.memory_of, Placement.need_of, Placement.used_on, Quarters.curve_place, Quarters.in_quarter, Quarters.lowered, Quarters.moved_back, Quarters.turned_back}
-pub use Rattle.place_fit.specs.{RoomTree.IsTree, Standing.ArePlaced, Standing.IsChipTold, Standing.Stands, declared.boards.Board.Board, declared.boards.Placed.Placed}
+pub use Rattle.place_fit.specs.{Placement.memory_of, Placement.need_of, Placement.used_on, Quarters.curve_place, Quarters.lowered, Quarters.moved_back, Quarters.turned_back, RoomTree.IsTree}
+pub use Rattle.place_fit.specs.{Standing.ArePlaced, Standing.IsChipTold, Standing.Stands, declared.boards.Board.Board, declared.boards.Placed.Placed}
 pub use Rattle.spin_base.proofs.{Determined.EachFollows, Determined.determined_begins, Equality.chip_eq_same, Equality.chip_eq_true, Equality.spot_eq_same, Equality.spot_eq_true}
 pub use Rattle.spin_base.proofs.{Members.among_contains, Members.any_among, Places.All-at, Places.slice_get-append_left, Places.slice_get-push_cases, Places.slice_get-pushed, Places.slice_get_there}
 pub use Rattle.spin_base.proofs.{Spots.dir_at-dir_number, Tests.or_neither}

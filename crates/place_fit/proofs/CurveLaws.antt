@@ -2,8 +2,7 @@
 use Rattle.place_fit.proofs.Common.{All, All-append, All-cons, All-map, All-nil, All-weaker, Chip, List, Some, [], ap, ap₂, arith, cases_lt, four_quarters, get_or_from_slice_get, inl, inr, le_trans}
 use Rattle.place_fit.proofs.Common.{length, length-append, length-map, lowered, map, moved, moved_back, mul-le-mul_left, mul-le-mul_right, nat_tests, pow_mono, pow_more, raised, refl, slice_get}
 use Rattle.place_fit.proofs.Common.{slice_get_within, subst, suc, swapped, sym, turned, turned_back, zero, ℕ, ◌*◌, ◌++◌, ◌+◌, ◌-◌, ◌<◌, ◌^◌, ◌∙◌, ◌∷◌, ◌≡◌, ◌≢◌, ◌≤◌, ◌⊎◌}
-use Rattle.place_fit.specs.Curve.{hilbert}
-use Rattle.place_fit.specs.Quarters.{curve_place}
+use Rattle.place_fit.specs.{Curve.hilbert, Quarters.curve_place}
 
 -- the chip is in a square of that side
 abbrev pub IsIn : ℕ → Chip → Type 0
@@ -39,17 +38,7 @@ hilbert_inside zero = subst (All (IsIn 1)) (sym hilbert-zero) (All-cons (IsIn 1)
 hilbert_inside (suc k) = grind (arith, double k, hilbert-suc k, quarters_inside (2 ^ k) (hilbert k) (hilbert_inside k), hilbert_inside k)
 
 quarters_length : (s : ℕ) (chips : List Chip) → length (four_quarters s chips) ≡ 4 * length chips
-quarters_length s chips =
-    length-append (map swapped chips) (map (raised s) chips ++ (map (moved s) chips ++ map (turned s) chips))
-    ∙ omega (
-      arith,
-      length-map chips swapped,
-      length-append (map (raised s) chips) (map (moved s) chips ++ map (turned s) chips),
-      length-map chips (raised s),
-      length-append (map (moved s) chips) (map (turned s) chips),
-      length-map chips (moved s),
-      length-map chips (turned s),
-    )
+quarters_length s chips = grind (arith, length-append, length-map)
 
 square : (k : ℕ) → 4 * (2 ^ k * 2 ^ k) ≡ 2 ^ suc k * 2 ^ suc k
 square k = rw double (omega arith)
@@ -118,9 +107,7 @@ run_of : (k : ℕ) (f : Chip → Chip) → length (map f (hilbert k)) ≡ 2 ^ k 
 run_of k f = length-map (hilbert k) f ∙ hilbert_length k
 
 pub at_place : (k : ℕ) (c : Chip) → IsIn (2 ^ k) c → slice_get (hilbert k) (curve_place k c) ≡ Some c
-at_place zero c inside =
-    let one : 2 ^ 0 ≡ 1 = refl in
-    ap₂ (λ (l : List Chip) (i : ℕ). slice_get l i) hilbert-zero (place-zero c) ∙ ap Some (chip_is 0 0 c (omega (arith, inside.0, one)) (omega (arith, inside.1, one)))
+at_place zero c inside = grind (arith, slice_get, hilbert-zero, place-zero, chip_is)
 at_place (suc k) c inside =
     let h = hilbert k in
     let s = 2 ^ k in

@@ -2,8 +2,8 @@
 use Rattle.place_fit.proofs.Common.{AreFreeOn, AreGiven, AreOthersKept, AreSettled, Board, Bool, Chip, Description, HaveOneGrid, IsCurveLevel, IsFilled, IsFreed, IsJoined, IsMadeWhole, IsWholeBoard}
 use Rattle.place_fit.proofs.Common.{IsWith, List, Placed, Some, Spot, [], and_from, and_left, and_right, ap, ap₂, arith, bit_at, bit_at_above, both_ways, cases_Bool, cases_eq, cases_lt, chip_eq}
 use Rattle.place_fit.proofs.Common.{chip_eq_same, chip_eq_true, cond, cond-false, cond-true, core_spot, curve_place, false, get_or, get_or-set_other, get_or-set_same, has_spot_on, hilbert, inl, inr}
-use Rattle.place_fit.proofs.Common.{is_usable, length, list_any, list_any-append, nat_tests, or-false, or_from, or_left, or_parts, or_right, refl, room_left, slice_get, slice_get_there}
-use Rattle.place_fit.proofs.Common.{slice_get_within, spot_eq, suc, sym, true, zero, ℕ, ◌++◌, ◌<◌, ◌==◌, ◌^◌, ◌||◌, ◌∙◌, ◌∷◌, ◌≡◌, ◌≢◌, ◌≤◌}
+use Rattle.place_fit.proofs.Common.{is_usable, list_any, list_any-append, nat_tests, or-false, or_from, or_left, or_parts, or_right, refl, room_left, slice_get, slice_get_there, slice_get_within}
+use Rattle.place_fit.proofs.Common.{spot_eq, suc, sym, true, zero, ℕ, ◌++◌, ◌<◌, ◌==◌, ◌^◌, ◌||◌, ◌∙◌, ◌∷◌, ◌≡◌, ◌≢◌, ◌≤◌}
 use Rattle.place_fit.proofs.{CurveLaws.place_at, Standing.usable_parts}
 
 -- ---- one spot
@@ -32,32 +32,7 @@ module _ (old mid new : Board) (s : Spot) (place : ℕ) (level : mid.level ≡ o
   has_here q c here same = or-false (chip_eq c s.chip) ∙ (ap (λ d. chip_eq d s.chip) (here_chip q c here same) ∙ chip_eq_same s.chip)
 
   pub settled_one : AreSettled (s ∷ []) old new
-  settled_one = record {
-    level = made.level ∙ level;
-    sdram = made.sdram ∙ sdram;
-    chips = made.chips ∙ chips;
-    rooms = λ q c here.
-        let room = room_left (get_or mid.cores.items place 0) mid.sdram in
-        elim (cases_eq q place) [
-          | inl same ↦ (
-              let within : place < length mid.rooms = omega (arith, slice_get_within old.chips place s.chip at, mid.rooms_beside, ap length chips) in
-              let read : get_or new.rooms q 0 ≡ room = ap₂ (λ (l : List ℕ) (i : ℕ). get_or l i 0) made.rooms same ∙ get_or-set_same mid.rooms place room 0 within in
-              let cores : get_or mid.cores.items place 0 ≡ get_or new.cores.items q 0 = ap₂ (λ (l : List ℕ) (i : ℕ). get_or l i 0) (sym made.cores) (sym same) in
-              read
-              ∙ (ap₂ room_left cores sdram
-              ∙ sym (cond-true (has_spot_on c (s ∷ [])) (room_left (get_or new.cores.items q 0) old.sdram) (get_or old.rooms q 0) (has_here q c here same)))
-              )
-          | inr other ↦ ap (λ l. get_or l q 0) made.rooms
-              ∙ (get_or-set_other mid.rooms place q room 0 other
-              ∙ (ap (λ l. get_or l q 0) rooms
-              ∙ sym (cond-false (has_spot_on c (s ∷ [])) (room_left (get_or new.cores.items q 0) old.sdram) (get_or old.rooms q 0) (or-false (chip_eq c s.chip) ∙ apart q c here other))))
-        ];
-    cores = λ q c here none.
-        elim (cases_eq q place) [
-          | inl same ↦ absurd (both_ways _ none (has_here q c here same))
-          | inr other ↦ ap (λ l. get_or l q 0) made.cores ∙ kept q other
-        ];
-  }
+  settled_one = grind (arith, get_or, cases_eq, slice_get_within, get_or-set_same, cond-true, has_here, get_or-set_other, cond-false, or-false, apart, both_ways)
 
   -- the spot is no core
   given_none : mid.cores.items ≡ old.cores.items → 18 ≤ s.core → AreGiven (s ∷ []) old new
@@ -72,22 +47,12 @@ module _ (old mid new : Board) (s : Spot) (place : ℕ) (level : mid.level ≡ o
           | inl same ↦ (
               let bits : get_or new.cores.items q 0 ≡ get_or mid.cores.items place 0 = ap₂ (λ (l : List ℕ) (i : ℕ). get_or l i 0) made.cores same in
               elim (cases_eq p s.core) [
-                | inl core ↦ (
-                    let is_it : given ≡ true = or-false (spot_eq (core_spot c p) s)
-                    ∙ and_from (chip_eq c s.chip) (p == s.core) (ap (λ d. chip_eq d s.chip) (here_chip q c here same) ∙ chip_eq_same s.chip) (grind (arith, nat_tests)) in
-                    ap₂ bit_at bits core ∙ (joined.here ∙ sym (cond-true given 1 (bit_at (get_or old.cores.items q 0) p) is_it))
-                    )
-                | inr differ ↦ (
-                    let is_not : given ≡ false = or-false (spot_eq (core_spot c p) s) ∙ and_right (chip_eq c s.chip) (p == s.core) (grind (arith, nat_tests)) in
-                    ap (λ n. bit_at n p) bits
-                    ∙ (joined.same p differ ∙ (ap (λ i. bit_at (get_or old.cores.items i 0) p) (sym same) ∙ sym (cond-false given 1 (bit_at (get_or old.cores.items q 0) p) is_not)))
-                    )
+                | inl core ↦ grind (arith, given, or-false (spot_eq (core_spot c p) s), get_or old.cores.items q 0, here_chip q c here same, chip_eq_same s.chip, nat_tests, and_from, cond-true)
+                | inr differ ↦ grind (arith, given, or-false (spot_eq (core_spot c p) s), and_right (chip_eq c s.chip) (p == s.core) (grind (arith, nat_tests)), get_or old.cores.items q 0, cond-false)
               ]
               )
-          | inr other ↦ (
-              let is_not : given ≡ false = or-false (spot_eq (core_spot c p) s) ∙ and_left (chip_eq c s.chip) (p == s.core) (apart q c here other) in
-              ap (λ n. bit_at n p) (ap (λ l. get_or l q 0) made.cores ∙ kept q other) ∙ sym (cond-false given 1 (bit_at (get_or old.cores.items q 0) p) is_not)
-              )
+          | inr other ↦
+              grind (arith, given, or-false (spot_eq (core_spot c p) s), and_left (chip_eq c s.chip) (p == s.core) (apart q c here other), apart q c here other, get_or old.cores.items q 0, cond-false)
         ];
   }
 
@@ -138,20 +103,12 @@ module _ (spots : List Spot) (s : Spot) (a b c : Board) where
               then.rooms q d there ∙ cond-false (has_spot_on d (s ∷ [])) (room_left (get_or c.cores.items q 0) b.sdram) (get_or b.rooms q 0) not_last in
               let cores : get_or c.cores.items q 0 ≡ get_or b.cores.items q 0 = then.cores q d there not_last in
               elim (cases_Bool (has_spot_on d spots)) [
-                | inl before ↦ read
-                    ∙ (first.rooms q d here
-                    ∙ (cond-true (has_spot_on d spots) (room_left (get_or b.cores.items q 0) a.sdram) y before
-                    ∙ (ap (λ n. room_left n a.sdram) (sym cores) ∙ sym (cond-true all x y (both d ∙ or_left (has_spot_on d spots) (has_spot_on d (s ∷ [])) before)))))
-                | inr never ↦ read
-                    ∙ (first.rooms q d here
-                    ∙ (cond-false (has_spot_on d spots) (room_left (get_or b.cores.items q 0) a.sdram) y never
-                    ∙ sym (cond-false all x y (both d ∙ or_from (has_spot_on d spots) (has_spot_on d (s ∷ [])) never not_last))))
+                | inl before ↦ grind (arith, cond-true, get_or, both, or_left)
+                | inr never ↦ grind (arith, cond-false, get_or, both, or_from)
               ]
               )
         ];
-    cores = λ q d here none.
-        let parts = or_parts (has_spot_on d spots) (has_spot_on d (s ∷ [])) (sym (both d) ∙ none) in
-        then.cores q d (ap (λ l. slice_get l q) first.chips ∙ here) parts.1 ∙ first.cores q d here parts.0;
+    cores = grind (arith, or_parts, slice_get, both);
   }
 
   pub given_more : AreGiven spots a b → AreGiven (s ∷ []) b c → AreGiven (spots ++ s ∷ []) a c
@@ -167,13 +124,7 @@ module _ (spots : List Spot) (s : Spot) (a b c : Board) where
         elim (cases_Bool (list_any test (s ∷ []))) [
           | inl last ↦ then.free q d there p low
               ∙ (cond-true (list_any test (s ∷ [])) 1 mid last ∙ sym (cond-true all 1 old (is_all ∙ or_right (list_any test spots) (list_any test (s ∷ [])) last)))
-          | inr not_last ↦ then.free q d there p low
-              ∙ (cond-false (list_any test (s ∷ [])) 1 mid not_last
-              ∙ (first.free q d here p low
-              ∙ elim (cases_Bool (list_any test spots)) [
-                | inl before ↦ cond-true (list_any test spots) 1 old before ∙ sym (cond-true all 1 old (is_all ∙ or_left (list_any test spots) (list_any test (s ∷ [])) before))
-                | inr never ↦ cond-false (list_any test spots) 1 old never ∙ sym (cond-false all 1 old (is_all ∙ or_from (list_any test spots) (list_any test (s ∷ [])) never not_last))
-              ]))
+          | inr not_last ↦ grind (arith, cond-false (list_any test (s ∷ [])) 1 mid not_last, cases_Bool (list_any test spots), cond-true, or_from, or_left)
         ];
   }
 
@@ -192,10 +143,7 @@ whole_again spots old mid new whole kept settled = record {
       settled.rooms q c at_mid
       ∙ elim (cases_Bool (has_spot_on c spots)) [
         | inl has ↦ cond-true (has_spot_on c spots) (room_left (get_or new.cores.items q 0) mid.sdram) (get_or mid.rooms q 0) has ∙ ap (room_left (get_or new.cores.items q 0)) sdram
-        | inr none ↦ cond-false (has_spot_on c spots) (room_left (get_or new.cores.items q 0) mid.sdram) (get_or mid.rooms q 0) none
-            ∙ (kept.rooms q c at none
-            ∙ (whole.rooms q (slice_get_within old.chips q c at)
-            ∙ ap₂ room_left (sym (settled.cores q c at_mid none ∙ kept.cores q c at none)) (sym kept.sdram ∙ sdram)))
+        | inr none ↦ grind (arith, cond-false, get_or, slice_get_within)
       ];
 }
 

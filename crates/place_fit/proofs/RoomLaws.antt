@@ -21,11 +21,7 @@ module _ (leaves : ℕ) (tree : List ℕ) (is_tree : IsTree leaves tree) where
   below_root need root (suc fuel) q few low high =
       elim (cases_lt q 2) [
         | inl first ↦ (let one : q ≡ 1 = omega arith in let e = ap (λ i. get_or tree i 0) one in omega (arith, e, root))
-        | inr later ↦ (
-            let up = parent q later high in
-            let above = below_root need root fuel (q / 2) (omega arith) (omega arith) (omega arith) in
-            omega (arith, up, above)
-            )
+        | inr later ↦ grind (arith, parent q later high, below_root need root fuel (q / 2) (omega arith) (omega arith) (omega arith))
       ]
 
   pub none_above : (need : ℕ) → 1 ≤ leaves → get_or tree 1 0 ≤ need → All (λ room. room ≤ need) (drop leaves tree)

@@ -6,8 +6,8 @@ use Rattle.place_fit.proofs.Common.{None, Option, Placed, Some, Spot, Stands, Ve
 use Rattle.place_fit.proofs.Common.{cond-false, cond-true, core_spot, curve_place, device_spot, dir_at, dir_at-dir_number, dir_number, filter, get_or, get_or-take, get_or_from_slice_get, hilbert, inl}
 use Rattle.place_fit.proofs.Common.{inr, is_device_place, is_live_chip, is_live_link, is_usable, le-leb, leb, length, length-take, length_push, list_any, list_any_at, lt-ltb, ltb, memory_of, need_of}
 use Rattle.place_fit.proofs.Common.{not, or_right, refl, same_dir, same_edge, slice_get, slice_get-append_left, slice_get-get_or, slice_get-push_cases, slice_get-pushed, slice_get_there}
-use Rattle.place_fit.proofs.Common.{slice_get_within, spot_eq, spot_eq_same, subst, suc, sym, take, take-append-le, take_at, take_more, true, usable_site, used_on, zero, ℕ, ◌&&◌, ◌++◌, ◌+◌, ◌-◌, ◌<◌}
-use Rattle.place_fit.proofs.Common.{◌==◌, ◌^◌, ◌∙◌, ◌∷◌, ◌≡◌, ◌≢◌, ◌≤◌}
+use Rattle.place_fit.proofs.Common.{slice_get_within, spot_eq, spot_eq_same, subst, suc, sym, take, take-append-le, take_at, take_more, true, usable_site, used_on, zero, ℕ, ◌++◌, ◌+◌, ◌-◌, ◌<◌, ◌==◌}
+use Rattle.place_fit.proofs.Common.{◌^◌, ◌∙◌, ◌∷◌, ◌≡◌, ◌≢◌, ◌≤◌}
 use Rattle.place_fit.proofs.{CurveLaws.at_place, Giving.high_bit, Giving.same_curve, UsableSpots.any_usable, Standing.live_in, Standing.free_parts, Standing.free_at, Standing.bit_of_free}
 use Rattle.place_fit.proofs.Standing.{has_room, cores_with_room, room_for, usable_parts, is_taken, need_of_core, need_of_device, stands_first, stands_device}
 use Rattle.place_fit.proofs.Standing.{stands_more as one_stands_more}
@@ -179,10 +179,7 @@ module _ (vertices : List Vertex) (i : ℕ) (v : Vertex) (is : slice_get vertice
     one_each = length_push memory n ∙ (ap (λ k. k + 1) first.one_each ∙ sym (length_push spots s));
     each = λ j w t is_w is_t.
         elim (slice_get-push_cases spots s t j is_t) [
-          | inl before ↦ (
-              slice_get-append_left memory (n ∷ []) j (memory_of (take j vertices) (take j spots) w t) (first.each j w t is_w before.1)
-              ∙ ap (λ e. Some (memory_of (take j vertices) e w t)) (sym (take-append-le j spots (s ∷ []) (omega (arith, before.0))))
-              )
+          | inl before ↦ grind (arith, slice_get-append_left, take-append-le)
           | inr last ↦ (
               let at : j ≡ i = last.0 ∙ here in
               let same : Some v ≡ Some w = sym is ∙ (ap (slice_get vertices) (sym at) ∙ is_w) in
@@ -214,8 +211,7 @@ module _ (m : Description) (vertices : List Vertex) (i : ℕ) (v : Vertex) (is :
       let all : take (length (spots ++ r.spot ∷ [])) vertices ≡ take i vertices ++ v ∷ [] = ap (λ n. take n vertices) long ∙ taken in
       record {
         stands = subst (λ vs. Stands m vs (spots ++ r.spot ∷ []) new) (sym all) stood.stands_more;
-        first = subst (λ k. AreFirstSpots m (filter (is_live_chip m) (hilbert k)) vertices (spots ++ r.spot ∷ [])) (sym stood.level)
-            (spots_more vertices i v is spots here r.spot m (filter (is_live_chip m) (hilbert b.level)) placed.first stood.spot);
+        first = grind (arith, spots_more, here);
         memories = memories_more vertices i v is spots here r.spot memory r.memory placed.memories stood.memory;
       }
 
@@ -351,8 +347,7 @@ module _ (m : Description) (vertices : List Vertex) (spots : List Spot) (memory 
               ∙ elim (cases_Bool any) [
                 | inl has ↦ cond-true any 1 old has
                     ∙ sym (cond-true (is_usable m s) 1 0 (any_usable m s spots (cores_usable m (filter (is_live_chip m) (hilbert b.level)) vertices spots placed.first cores) has))
-                | inr none ↦ cond-false any 1 old none
-                    ∙ (told.free p low ∙ ap (λ (t : Bool). cond t 1 0) (ap (λ (t : Bool). is_usable m s && not t) none ∙ and-true (is_usable m s)))
+                | inr none ↦ grind (arith, cond-false any 1 old none, and-true (is_usable m s))
               ]
           | inr high ↦ high_bit m c (get_or new.cores.items q 0) p (new.few q) high
         ];

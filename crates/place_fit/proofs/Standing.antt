@@ -4,7 +4,7 @@ use Rattle.place_fit.proofs.Common.{Stands, Vertex, [], and-true, and_from, and_
 use Rattle.place_fit.proofs.Common.{chip_eq, chip_eq_same, chip_eq_true, cond, cond-false, cond-true, core_spot, curve_place, eqb, false, get_or, get_or-set_other, get_or-set_same, hilbert, inl, inr}
 use Rattle.place_fit.proofs.Common.{inside_parts, is_free_core, is_live_chip, is_none, is_usable, length, length_push, list_any, list_any-append, live_inside, nat_tests, need_of, not, not-true}
 use Rattle.place_fit.proofs.Common.{or_left, or_neither, or_right, refl, room_left, same_spot, set, slice_get, slice_get_within, spot_eq, subst, sym, true, used_on, w32, ℕ, ◌&&◌, ◌++◌, ◌+◌, ◌-◌, ◌<◌}
-use Rattle.place_fit.proofs.Common.{◌==◌, ◌^◌, ◌||◌, ◌∙◌, ◌∷◌, ◌≡◌, ◌≢◌, ◌≤◌}
+use Rattle.place_fit.proofs.Common.{◌^◌, ◌||◌, ◌∙◌, ◌∷◌, ◌≡◌, ◌≢◌, ◌≤◌}
 use Rattle.place_fit.proofs.CurveLaws.{IsIn, place_at}
 
 pub live_in : (m : Description) (c : Chip) (side : ℕ) → is_live_chip m c ≡ true → m.width ≤ side → m.height ≤ side → IsIn side c
@@ -39,9 +39,7 @@ module _ (m : Description) (vs : List Vertex) (ss : List Spot) (c : Chip) (cores
   free_at p low one = bit_yes (is_free_core m ss (core_spot c p)) (sym (told.free p low) ∙ one)
 
   pub bit_of_free : (p : ℕ) → is_free_core m ss (core_spot c p) ≡ true → bit_at cores p ≡ 1
-  bit_of_free p free =
-      let small = (usable_parts m (core_spot c p) (free_parts m ss (core_spot c p) free).0).1 in
-      told.free p (omega (arith, small)) ∙ cond-true (is_free_core m ss (core_spot c p)) 1 0 free
+  bit_of_free p free = grind (arith, usable_parts, free_parts, cond-true)
 
   pub cores_with_room : (need : ℕ) → need < room → 0 < cores
   cores_with_room need more = grind (arith, cases_lt 0 cores)
@@ -118,25 +116,7 @@ module _ (m : Description) (vs : List Vertex) (ss : List Spot) (same : length vs
   told_here : (core others : ℕ) → need_of v ≡ v.sdram → v.sdram < room → 0 < cores → IsParted cores core others
       → IsChipTold m (vs ++ v ∷ []) (ss ++ core_spot c core ∷ []) c others (room_left others (room - 1 - v.sdram))
   told_here core others plain enough some parted =
-      let s = core_spot c core in
-      let used : used_on c (vs ++ v ∷ []) (ss ++ s ∷ []) ≡ used_on c vs ss + v.sdram =
-      used_push c vs ss v s same ∙ ap (λ b. used_on c vs ss + b) (cond-true (chip_eq c c) (need_of v) 0 (chip_eq_same c) ∙ plain) in
-      let free : (p : ℕ) → p < 32 → bit_at others p ≡ cond (is_free_core m (ss ++ s ∷ []) (core_spot c p)) 1 0 = λ p low.
-      elim (cases_eq p core) [
-        | inl here ↦ (
-            let is_here : spot_eq (core_spot c p) s ≡ true = and_from (chip_eq c c) (p == core) (chip_eq_same c) (grind (arith, nat_tests)) in
-            let taken : is_taken (ss ++ s ∷ []) (core_spot c p) ≡ true = taken_push ss s (core_spot c p) ∙ or_last (is_taken ss (core_spot c p)) (spot_eq (core_spot c p) s) is_here in
-            ap (λ n. bit_at others n) here
-            ∙ (parted.gone ∙ sym (ap (λ b. cond b 1 0) (and_right (is_usable m (core_spot c p)) (not (is_taken (ss ++ s ∷ []) (core_spot c p))) (ap not taken))))
-            )
-        | inr there ↦ parted.same p low there
-            ∙ still_free s p (untaken_push s p (and_right (chip_eq c c) (p == core) (grind (arith, nat_tests)))) low
-      ] in
-      record {
-        free = free;
-        full = λ none. room_none others (room - 1 - v.sdram) none;
-        left = λ more. let l = told.left some in let r = room_some others (room - 1 - v.sdram) more in omega (arith, l, used, r, enough);
-      }
+      grind (arith, used_push, cond-true, chip_eq_same, cases_eq, and_from, nat_tests, taken_push, or_last, and_right, still_free, untaken_push, room_none, room_some)
 
 module _ (m : Description) (vs : List Vertex) (ss : List Spot) (old new : Board) (stands : Stands m vs ss old) (v : Vertex) (place : ℕ) (r : Placed)
     (plain : need_of v ≡ v.sdram) (within : place < length old.chips) (enough : v.sdram < get_or old.rooms place 0) (filled : IsFilled place v.sdram old new r) where

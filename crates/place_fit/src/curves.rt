@@ -1,5 +1,5 @@
 // The curve through the chips of a square.
-ghost use Rattle.std.specs.Prelude.{◌≡◌, ◌+◌, ◌-◌, ◌*◌, ◌^◌, ◌<◌, ◌≤◌, ◌++◌, map, All, IfOk, OnOk};
+ghost use Rattle.std.specs.Prelude.{◌≡◌, ◌+◌, ◌-◌, ◌*◌, ◌^◌, ◌<◌, ◌≤◌, All, IfOk};
 ghost use Rattle.place_fit.specs.Curve.{hilbert, four_quarters};
 ghost use Rattle.place_fit.specs.Quarters.{in_quarter, curve_place};
 
@@ -38,12 +38,13 @@ struct Square<'a> {
 fn next_level(alloc: Global, square: Square) -> Result<Vec<Chip>, Memory>
     ensures { IfOk result (λ v. v.items ≡ four_quarters square.entry.side square.entry.chips.now) }
 {
-    let mut all = Vec::new(alloc);
-    add_quarter(&mut all, Quarter::LowerLeft, square)?;
-    add_quarter(&mut all, Quarter::UpperLeft, square)?;
-    add_quarter(&mut all, Quarter::UpperRight, square)?;
-    add_quarter(&mut all, Quarter::LowerRight, square)?;
-    Ok(all)
+    let chips = square.chips;
+    let lower_left = chips.iter().map(|c| Quarter::LowerLeft.chip(square, *c));
+    let upper_left = chips.iter().map(|c| Quarter::UpperLeft.chip(square, *c));
+    let upper_right = chips.iter().map(|c| Quarter::UpperRight.chip(square, *c));
+    let lower_right = chips.iter().map(|c| Quarter::LowerRight.chip(square, *c));
+    let right = upper_right.chain(lower_right);
+    Ok(lower_left.chain(upper_left.chain(right)).collect(alloc)?)
 }
 
 // A quarter of a square, in the order in which the curve goes through them.
@@ -78,17 +79,6 @@ impl Quarter {
             },
         }
     }
-}
-
-// Puts the curve through a quarter behind what there is.
-fn add_quarter(all: &mut Vec<Chip>, quarter: Quarter, square: Square) -> Result<(), Memory>
-    ensures { OnOk result (all.new.items ≡ all.old.items
-        ++ map (in_quarter quarter square.entry.side) square.entry.chips.now) }
-{
-    for chip in square.chips {
-        all.push(quarter.chip(square, *chip))?;
-    }
-    Ok(())
 }
 
 // A chip of the square of a level.

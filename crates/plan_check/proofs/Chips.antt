@@ -65,13 +65,7 @@ module _ (m : Description) (v : Image) (net : NetPlan) (routed : IsRouted m net)
       (rows_are : rows ≡ rows_of_index v.height v.chips i) (port_is : port ≡ get_or ports i port) (wanted_is : wanted ≡ get_or routes i wanted) where
     at_chip : (o : Option Flaw) (c : Chip) → index_of m c ≡ i → IsAmissAt net.block rows port wanted o →
         IsAmissAt net.block (rows_for m v c) (get_or ports (index_of m c) None) (get_or routes (index_of m c) nothing) o
-    at_chip o c at amiss =
-        let first : rows ≡ rows_for m v c = rows_are ∙ ap (rows_of_index v.height v.chips) (sym at) in
-        let second : port ≡ get_or ports (index_of m c) None = port_is ∙ (get_or_default ports i port None in_ports ∙ ap (λ k. get_or ports k None) (sym at)) in
-        let third : wanted ≡ get_or routes (index_of m c) nothing = wanted_is ∙ (get_or_default routes i wanted nothing in_routes ∙ ap (λ k. get_or routes k nothing) (sym at)) in
-        subst (λ r. IsAmissAt net.block (rows_for m v c) (get_or ports (index_of m c) None) r o) third
-        (subst (λ p. IsAmissAt net.block (rows_for m v c) p wanted o) second
-        (subst (λ l. IsAmissAt net.block l port wanted o) first amiss))
+    at_chip o c at amiss = grind (arith, get_or_default ports i port None in_ports, get_or_default routes i wanted nothing in_routes, get_or ports (index_of m c) None)
 
     pub flaw_found : (c : Chip) (flaw : Flaw) → IsInside m c → index_of m c ≡ i → IsAmissAt net.block rows port wanted (Some flaw) → IsFineBelow m v net i →
         HasChip m net c × IsFlaw m v net c flaw × IsFineBelow m v net (index_of m c)
@@ -89,9 +83,7 @@ module _ (m : Description) (v : Image) (net : NetPlan) (routed : IsRouted m net)
     ]
 
   pub fine_to_the_end : (i : ℕ) → m.width * m.height ≤ i → IsFineBelow m v net i → IsFineAll m v net
-  fine_to_the_end i past before c on =
-      let below : index_of m c < m.width * m.height = index_below m c (on_grid c on) in
-      before c on (omega (arith, below, past))
+  fine_to_the_end i past before c on = grind (arith, index_below m c (on_grid c on), on_grid c on)
 
 -- ---- one net after the other
 
@@ -104,14 +96,7 @@ module _ (m : Description) (v : Image) (nets : List NetPlan) (i : ℕ) (net : Ne
   here = slice_get-get_or nets i net below ∙ ap Some (sym read)
 
   pub nets_more : (o : Option (Chip × Flaw)) → o ≡ None → IsFirstFlaw m v net o → AreFine m v nets i → AreFine m v nets (i + 1)
-  nets_more o none flaws before j other less at = elim (cases_lt j i) [
-    | inl earlier ↦ before j other earlier at
-    | inr later ↦
-        let same : j ≡ i = omega (arith, less, later) in
-        let found : Some other ≡ Some net = sym at ∙ (ap (slice_get nets) same ∙ here) in
-        let one : other ≡ net = cc in
-        subst (IsFineAll m v) (sym one) (subst (IsFirstFlaw m v net) none flaws)
-  ]
+  nets_more o none flaws before j other less at = grind (arith, cases_lt j i, here)
 
   pub verdict_found : (o : Option (Chip × Flaw)) (c : Chip) (flaw : Flaw) (verdict : Verdict) → o ≡ Some (c, flaw) → IsFirstFlaw m v net o → AreFine m v nets i →
       verdict ≡ verdict_on i c net.block.key flaw → IsVerdict m nets v verdict

@@ -5,21 +5,14 @@ use Rattle.plan_check.proofs.Common.{length, map, refl, rows_at, slice_get, stay
 
 -- a row's entry meets a block where the blocks meet
 entry_meets : (r : Row) (b : Block) → Meets b (entry_of r) → Intersects r.block b
-entry_meets r b met = record {
-  key = met.key;
-  small = met.of_block.fits;
-  first = eqb-true (bit_and met.key r.block.mask) r.block.key met.matched;
-  second = met.of_block.matches;
-}
+entry_meets r b met = grind (arith, eqb-true (bit_and met.key r.block.mask) r.block.key met.matched)
 
 -- a block that lies in a row's block lies inside its entry, and meets it
 entry_holds : (r : Row) (b : Block) → LiesIn b r.block → LiesInside b (entry_of r)
 entry_holds r b inside key of = eq-eqb (bit_and key r.block.mask) r.block.key (inside key of.fits of.matches)
 
 held_meets : (r : Row) (b : Block) → LiesIn b r.block → Meets b (entry_of r)
-held_meets r b inside =
-    let of : IsKeyOf b b.key = record { fits = key_small b; matches = b.within } in
-    record { key = b.key; of_block = of; matched = entry_holds r b inside b.key of }
+held_meets r b inside = grind (arith, key_small b, entry_holds r b inside b.key (record { fits = key_small b; matches = b.within }))
 
 -- behind a row that does not meet the block, the same
 gets_later : (b : Block) (e : Entry) (rows : List Entry) (port : Port) (r : Route) → (Meets b e → ⊥) → GetsRoute b rows port r → GetsRoute b (e ∷ rows) port r

@@ -6,6 +6,5 @@ mod Lookups
 mod MadeRight
 mod Marking
 mod Meeting
-mod Searching
 mod TablePlaces
 mod TreeLaws

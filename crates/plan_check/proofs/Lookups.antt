@@ -21,10 +21,7 @@ none_found b (e ∷ rows) key port none of =
 first_found : (b : Block) (rows : List Entry) (place : ℕ) (e : Entry) (key : ℕ) (port : Port) → IsFirstToMeet b rows place e → LiesInside b e → IsKeyOf b key →
     lookup rows key port ≡ e.route
 first_found b [] place e key port is inside of = absurd (omega (arith, slice_get_within [] place e is.there))
-first_found b (x ∷ rows) zero e key port is inside of =
-    let same : Some x ≡ Some e = is.there in
-    let one : x ≡ e = cc in
-    lookup_hit x rows key port (subst (λ (y : Entry). matches y key ≡ true) (sym one) (inside key of)) ∙ ap (λ (y : Entry). y.route) one
+first_found b (x ∷ rows) zero e key port is inside of = grind (arith, lookup_hit)
 first_found b (x ∷ rows) (suc place) e key port is inside of =
     lookup_miss x rows key port (misses b x key (is.first 0 x (omega arith) refl) of)
     ∙ first_found b rows place e key port (record { there = is.there; meets = is.meets; first = λ k y less. is.first (suc k) y (omega (arith, less)) }) inside of
@@ -54,10 +51,7 @@ lookup_loaded (e ∷ rows) n key port = by_test (matches e key) (lookup_loaded r
 
 module _ (m : Description) (v : Image) (memories : List (List Entry)) (width : v.width ≡ m.width) (height : v.height ≡ m.height) (is : IsLoaded v memories) where
   table_of : (c : Chip) → IsInside m c → table_at m memories c ≡ loaded (rows_for m v c)
-  table_of c inside =
-      let size : m.width * m.height ≡ v.width * v.height = ap (λ w. w * m.height) (sym width) ∙ ap (λ h. v.width * h) (sym height) in
-      let below : index_of m c < v.width * v.height = subst (λ n. index_of m c < n) size (index_below m c inside) in
-      get_or_from_slice_get memories (index_of m c) (loaded (rows_for m v c)) [] (is.each (index_of m c) below)
+  table_of c inside = grind (arith, index_below m c inside, get_or_from_slice_get memories (index_of m c) (loaded (rows_for m v c)))
 
   looked_up : (c : Chip) (key : ℕ) (port : Port) → IsInside m c → lookup (table_at m memories c) key port ≡ lookup (rows_for m v c) key port
   looked_up c key port inside =
@@ -66,8 +60,7 @@ module _ (m : Description) (v : Image) (memories : List (List Entry)) (width : v
   -- where the keys of a net get one route at a chip, lookup in its memory gives each of them that
   routed_as : (net : NetPlan) (c : Chip) (Is : Route → Type 0) (gets : GetsRouteThat m v net c Is) (key : ℕ) → IsInside m c → IsKeyOf net.block key →
       lookup (table_at m memories c) key gets.port ≡ gets.route
-  routed_as net c Is gets key inside of =
-      looked_up c key gets.port inside ∙ route_found net.block (rows_for m v c) gets.port gets.route key gets.gets of
+  routed_as net c Is gets key inside of = grind (arith, looked_up c key gets.port inside, route_found net.block (rows_for m v c) gets.port gets.route key gets.gets of)
 
   pub right_loaded : (nets : List NetPlan) → All (IsRouted m) nets → All (IsFineAll m v) nets → AreRight m memories nets
   right_loaded nets routed fine k d below c port key o comes of valid =

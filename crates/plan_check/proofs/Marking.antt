@@ -1,153 +1,105 @@
--- Marks of chips, one after the other, and what a tree's edges have to be.
-use Rattle.plan_check.proofs.Common.{AreMarks, Bool, Chip, Description, Edge, EntersAnew, EntersNone, EntersOnce, IsInside, IsLiveLink, IsTrue, List, Some, answers_no, ap, arith, cases_eq, cases_lt}
-use Rattle.plan_check.proofs.Common.{end_of, false, false≢true, far_inside, get_or, get_or-replicate, get_or-set_other, get_or-set_same, get_or_default, index_below, index_of, inl, inr, length}
-use Rattle.plan_check.proofs.Common.{length-replicate, length-set, live_ends, live_inside, mark_at, refl, replicate, same_index, set, subst, sym, true, ℕ, ◌*◌, ◌+◌, ◌<◌, ◌↔◌, ◌∙◌, ◌≡◌, ◌≢◌, ◌≤◌, ◌⊎◌}
+-- Marks of the chips into which edges lead, one after the other, and what a tree's edges have to be.
+use Rattle.plan_check.proofs.Common.{All, All-cons, All-head, All-nil, All-tail, AllPairs, AllPairs-cons, AllPairs-head, AllPairs-nil, AllPairs-tail, Bool, Chip, Description, Edge, EntersAnew}
+use Rattle.plan_check.proofs.Common.{EntersNone, EntersOnce, IsInside, IsLiveLink, IsTrue, List, Some, answers_no, ap, arith, drop, drop-cons, drop_all, end_of, false, false≢true, far_inside, get_or}
+use Rattle.plan_check.proofs.Common.{get_or-replicate, get_or-set_other, get_or-set_same, index_below, index_of, inl, inr, length, length-replicate, live_ends, live_inside, mark_at, refl, replicate}
+use Rattle.plan_check.proofs.Common.{same_index, set, subst, suc, sym, true, ℕ, ◌*◌, ◌+◌, ◌<◌, ◌↔◌, ◌∙◌, ◌∷◌, ◌≡◌, ◌≢◌, ◌≤◌}
 
--- ---- marks
+-- the edges are live, and lead into chips that have no mark, no two of them into one
+pub record EnterAnew (m : Description) (marks : List Bool) (edges : List Edge) : Type 0 where
+  pub live : All (λ e. IsLiveLink m e.chip e.dir) edges
+  pub clear : All (λ e. (c : Chip) → end_of m e ≡ Some c → mark_at m marks c ≡ false) edges
+  pub apart : AllPairs (λ e f. end_of m e ≢ end_of m f) edges
 
--- no chip has a mark
-pub no_marks : (m : Description) (Is : Chip → Type 0) (marks : List Bool) (n : ℕ) → marks ≡ replicate n false → n ≡ m.width * m.height →
-    ((c : Chip) → Is c → ⊥) → AreMarks m Is marks
-no_marks m Is marks n is many none = record {
-  long = ap length is ∙ (length-replicate n false ∙ many);
-  told = λ c inside.
-      let below : index_of m c < n = subst (λ k. index_of m c < k) (sym many) (index_below m c inside) in
-      let clear : mark_at m marks c ≡ false = ap (λ l. get_or l (index_of m c) false) is ∙ get_or-replicate n (index_of m c) false false below in
-      (λ hit. absurd (false≢true (sym clear ∙ hit)), λ holds. absurd (none c holds));
-}
+far_in : (m : Description) (e : Edge) (c : Chip) → IsLiveLink m e.chip e.dir → end_of m e ≡ Some c → IsInside m c
+far_in m e c live leads = far_inside m e.chip c e.dir (live_inside m e.chip (live_ends m e.chip e.dir live).2) leads
 
--- one mark more
-pub one_mark : (m : Description) (Is More : Chip → Type 0) (marks : List Bool) (k : Chip) (p : ℕ) → AreMarks m Is marks → IsInside m k → p ≡ index_of m k →
-    More k → ((c : Chip) → Is c → More c) → ((c : Chip) → More c → (c ≡ k) ⊎ Is c) → AreMarks m More (set marks p true)
-one_mark m Is More marks k p are k_in at mine keeps cases = record {
-  long = length-set marks p true ∙ are.long;
-  told = λ c inside. elim (cases_eq (index_of m c) p) [
-    | inl here ↦
-        let same : c ≡ k = same_index m c k inside k_in (here ∙ at) in
-        let below : p < length marks = subst (λ n. n < length marks) (sym at) (subst (λ n. index_of m k < n) (sym are.long) (index_below m k k_in)) in
-        let hit : mark_at m (set marks p true) c ≡ true = ap (λ j. get_or (set marks p true) j false) here ∙ get_or-set_same marks p true false below in
-        (λ got. subst More (sym same) mine, λ holds. hit)
-    | inr other ↦
-        let kept : mark_at m (set marks p true) c ≡ mark_at m marks c = get_or-set_other marks p (index_of m c) true false other in (
-          λ got. keeps c ((are.told c inside).0 (sym kept ∙ got)),
-          λ holds. kept ∙ elim (cases c holds) [
-            | inl same ↦ absurd (other (ap (index_of m) same ∙ sym at))
-            | inr before ↦ (are.told c inside).1 before
-          ],
-        )
-  ];
-}
+-- one chip more has a mark
+module _ (m : Description) (old : List Bool) (far : Chip) (long : length old ≡ m.width * m.height) (inside : IsInside m far) where
+  abbrev now : List Bool
+  now = set old (index_of m far) true
 
--- ---- edges that enter each chip once
+  hit : mark_at m now far ≡ true
+  hit = get_or-set_same old (index_of m far) true false (subst (λ n. index_of m far < n) (sym long) (index_below m far inside))
 
--- the root, and the chips into which the edges before place i lead
-abbrev pub IsEntered : Description → Chip → List Edge → ℕ → Chip → Type 0
-IsEntered m root edges i c = (c ≡ root) ⊎ ((k : ℕ) × (k < i) × (k < length edges) × ((d : Edge) → end_of m (get_or edges k d) ≡ Some c))
+  was_clear : (c : Chip) → mark_at m now c ≡ false → (index_of m c ≢ index_of m far) × (mark_at m old c ≡ false)
+  was_clear c clear = grind (arith, hit, false≢true, get_or, get_or-set_other)
 
--- what was found of the edges before place i
-pub record EnteredSoFar (m : Description) (root : Chip) (edges : List Edge) (i : ℕ) (marks : List Bool) : Type 0 where
-  pub live : (k : ℕ) (d : Edge) → k < i → k < length edges → IsLiveLink m (get_or edges k d).chip (get_or edges k d).dir
-  pub none_into_root : (k : ℕ) (d : Edge) → k < i → k < length edges → end_of m (get_or edges k d) ≢ Some root
-  pub one_into_each : (j k : ℕ) (d : Edge) → j < k → k < i → k < length edges → end_of m (get_or edges j d) ≢ end_of m (get_or edges k d)
-  pub marks_are : AreMarks m (IsEntered m root edges i) marks
+  still_clear : (c : Chip) → IsInside m c → (c ≡ far → ⊥) → mark_at m old c ≡ false → mark_at m now c ≡ false
+  still_clear c c_in differs clear = get_or-set_other old (index_of m far) (index_of m c) true false (λ same. differs (same_index m c far c_in inside same)) ∙ clear
 
-pub entered_none : (m : Description) (root : Chip) (edges : List Edge) (marks : List Bool) (n p : ℕ) → marks ≡ replicate n false → n ≡ m.width * m.height →
-    IsInside m root → p ≡ index_of m root → EnteredSoFar m root edges 0 (set marks p true)
-entered_none m root edges marks n p is many root_in at = record {
-  live = λ k d less below. absurd (omega (arith, less));
-  none_into_root = λ k d less below. absurd (omega (arith, less));
-  one_into_each = λ j k d before less below. absurd (omega (arith, less));
-  marks_are = one_mark m (λ c. ⊥) (IsEntered m root edges 0) marks root p (no_marks m (λ c. ⊥) marks n is many (λ c none. none)) root_in at (inl refl) (λ c none. absurd none)
-      (λ c on. elim on [
-        | inl same ↦ inl same
-        | inr into ↦ absurd (omega (arith, into.1))
-      ]);
-}
+-- the first of the edges enters anew, and the others after it
+enter_more : (m : Description) (e : Edge) (es : List Edge) (old new : List Bool) → length old ≡ m.width * m.height → EntersAnew m e old new → EnterAnew m old (e ∷ es) ↔ EnterAnew m new es
+enter_more m e es old new long anew = subst (λ marks. EnterAnew m old (e ∷ es) ↔ EnterAnew m marks es) (sym anew.marked) (there, back)
+  where
+    inside : IsInside m anew.far
+    inside = far_in m e anew.far anew.live anew.leads
 
-module _ (m : Description) (root : Chip) (edges : List Edge) (i : ℕ) (e : Edge) (marks new : List Bool) (below : i < length edges) (read : e ≡ get_or edges i e) (so_far : EnteredSoFar m root edges i marks) where
-  mine : (d : Edge) → get_or edges i d ≡ e
-  mine d = get_or_default edges i d e below ∙ sym read
+    there : EnterAnew m old (e ∷ es) → EnterAnew m (now m old anew.far long inside) es
+    there enter =
+        let live = All-tail (λ (x : Edge). IsLiveLink m x.chip x.dir) e es enter.live in
+        let clear = All-tail (λ (x : Edge). (c : Chip) → end_of m x ≡ Some c → mark_at m old c ≡ false) e es enter.clear in
+        let first = AllPairs-head (λ (x y : Edge). end_of m x ≢ end_of m y) e es enter.apart in
+        record {
+          live = live;
+          clear = λ k d below c leads.
+              still_clear m old anew.far long inside c (far_in m (get_or es k d) c (live k d below) leads) (λ same. first k d below (anew.leads ∙ (ap Some (sym same) ∙ sym leads))) (clear k d below c leads);
+          apart = AllPairs-tail (λ (x y : Edge). end_of m x ≢ end_of m y) e es enter.apart;
+        }
 
-  far_in : (far : Chip) → IsLiveLink m e.chip e.dir → end_of m e ≡ Some far → IsInside m far
-  far_in far live leads =
-      let ends = live_ends m e.chip e.dir live in
-      far_inside m e.chip far e.dir (live_inside m e.chip ends.2) leads
+    same_far : (c : Chip) → end_of m e ≡ Some c → anew.far ≡ c
+    same_far c leads = let both : Some anew.far ≡ Some c = sym anew.leads ∙ leads in cc
 
-  pub entered_more : EntersAnew m e marks new → EnteredSoFar m root edges (i + 1) new
-  entered_more anew = record {
-    live = λ k d less within. elim (cases_lt k i) [
-      | inl earlier ↦ so_far.live k d earlier within
-      | inr later ↦
-          let same : i ≡ k = omega (arith, less, later) in
-          subst (λ n. IsLiveLink m (get_or edges n d).chip (get_or edges n d).dir) same (subst (λ (f : Edge). IsLiveLink m f.chip f.dir) (sym (mine d)) anew.live)
-    ];
-    none_into_root = λ k d less within into. elim (cases_lt k i) [
-      | inl earlier ↦ so_far.none_into_root k d earlier within into
-      | inr later ↦
-          let same : k ≡ i = omega (arith, less, later) in
-          let leads : Some anew.far ≡ Some root = sym anew.leads ∙ (sym (ap (end_of m) (mine d)) ∙ (ap (λ n. end_of m (get_or edges n d)) (sym same) ∙ into)) in
-          let is_root : anew.far ≡ root = cc in
-          clash anew.far anew (inl is_root)
-    ];
-    one_into_each = λ j k d before less within both. elim (cases_lt k i) [
-      | inl earlier ↦ so_far.one_into_each j k d before earlier within both
-      | inr later ↦
-          let same : k ≡ i = omega (arith, less, later) in
-          let j_in : j < length edges = omega (arith, before, within) in
-          let into : end_of m (get_or edges j d) ≡ Some anew.far = both ∙ (ap (λ n. end_of m (get_or edges n d)) same ∙ (ap (end_of m) (mine d) ∙ anew.leads)) in
-          clash anew.far anew (inr (j, omega (arith, before, same), j_in, λ x. ap (end_of m) (get_or_default edges j x d j_in) ∙ into))
-    ];
-    marks_are =
-        subst (AreMarks m (IsEntered m root edges (i + 1))) (sym anew.marked)
-        (one_mark m (IsEntered m root edges i) (IsEntered m root edges (i + 1)) marks anew.far (index_of m anew.far) so_far.marks_are (far_in anew.far anew.live anew.leads) refl
-        (inr (i, omega arith, below, λ d. ap (end_of m) (mine d) ∙ anew.leads))
-        (λ c on. elim on [
-          | inl at ↦ inl at
-          | inr into ↦ inr (into.0, omega (arith, into.1), into.2, into.3)
-        ])
-        (λ c on. elim on [
-          | inl at ↦ inr (inl at)
-          | inr into ↦ elim (cases_lt into.0 i) [
-            | inl earlier ↦ inr (inr (into.0, earlier, into.2, into.3))
-            | inr later ↦
-                let same : into.0 ≡ i = omega (arith, into.1, later) in
-                let leads : Some c ≡ Some anew.far = sym (into.3 e) ∙ (ap (λ n. end_of m (get_or edges n e)) same ∙ (ap (end_of m) (mine e) ∙ anew.leads)) in
-                let is : c ≡ anew.far = cc in
-                inl is
-          ]
-        ]));
-  }
+    back : EnterAnew m (now m old anew.far long inside) es → EnterAnew m old (e ∷ es)
+    back enter = record {
+      live = All-cons (λ (x : Edge). IsLiveLink m x.chip x.dir) e es anew.live enter.live;
+      clear = All-cons (λ (x : Edge). (c : Chip) → end_of m x ≡ Some c → mark_at m old c ≡ false) e es (λ c leads. subst (λ (x : Chip). mark_at m old x ≡ false) (same_far c leads) anew.no_mark)
+          (λ k d below c leads. (was_clear m old anew.far long inside c (enter.clear k d below c leads)).1);
+      apart = AllPairs-cons (λ (x y : Edge). end_of m x ≢ end_of m y) e es
+          (λ k d below same. (was_clear m old anew.far long inside anew.far (enter.clear k d below anew.far (sym same ∙ anew.leads))).0 refl) enter.apart;
+    }
+
+enter_none : (m : Description) (e : Edge) (es : List Edge) (old : List Bool) → EntersNone m e old → EnterAnew m old (e ∷ es) → ⊥
+enter_none m e es old (inl dead) enter = dead (All-head (λ (x : Edge). IsLiveLink m x.chip x.dir) e es enter.live)
+enter_none m e es old (inr had) enter = grind (arith, false≢true, All-head)
+
+module _ (m : Description) (root : Chip) (edges : List Edge) where
+  -- what is left of the edges enters anew exactly where all enter once
+  abbrev pub GoesOn : ℕ → List Bool → Type 0
+  GoesOn i marks = EnterAnew m marks (drop i edges) ↔ EntersOnce m root edges
+
+  -- at first the root alone has a mark
+  pub goes_first : (clear : List Bool) → clear ≡ replicate (m.width * m.height) false → IsInside m root → GoesOn 0 (set clear (index_of m root) true)
+  goes_first clear is root_in = (
+    λ enter. record {
+      live = enter.live;
+      none_into_root = λ k d below into. false≢true (sym (enter.clear k d below root into) ∙ hit m clear root long root_in);
+      one_into_each = enter.apart;
+    },
+    λ once. record {
+      live = once.live;
+      clear = λ k d below c leads.
+          let c_in : IsInside m c = far_in m (get_or edges k d) c (once.live k d below) leads in
+          still_clear m clear root long root_in c c_in (λ same. once.none_into_root k d below (leads ∙ ap Some same))
+          (ap (λ l. get_or l (index_of m c) false) is ∙ get_or-replicate (m.width * m.height) (index_of m c) false false (index_below m c c_in));
+      apart = once.one_into_each;
+    },
+  )
     where
-      clash : (far : Chip) (a : EntersAnew m e marks new) → IsEntered m root edges i a.far → ⊥
-      clash far a on = false≢true (sym a.no_mark ∙ (so_far.marks_are.told a.far (far_in a.far a.live a.leads)).1 on)
+      long : length clear ≡ m.width * m.height
+      long = ap length is ∙ length-replicate (m.width * m.height) false
 
-  pub not_entered : EntersNone m e marks → EntersOnce m root edges → ⊥
-  not_entered (inl dead) once = dead (subst (λ (f : Edge). IsLiveLink m f.chip f.dir) (sym read) (once.live i e below))
-  not_entered (inr had) once =
-      let live : IsLiveLink m e.chip e.dir = subst (λ (f : Edge). IsLiveLink m f.chip f.dir) (sym read) (once.live i e below) in
-      elim ((so_far.marks_are.told had.0 (far_in had.0 live had.1)).0 had.2) [
-        | inl at ↦ once.none_into_root i e below (sym (ap (end_of m) read) ∙ (had.1 ∙ ap Some at))
-        | inr into ↦ once.one_into_each into.0 i e into.1 below (into.3 e ∙ (sym had.1 ∙ ap (end_of m) read))
-      ]
+  module _ (i : ℕ) (d : Edge) (below : i < length edges) where
+    next : drop i edges ≡ get_or edges i d ∷ drop (i + 1) edges
+    next = let one : suc i ≡ i + 1 = omega arith in drop-cons edges i d below ∙ ap (λ k. get_or edges i d ∷ drop k edges) one
 
-pub entered_all : (m : Description) (root : Chip) (edges : List Edge) (i : ℕ) (marks : List Bool) → length edges ≤ i → EnteredSoFar m root edges i marks → EntersOnce m root edges
-entered_all m root edges i marks past so_far = record {
-  live = λ k d below. so_far.live k d (omega (arith, below, past)) below;
-  none_into_root = λ k d below. so_far.none_into_root k d (omega (arith, below, past)) below;
-  one_into_each = λ j k d less below. so_far.one_into_each j k d less (omega (arith, below, past)) below;
-}
+    pub goes_more : (old new : List Bool) → length old ≡ m.width * m.height → EntersAnew m (get_or edges i d) old new → GoesOn i old → GoesOn (i + 1) new
+    goes_more old new long anew goes =
+        let step = enter_more m (get_or edges i d) (drop (i + 1) edges) old new long anew in
+        let here = subst (λ es. EnterAnew m old es ↔ EntersOnce m root edges) next goes in
+        (λ enter. here.0 (step.1 enter), λ once. step.0 (here.1 once))
 
--- the same of the edge that is read at place i
-pub entered_at : (m : Description) (root : Chip) (edges : List Edge) (i : ℕ) (d : Edge) (marks new : List Bool) → i < length edges → EntersAnew m (get_or edges i d) marks new →
-    EnteredSoFar m root edges i marks → EnteredSoFar m root edges (i + 1) new
-entered_at m root edges i d marks new below anew so_far =
-    entered_more m root edges i (get_or edges i d) marks new below (get_or_default edges i d (get_or edges i d) below) so_far anew
+    pub goes_no_more : (old : List Bool) → EntersNone m (get_or edges i d) old → GoesOn i old → (IsTrue false) ↔ EntersOnce m root edges
+    goes_no_more old none goes = answers_no _ (λ once. enter_none m (get_or edges i d) (drop (i + 1) edges) old none (subst (EnterAnew m old) next (goes.1 once)))
 
-pub not_entered_at : (m : Description) (root : Chip) (edges : List Edge) (i : ℕ) (d : Edge) (marks : List Bool) → i < length edges → EntersNone m (get_or edges i d) marks →
-    EnteredSoFar m root edges i marks → (IsTrue false) ↔ EntersOnce m root edges
-not_entered_at m root edges i d marks below none so_far =
-    answers_no (EntersOnce m root edges) (not_entered m root edges i (get_or edges i d) marks marks below (get_or_default edges i d (get_or edges i d) below) so_far none)
-
-pub entered_tells : (m : Description) (root : Chip) (edges : List Edge) (i : ℕ) (marks : List Bool) → length edges ≤ i → EnteredSoFar m root edges i marks →
-    (IsTrue true) ↔ EntersOnce m root edges
-entered_tells m root edges i marks past so_far = (λ t. entered_all m root edges i marks past so_far, λ once. refl)
+  pub goes_to_end : (i : ℕ) (marks : List Bool) → length edges ≤ i → GoesOn i marks → (IsTrue true) ↔ EntersOnce m root edges
+  goes_to_end i marks past goes = grind (arith, drop_all i edges past, All-nil, AllPairs-nil)

@@ -15,14 +15,7 @@ module _ (b : Block) (rows : List Entry) (i : ℕ) (e : Entry) (t : Bool) (below
   first_here came before = (e, record { there = here; meets = tells.0 came; first = before })
 
   pub none_more : t ≡ false → NoneBefore b rows i → NoneBefore b rows (i + 1)
-  none_more came before k x less at met = elim (cases_lt k i) [
-    | inl earlier ↦ before k x earlier at met
-    | inr later ↦
-        let same : k ≡ i = omega (arith, less, later) in
-        let found : Some x ≡ Some e = sym at ∙ (ap (slice_get rows) same ∙ here) in
-        let one : x ≡ e = cc in
-        fails (Meets b e) t tells came (subst (Meets b) one met)
-  ]
+  none_more came before k x less at met = grind (arith, cases_lt k i, here, fails)
 
 pub none_at_all : (b : Block) (rows : List Entry) (i : ℕ) → length rows ≤ i → NoneBefore b rows i → NoneMeets b rows
 none_at_all b rows i past before k d below met = before k (get_or rows k d) (omega (arith, below, past)) (slice_get-get_or rows k d below) met

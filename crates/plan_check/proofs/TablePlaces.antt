@@ -15,15 +15,7 @@ slice_past (x ∷ xs) = slice_past xs
 
 -- no table was read
 pub tells_none : (height size n : ℕ) (tables : List ChipTable) (old new : List ℕ) → length old ≡ size → n ≡ length tables → new ≡ replicate (length old) n → TellsFrom height tables new size n
-tells_none height size n tables old new long at is = record {
-  within = omega (arith, at);
-  long = ap length is ∙ (length-replicate (length old) n ∙ long);
-  told = λ i d below.
-      let short : i < length old = subst (λ k. i < k) (ap length is ∙ length-replicate (length old) n) below in
-      let read : get_or new i d ≡ length tables = ap (λ (l : List ℕ). get_or l i d) is ∙ (get_or-replicate (length old) i n d short ∙ at) in
-      ap (entries_at tables) read ∙ (ap (λ o. option_map_or (λ (t : ChipTable). t.entries) o []) (slice_past tables)
-      ∙ sym (ap (λ (l : List ChipTable). rows_of_index height l i) (drop_all n tables (omega (arith, at)))));
-}
+tells_none height size n tables old new long at is = grind (arith, length-replicate (length old) n, slice_past tables, drop_all n tables (omega (arith, at)), get_or, get_or-replicate)
 
 -- one table more
 pub tells_more : (height size n p : ℕ) (tables : List ChipTable) (places : List ℕ) (t : ChipTable) → 0 < n → slice_get tables (n - 1) ≡ Some t → p ≡ table_index height t → p < length places →

@@ -1,13 +1,13 @@
--- Marks of chips and flags of links, by which a tree is looked over.
-use Rattle.std.specs.Prelude.{◌≡◌, ◌≢◌, ◌⊎◌, ◌↔◌, ◌*◌, ◌<◌, Bool, true, false, List, [], length, All, AllPairs, Any, Contains, Some, map, slice_index_or, slice_set}
+-- Marks of chips, by which a tree is looked over.
+use Rattle.std.specs.Prelude.{◌≡◌, ◌≢◌, ◌⊎◌, ◌↔◌, ◌*◌, ◌<◌, ℕ, Bool, true, false, List, [], length, All, AllPairs, Some, ◌++◌, map, slice_index_or, slice_set}
 use Rattle.spin_base.specs.declared.chips.Chip.{Chip}
-use Rattle.spin_base.specs.declared.chips.Dir.{Dir}
 use Rattle.spin_base.specs.declared.chips.Spot.{Spot}
 use Rattle.machine_desc.specs.declared.trees.Edge.{Edge}
 use Rattle.machine_desc.specs.Description.{Description}
-use Rattle.machine_desc.specs.Flags.{is_flagged}
-use Rattle.machine_desc.specs.Live.{IsInside, IsLiveLink, far_of, index_of}
+use Rattle.machine_desc.specs.Live.{IsInside, IsLiveLink, index_of}
 use Rattle.machine_desc.specs.RoutingTree.{end_of}
+use Rattle.link_detours.specs.Repair.{EdgeStep}
+use Rattle.link_detours.specs.Steps.{Steps}
 
 -- no edge, some target, and all targets on the root: the only trees of a root outside the grid
 pub record IsAlone (root : Chip) (edges : List Edge) (targets : List Spot) : Type 0 where
@@ -47,18 +47,10 @@ pub record EntersAnew (m : Description) (e : Edge) (old new : List Bool) : Type 
 abbrev pub EntersNone : Description → Edge → List Bool → Type 0
 EntersNone m e old = (IsLiveLink m e.chip e.dir → ⊥) ⊎ ((far : Chip) × (end_of m e ≡ Some far) × (mark_at m old far ≡ true))
 
--- ---- flags of links
+-- some number of edges leads from the root to the chip
+abbrev pub IsReachedChip : Description → List Edge → Chip → Chip → Type 0
+IsReachedChip m edges root c = (n : ℕ) × Steps (EdgeStep m edges) n root c
 
--- flagged are the edges
-pub record AreFlags (m : Description) (edges : List Edge) (flags : List Bool) : Type 0 where
-  pub long : length flags ≡ m.width * m.height * 6
-  pub told : (e : Edge) → IsInside m e.chip → (is_flagged m flags e.chip e.dir ≡ true) ↔ Contains edges e
-
--- some flagged links lead from the root to the chip, one from where the other leads: reached are the root, and what a flagged link leads to from a reached chip
-pub data IsReachedChip (m : Description) (flags : List Bool) (root : Chip) : Chip → Type 0 where
-  at_root : IsReachedChip m flags root root
-  by_link : (c e : Chip) (d : Dir) → IsReachedChip m flags root c → is_flagged m flags c d ≡ true → far_of m c d ≡ Some e → IsReachedChip m flags root e
-
--- an edge begins at the chip, or a target stands there
-abbrev pub HasEdgeOrTarget : List Edge → List Spot → Chip → Type 0
-HasEdgeOrTarget edges targets c = Any (λ e. e.chip ≡ c) edges ⊎ Contains (map (λ s. s.chip) targets) c
+-- the chips where a target stands, and those where an edge begins
+abbrev pub going_on : List Edge → List Spot → List Chip
+going_on edges targets = map (λ (s : Spot). s.chip) targets ++ map (λ (e : Edge). e.chip) edges

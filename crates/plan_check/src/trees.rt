@@ -1,15 +1,14 @@
 // Whether a tree is a routing tree.
-ghost use Rattle.std.specs.Prelude.{◌≡◌, ◌<◌, ◌%◌, ◌↔◌, ℕ, true, false, length, All, IsTrue, IfOk, MatchBool, None, if◌then◌else◌, slice_index_or};
+ghost use Rattle.std.specs.Prelude.{◌≡◌, ◌*◌, ◌<◌, ◌↔◌, ℕ, true, false, length, All, IsTrue, IfOk, MatchBool, slice_index_or};
 ghost use Rattle.std.proofs.Props.{props};
-ghost use Rattle.spin_base.specs.Links.{dir_at};
-ghost use Rattle.machine_desc.specs.Live.{IsInside, far_of};
+ghost use Rattle.machine_desc.specs.Live.{IsInside};
 ghost use Rattle.machine_desc.specs.RoutingTree.{IsRoutingTree};
 ghost use Rattle.plan_check.specs.GoodTrees.{IsGood};
-ghost use Rattle.machine_desc.specs.Flags.{is_flagged};
-ghost use Rattle.plan_check.specs.Marks.{IsAlone, EntersOnce, EntersAnew, EntersNone, IsMarkedChip, AreMarks, AreFlags, IsReachedChip, HasEdgeOrTarget};
+ghost use Rattle.plan_check.specs.Marks.{IsAlone, EntersOnce, EntersAnew, EntersNone, IsMarkedChip, going_on};
 
-use machine_desc::{Edge, LinkFlags, Machine, PerChip, Tree};
-use spin_base::{Chip, Dir, Memory, Seq, Spot};
+use link_detours::{Chips, RootedEdges, seed_table, tree_reach};
+use machine_desc::{Edge, Machine, PerChip, Tree};
+use spin_base::{Chip, Memory, Seq, Spot};
 use std::alloc::Global;
 
 /// Whether the tree begins at the root and is a routing tree from there to the targets: over live links, with one edge into
@@ -56,15 +55,7 @@ fn is_tree(
 fn is_alone(root: Chip, edges: &[Edge], targets: &[Spot]) -> bool
     ensures { IsTrue result ↔ IsAlone root edges.now targets.now }
 {
-    if !edges.is_empty() || targets.is_empty() {
-        return false;
-    }
-    for target in targets {
-        if target.chip != root {
-            return false;
-        }
-    }
-    true
+    edges.is_empty() && !targets.is_empty() && targets.iter().all(|target| target.chip == root)
 }
 
 // A root in the grid of a machine.
@@ -89,16 +80,29 @@ fn is_routed(
     if !enters_once(alloc, rooted, edges)? {
         return Ok(false);
     }
-    let flags = flags_of(alloc, machine, edges)?;
-    let reached = reached_from(alloc, &flags, root)?;
-    if !all_begin(&reached, edges) {
+    let tree = RootedEdges {
+        machine,
+        root,
+        list: edges,
+    };
+    let reached = tree_reach(alloc, tree)?;
+    let marks = ChipMarks {
+        machine,
+        list: &reached,
+    };
+    if !all_begin(marks, edges) {
         return Ok(false);
     }
-    if !has_all(&reached, targets) {
+    if !has_all(marks, targets) {
         return Ok(false);
     }
-    let on = going_on(alloc, machine, edges, targets)?;
-    Ok(each_goes_on(reached.as_slice(), on.as_slice()))
+    let chips = going_on(alloc, edges, targets)?;
+    let seeds = Chips {
+        machine,
+        list: &chips,
+    };
+    let on = seed_table(alloc, seeds)?;
+    Ok(each_goes_on(marks.list, &on))
 }
 
 // Whether all edges are live, none leads into the root, and no two lead into one chip.
@@ -139,138 +143,44 @@ fn enters_anew(marks: &mut PerChip<bool>, edge: Edge) -> bool
     }
 }
 
-// A table that has, for each link of each chip, whether it is one of the edges.
-fn flags_of<'m>(
-    alloc: Global,
-    machine: &'m Machine,
-    edges: &[Edge],
-) -> Result<LinkFlags<'m>, Memory>
-    requires { All (λ e. IsInside machine.now e.chip) edges.now }
-    ensures machine { IfOk result (λ f. f.machine.now ≡ machine.now) }
-    ensures flags { IfOk result (λ f. AreFlags machine.now edges.now f.flags.items) }
-{
-    let mut flags = LinkFlags::none(alloc, machine)?;
-    for edge in edges {
-        flags.flag(edge.chip, edge.dir);
-    }
-    Ok(flags)
-}
-
-// A chip of the machine whose links have flags.
+// Marks of chips, with a place for each chip of a machine.
 #[derive(Clone, Copy)]
-struct FlaggedChip<'a, 'm> {
-    flags: &'a LinkFlags<'m>,
-    chip: Chip,
-    ghost inside: { IsInside flags.now.machine.now chip } by { Prim.hlevel props },
-}
-
-// The chip to which the link leads, where it is flagged.
-fn flagged_far(from: FlaggedChip, link: Dir) -> Option<Chip>
-    ensures { result ≡ (if is_flagged from.entry.flags.now.machine.now
-        from.entry.flags.now.flags.items from.entry.chip link
-        then far_of from.entry.flags.now.machine.now from.entry.chip link else None) }
-{
-    let FlaggedChip { flags, chip } = from;
-    if flags.has(chip, link) {
-        flags.machine().far(chip, link)
-    } else {
-        None
-    }
-}
-
-// The link of a number, of those that go round from East again and again.
-fn link_at(number: usize) -> Dir
-    ensures { result ≡ dir_at (number % 6) }
-{
-    Dir::ALL[number % 6]
-}
-
-// Marks of the chips that are reached from the root by flagged links. It looks at the links of each chip that it reaches, one
-// after the other.
-fn reached_from<'m>(
-    alloc: Global,
-    flags: &LinkFlags<'m>,
-    root: Chip,
-) -> Result<PerChip<'m, bool>, Memory>
-    requires { IsInside flags.now.machine.now root }
-    ensures machine { IfOk result (λ t. t.machine.now ≡ flags.now.machine.now) }
-    ensures marks { IfOk result (λ t. AreMarks flags.now.machine.now
-        (IsReachedChip flags.now.machine.now flags.now.flags.items root) t.items.items) }
-{
-    let mut marks = PerChip::filled(alloc, flags.machine(), false)?;
-    let mut queue = Vec::new(alloc);
-    marks.set(root, true);
-    queue.push(root)?;
-    let mut next = 0;
-    while next < queue.len() * 6 {
-        let from = queue[next / 6];
-        let link = link_at(next);
-        let here = FlaggedChip { flags, chip: from };
-        if let Some(to) = flagged_far(here, link) {
-            if !marks.at(to) {
-                queue.push(to)?;
-                marks.set(to, true);
-            }
-        }
-        next += 1;
-    }
-    Ok(marks)
+struct ChipMarks<'a> {
+    machine: &'a Machine,
+    list: &'a [bool],
+    ghost long: { length list.now ≡ machine.now.width * machine.now.height },
 }
 
 // Whether the chip is in the grid and has a mark.
-fn is_marked(marks: &PerChip<bool>, chip: Chip) -> bool
-    ensures { IsTrue result ↔ IsMarkedChip marks.now.machine.now marks.now.items.items chip }
+fn is_marked(marks: ChipMarks, chip: Chip) -> bool
+    ensures { IsTrue result ↔ IsMarkedChip marks.entry.machine.now marks.entry.list.now chip }
 {
-    marks.machine().is_inside(chip) && marks.at(chip)
+    marks.machine.is_inside(chip) && marks.list[marks.machine.index(chip) as usize]
 }
 
 // Whether all edges begin at chips that have marks.
-fn all_begin(marks: &PerChip<bool>, edges: &[Edge]) -> bool
+fn all_begin(marks: ChipMarks, edges: &[Edge]) -> bool
     ensures { IsTrue result ↔
-        All (λ e. IsMarkedChip marks.now.machine.now marks.now.items.items e.chip) edges.now }
+        All (λ e. IsMarkedChip marks.entry.machine.now marks.entry.list.now e.chip) edges.now }
 {
-    for edge in edges {
-        if !is_marked(marks, edge.chip) {
-            return false;
-        }
-    }
-    true
+    edges.iter().all(|edge| is_marked(marks, edge.chip))
 }
 
 // Whether the chips of all targets have marks.
-fn has_all(marks: &PerChip<bool>, targets: &[Spot]) -> bool
+fn has_all(marks: ChipMarks, targets: &[Spot]) -> bool
     ensures { IsTrue result ↔
-        All (λ s. IsMarkedChip marks.now.machine.now marks.now.items.items s.chip) targets.now }
+        All (λ s. IsMarkedChip marks.entry.machine.now marks.entry.list.now s.chip) targets.now }
 {
-    for target in targets {
-        if !is_marked(marks, target.chip) {
-            return false;
-        }
-    }
-    true
+    targets.iter().all(|target| is_marked(marks, target.chip))
 }
 
-// Marks of the chips where an edge begins or a target stands.
-fn going_on<'m>(
-    alloc: Global,
-    machine: &'m Machine,
-    edges: &[Edge],
-    targets: &[Spot],
-) -> Result<PerChip<'m, bool>, Memory>
-    requires edges { All (λ e. IsInside machine.now e.chip) edges.now }
-    requires targets { All (λ s. IsInside machine.now s.chip) targets.now }
-    ensures machine { IfOk result (λ t. t.machine.now ≡ machine.now) }
-    ensures marks { IfOk result (λ t.
-        AreMarks machine.now (HasEdgeOrTarget edges.now targets.now) t.items.items) }
+// The chips where a target stands, and those where an edge begins.
+fn going_on(alloc: Global, edges: &[Edge], targets: &[Spot]) -> Result<Vec<Chip>, Memory>
+    ensures { IfOk result (λ v. v.items ≡ going_on edges.now targets.now) }
 {
-    let mut marks = PerChip::filled(alloc, machine, false)?;
-    for edge in edges {
-        marks.set(edge.chip, true);
-    }
-    for target in targets {
-        marks.set(target.chip, true);
-    }
-    Ok(marks)
+    let begins = edges.iter().map(|edge| edge.chip);
+    let chips = targets.iter().map(|target| target.chip).chain(begins);
+    Ok(chips.collect(alloc)?)
 }
 
 // Whether each chip that has a mark in the first list has one in the second.
@@ -279,10 +189,5 @@ fn each_goes_on(reached: &[bool], on: &[bool]) -> bool
     ensures { IsTrue result ↔ ((i : ℕ) → i < length reached.now →
         slice_index_or reached.now i false ≡ true → slice_index_or on.now i false ≡ true) }
 {
-    for i in 0..reached.len() {
-        if reached[i] && !on[i] {
-            return false;
-        }
-    }
-    true
+    reached.iter().zip(on).all(|(reached, on)| !*reached || *on)
 }

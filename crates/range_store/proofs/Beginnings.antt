@@ -1,8 +1,6 @@
 -- Which holes begin before a place.
-use Rattle.std.proofs.Common.{◌≡◌, ℕ, ◌+◌, ◌<◌, ◌≤◌, false, List, [], ◌∷◌, length, get_or, take, zero, suc, Some, slice_get, refl, subst₂, arith, inl, inr}
-use Rattle.std.proofs.lemmas.{Bool.cases_lt, Bool.Decides.nat_tests, Option.slice_get_within, Option.get_or_from_slice_get}
-use Rattle.std.specs.List.Sorted.{IsNonDecreasingBy}
-use Rattle.range_store.specs.{declared.holes.Hole.Hole, Regions.AreRuns, Regions.has_range, Regions.is_hole_range, Regions.hole_end}
+use Rattle.range_store.proofs.Common.{AreRuns, Hole, IsNonDecreasingBy, List, Some, [], arith, cases_lt, false, get_or, get_or_from_slice_get, has_range, hole_end, inl, inr, is_hole_range, length}
+use Rattle.range_store.proofs.Common.{nat_tests, refl, slice_get, slice_get_within, subst₂, suc, take, zero, ℕ, ◌+◌, ◌<◌, ◌∷◌, ◌≡◌, ◌≤◌}
 
 -- a hole of the list begins at the list's beginning or later
 pub place_from : (from n : ℕ) (hs : List Hole) → AreRuns from n hs → (k : ℕ) (d : Hole) → k < length hs → from ≤ (get_or hs k d).place
@@ -53,8 +51,5 @@ beyond n hs runs p s at here is begins ends after =
           let b = get_or_from_slice_get hs at here here is in
           let far : hole_end h < here.place = subst₂ (λ (x y : Hole). hole_end x < y.place) a b e in
           grind (arith, nat_tests))
-      | inr from_here ↦ elim (cases_lt at k) [
-        | inl later ↦ (let a = after k h (omega (arith, later)) got in grind (arith, nat_tests))
-        | inr not_later ↦ (let e : k ≡ at = omega (arith, from_here, not_later) in let same : h ≡ here = cc in rw same (grind (arith, nat_tests)))
-      ]
+      | inr from_here ↦ grind (arith, cases_lt at k, nat_tests)
     ])

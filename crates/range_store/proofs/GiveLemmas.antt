@@ -1,9 +1,8 @@
 -- A range put back among the holes.
-use Rattle.std.proofs.Common.{◌≡◌, ◌≢◌, ℕ, ◌+◌, ◌-◌, ◌<◌, ◌≤◌, Bool, true, false, ◌||◌, List, [], ◌∷◌, ◌++◌, ◌∙◌, zero, suc, Option, Some, None, Result, Ok, Err, if◌then◌else◌, length, get_or, set}
-use Rattle.std.proofs.Common.{take, drop, refl, sym, ap, subst, arith, MatchOption, slice_get, is_ok, IsOk, inl, inr, append_assoc}
-use Rattle.std.proofs.lemmas.{Bool.cases_lt, Bool.Decides.nat_tests, List.take-append-drop, List.set_split, List.set_at, List.length-take-le, List.Folds.list_any-append, Option.slice_get-get_or}
-use Rattle.std.proofs.lemmas.Option.{slice_get_within}
-use Rattle.range_store.specs.{declared.holes.Hole.Hole, Fits.AreNeighbours, Fits.IsPutBack, Regions.AreRuns, Regions.NoneIsFree, Regions.has_range, Regions.is_free, Regions.in_range, Regions.hole_end}
+use Rattle.range_store.proofs.Common.{AreNeighbours, AreRuns, Bool, Err, Hole, IsOk, IsPutBack, List, MatchOption, None, NoneIsFree, Ok, Option, Result, Some, [], ap, append_assoc, arith, cases_lt}
+use Rattle.range_store.proofs.Common.{drop, false, get_or, has_range, hole_end, if◌then◌else◌, in_range, inl, inr, is_free, is_ok, length, length-take-le, list_any-append, nat_tests, refl, set}
+use Rattle.range_store.proofs.Common.{set_at, set_split, slice_get, slice_get-get_or, slice_get_within, subst, suc, sym, take, take-append-drop, true, zero, ℕ, ◌++◌, ◌+◌, ◌-◌, ◌<◌, ◌||◌, ◌∙◌, ◌∷◌}
+use Rattle.range_store.proofs.Common.{◌≡◌, ◌≢◌, ◌≤◌}
 use Rattle.range_store.proofs.RunLemmas.{next, runs_split, runs_join, earlier, fits_any, drop_got, split_got, some_len}
 use Rattle.range_store.proofs.HolePlaces.{clash, has_from}
 

@@ -1,7 +1,6 @@
 -- Holes and the places that are free in them: which ranges fit.
-use Rattle.std.proofs.Common.{◌≡◌, ℕ, ◌+◌, ◌<◌, ◌≤◌, Bool, true, false, List, [], ◌∷◌, refl, inl, inr, arith}
-use Rattle.std.proofs.lemmas.Bool.{both_ways, cases_lt, or_cases, or_left, or_right, Decides.nat_tests}
-use Rattle.range_store.specs.{declared.holes.Hole.Hole, Regions.AreRuns, Regions.has_range, Regions.is_hole_range, Regions.is_free, Regions.hole_end}
+use Rattle.range_store.proofs.Common.{AreRuns, Bool, Hole, List, [], arith, both_ways, cases_lt, false, has_range, hole_end, inl, inr, is_free, is_hole_range, nat_tests, or_cases, or_left, or_right}
+use Rattle.range_store.proofs.Common.{refl, true, ℕ, ◌+◌, ◌<◌, ◌∷◌, ◌≡◌, ◌≤◌}
 
 pub clash : {A : Type 0} {b : Bool} → b ≡ true → b ≡ false → A
 clash t f = absurd (both_ways _ f t)
@@ -26,10 +25,7 @@ pub free_in_range : (hs : List Hole) (p s k : ℕ) → is_hole_range hs p s ≡ 
 free_in_range [] p s k e low high = clash e refl
 free_in_range (h ∷ hs) p s k e low high =
     elim (or_cases (has_range p s h) (is_hole_range hs p s) e) [
-      | inl here ↦ (
-          let f = has_facts p s h here in
-          or_left (has_range k 1 h) (is_free hs k) (has_from k 1 h (omega (arith, f.0)) (omega (arith, f.1)))
-          )
+      | inl here ↦ grind (arith, has_facts p s h here, or_left, has_from)
       | inr later ↦ or_right (has_range k 1 h) (is_free hs k) (free_in_range hs p s k later low high)
     ]
 
@@ -41,19 +37,13 @@ range_of_free from n (h ∷ hs) p s runs some free =
       | inl here ↦ (
           let f = has_facts p 1 h here in
           elim (cases_lt (hole_end h) (p + s)) [
-            | inl beyond ↦ elim (or_cases (has_range (hole_end h) 1 h) (is_free hs (hole_end h)) (free (hole_end h) (omega (arith, f.1)) beyond)) [
-              | inl mine ↦ (let g = has_facts (hole_end h) 1 h mine in absurd (omega (arith, g.1)))
-              | inr next ↦ (let g = free_within (hole_end h + 1) n hs (hole_end h) runs.3 next in absurd (omega (arith, g.0)))
-            ]
+            | inl beyond ↦ grind (arith, or_cases (has_range (hole_end h) 1 h) (is_free hs (hole_end h)) (free (hole_end h) (omega (arith, f.1)) beyond), has_facts, free_within)
             | inr within ↦ or_left (has_range p s h) (is_hole_range hs p s) (has_from p s h f.0 within)
           ]
           )
       | inr later ↦ (
           let low = free_within (hole_end h + 1) n hs p runs.3 later in
-          let rest : (k : ℕ) → p ≤ k → k < p + s → is_free hs k ≡ true = λ k from_p to_end. elim (or_cases (has_range k 1 h) (is_free hs k) (free k from_p to_end)) [
-            | inl mine ↦ (let g = has_facts k 1 h mine in absurd (omega (arith, g.1, low.0)))
-            | inr there ↦ there
-          ] in
+          let rest : (k : ℕ) → p ≤ k → k < p + s → is_free hs k ≡ true = grind (arith, or_cases, has_facts) in
           or_right (has_range p s h) (is_hole_range hs p s) (range_of_free (hole_end h + 1) n hs p s runs.3 some rest)
           )
     ]

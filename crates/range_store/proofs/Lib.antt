@@ -1,3 +1,4 @@
+mod Common
 mod Beginnings
 mod GiveLemmas
 pub mod HolePlaces

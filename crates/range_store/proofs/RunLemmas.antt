@@ -1,12 +1,9 @@
 -- Holes as runs of free places, and what a range leaves of them.
-use Rattle.std.proofs.Common.{◌≡◌, ◌≢◌, ℕ, ◌+◌, ◌-◌, ◌%◌, ◌<◌, ◌≤◌, Bool, true, false, ◌&&◌, ◌||◌, List, [], ◌∷◌, ◌++◌, ◌∙◌, ◌*◌, ◌/◌, zero, suc, Some, min, max, not, leb, ltb, length, get_or, set}
-use Rattle.std.proofs.Common.{take, drop, refl, sym, ap, subst, arith, slice_get, inl, inr, append_assoc}
-use Rattle.std.proofs.lemmas.{Bool.cases_Bool, Bool.cases_lt, Bool.cases_eq, Bool.or_cases, Bool.or_parts, Bool.or_right, Option.get_or_from_slice_get, Option.slice_get_within, List.set_split}
-use Rattle.std.proofs.lemmas.{List.set_at, List.length-take-le, List.length_push, List.take-append-drop, List.Folds.list_any-append, Bool.Decides.nat_tests}
-use Rattle.std.proofs.Math.Nat.{mul-le-mul_left, mul-mod_right, mod_self, mod-eq_of_lt}
-use Rattle.range_store.specs.{declared.holes.Hole.Hole, Fits.FitsAt, Fits.IsLeastIn, Fits.NoneIn, Regions.AreRuns, Regions.IsFirstFitFrom, Regions.HasNoFitFrom, Regions.has_range}
-use Rattle.range_store.specs.Regions.{is_hole_range, is_free, in_range, hole_end, hole_of, rest_of, holes_without}
-use Rattle.std.specs.Int.{next_multiple_of}
+use Rattle.range_store.proofs.Common.{AreRuns, Bool, FitsAt, HasNoFitFrom, Hole, IsFirstFitFrom, IsLeastIn, List, NoneIn, Some, [], ap, append_assoc, arith, cases_Bool, cases_eq, cases_lt, drop}
+use Rattle.range_store.proofs.Common.{false, get_or, get_or_from_slice_get, has_range, hole_end, hole_of, holes_without, in_range, inl, inr, is_free, is_hole_range, leb, length, length-take-le}
+use Rattle.range_store.proofs.Common.{length_push, list_any-append, ltb, max, min, mod-eq_of_lt, mod_self, mul-le-mul_left, mul-mod_right, nat_tests, next_multiple_of, not, or_cases, or_parts}
+use Rattle.range_store.proofs.Common.{or_right, refl, rest_of, set, set_at, set_split, slice_get, slice_get_within, subst, suc, sym, take, take-append-drop, true, zero, ℕ, ◌%◌, ◌&&◌, ◌*◌, ◌++◌, ◌+◌}
+use Rattle.range_store.proofs.Common.{◌-◌, ◌/◌, ◌<◌, ◌||◌, ◌∙◌, ◌∷◌, ◌≡◌, ◌≢◌, ◌≤◌}
 use Rattle.range_store.proofs.HolePlaces.{clash, has_facts, has_from}
 
 -- an earlier beginning may stand before the same holes
@@ -86,12 +83,7 @@ runs_without from n p s pre h post runs some low high = grind (arith, runs_split
 multiple : (x y : ℕ) → 0 < y → ((x + (y - x % y) % y) % y ≡ 0) × (x + (y - x % y) % y < x + y)
 multiple x y some =
     elim (cases_eq (x % y) 0) [
-      | inl even ↦ (
-          let whole : y - x % y ≡ y = omega arith in
-          let none : (y - x % y) % y ≡ 0 = ap (λ n. n % y) whole ∙ mod_self y in
-          let same : x + (y - x % y) % y ≡ x = omega (arith, none) in
-          (ap (λ n. n % y) same ∙ even, omega (arith, none))
-          )
+      | inl even ↦ grind (arith, mod_self y)
       | inr odd ↦ (
           let part : (y - x % y) % y ≡ y - x % y = mod-eq_of_lt (omega arith) in
           let next_one : x + (y - x % y) % y ≡ y * (x / y + 1) = omega (arith, part) in

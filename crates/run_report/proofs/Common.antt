@@ -5,7 +5,7 @@ pub use Rattle.mesh_core.proofs.{DeliveredLaw.delivered_as_expected, ExpectedLis
 pub use Rattle.mesh_core.specs.{Expected.IsAtRest, Expected.IsDeliveryNotAfter, Expected.expected_deliveries, Expected.without_hop, Opened.MeetsJobLedger, State.IsMesh, State.State}
 pub use Rattle.mesh_core.specs.declared.places.{Did.Did, Place.Place, Place.TheVariants.CoreQueue, Place.TheVariants.Hand}
 pub use Rattle.run_report.specs.{Keys.delivery_numbers, Keys.dump_numbers, Keys.wait_numbers, Listed.vertex_names, Named.named_delivery, Orders.IsSortedStably, ReportText.did_word}
-pub use Rattle.run_report.specs.ReportText.{dump_line, event_front, event_line, event_lines, got_line, keys_line, place_line, report_text, row_line, row_total, table_lines, tens_digits, wait_line}
+pub use Rattle.run_report.specs.ReportText.{dump_line, event_front, event_line, event_lines, got_line, keys_line, place_line, report_text, row_total, table_lines, tens_digits, wait_line}
 pub use Rattle.run_report.specs.RunReport.{IsDeliveredOf, chip_waits, copies_at, core_waits, delivery_key, dump_key, queue_waits, unsent_by, waits_at}
 pub use Rattle.spin_base.proofs.{Gathering.gathered_more, Places.zip_more}
 pub use Rattle.spin_base.specs.{Gathered.gathered, declared.blocks.Block.Block, declared.blocks.ChipTable.ChipTable, declared.chips.Spot.Spot, declared.copies.Delivery.Delivery}

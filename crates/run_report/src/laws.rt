@@ -13,6 +13,7 @@ ghost use Rattle.run_report.specs.ReportText.{got_line};
 
 /// Where a mesh that meets the ledger of a job is at rest and has no dump record, the `got` lines of its report are those of the
 /// deliveries that the job asks for, in their order.
+#[tactic(auto, using(crate::proofs::GotLines::got_lines))]
 pub fn got_lines_are_those_of_the_expected_deliveries()
     ensures { (s : State) (nets : List NetPlan) (packets : List Packet) (placed : List (List ℕ
         × Spot)) (delivered : List (List ℕ × McCopy)) →

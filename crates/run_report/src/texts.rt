@@ -1,5 +1,5 @@
 // The text of a report.
-ghost use Rattle.std.specs.Prelude.{◌≡◌, ◌<◌, ◌/◌, ◌^◌, take, [], ◌++◌, ◌∷◌, ◌+◌, OnOk, IfOk, codes, decimal, slice_get};
+ghost use Rattle.std.specs.Prelude.{◌≡◌, ℕ, List, ◌<◌, ◌/◌, ◌^◌, take, [], ◌++◌, ◌∷◌, ◌+◌, OnOk, IfOk, codes, decimal, slice_get};
 ghost use Rattle.std.specs.List.{flat_map};
 ghost use Rattle.mesh_core.specs.declared.places.Place.TheVariants.{InQueue, Hand, CoreQueue};
 ghost use Rattle.run_report.specs.Named.{named_delivery, vertex_name_of};
@@ -43,8 +43,8 @@ pub fn text_of(alloc: Global, report: &Report) -> Result<Seq<u8>, Memory>
     )?;
     put_events(&mut text, report.did.as_slice())?;
     put_gots(&mut text, &report.delivered)?;
-    put_dumps(&mut text, report.dumped.as_slice())?;
-    put_waits(&mut text, report.waiting.as_slice())?;
+    put_each(&mut text, report.dumped.as_slice())?;
+    put_each(&mut text, report.waiting.as_slice())?;
     put_end(&mut text, report)?;
     Ok(Seq::from_vec(text))
 }
@@ -61,9 +61,9 @@ fn put_listed(
         ++ (flat_map place_line placed.now ++ flat_map keys_line keys.now
         ++ flat_map table_lines tables.now)) }
 {
-    put_places(text, placed)?;
-    put_all_keys(text, keys)?;
-    put_tables(text, tables)
+    put_each(text, placed)?;
+    put_each(text, keys)?;
+    put_each(text, tables)
 }
 
 // The lines `place`, `keys` and `table` of `text_of`, and as the last line `end rows R` with the number of rows of all
@@ -95,61 +95,69 @@ pub(crate) struct CountedTables<'a> {
 pub(crate) fn row_total(counted: CountedTables) -> u64
     ensures { result ≡ row_total counted.entry.tables.now }
 {
-    let mut rows = 0;
-    for table in counted.tables {
-        rows += table.entries.len() as u64;
-    }
-    rows
+    counted
+        .tables
+        .iter()
+        .map(|table| table.entries.len() as u64)
+        .sum()
 }
 
-fn put_places(text: &mut Vec<u8>, placed: &[(Name, Spot)]) -> Result<(), Memory>
-    ensures { OnOk result (text.new.items
-        ≡ text.old.items ++ flat_map place_line placed.now) }
-{
-    for vertex in placed {
-        put_place(text, vertex)?;
-    }
-    Ok(())
+// What a report tells in lines.
+trait Told {
+    ghost lines: { Self → List ℕ };
+
+    // Puts the lines at the end.
+    fn tell(&self, text: &mut Vec<u8>) -> Result<(), Memory>
+        ensures { OnOk result (text.new.items ≡ text.old.items ++ lines self.now) };
 }
 
-fn put_place(text: &mut Vec<u8>, vertex: &(Name, Spot)) -> Result<(), Memory>
-    ensures { OnOk result (text.new.items ≡ text.old.items ++ place_line vertex.now) }
+// Puts the lines of each at the end.
+#[tactic(auto, using(crate::proofs::Gathering::put_all, crate::proofs::Gathering::put_more))]
+fn put_each<T: Told>(text: &mut Vec<u8>, items: &[T]) -> Result<(), Memory>
+    ensures { OnOk result (text.new.items ≡ text.old.items ++ flat_map T.lines items.now) }
 {
-    put(text, "place ")?;
-    put(text, vertex.0.as_str())?;
-    put_byte(text, b' ')?;
-    put_chip(text, vertex.1.chip)?;
-    put_number(text, u64::from(vertex.1.core), b'\n')
-}
-
-fn put_all_keys(text: &mut Vec<u8>, keys: &[(Name, Block)]) -> Result<(), Memory>
-    ensures { OnOk result (text.new.items
-        ≡ text.old.items ++ flat_map keys_line keys.now) }
-{
-    for net in keys {
-        put_keys(text, net)?;
+    for item in items {
+        item.tell(text)?;
     }
     Ok(())
 }
 
-fn put_keys(text: &mut Vec<u8>, net: &(Name, Block)) -> Result<(), Memory>
-    ensures { OnOk result (text.new.items ≡ text.old.items ++ keys_line net.now) }
-{
-    put(text, "keys ")?;
-    put(text, net.0.as_str())?;
-    put_byte(text, b' ')?;
-    put_word(text, net.1.key, b' ')?;
-    put_word(text, net.1.mask, b'\n')
+impl Told for (Name, Spot) {
+    ghost use Rattle.run_report.specs.ReportText.{place_line};
+
+    ghost lines = { place_line };
+
+    fn tell(&self, text: &mut Vec<u8>) -> Result<(), Memory> {
+        put(text, "place ")?;
+        put(text, self.0.as_str())?;
+        put_byte(text, b' ')?;
+        put_chip(text, self.1.chip)?;
+        put_number(text, u64::from(self.1.core), b'\n')
+    }
 }
 
-fn put_tables(text: &mut Vec<u8>, tables: &[ChipTable]) -> Result<(), Memory>
-    ensures { OnOk result (text.new.items
-        ≡ text.old.items ++ flat_map table_lines tables.now) }
-{
-    for table in tables {
-        put_table(text, table)?;
+impl Told for (Name, Block) {
+    ghost use Rattle.run_report.specs.ReportText.{keys_line};
+
+    ghost lines = { keys_line };
+
+    fn tell(&self, text: &mut Vec<u8>) -> Result<(), Memory> {
+        put(text, "keys ")?;
+        put(text, self.0.as_str())?;
+        put_byte(text, b' ')?;
+        put_word(text, self.1.key, b' ')?;
+        put_word(text, self.1.mask, b'\n')
     }
-    Ok(())
+}
+
+impl Told for ChipTable {
+    ghost use Rattle.run_report.specs.ReportText.{table_lines};
+
+    ghost lines = { table_lines };
+
+    fn tell(&self, text: &mut Vec<u8>) -> Result<(), Memory> {
+        put_table(text, self)
+    }
 }
 
 /// Puts the lines of a table at the end: `table X Y N`, and a line `KEY MASK ROUTE` for each of its N rows.
@@ -157,7 +165,7 @@ pub fn put_table(text: &mut Vec<u8>, table: &ChipTable) -> Result<(), Memory>
     ensures { OnOk result (text.new.items ≡ text.old.items ++ table_lines table.now) }
 {
     put_head(text, table)?;
-    put_rows(text, table.entries.as_slice())
+    put_each(text, table.entries.as_slice())
 }
 
 fn put_head(text: &mut Vec<u8>, table: &ChipTable) -> Result<(), Memory>
@@ -176,22 +184,16 @@ pub fn put_chip_and_count(text: &mut Vec<u8>, chip: Chip, count: u64) -> Result<
     put_number(text, count, b'\n')
 }
 
-fn put_rows(text: &mut Vec<u8>, entries: &[Entry]) -> Result<(), Memory>
-    ensures { OnOk result (text.new.items
-        ≡ text.old.items ++ flat_map row_line entries.now) }
-{
-    for entry in entries {
-        put_row(text, entry)?;
-    }
-    Ok(())
-}
+impl Told for Entry {
+    ghost use Rattle.run_report.specs.ReportText.{row_line};
 
-fn put_row(text: &mut Vec<u8>, entry: &Entry) -> Result<(), Memory>
-    ensures { OnOk result (text.new.items ≡ text.old.items ++ row_line entry.now) }
-{
-    put_word(text, entry.key, b' ')?;
-    put_word(text, entry.mask, b' ')?;
-    put_route(text, entry.route)
+    ghost lines = { row_line };
+
+    fn tell(&self, text: &mut Vec<u8>) -> Result<(), Memory> {
+        put_word(text, self.key, b' ')?;
+        put_word(text, self.mask, b' ')?;
+        put_route(text, self.route)
+    }
 }
 
 fn put_events(text: &mut Vec<u8>, answers: &[Did]) -> Result<(), Memory>
@@ -207,6 +209,7 @@ fn put_events(text: &mut Vec<u8>, answers: &[Did]) -> Result<(), Memory>
 }
 
 // Puts the line of an event at the end. The front is that of its number.
+#[tactic(auto, using(crate::proofs::LastDigits::line_put))]
 fn put_event(text: &mut Vec<u8>, front: &EventFront, number: usize, did: Did) -> Result<(), Memory>
     requires front { take front.now.len front.now.bytes ≡ event_front (number / 10) }
     ensures { OnOk result (text.new.items ≡ text.old.items ++ event_line number did) }
@@ -218,6 +221,7 @@ fn put_event(text: &mut Vec<u8>, front: &EventFront, number: usize, did: Did) ->
 
 // Puts what the lines of ten events begin with at the end. The whole array goes to the end, and what is no part of the
 // front is taken away: so few instructions copy it, whatever its length.
+#[tactic(auto, using(crate::proofs::LastDigits::cut_back))]
 fn put_front(text: &mut Vec<u8>, front: &EventFront) -> Result<(), Memory>
     ensures { OnOk result (text.new.items
         ≡ text.old.items ++ take front.now.len front.now.bytes) }
@@ -242,6 +246,7 @@ fn put_did(text: &mut Vec<u8>, digit: u8, did: Did) -> Result<(), Memory>
     Ok(())
 }
 
+#[tactic(auto, using(crate::proofs::Gathering::put_at))]
 fn put_gots(text: &mut Vec<u8>, delivered: &NamedDeliveries) -> Result<(), Memory>
     ensures { OnOk result (text.new.items
         ≡ text.old.items ++ flat_map got_line delivered.now) }
@@ -276,44 +281,31 @@ fn name_at<'a>(placed: &'a [(Name, Spot)], vertex: u32) -> &'a str
     }
 }
 
-fn put_dumps(text: &mut Vec<u8>, dumped: &[DumpRec]) -> Result<(), Memory>
-    ensures { OnOk result (text.new.items
-        ≡ text.old.items ++ flat_map dump_line dumped.now) }
-{
-    for record in dumped {
-        put_dump(text, record)?;
+impl Told for DumpRec {
+    ghost use Rattle.run_report.specs.ReportText.{dump_line};
+
+    ghost lines = { dump_line };
+
+    fn tell(&self, text: &mut Vec<u8>) -> Result<(), Memory> {
+        put(text, "dump ")?;
+        put_chip(text, self.chip)?;
+        put_out(text, self.out, b' ')?;
+        put_number(text, u64::from(self.copy.packet), b'\n')
     }
-    Ok(())
 }
 
-fn put_dump(text: &mut Vec<u8>, record: &DumpRec) -> Result<(), Memory>
-    ensures { OnOk result (text.new.items
-        ≡ text.old.items ++ dump_line «record».now) }
-{
-    put(text, "dump ")?;
-    put_chip(text, record.chip)?;
-    put_out(text, record.out, b' ')?;
-    put_number(text, u64::from(record.copy.packet), b'\n')
-}
+impl Told for (u32, Place) {
+    ghost use Rattle.run_report.specs.ReportText.{wait_line};
 
-fn put_waits(text: &mut Vec<u8>, waiting: &[(u32, Place)]) -> Result<(), Memory>
-    ensures { OnOk result (text.new.items
-        ≡ text.old.items ++ flat_map wait_line waiting.now) }
-{
-    for wait in waiting {
-        put_wait(text, wait)?;
-    }
-    Ok(())
-}
+    ghost lines = { wait_line };
 
-fn put_wait(text: &mut Vec<u8>, wait: &(u32, Place)) -> Result<(), Memory>
-    ensures { OnOk result (text.new.items ≡ text.old.items ++ wait_line wait.now) }
-{
-    let packet = wait.0;
-    match wait.1 {
-        Place::InQueue(chip, port) => put_wait_in(text, packet, chip, port),
-        Place::Hand(chip, out) => put_wait_hand(text, packet, chip, out),
-        Place::CoreQueue(chip, core) => put_wait_core(text, packet, chip, core),
+    fn tell(&self, text: &mut Vec<u8>) -> Result<(), Memory> {
+        let packet = self.0;
+        match self.1 {
+            Place::InQueue(chip, port) => put_wait_in(text, packet, chip, port),
+            Place::Hand(chip, out) => put_wait_hand(text, packet, chip, out),
+            Place::CoreQueue(chip, core) => put_wait_core(text, packet, chip, core),
+        }
     }
 }
 

@@ -61,6 +61,7 @@ fn put_chip(waiting: &mut Vec<(u32, Place)>, here: MeshChip) -> Result<(), Memor
 }
 
 // Puts the copies of a chip's input queues at the end, port by port.
+#[tactic(auto, using(crate::proofs::Gathering::put_all, crate::proofs::Gathering::put_at))]
 fn put_queues(waiting: &mut Vec<(u32, Place)>, here: MeshChip, ports: &[Port]) -> Result<(), Memory>
     ensures { OnOk result (waiting.new.items ≡ waiting.old.items
         ++ flat_map (queue_waits here.entry.mesh.now here.entry.chip) ports.now) }
@@ -102,6 +103,7 @@ fn put_outs(waiting: &mut Vec<(u32, Place)>, chip: Chip, hand: &Hand) -> Result<
 }
 
 // Puts the copies of a list, which all wait at one place, at the end.
+#[tactic(auto, using(crate::proofs::Gathering::pushed_all, crate::proofs::Gathering::pushed_at))]
 fn put_copies(
     waiting: &mut Vec<(u32, Place)>,
     place: Place,

@@ -5,11 +5,10 @@ pub use Rattle.app_loads.proofs.{Alike.alike_moved, Alike.alike_too, Alike.alike
 pub use Rattle.app_loads.proofs.SpotsOf.{spots_usable}
 pub use Rattle.app_loads.specs.{Alike.AreAlike, Alike.IsQuiet, Applications.AreApps, Applications.IsLoadedOn, Claims.AreBlocks, Claims.AreFirstServed, Claims.AreServed, Claims.IsLeastOpenRange}
 pub use Rattle.app_loads.specs.{Claims.IsOpenRange, Claims.IsRefusalDue, Claims.claims_of, Host.Host, Host.all_ranges, Host.all_spots, Host.is_free_spot, Host.is_loaded, Host.is_spot_taken}
-pub use Rattle.app_loads.specs.{Host.net_with, Leaving.NoneUnderWay, Leaving.is_delivery_of, Leaving.is_record_of, Leaving.others_than, Loading.HasLoaded, Loading.IsWhyNotLoaded}
-pub use Rattle.app_loads.specs.{Loading.sent_by_vertex, Opening.bare_host, Opening.grid_spots, Opening.spot_of, Plans.IsAppNet, Plans.IsPacketOfApp, Plans.IsPlan, Plans.MayLoad, Unloading.HasUnloaded}
-pub use Rattle.app_loads.specs.{Unloading.WaitsFor, declared.answers.Ended.Ended, declared.answers.LoadRefusal.LoadRefusal, declared.answers.LoadRefusal.TheVariants.KeysOut}
-pub use Rattle.app_loads.specs.declared.{answers.LoadRefusal.TheVariants.Loaded, answers.LoadRefusal.TheVariants.MemoryOut, answers.LoadRefusal.TheVariants.RowsOut, loaded.Claim.Claim}
-pub use Rattle.app_loads.specs.declared.{loaded.LoadedApp.LoadedApp, loaded.Range.Range, plans.AppNet.AppNet, plans.AppPlan.AppPlan}
+pub use Rattle.app_loads.specs.{Host.net_with, Leaving.NoneUnderWay, Leaving.is_delivery_of, Leaving.is_record_of, Leaving.others_than, Loading.HasLoaded, Loading.sent_by_vertex, Opening.bare_host}
+pub use Rattle.app_loads.specs.{Opening.grid_spots, Opening.spot_of, Plans.IsAppNet, Plans.IsPacketOfApp, Plans.IsPlan, Plans.MayLoad, Unloading.HasUnloaded, Unloading.WaitsFor}
+pub use Rattle.app_loads.specs.declared.answers.{Ended.Ended, LoadRefusal.LoadRefusal, LoadRefusal.TheVariants.KeysOut, LoadRefusal.TheVariants.Loaded, LoadRefusal.TheVariants.MemoryOut}
+pub use Rattle.app_loads.specs.declared.{answers.LoadRefusal.TheVariants.RowsOut, loaded.Claim.Claim, loaded.LoadedApp.LoadedApp, loaded.Range.Range, plans.AppNet.AppNet, plans.AppPlan.AppPlan}
 pub use Rattle.job_requests.specs.{Steps.is_load, Valid.HasFirstMachine, Valid.IsValidJob, Valid.IsValidStep, declared.steps.AppJob.AppJob, declared.steps.Step.Step}
 pub use Rattle.job_requests.specs.declared.steps.Step.TheVariants.{Load, Run, Unload}
 pub use Rattle.link_detours.specs.{LiveRoads.AreRoadsOf, Repair.IsDetour, Repair.IsKeptEdge, Repair.IsRepaired, Repair.IsTreeLevel, Repair.IsWalkTo, Repair.Joins, Repair.LiveEdgeStep, Repair.last_of}
@@ -34,7 +33,7 @@ pub use Rattle.spin_apps.specs.declared.hosts.UnloadAnswer.{TheVariants.Got, The
 pub use Rattle.spin_apps.specs.declared.plans.PlanErr.{PlanErr}
 pub use Rattle.spin_base.proofs.{Equality.spot_eq_same, Equality.spot_eq_true, Members.Contains-at, Members.Contains-cases, Members.Contains-filter, Members.Contains-from_filter}
 pub use Rattle.spin_base.proofs.{Members.Contains-none, Members.among_any, Members.among_contains, Members.among_right, Members.any_among, Members.contains_among, Places.All-at, Places.All-each}
-pub use Rattle.spin_base.proofs.{Places.AllZip-at_first, Places.AllZip-at_second, Places.map_more_at, Places.one_item_at, Places.slice_get_there, Places.take_more_at, Ranges.slice_get-map_range}
+pub use Rattle.spin_base.proofs.{Places.AllZip-at_first, Places.AllZip-at_second, Places.one_item_at, Places.slice_get_there, Places.take_more_at, Ranges.slice_get-map_range}
 pub use Rattle.spin_base.specs.{Equality.spot_eq, declared.blocks.Block.Block, declared.chips.Chip.Chip, declared.chips.Spot.Spot, declared.copies.McCopy.McCopy, declared.copies.Packet.Packet}
 pub use Rattle.spin_base.specs.declared.wants.Memory.{Memory}
 pub use Rattle.std.proofs.Common.{Bool, Err, IfOk, IfSome, List, None, Ok, OnErr, OnOk, Option, Result, Some, [], ap, append-nil, ap₂, arith, cond, drop, false, get_or, inl, inr, length, map, nat_le}

@@ -88,6 +88,7 @@ fn without(apps: Option<Apps>, memory: Memory) -> Result<Answered, Memory>
 }
 
 // Does each step, and puts their lines at the end.
+#[tactic(auto, using(crate::proofs::Chain::goes_all))]
 fn take_all(
     alloc: Global,
     hosted: &mut Option<Hosted>,
@@ -144,6 +145,7 @@ fn load(
 }
 
 // A load on a machine: the one that the state before it has, or the job.
+#[tactic(auto, using(crate::proofs::Chain::told_load))]
 fn load_on(
     alloc: Global,
     host: &mut Hosted,

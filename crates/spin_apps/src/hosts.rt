@@ -142,6 +142,7 @@ impl Hosted {
 }
 
 // Loads a plan under a number, whose cores were taken. After a refusal they are free again.
+#[tactic(auto, using(crate::proofs::Serving::free_after_load, crate::proofs::Serving::machine_after_load))]
 fn take(
     alloc: Global,
     apps: &mut Apps,

@@ -123,15 +123,12 @@ fn copied(alloc: Global, packets: &Seq<Packet>) -> Result<Seq<Packet>, Memory>
 fn bytes_of(alloc: Global, vertices: &Seq<Vertex>) -> Result<Seq<u32>, Memory>
     ensures { IfOk result (λ bytes. bytes ≡ map (λ (v : VertexOf). v.sdram) vertices.now) }
 {
-    let mut bytes = Seq::new(alloc);
-    for i in 0..vertices.len() {
-        let vertex = vertices.get(i);
-        bytes.push(vertex.sdram)?;
-    }
-    Ok(bytes)
+    let bytes = vertices.as_slice().iter().map(|vertex| vertex.sdram);
+    Ok(Seq::from_vec(bytes.collect(alloc)?))
 }
 
 // The nets of an application whose vertices have these cores, or the first net with a target that is cut off.
+#[tactic(auto, using(std::proofs::lemmas::List::take_all, crate::proofs::Planning::why_net))]
 fn app_nets(
     alloc: Global,
     machine: &Machine,
@@ -167,6 +164,7 @@ fn unrouted_net(net: u32, e: RepairErr) -> NetErr
 }
 
 // A net with its source, its targets and its tree.
+#[tactic(auto, using(crate::proofs::Planning::net_for, crate::proofs::Planning::net_valid))]
 fn app_net<'x>(
     alloc: Global,
     machine: &'x Machine,

@@ -38,6 +38,7 @@ use table_load::{a_fault_is_where_no_image_is_spelled, an_image_has_one_spelling
 ///
 /// `NoRoom` has the name of the first vertex without room, `KeysOut` that of the first net without keys where all vertices have
 /// room. Each comes exactly where there is such a vertex or net, unless memory runs out before, which `Memory` says.
+#[tactic(auto, using(crate::proofs::Meaning::wrong_means))]
 pub fn answer(
     alloc: Global,
     machine: &Machine,

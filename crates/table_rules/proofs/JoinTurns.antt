@@ -1,52 +1,24 @@
 -- One block more, one route more.
-use Rattle.table_rules.proofs.Common.{Alias, Block, Bool, List, Original, Route, RoutedBlock, Row, [], ap, append-nil, append_assoc, arith, drop, drop_all, drop_more, false, filter-append}
-use Rattle.table_rules.proofs.Common.{flat_map-append, fold-append, get_or, goes_by, if◌then◌else◌, joined_blocks, length, map, map-append, map_push, meets_one, merge_two, others, own_blocks}
-use Rattle.table_rules.proofs.Common.{pieces_of, refl, row_by, rows_by_routes, served_by, set, sets-eq, sym, take, take_all, take_more, true, with_block, ℕ, ◌++◌, ◌+◌, ◌<◌, ◌∙◌, ◌∷◌, ◌≡◌, ◌≤◌}
+use Rattle.table_rules.proofs.Common.{Alias, Among, Block, List, Original, Route, RoutedBlock, Row, [], ap, append_assoc, arith, cases_Bool, drop, drop_more, false, get_or, inl, inr, joined_blocks}
+use Rattle.table_rules.proofs.Common.{length, map, meets_one, merge_two, not, others, own_blocks, refl, row_by, rows_by_routes, served_by, set, suc, sym, take, take_all, true, with_block, zero, ℕ}
+use Rattle.table_rules.proofs.Common.{◌++◌, ◌+◌, ◌<◌, ◌∙◌, ◌∷◌, ◌≡◌, ◌≤◌}
 
 -- ---- a block is put
 
-module _ (behind : List RoutedBlock) (block : Block) (blocks all : List Block) (i : ℕ) (so_far : take i blocks ++ with_block behind (drop i blocks) block ≡ all) where
-  pub put_at_end : length blocks ≤ i → blocks ++ block ∷ [] ≡ all
-  put_at_end past = grind (arith, take_all i blocks past, drop_all i blocks past)
+module _ (behind : List RoutedBlock) (block : Block) where
+  pub taken_in : (blocks : List Block) (at : ℕ) (d : Block) → at < length blocks → not (meets_one behind (merge_two (get_or blocks at d) block)) ≡ true
+      → ((k : ℕ) → k < at → not (meets_one behind (merge_two (get_or blocks k d) block)) ≡ false) → set blocks at (merge_two (get_or blocks at d) block) ≡ with_block behind blocks block
+  taken_in [] at d inside takes before = absurd (omega (arith, inside))
+  taken_in (b ∷ blocks) zero d inside takes before = grind arith
+  taken_in (b ∷ blocks) (suc at) d inside takes before = grind (arith, before 0, taken_in blocks at d (omega (arith, inside)) takes (λ k less. before (suc k) (omega (arith, less))))
 
-  module _ (b join : Block) (within : i < length blocks) (read : b ≡ get_or blocks i b) (is : join ≡ merge_two b block) where
-    at_place : (t : Bool) → meets_one behind join ≡ t → take i blocks ++ (if t then b ∷ with_block behind (drop (i + 1) blocks) block else join ∷ drop (i + 1) blocks) ≡ all
-    at_place t met = grind (arith, drop_more blocks i b within)
-
-    pub taken_in : meets_one behind join ≡ false → set blocks i join ≡ all
-    taken_in clear = grind (arith, sets-eq (join ∷ []) blocks i (omega (arith, within)), append_assoc (take i blocks) (join ∷ []) (drop (i + length (join ∷ [])) blocks), at_place false clear)
-
-    pub passed_on : meets_one behind join ≡ true → take (i + 1) blocks ++ with_block behind (drop (i + 1) blocks) block ≡ all
-    passed_on met = grind (arith, take_more blocks i b within, append_assoc (take i blocks) (b ∷ []) (with_block behind (drop (i + 1) blocks) block), at_place true met)
-
--- ---- blocks are joined
-
-pub joined_more : (behind : List RoutedBlock) (blocks : List Block) (i : ℕ) (block : Block) (old new : List Block) → i < length blocks → block ≡ get_or blocks i block → old ≡ joined_blocks behind (take i blocks)
-    → new ≡ with_block behind old block → new ≡ joined_blocks behind (take (i + 1) blocks)
-joined_more behind blocks i block old new within read so_far put = grind (arith, fold-append (with_block behind), take_more blocks i block within)
-
--- ---- pieces of a route, and of others
-
-module _ (route : Route) (pieces : List RoutedBlock) (i : ℕ) (piece : RoutedBlock) (within : i < length pieces) (read : piece ≡ get_or pieces i piece) where
-  one_more : take (i + 1) pieces ≡ take i pieces ++ piece ∷ []
-  one_more = take_more pieces i piece within ∙ ap (λ x. take i pieces ++ x ∷ []) (sym read)
-
-  pub own_more : (old new : List Block) → old ≡ own_blocks route (take i pieces) → new ≡ old ++ own_blocks route (piece ∷ []) → new ≡ own_blocks route (take (i + 1) pieces)
-  own_more old new so_far put = grind (arith, one_more, filter-append (goes_by route) (take i pieces) (piece ∷ []), map-append)
-
-  pub others_more : (old new : List RoutedBlock) → old ≡ others route (take i pieces) → new ≡ old ++ others route (piece ∷ []) → new ≡ others route (take (i + 1) pieces)
-  others_more old new so_far put = grind (arith, one_more, filter-append)
+  pub put_at_end : (blocks : List Block) → ((b : Block) → Among b blocks → not (meets_one behind (merge_two b block)) ≡ true → ⊥) → blocks ++ block ∷ [] ≡ with_block behind blocks block
+  put_at_end [] none = refl
+  put_at_end (b ∷ blocks) none = grind (arith, cases_Bool (meets_one behind (merge_two b block)), none b (inl refl), put_at_end blocks (λ x among. none x (inr among)))
 
 -- ---- the pieces of rows
 
-pub pieces_more : (rows : List Row) (i : ℕ) (row : Row) (old new : List RoutedBlock) → i < length rows → row ≡ get_or rows i row → old ≡ pieces_of (take i rows)
-    → new ≡ old ++ map (λ (o : Original). row_by o.route o.block) (served_by row) → new ≡ pieces_of (take (i + 1) rows)
-pieces_more rows i row old new within read so_far put = grind (arith, take_more rows i row within, flat_map-append served_by (take i rows) (row ∷ []), append-nil (served_by row), map-append)
-
 module _ (row : Row) (items : List Alias) (i : ℕ) (before old : List RoutedBlock) (so_far : old ≡ before ++ map (λ (a : Alias). row_by row.route a.block) (take i items)) where
-  pub aliases_more : (a : Alias) (new : List RoutedBlock) → i < length items → a ≡ get_or items i a → new ≡ old ++ row_by row.route a.block ∷ [] → new ≡ before ++ map (λ (x : Alias). row_by row.route x.block) (take (i + 1) items)
-  aliases_more a new within read put = grind (arith, take_more items i a within, append_assoc, map_push)
-
   pub aliases_all : items ≡ row.aliases → length items ≤ i → old ≡ before ++ map (λ (o : Original). row_by o.route o.block) (served_by row)
   aliases_all same past =
       so_far ∙ ap (λ l. before ++ l) (ap (map (λ (x : Alias). row_by row.route x.block)) (take_all i items past ∙ same) ∙ in_two row.aliases)
@@ -59,9 +31,6 @@ module _ (row : Row) (items : List Alias) (i : ℕ) (before old : List RoutedBlo
 -- ---- rows of routes
 
 module _ (routes : List Route) (i : ℕ) (rows left all : List RoutedBlock) (so_far : rows ++ rows_by_routes (drop i routes) left ≡ all) where
-  pub routes_all : length routes ≤ i → rows ≡ all
-  routes_all past = sym (append-nil rows) ∙ (ap (λ l. rows ++ rows_by_routes l left) (sym (drop_all i routes past)) ∙ so_far)
-
   pub routes_more : (route : Route) (behind : List RoutedBlock) (own joined : List Block) (new : List RoutedBlock) → i < length routes → route ≡ get_or routes i route → behind ≡ others route left
       → own ≡ own_blocks route left → joined ≡ joined_blocks behind own → new ≡ rows ++ map (row_by route) joined → new ++ rows_by_routes (drop (i + 1) routes) behind ≡ all
   routes_more route behind own joined new within read behind_is own_is joined_is put =

@@ -1,13 +1,12 @@
 -- Behind a wall no key is new: the rows of its route have all keys, and those before them have none of the wall's.
 use Rattle.table_rules.proofs.Common.{Alias, All, All-append, All-at, All-cons, All-drop, All-flat_map, All-has, All-head, All-map, All-nil, All-picked, All-tail, All-take, AllPairs, AllPairs-head}
-use Rattle.table_rules.proofs.Common.{AllPairs-left, AreLeft, Block, Bool, Contains, Contains-append_cases, Contains-append_left, Contains-append_right, Covers, HasNoNewKeys, HoldsItsAliases}
-use Rattle.table_rules.proofs.Common.{Intersects, IsCoveredWithin, IsFree, IsPermutation, IsRowAdded, IsShortWithin, IsShorterOf, IsSound, IsTableFrom, IsTableMadeOf, KeepsRoutes, List, Matches}
-use Rattle.table_rules.proofs.Common.{Misses, None, Option, Original, Port, Route, RoutedBlock, Row, Some, StandsBefore, [], after, all_keys, and_le_l, and_le_r, ap, arith, bit_and, bit_at}
-use Rattle.table_rules.proofs.Common.{bit_at-zero, bit_not, bit_xor, cond, cons_option, done, drop, eqb_tells, false, find-append, first_with, fold, generality, generality-mono, get_or, has_row}
-use Rattle.table_rules.proofs.Common.{in_pieces, inl, inr, insert_place, kept, left_out, length, length-append, length-take, ltb-false, map, merge_rows, merged, merged_row, more, nat_le, nat_lt}
-use Rattle.table_rules.proofs.Common.{nat_tests, none-some, not, option_or, others, piece_row, pieces_of, place_for, position, position_or_len, refl, rows_at, rows_at-from, rows_before, same_Some}
-use Rattle.table_rules.proofs.Common.{served, served_by, slice_get, stuck, subst, sum_by-append, sym, take, take-append-drop, take_all, take_while-cons, takes_key, true, w32, wall_of, walled, whole}
-use Rattle.table_rules.proofs.Common.{whole_row, ℕ, ◌++◌, ◌-◌, ◌<◌, ◌==◌, ◌^◌, ◌∙◌, ◌∷◌, ◌≡◌, ◌≤◌}
+use Rattle.table_rules.proofs.Common.{AllPairs-left, AreLeft, Block, Contains, Contains-append_cases, Contains-append_left, Contains-append_right, Covers, HasNoNewKeys, HoldsItsAliases, Intersects}
+use Rattle.table_rules.proofs.Common.{IsCoveredWithin, IsFree, IsPermutation, IsRowAdded, IsShortWithin, IsShorterOf, IsSound, IsTableFrom, IsTableMadeOf, KeepsRoutes, List, Matches, Misses, None}
+use Rattle.table_rules.proofs.Common.{Option, Original, Port, Route, RoutedBlock, Row, Some, StandsBefore, [], after, all_keys, and_le_l, and_le_r, ap, arith, bit_and, bit_at, bit_at-zero, bit_not}
+use Rattle.table_rules.proofs.Common.{bit_xor, cond, cons_option, done, drop, eqb_tells, false, find-append, first_with, fold, generality, generality-mono, get_or, has_row, in_pieces, inl, inr}
+use Rattle.table_rules.proofs.Common.{insert_place, kept, left_out, length, length-append, length-take, map, merge_rows, merged, merged_row, more, nat_le, nat_tests, none-some, not, option_or, others}
+use Rattle.table_rules.proofs.Common.{piece_row, pieces_of, place_for, position_or_len, refl, rows_at, rows_at-from, rows_before, same_Some, served, served_by, slice_get, stuck, subst, sum_by-append}
+use Rattle.table_rules.proofs.Common.{sym, take, take-append-drop, take_while-cons, takes_key, true, w32, wall_of, walled, whole, whole_row, ℕ, ◌++◌, ◌-◌, ◌<◌, ◌==◌, ◌^◌, ◌∙◌, ◌∷◌, ◌≡◌, ◌≤◌}
 use Rattle.cover_merge.specs.Covering.{short}
 use Rattle.tern_word.specs.Ternary.{merge_two}
 use Rattle.table_rules.proofs.{Faithful.IsServed, Faithful.is_served, Faithful.sent_on, Kept.kept_within, Kept.none_of, FirstRows.first_hit, FirstRows.first_miss, FirstRows.first_next}
@@ -209,19 +208,6 @@ module _ (bits : ℕ) (rows list before : List Row) (same : list ≡ rows) (is :
 
   pub few_wall : length before ≤ length rows
   few_wall = omega (arith, ap length is, ap length same, length-take (position_or_len (λ (r : Row). r.route.bits == bits) list) list)
-
--- the place of the first of the route, as the code finds it
-module _ (bits : ℕ) (rows : List Row) (o : Option ℕ) (is : o ≡ position (λ (r : Row). r.route.bits == bits) rows) where
-  n : ℕ
-  n = position_or_len (λ (r : Row). r.route.bits == bits) rows
-
-  pub before_end : o ≡ None → rows ≡ rows_before bits rows
-  unfolding n
-  before_end absent = sym (take_all n rows (by_test (nat_lt n (length rows)) refl (sym is ∙ absent)))
-    where
-      by_test : (b : Bool) → nat_lt n (length rows) ≡ b → cond b (Some n) None ≡ None → length rows ≤ n
-      by_test true less found = absurd (none-some n (sym found))
-      by_test false most found = ltb-false n (length rows) most
 
 module _ (target room : ℕ) (given : List RoutedBlock) (route : Route) (table rows : List Row) (sets : List (List ℕ)) (long : target < length given) (free : IsFree given route.bits) (made : IsTableMadeOf room (walled given route) table) (covers : Covers target table sets rows) where
   within : IsCoveredWithin target room given route rows

@@ -1,7 +1,7 @@
 -- Routes by their weights are the routes of the pieces, by weight.
 use Rattle.table_rules.proofs.Common.{All-each, AllPairs, AllPairs-from_map, Among, AreRoutesOf, Contains, Contains-map, Contains-unmap, List, Route, RoutedBlock, [], among_contains, among_map, ap}
-use Rattle.table_rules.proofs.Common.{arith, contains_among, count_by, drop, get_or, goes_by, inl, inr, length, map, map_push, mod_low, refl, same_route, subst, sym, take, take_more, weight_of, ℕ}
-use Rattle.table_rules.proofs.Common.{◌%◌, ◌++◌, ◌+◌, ◌<◌, ◌^◌, ◌↔◌, ◌∙◌, ◌∷◌, ◌≡◌}
+use Rattle.table_rules.proofs.Common.{arith, contains_among, count_by, drop, get_or, goes_by, inl, inr, length, map, mod_low, refl, same_route, subst, sym, weight_of, ℕ, ◌%◌, ◌<◌, ◌^◌, ◌↔◌, ◌∙◌, ◌∷◌}
+use Rattle.table_rules.proofs.Common.{◌≡◌}
 
 module _ (pieces : List RoutedBlock) where
   abbrev weigh : RoutedBlock → ℕ
@@ -48,11 +48,3 @@ module _ (pieces : List RoutedBlock) where
           subst (Contains (map (λ (p : RoutedBlock). p.route) pieces)) (sym (route_is r it.0 it.2)) (Contains-map (λ (p : RoutedBlock). p.route) pieces it.0 (among_contains it.0 pieces it.1)));
       rising = AllPairs-from_map (weight_of pieces) (λ a b. a < b) routes (subst (AllPairs (λ a b. a < b)) (sym all_weights) rising);
     }
-
-pub weights_more : (pieces : List RoutedBlock) (i : ℕ) (p : RoutedBlock) (old new : List ℕ) → i < length pieces → p ≡ get_or pieces i p → old ≡ map (λ (q : RoutedBlock). weight_of pieces q.route) (take i pieces)
-    → new ≡ old ++ weight_of pieces p.route ∷ [] → new ≡ map (λ (q : RoutedBlock). weight_of pieces q.route) (take (i + 1) pieces)
-weights_more pieces i p old new within read so_far put =
-    put
-    ∙ (ap (λ l. l ++ weight_of pieces p.route ∷ []) so_far
-    ∙ (sym (map_push (λ (q : RoutedBlock). weight_of pieces q.route) (take i pieces) p)
-    ∙ ap (map (λ (q : RoutedBlock). weight_of pieces q.route)) (sym (take_more pieces i p within ∙ ap (λ x. take i pieces ++ x ∷ []) (sym read)))))

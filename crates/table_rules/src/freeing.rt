@@ -31,11 +31,7 @@ pub(crate) fn free_route(
 fn bits_of(alloc: Global, given: &[RoutedBlock]) -> Result<Vec<u32>, Memory>
     ensures { IfOk result (λ bits. bits.items ≡ map (λ (r : RoutedBlock). r.route.bits) given.now) }
 {
-    let mut bits = Vec::new(alloc);
-    for row in given {
-        bits.push(row.route.bits)?;
-    }
-    Ok(bits)
+    Ok(given.iter().map(|row| row.route.bits).collect(alloc)?)
 }
 
 // From which number on each below `routes` is one of these, which are in ascending order.

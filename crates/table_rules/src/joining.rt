@@ -1,5 +1,6 @@
 // The pieces of a table joined by pairs, one route after another.
-ghost use Rattle.std.specs.Prelude.{◌≡◌, ◌++◌, ◌≤◌, IfOk, OnOk, length, map};
+ghost use Rattle.std.specs.Prelude.{◌≡◌, ◌++◌, ◌≤◌, IfOk, OnOk, length, map, not, position};
+ghost use Rattle.tern_word.specs.Ternary.{merge_two};
 ghost use Rattle.table_rules.specs.Pairs.{AreJoinedRows, joined_blocks, meets_one, row_by, rows_by_routes, with_block};
 
 use crate::pieces::{others, own_blocks, row_by};
@@ -72,15 +73,20 @@ fn joined_blocks(
 fn put_block(behind: &[RoutedBlock], joined: &mut Vec<Block>, block: Block) -> Result<(), Memory>
     ensures { OnOk result (joined.new.items ≡ with_block behind.now joined.old.items block) }
 {
-    for at in 0..joined.len() {
-        let join = merge_two(joined[at], block);
-        if !meets_one(behind, join) {
-            joined[at] = join;
-            return Ok(());
-        }
+    match place_among(behind, joined, block) {
+        Some(at) => joined[at] = merge_two(joined[at], block),
+        None => joined.push(block)?,
     }
-    joined.push(block)?;
     Ok(())
+}
+
+// The place of the first of the blocks that may take in the block.
+fn place_among(behind: &[RoutedBlock], joined: &[Block], block: Block) -> Option<usize>
+    ensures { result ≡ position (λ b. not (meets_one behind.now (merge_two b block))) joined.now }
+{
+    joined
+        .iter()
+        .position(|b| !meets_one(behind, merge_two(*b, block)))
 }
 
 // Whether the block meets one of the pieces.

@@ -56,21 +56,8 @@ pub(crate) fn own_blocks(
 ) -> Result<Vec<Block>, Memory>
     ensures { IfOk result (λ own. own.items ≡ own_blocks route pieces.now) }
 {
-    let mut own = Vec::new(alloc);
-    for piece in pieces {
-        put_own(&mut own, route, *piece)?;
-    }
-    Ok(own)
-}
-
-// Puts the block of a piece that has the route.
-fn put_own(own: &mut Vec<Block>, route: Route, piece: RoutedBlock) -> Result<(), Memory>
-    ensures { OnOk result (own.new.items ≡ own.old.items ++ own_blocks route (piece ∷ [])) }
-{
-    if goes_by(route, &piece) {
-        own.push(piece.block)?;
-    }
-    Ok(())
+    let own = pieces.iter().filter(|piece| goes_by(route, piece));
+    Ok(own.map(|piece| piece.block).collect(alloc)?)
 }
 
 // The pieces of other routes.
@@ -81,19 +68,6 @@ pub(crate) fn others(
 ) -> Result<Vec<RoutedBlock>, Memory>
     ensures { IfOk result (λ rest. rest.items ≡ others route pieces.now) }
 {
-    let mut rest = Vec::new(alloc);
-    for piece in pieces {
-        put_other(&mut rest, route, *piece)?;
-    }
-    Ok(rest)
-}
-
-// Puts a piece that has another route.
-fn put_other(rest: &mut Vec<RoutedBlock>, route: Route, piece: RoutedBlock) -> Result<(), Memory>
-    ensures { OnOk result (rest.new.items ≡ rest.old.items ++ others route (piece ∷ [])) }
-{
-    if !goes_by(route, &piece) {
-        rest.push(piece)?;
-    }
-    Ok(())
+    let rest = pieces.iter().filter(|piece| !goes_by(route, piece));
+    Ok(rest.copied().collect(alloc)?)
 }

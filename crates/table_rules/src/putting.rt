@@ -51,19 +51,16 @@ fn whole_row(alloc: Global, given: RoutedBlock, pieces: &[Block]) -> Result<Row,
     Ok(Row {
         block: given.block,
         route: given.route,
-        aliases,
+        aliases: Seq::from_vec(aliases),
     })
 }
 
 // The pieces as aliases of packets that come in by the port.
-fn aliases_of(alloc: Global, port: Port, pieces: &[Block]) -> Result<Seq<Alias>, Memory>
-    ensures { IfOk result (λ aliases. aliases ≡ map (alias_of port) pieces.now) }
+fn aliases_of(alloc: Global, port: Port, pieces: &[Block]) -> Result<Vec<Alias>, Memory>
+    ensures { IfOk result (λ aliases. aliases.items ≡ map (alias_of port) pieces.now) }
 {
-    let mut aliases = Seq::new(alloc);
-    for piece in pieces {
-        aliases.push(alias_of(port, *piece))?;
-    }
-    Ok(aliases)
+    let aliases = pieces.iter().map(|piece| alias_of(port, *piece));
+    Ok(aliases.collect(alloc)?)
 }
 
 // A piece as an alias of packets that come in by the port.

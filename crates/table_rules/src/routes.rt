@@ -26,11 +26,8 @@ fn weights_of(alloc: Global, pieces: &[RoutedBlock]) -> Result<Vec<u128>, Memory
     ensures { IfOk result (λ weights. weights.items
         ≡ map (λ (p : RoutedBlock). weight_of pieces.now p.route) pieces.now) }
 {
-    let mut weights = Vec::new(alloc);
-    for piece in pieces {
-        weights.push(weight_of(pieces, piece.route))?;
-    }
-    Ok(weights)
+    let weights = pieces.iter().map(|piece| weight_of(pieces, piece.route));
+    Ok(weights.collect(alloc)?)
 }
 
 // What a route weighs: how many pieces it has, and then its bits.

@@ -1,5 +1,5 @@
 // Shorter tables, one for each given.
-ghost use Rattle.std.specs.Prelude.{◌≡◌, ◌≤◌, true, IfOk, IfSome, MatchOption, length};
+ghost use Rattle.std.specs.Prelude.{◌≡◌, ◌≤◌, true, IfOk, IfSome, MatchOption, length, map};
 ghost use Rattle.table_rules.specs.Rows.{HasNoNewKeys, KeepsRoutes};
 ghost use Rattle.tables_top.specs.Shorter.{AreShortRows, AreShorter, AreTooManyPieces, IsShorterTable, entry_at, is_long_table, has_long_table, short_at};
 
@@ -74,12 +74,16 @@ fn short_table(
 ) -> Result<ShortTable, Memory>
     ensures { IfOk result (λ short. short ≡ short_at chip rows.now kept) }
 {
-    let mut entries = Seq::new(alloc);
-    for row in rows {
-        entries.push(entry_at(*row))?;
-    }
+    let entries = Seq::from_vec(entries_of(alloc, rows)?);
     let table = ChipTable { chip, entries };
     Ok(ShortTable { table, kept })
+}
+
+// The entries that rows are.
+fn entries_of(alloc: Global, rows: &[RoutedBlock]) -> Result<Vec<Entry>, Memory>
+    ensures { IfOk result (λ entries. entries.items ≡ map entry_at rows.now) }
+{
+    Ok(rows.iter().map(|row| entry_at(*row)).collect(alloc)?)
 }
 
 // The entry that a row is.

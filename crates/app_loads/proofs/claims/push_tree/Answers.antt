@@ -2,9 +2,6 @@ use Rattle.app_loads.proofs.Common.{arith, end_places, index_of, slice_get-get_o
 use Rattle.app_loads.proofs.RowClaims.{ends_more}
 use Rattle.app_loads.proofs.claims.push_tree.Goals as goal
 
-pub invariant_of-leaving : goal.invariant_of-leaving
-invariant_of-leaving c = grind (arith, c.args.one.inside.edges)
-
 pub loop-edge-preserved : goal.loop-edge-preserved
 loop-edge-preserved c =
     ends_more (end_places c.args.one.machine.now) c.as_slice-edge-items.result.now c.loop-edge.edge-index _ c.args.chips.now.items c.loop-edge.chips.items c.push_end.new.chips.items

@@ -18,5 +18,4 @@ pub returns-clause-same : goal.returns-clause-same
 returns-clause-same c = grind (arith, take_all c.loop-net.net-index c.args.nets.list.now c.loop-net-test.false)
 
 pub returns-clause-sorted : goal.returns-clause-sorted
-returns-clause-sorted c i j d before within =
-    IsNonDecreasingBy-from_sort (λ n. n) c.sort_unstable.new.self.items c.sort_unstable.ensures.sorted i j d (omega (arith, before)) within
+returns-clause-sorted c i j d before within = IsNonDecreasingBy-from_sort (λ n. n) _ c.sort_unstable.ensures.sorted i j d (omega (arith, before)) within

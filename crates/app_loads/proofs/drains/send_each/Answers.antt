@@ -37,6 +37,4 @@ returns-clause-at_rest c =
     rest_from c.args.mesh.now c.loop-vertex.mesh c.args.vertices.now c.loop-vertex.vertex-index c.loop-vertex-test.false c.loop-vertex.invariant.clean.quiet c.loop-vertex.invariant.unsent
 
 pub returns-in_err-send_all-clause-reached : goal.returns-in_err-send_all-clause-reached
-returns-in_err-send_all-clause-reached c =
-    reached_then (with_earlier (all_grouped c.args.earlier.now) c.args.mesh.now) (with_earlier (all_grouped c.loop-vertex.earlier) c.loop-vertex.mesh)
-    (with_earlier (all_grouped c.send_all.new.earlier) c.send_all.new.mesh) c.loop-vertex.invariant.reached c.send_all.ensures.reached
+returns-in_err-send_all-clause-reached c = grind (arith, reached_then)

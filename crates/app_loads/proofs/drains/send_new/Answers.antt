@@ -1,17 +1,13 @@
-use Rattle.app_loads.proofs.Common.{AreKnown, Block, Comes, IsBlockWith, all_grouped, ap, drop, last_arrivals, setup_reached, sym, with_earlier, ◌∙◌}
+use Rattle.app_loads.proofs.Common.{AreKnown, Block, Comes, IsBlockWith, all_grouped, ap, arith, drop, last_arrivals, setup_reached, sym, ◌∙◌}
 use Rattle.app_loads.proofs.{Kept.comes_again, Kept.known_still, Kept.some_first, drains.send_new.Goals.After-ends_with, drains.send_new.Goals.After-block_of}
 use Rattle.app_loads.proofs.drains.send_new.Goals as goal
 
 pub send_one-requires : goal.send_one-requires
-send_one-requires c =
-    let first = c.requires.sends.first in
-    record { clean = c.requires.sends.clean; there = c.requires.sends.there; some = some_first _ c.args.copy first.0 first.1 }
+send_one-requires c = grind (arith, some_first)
 
 -- what was known is known still
 still : (c : After-ends_with) → AreKnown c.send_one.new.mesh.setup c.args.vertex c.args.apps.now c.args.known.now
-still c =
-    known_still c.args.mesh.now.setup c.send_one.new.mesh.setup c.args.vertex c.args.apps.now c.args.known.now
-    (setup_reached (with_earlier (all_grouped c.args.earlier.now) c.args.mesh.now) (with_earlier (all_grouped c.send_one.new.earlier) c.send_one.new.mesh) c.send_one.ensures.reached) c.requires.known
+still c = grind (arith, known_still, setup_reached)
 
 -- others with keys of the block come where this packet came
 comes : (c : After-block_of) (block : Block) → IsBlockWith c.args.apps.now c.args.copy.key block → AreKnown c.send_one.new.mesh.setup c.args.vertex c.args.apps.now c.args.known.now →

@@ -6,9 +6,6 @@ use Rattle.app_loads.proofs.drains.send_next.Goals as goal
 abbrev no_copy : McCopy
 no_copy = record { packet = 0; key = 0; payload = None; hop = 0 }
 
-pub unsent-requires : goal.unsent-requires
-unsent-requires c = c.requires.can.there
-
 pub bounds-unsent-0 : goal.bounds-unsent-0
 bounds-unsent-0 c = some_there c.unsent.result.now c.args.mesh.now.unsent c.args.vertex c.requires.can.some c.unsent.ensures
 

@@ -9,9 +9,7 @@ pub returns-in_err-send_first-clause-reached : goal.returns-in_err-send_first-cl
 returns-in_err-send_first-clause-reached c = reached_with (all_grouped c.args.earlier.now) c.args.mesh.now c.send_first.new.mesh c.send_first.ensures.reached
 
 pub returns-clause-reached : goal.returns-clause-reached
-returns-clause-reached c =
-    sent_reached (all_grouped c.args.earlier.now) (all_grouped c.keep.new.earlier) c.args.mesh.now c.send_first.new.mesh c.keep.new.mesh
-    c.requires.clean c.send_first.ensures.reached c.keep.ensures.mesh c.keep.ensures.all
+returns-clause-reached c = grind (arith, sent_reached)
 
 pub returns-clause-clean : goal.returns-clause-clean
 returns-clause-clean c =

@@ -6,12 +6,10 @@ use Rattle.app_loads.proofs.groups.put_by.Goals as goal
 apart : (c : After-is_others-is_others) →
     (filter (is_delivery_of c.args.app.now) c.args.group.deliveries ≡ []) × (filter (λ d. not (is_delivery_of c.args.app.now d)) c.args.group.deliveries ≡ c.args.group.deliveries)
 apart c =
-    none_apart (is_delivery_of c.args.app.now) c.args.group.deliveries
-    (c.is_others-is_others.ensures.none (c.is_others-is_others.ensures.others ∙ not_own c.args.app.now c.args.group c.requires.unmixed (sym c.is_own.ensures.own ∙ c.if-is_own.false)))
+    none_apart _ _ (c.is_others-is_others.ensures.none (c.is_others-is_others.ensures.others ∙ not_own c.args.app.now c.args.group c.requires.unmixed (sym c.is_own.ensures.own ∙ c.if-is_own.false)))
 
 pub returns-then-is_own-clause-own : goal.returns-then-is_own-clause-own
-returns-then-is_own-clause-own c =
-    grind (arith, grouped_push c.args.own.now.items c.args.group, all_apart (is_delivery_of c.args.app.now) c.args.group.deliveries (c.is_own.ensures.all c.if-is_own.true))
+returns-then-is_own-clause-own c = grind (arith, grouped_push, all_apart)
 
 pub returns-then-is_own-clause-others : goal.returns-then-is_own-clause-others
 returns-then-is_own-clause-others c =

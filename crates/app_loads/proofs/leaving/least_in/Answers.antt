@@ -1,14 +1,8 @@
-use Rattle.app_loads.proofs.Common.{arith, sym, take_all}
-use Rattle.app_loads.proofs.LeavingLeast.{none_right, copy_more}
+use Rattle.app_loads.proofs.Common.{McCopy, YieldsList-from_slice, fold_from_yields_List, lesser_of, own_packet, rules, ◌∙◌}
+use Rattle.app_loads.proofs.LeavingLeast.{copies_folded}
 use Rattle.app_loads.proofs.leaving.least_in.Goals as goal
 
-pub loop-copy-init : goal.loop-copy-init
-loop-copy-init c = sym (none_right c.args.so_far)
-
-pub loop-copy-preserved : goal.loop-copy-preserved
-loop-copy-preserved c =
-    copy_more c.args.app.now c.args.so_far c.loop-copy.least c.lesser-least.result c.args.copies.now c.loop-copy.copy-index _ c.loop-copy-test.true
-    c.loop-copy.invariant c.lesser-least.ensures
-
 pub returns : goal.returns
-returns c = grind (arith, take_all c.loop-copy.copy-index c.args.copies.now c.loop-copy-test.false)
+returns c =
+    fold_from_yields_List _ (λ o (k : McCopy). lesser_of o (own_packet c.args.app.now k.packet)) c.args.so_far c.fold.result c.fold.ensures.ran (YieldsList-from_slice c.args.copies.now cc) (λ a x b q k. search rules)
+    ∙ copies_folded c.args.app.now c.args.copies.now c.args.so_far

@@ -1,14 +1,8 @@
-use Rattle.app_loads.proofs.Common.{arith, held_packets, sym}
-use Rattle.app_loads.proofs.LeavingLeast.{none_right, list_more, all_lists}
+use Rattle.app_loads.proofs.Common.{YieldsList-from_slice, fold_from_yields_List, held_packets, least_own_packet, lesser_of, rules, ◌∙◌}
+use Rattle.app_loads.proofs.LeavingLeast.{least_folded}
 use Rattle.app_loads.proofs.leaving.least_in_hands.Goals as goal
 
-pub loop-hand-init : goal.loop-hand-init
-loop-hand-init c = sym (none_right c.args.so_far)
-
-pub loop-hand-preserved : goal.loop-hand-preserved
-loop-hand-preserved c =
-    list_more c.args.app.now c.args.so_far c.loop-hand.least c.lesser_held-least.result held_packets c.args.hands.now c.loop-hand.hand-index c.hand-item.result
-    c.loop-hand-test.true c.hand-item.is c.loop-hand.invariant c.lesser_held-least.ensures
-
 pub returns : goal.returns
-returns c = grind (arith, all_lists c.args.app.now c.args.so_far c.loop-hand.least c.loop-hand.least held_packets c.args.hands.now c.loop-hand.hand-index c.loop-hand-test.false c.loop-hand.invariant)
+returns c =
+    fold_from_yields_List _ (λ o h. lesser_of o (least_own_packet c.args.app.now (held_packets h))) c.args.so_far c.fold.result c.fold.ensures.ran (YieldsList-from_slice c.args.hands.now cc) (λ a x b q k. search rules)
+    ∙ least_folded c.args.app.now held_packets c.args.hands.now c.args.so_far

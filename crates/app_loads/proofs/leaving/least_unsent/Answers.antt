@@ -1,7 +1,8 @@
-use Rattle.app_loads.proofs.LeavingLeast.{sender_more}
+use Rattle.app_loads.proofs.Common.{None, YieldsList-from_slice, fold_from_yields_List, least_own_packet, lesser_of, rules, unsent_numbers, ◌∙◌}
+use Rattle.app_loads.proofs.LeavingLeast.{least_folded}
 use Rattle.app_loads.proofs.leaving.least_unsent.Goals as goal
 
-pub loop-vertex-preserved : goal.loop-vertex-preserved
-loop-vertex-preserved c =
-    sender_more c.args.app.now c.args.senders.unsent.now c.args.senders.vertices.now c.loop-vertex.vertex-index _ c.loop-vertex.least c.least_in-least.result
-    c.index-unsent-vertex.result c.as_slice.result.now c.loop-vertex-test.true c.args.senders.there c.as_slice.ensures c.index-unsent-vertex.is c.loop-vertex.invariant c.least_in-least.ensures
+pub returns : goal.returns
+returns c =
+    fold_from_yields_List _ (λ o v. lesser_of o (least_own_packet c.args.app.now (unsent_numbers c.args.unsent.now v))) None c.fold.result c.fold.ensures.ran (YieldsList-from_slice c.args.vertices.now cc) (λ a x b q k. search rules)
+    ∙ least_folded c.args.app.now (unsent_numbers c.args.unsent.now) c.args.vertices.now None

@@ -13,6 +13,3 @@ returns-in-Some-clause-some c = least_of_senders c.args.parts.now c.requires.mes
 
 pub returns-in-Some-clause-none : goal.returns-in-Some-clause-none
 returns-in-Some-clause-none c = none_of_senders c.args.parts.now c.requires.mesh c.args.app.now c.in-Some.known (alone c) c.least_unsent.result (least_is c)
-
-pub returns-in-None-clause-some : goal.returns-in-None-clause-some
-returns-in-None-clause-some c = c.least_of_all.ensures.some c.requires.mesh

@@ -27,8 +27,7 @@ loop-at-preserved c = elim c.match-claim.branch [
   }
   | goal.in_default w ↦ record {
     long = ap (λ (v : Vec Block Global). length v.items) w.blocks-is ∙ c.loop-at.invariant.long;
-    each = subst (λ (v : Vec Block Global). HaveBlocksBelow c.args.claims.now c.args.ranges.now v.items (c.loop-at.at + 1)) (sym w.blocks-is)
-        (block_skip no_claim no_range c.requires c.loop-at-test.true c.loop-at.blocks.items w.in_default.not-KeysOut c.loop-at.invariant.each);
+    each = grind (arith, block_skip no_claim no_range c.requires c.loop-at-test.true c.loop-at.blocks.items w.in_default.not-KeysOut c.loop-at.invariant.each, HaveBlocksBelow);
   }
 ]
 

@@ -1,15 +1,6 @@
-use Rattle.app_loads.proofs.Common.{AreFreeAgain, AreTaken, CanSettle, Description, HaveRoom, IsDueAlways, List, Range, State, all_grouped, arith, claims_of, refl, subst, sym}
+use Rattle.app_loads.proofs.Common.{AreFreeAgain, AreTaken, CanSettle, Description, HaveRoom, List, Range, State, all_grouped, subst, sym}
 use Rattle.app_loads.proofs.{JoinLaws.can_settle, JoinLaws.served_on, Kept.can_settle_own}
 use Rattle.app_loads.proofs.loads.join.Goals as goal
-
-pub serve-requires : goal.serve-requires
-serve-requires c = grind arith
-
-pub returns-in-Err-clause-due : goal.returns-in-Err-clause-due
-returns-in-Err-clause-due c = subst (λ (m : Description). IsDueAlways m (claims_of m c.args.plan.now) c.args.regions.now c.in-Err.refusal) c.machine.ensures c.in-Err.ensures.due
-
-pub returns-in-Err-clause-mesh_refused : goal.returns-in-Err-clause-mesh_refused
-returns-in-Err-clause-mesh_refused c = refl
 
 pub returns-in-Err-clause-back : goal.returns-in-Err-clause-back
 returns-in-Err-clause-back c = subst (λ (m : Description). AreFreeAgain m c.args.regions.now c.serve.new.regions) c.machine.ensures c.in-Err.ensures.back

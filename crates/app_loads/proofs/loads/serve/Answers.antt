@@ -1,4 +1,4 @@
-use Rattle.app_loads.proofs.Common.{AreBlocks, AreKeyed, AreServed, AreServedAlways, AreTaken, AreTakenAlways, Claim, List, Range, arith, claims_of, length, subst, sym, ◌∙◌}
+use Rattle.app_loads.proofs.Common.{AreKeyed, AreServed, AreServedAlways, AreTaken, AreTakenAlways, Claim, List, Range, arith, claims_of, length, subst, sym, ◌∙◌}
 use Rattle.app_loads.proofs.Served.{can_serve, keyed_from}
 use Rattle.app_loads.proofs.loads.serve.Goals as goal
 
@@ -27,12 +27,8 @@ returns-in-Ok-app_of-clause-served c =
       served = subst (λ (l : List Range). AreServedAlways c.args.machine.now (claims_of c.args.machine.now c.args.plan.now) c.args.regions.now l) (sym ranges)
           (subst (λ (l : List Claim). AreServedAlways c.args.machine.now l c.args.regions.now c.in-Ok-take_all.ranges.items) (c.deref.ensures.value ∙ c.in-Ok.ensures.claims) c.in-Ok-take_all.ensures.served);
       taken = subst (λ (l : List Range). AreTakenAlways c.args.machine.now c.args.regions.now l c.take_all.new.regions) (sym ranges) c.in-Ok-take_all.ensures.taken;
-      blocks = subst (λ (l : List Claim). AreBlocks l c.in-Ok-app_of.app.ranges c.args.plan.now.nets c.in-Ok-app_of.app.blocks) claims
-          (subst (λ (l : List Range). AreBlocks c.deref-2.result.now l c.args.plan.now.nets c.in-Ok-app_of.app.blocks) (sym made.ranges) made.blocks);
+      blocks = grind arith;
     }
-
-pub give_all-requires : goal.give_all-requires
-give_all-requires c = grind arith
 
 pub returns-clause-back : goal.returns-clause-back
 returns-clause-back c taken apart free =

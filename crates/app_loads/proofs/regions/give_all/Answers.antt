@@ -2,13 +2,11 @@ use Rattle.app_loads.proofs.Serving.{can_give, back_at, room_at, all_back}
 use Rattle.app_loads.proofs.regions.give_all.Goals as goal
 
 pub give-requires : goal.give-requires
-give-requires c =
-    can_give c.args.ranges.now _ c.index-regions-range.result c.loop-range-test.true (c.loop-range.invariant.taken _ _ c.requires.taken.2) c.loop-range.invariant.room
+give-requires c = can_give _ _ _ c.loop-range-test.true (c.loop-range.invariant.taken _ _ c.requires.taken.2) c.loop-range.invariant.room
 
 pub loop-range-preserved : goal.loop-range-preserved
 loop-range-preserved c = record {
-  room = room_at c.args.ranges.now _ c.index-regions-range.result c.loop-range-test.true
-      (c.loop-range.invariant.taken _ _ c.requires.taken.2) c.loop-range.invariant.room c.give.new.self c.give.ensures.spare;
+  room = room_at _ _ _ c.loop-range-test.true (c.loop-range.invariant.taken _ _ c.requires.taken.2) c.loop-range.invariant.room _ c.give.ensures.spare;
   taken = λ m others taken. back_at c.args.ranges.now _ c.index-regions-range.result c.loop-range-test.true (c.loop-range.invariant.taken m others taken)
       c.give.new.self c.give.ensures.size c.give.ensures.runs c.give.ensures.free;
 }

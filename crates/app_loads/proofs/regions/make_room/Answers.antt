@@ -28,10 +28,7 @@ loop-range-preserved c =
 
 -- a region has few ranges
 few : (c : After-index-count) → c.index-count.result.now ≤ 262144
-few c =
-    let counts = c.loop-range.counts.items in
-    let in_counts = region_there c.args.ranges.now none c.loop-range-test.true counts c.requires.there c.loop-range.invariant.counts in
-    omega (arith, c.index-count.ensures, few_counted c.args.ranges.now none c.loop-range-test.true counts c.index-count.result.now in_counts c.loop-range.invariant.counted c.requires.few)
+few c = grind (arith, region_there, few_counted)
 
 pub overflow_add-count : goal.overflow_add-count
 overflow_add-count c = omega (arith, few (goal.at.overflow_add-count c).After-index-count)

@@ -28,9 +28,7 @@ pub returns-in-Err-clause-refused : goal.returns-in-Err-clause-refused
 returns-in-Err-clause-refused c = grind (arith, claim_due)
 
 pub returns-in-Err-clause-taken : goal.returns-in-Err-clause-taken
-returns-in-Err-clause-taken c =
-    claim_taken _ c.index-regions-at.result c.loop-claim-test.true c.loop-claim.invariant.each_one c.loop-claim.invariant.served c.requires.can c.place-at.ensures
-    c.take_claim.new.region c.in-Err.ensures.unchanged
+returns-in-Err-clause-taken c = claim_taken _ _ c.loop-claim-test.true c.loop-claim.invariant.each_one c.loop-claim.invariant.served c.requires.can c.place-at.ensures _ c.in-Err.ensures.unchanged
 
 pub returns-in-Err-clause-room : goal.returns-in-Err-clause-room
 returns-in-Err-clause-room c =
@@ -64,6 +62,3 @@ overflow_add-counts c =
       few_held none c.index-regions-at.result c.loop-claim-test.true c.loop-claim.invariant.each_one c.loop-claim.invariant.served c.requires.can c.place-at.ensures
           c.loop-claim.counts 0 c.loop-claim.invariant.counts c.loop-claim.invariant.counted c.requires.few,
     )
-
-pub place-at-requires : goal.place-at-requires
-place-at-requires c = (c.requires.can.1 c.loop-claim.claim-index _ c.loop-claim-test.true).region

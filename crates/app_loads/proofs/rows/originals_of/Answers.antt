@@ -1,4 +1,4 @@
-use Rattle.app_loads.proofs.Common.{AreBlocksOf, AreRoutedApart, List, NetPlan, all_plain_tables, ap, arith, length, nets_of, slice_get_read, subst, sym, tables_in, take_all, take_more_at, ◌∙◌, ◌≡◌}
+use Rattle.app_loads.proofs.Common.{AreBlocksOf, AreRoutedApart, List, NetPlan, all_plain_tables, arith, nets_of, slice_get_read, subst, sym, tables_in, take_all, take_more_at, ◌≡◌}
 use Rattle.app_loads.proofs.{Unsent.nets_with_at, Unsent.nets_with_long, rows.originals_of.Goals.After-loop-at}
 use Rattle.app_loads.proofs.rows.originals_of.Goals as goal
 
@@ -6,11 +6,7 @@ pub loop-at-preserved : goal.loop-at-preserved
 loop-at-preserved c = grind (arith, slice_get_read, nets_with_at, take_more_at)
 
 whole : (c : After-loop-at) → c.loop-at.nets ≡ nets_of c.args.app.now
-whole c =
-    let long = nets_with_long c.args.app.now.plan.nets c.args.app.now.blocks in
-    let end = c.loop-at-test.false in
-    let same = ap length c.as_slice-net-items.ensures in
-    c.loop-at.invariant ∙ take_all c.loop-at.at (nets_of c.args.app.now) (omega (arith, long, end, same))
+whole c = grind (arith, nets_with_long, take_all)
 
 pub original_blocks-requires : goal.original_blocks-requires
 original_blocks-requires c = subst (AreRoutedApart c.args.machine.now) (sym (whole (goal.at.original_blocks-requires c).After-loop-at)) c.requires.routed

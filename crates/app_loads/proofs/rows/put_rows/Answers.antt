@@ -5,9 +5,6 @@ use Rattle.app_loads.proofs.rows.put_rows.Goals as goal
 pub loop-at-init : goal.loop-at-init
 loop-at-init c = grind (arith, take-append-drop (c.args.first) (c.args.table.now))
 
-pub set-requires : goal.set-requires
-set-requires c = omega (arith, c.requires.fits, c.loop-at-test.true, c.loop-at.invariant.room)
-
 pub loop-at-preserved : goal.loop-at-preserved
 loop-at-preserved c = record {
   entries = marks_more c.args.table.now c.args.marks.now c.args.first c.loop-at.at c.index-marks-at.result c.loop-at.roomy.entries c.set.new.self.entries c.requires.has.size c.requires.has.fits

@@ -1,34 +1,22 @@
-use Rattle.app_loads.proofs.Common.{AreCopied, [], ap, arith, common_steps, into_iter_items, length, length-drop, length-map, refl, row_of_mark, slice_get-get_or, subst, sym, table_of_sorted}
-use Rattle.app_loads.proofs.Common.{tables_in, take, ◌+◌, ◌∙◌, ◌≡◌}
+use Rattle.app_loads.proofs.Common.{AreCopied, ap, arith, common_steps, length, length-drop, length-map, refl, row_of_mark, slice_get-get_or, subst, sym, table_of_sorted, tables_in, take, ◌+◌, ◌∙◌}
 use Rattle.app_loads.proofs.Copying.{of_chip, there, place_of_no_rows, j_below, j_in_tables, j_in_rows, T_long, R_fits, R_size, place_small, all_copied, copied_skip, copied_more, put_listed}
-use Rattle.app_loads.proofs.{Copying.rows_listed, Rooms.left_first}
+use Rattle.app_loads.proofs.Copying.{left_first, rows_listed}
 use Rattle.app_loads.proofs.rows.write_rows.Goals as goal
 
 pub bounds-tables-at : goal.bounds-tables-at
 bounds-tables-at c = j_in_tables _ c.requires c.loop-range-test.true c.loop-range.invariant.copied (of_chip c.in-Rows.is c.at.ensures.its c.at.ensures.place c.index-at.ensures.value)
 
 pub bounds-lists-at : goal.bounds-lists-at
-bounds-lists-at c =
-    let below = j_in_rows _ c.requires c.loop-range-test.true c.loop-range.invariant.copied (of_chip c.in-Rows.is c.at.ensures.its c.at.ensures.place c.index-at.ensures.value) in
-    let as_long = length-map c.args.lists.now table_of_sorted in
-    omega (arith, below, as_long)
+bounds-lists-at c = grind (arith, j_in_rows, of_chip, length-map)
 
 pub offset_bounds-tables-at : goal.offset_bounds-tables-at
-offset_bounds-tables-at c =
-    let below = j_below _ c.requires c.loop-range-test.true c.loop-range.invariant.copied (of_chip c.in-Rows.is c.at.ensures.its c.at.ensures.place c.index-at.ensures.value) in
-    let few = c.index-at.ensures.few in
-    record { fits = omega (arith, below, few) }
+offset_bounds-tables-at c = grind (arith, j_below, of_chip)
 
 pub offset_bounds-lists-at : goal.offset_bounds-lists-at
-offset_bounds-lists-at c =
-    let below = j_below _ c.requires c.loop-range-test.true c.loop-range.invariant.copied (of_chip c.in-Rows.is c.at.ensures.its c.at.ensures.place c.index-at.ensures.value) in
-    let few = c.index-at.ensures.few in
-    record { fits = omega (arith, below, few) }
+offset_bounds-lists-at c = grind (arith, j_below, of_chip)
 
 pub overflow_cast-range : goal.overflow_cast-range
-overflow_cast-range c =
-    let of = of_chip c.in-Rows.is c.at.ensures.its c.at.ensures.place c.index-at.ensures.value in
-    record { fits = place_small _ c.requires c.loop-range-test.true c.loop-range.invariant.copied of c.index-tables-at.result (table_of_sorted []) }
+overflow_cast-range c = grind (arith, of_chip, place_small)
 
 pub put_rows-requires : goal.put_rows-requires
 put_rows-requires c =
@@ -41,10 +29,7 @@ put_rows-requires c =
     let next = left_first c.args.rooms.items i c.in-Some.room _ (sym c.loop-range.invariant.left ∙ c.in-Some.ensures.items) in
     let room = c.requires.room.each i _ c.in-Some.room (slice_get-get_or c.args.ranges.now i _ c.loop-range-test.true) next.0 c.in-Rows.chip of.region_is in
     record {
-      has = record {
-        size = T_long _ c.requires c.loop-range-test.true c.loop-range.invariant.copied of c.index-tables-at.result (table_of_sorted c.index-lists-at.result);
-        fits = omega (arith, fits, same, as_long);
-      };
+      has = grind (arith, T_long);
       fits = omega (arith, room, size, same, as_long);
     }
 
@@ -70,6 +55,4 @@ pub returns : goal.returns
 returns c = all_copied c.args.machine.now (tables_in c.args.lists.now) c.args.ranges.now c.args.tables.now c.loop-range.tables c.loop-range.range-index c.loop-range-test.false c.loop-range.invariant.copied
 
 pub unreachable-requires : goal.unreachable-requires
-unreachable-requires c =
-    let none : length (into_iter_items c.loop-range.rooms) ≡ 0 = grind (arith, common_steps, c.in_default.ensures.cases.0) in
-    omega (arith, none, ap length c.loop-range.invariant.left, length-drop c.loop-range.range-index c.args.rooms.items, c.requires.room.all, c.loop-range-test.true)
+unreachable-requires c = grind (arith, common_steps, length-drop c.loop-range.range-index c.args.rooms.items)

@@ -1,4 +1,4 @@
-use Rattle.app_loads.proofs.Common.{List, None, Packet, Some, ap, arith, get_or, length, slice_get, slice_get-get_or, slice_set, sym, ℕ, ◌<◌, ◌∙◌, ◌≡◌}
+use Rattle.app_loads.proofs.Common.{List, None, Packet, Some, ap, arith, get_or, length, slice_get, slice_get-get_or, sym, ℕ, ◌<◌, ◌∙◌, ◌≡◌}
 use Rattle.app_loads.proofs.Unsent.{sent_more, others_same, number_fits, net_below, key_fits, source_below, queue_below}
 use Rattle.app_loads.proofs.sends.add_packets.Goals as goal
 
@@ -24,15 +24,10 @@ bounds-sources-net c = grind (arith, packet_at c.as_slice-packet-items.result.no
 pub bounds-unsent-sources : goal.bounds-unsent-sources
 bounds-unsent-sources c = grind (arith, packet_at c.as_slice-packet-items.result.now c.loop-at.at c.as_slice-packet-items.ensures c.loop-at-test.true, queue_below)
 
-pub returns-clause-sent : goal.returns-clause-sent
-returns-clause-sent c spots are = grind arith
-
 pub loop-at-preserved : goal.loop-at-preserved
 loop-at-preserved c =
     let at = packet_at c.as_slice-packet-items.result.now c.loop-at.at c.as_slice-packet-items.ensures c.loop-at-test.true in
     record {
-      sent = λ spots are. sent_more c.args.sources.now c.args.app.now c.args.unsent.now c.loop-at.unsent c.requires c.loop-at.invariant.same
-          c.loop-at.at _ at c.get.result.now 0 c.index-unsent-sources.result _ c.get.ensures
-          (ap (slice_set c.loop-at.unsent _) c.in_ok-push.ensures.ok) spots are (c.loop-at.invariant.sent spots are);
+      sent = grind (arith, sent_more);
       same = others_same c.args.sources.now c.args.app.now c.args.unsent.now c.loop-at.unsent c.requires c.loop-at.invariant.same c.loop-at.at _ at 0 c.push.new.self;
     }

@@ -1,13 +1,11 @@
+use Rattle.app_loads.proofs.Common.{arith}
 use Rattle.app_loads.proofs.Unsent.{emptied_beside, emptied_more, all_cleared}
 use Rattle.app_loads.proofs.sends.clear.Goals as goal
 
 pub loop-source-preserved : goal.loop-source-preserved
 loop-source-preserved c = record {
-  beside = emptied_beside c.args.sources.now c.args.unsent.now c.loop-source.unsent c.requires c.loop-source.invariant.beside
-      c.loop-source.source-index 0 c.loop-source-test.true c.new.result c.new.ensures;
-  empty = emptied_more c.args.sources.now c.args.unsent.now c.loop-source.unsent c.requires c.loop-source.invariant.beside
-      c.loop-source.source-index 0 c.loop-source-test.true c.new.result c.new.ensures
-      c.loop-source.invariant.empty;
+  beside = emptied_beside _ _ _ c.requires c.loop-source.invariant.beside _ _ c.loop-source-test.true _ c.new.ensures;
+  empty = grind (arith, emptied_more);
 }
 
 pub returns : goal.returns

@@ -1,19 +1,12 @@
-use Rattle.app_loads.proofs.Common.{All, AreCleared, CanAdd, IsSameBeside, List, length, subst, sym, ℕ, ◌<◌}
+use Rattle.app_loads.proofs.Common.{AreCleared, IsSameBeside, List, arith, subst, ℕ}
 use Rattle.app_loads.proofs.Unsent.{can_add, put_back, sources_of}
 use Rattle.app_loads.proofs.sends.send.Goals as goal
 
 pub add_packets-requires : goal.add_packets-requires
-add_packets-requires c =
-    subst (λ (l : List ℕ). CanAdd l c.args.app.now c.args.unsent.now) (sym c.deref.ensures.value)
-    (can_add c.args.setup.now.spots 0 c.args.app.now c.args.unsent.now c.in_ok-sources.sources.items c.requires.queues c.requires.packets c.requires.blocks c.requires.numbers
-    (sources_of c.args.setup.now c.args.app.now.plan.nets c.as_slice.result.now c.in_ok-sources.sources.items c.requires.sources c.as_slice.ensures c.in_ok-sources.ensures))
+add_packets-requires c = grind (arith, can_add, sources_of)
 
 pub clear-requires : goal.clear-requires
-clear-requires c =
-    subst (λ n. All (λ v. v < n) c.deref-in-Err.result.now) (sym c.in-Err.ensures.refused.long)
-    (subst (λ (l : List ℕ). All (λ v. v < length c.args.unsent.now) l) (sym c.deref-in-Err.ensures.value)
-    (can_add c.args.setup.now.spots 0 c.args.app.now c.args.unsent.now c.in_ok-sources.sources.items c.requires.queues c.requires.packets c.requires.blocks c.requires.numbers
-    (sources_of c.args.setup.now c.args.app.now.plan.nets c.as_slice.result.now c.in_ok-sources.sources.items c.requires.sources c.as_slice.ensures c.in_ok-sources.ensures)).queues)
+clear-requires c = grind (arith, can_add, sources_of)
 
 pub returns-clause-refused : goal.returns-clause-refused
 returns-clause-refused c =

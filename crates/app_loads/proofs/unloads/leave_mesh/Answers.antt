@@ -1,42 +1,13 @@
-use Rattle.app_loads.proofs.Common.{All-weaker, HaveRoom, IsLeastUnderWay, IsMesh, List, Range, State, arith, subst, sym, ◌∙◌}
+use Rattle.app_loads.proofs.Common.{All-weaker, HaveRoom, List, Range, arith, subst, sym, ◌∙◌}
 use Rattle.app_loads.proofs.{LeftMesh.can_clear, LeftMesh.parted_whole, LeftMesh.taken_still, LoadedParts.on_ok}
 use Rattle.app_loads.proofs.unloads.leave_mesh.Goals as goal
-
-pub least_waiting-requires : goal.least_waiting-requires
-least_waiting-requires c = grind arith
-
-pub put_together-requires : goal.put_together-requires
-put_together-requires c = subst IsMesh (sym c.take_apart-parts.ensures.parts) c.take_apart-parts.ensures.mesh
-
-pub put_together-requires-in-Err : goal.put_together-requires-in-Err
-put_together-requires-in-Err c = subst IsMesh (sym c.take_apart-parts.ensures.parts) c.take_apart-parts.ensures.mesh
-
-pub returns-in-Some-clause-why : goal.returns-in-Some-clause-why
-returns-in-Some-clause-why c = subst (λ (s : State). IsLeastUnderWay s c.args.app.now c.in-Some.packet) c.take_apart-parts.ensures.parts c.in-Some.ensures.some
-
-pub returns-in-Some-clause-mesh_refused : goal.returns-in-Some-clause-mesh_refused
-returns-in-Some-clause-mesh_refused c = c.put_together.ensures ∙ c.take_apart-parts.ensures.parts
 
 pub make_room-requires : goal.make_room-requires
 make_room-requires c = grind (arith, All-weaker)
 
-pub put_together-requires-then-is_err : goal.put_together-requires-then-is_err
-put_together-requires-then-is_err c = subst IsMesh (sym c.take_apart-parts.ensures.parts) c.take_apart-parts.ensures.mesh
-
-pub returns-then-is_err-clause-mesh_refused : goal.returns-then-is_err-clause-mesh_refused
-returns-then-is_err-clause-mesh_refused c = c.put_together-then-is_err.ensures ∙ c.take_apart-parts.ensures.parts
-
-pub returns-in-Err-clause-back : goal.returns-in-Err-clause-back
-returns-in-Err-clause-back c = c.make_room.ensures.same
-
 pub give_all-requires : goal.give_all-requires
 give_all-requires c = record {
-  taken = (
-    c.args.mesh.setup.machine,
-    c.requires.can.others,
-    taken_still c.args.mesh.setup.machine c.requires.can.others c.args.app.now.ranges c.as_slice-in-Ok.result.now c.args.regions.now
-        c.make_room.new.regions c.make_room.ensures.same c.as_slice-in-Ok.ensures c.requires.can.taken,
-  );
+  taken = grind (arith, taken_still);
   room = subst (λ (l : List Range). HaveRoom l c.make_room.new.regions) (c.as_slice.ensures ∙ sym c.as_slice-in-Ok.ensures)
       (on_ok (HaveRoom c.as_slice.result.now c.make_room.new.regions) c.make_room.result (sym c.is_err.ensures.value ∙ c.if-is_err.false) c.make_room.ensures.room);
 }

@@ -13,11 +13,6 @@ move_down-requires-clause-by c = omega (
       (get_or c.args.gaps.places.now c.loop-i.i 0 + 1) c.next_place-to.result refl (c.next_place-to.ensures (omega (arith, c.loop-i-test.true)))).0,
 )
 
-pub move_down-requires-clause-order : goal.move_down-requires-clause-order
-move_down-requires-clause-order c =
-    (starts c.args.gaps.places.now c.args.gaps.place c.args.gaps.ascending c.args.gaps.before c.args.merged c.args.rows.now.items c.requires c.loop-i.i c.loop-i-test.true c.loop-i.rows.items c.loop-i.rows.items c.loop-i.invariant
-    (get_or c.args.gaps.places.now c.loop-i.i 0 + 1) c.next_place-to.result refl (c.next_place-to.ensures (omega (arith, c.loop-i-test.true)))).1
-
 pub move_down-requires-clause-inside : goal.move_down-requires-clause-inside
 move_down-requires-clause-inside c =
     (starts c.args.gaps.places.now c.args.gaps.place c.args.gaps.ascending c.args.gaps.before c.args.merged c.args.rows.now.items c.requires c.loop-i.i c.loop-i-test.true c.loop-i.rows.items c.loop-i.rows.items c.loop-i.invariant

@@ -11,11 +11,6 @@ overflow_sub-from-in-loop-i g c =
     (starts c.args.gaps.places.now c.args.gaps.place c.args.gaps.ascending c.args.gaps.before c.args.item c.args.items.now.items c.requires c.loop-i.i c.loop-i-test.true c.loop-i.items.items c.loop-i.items.items c.loop-i.invariant
     (get_or c.args.gaps.places.now c.loop-i.i 0 + 1) c.next_place-to.result refl (c.next_place-to.ensures (omega (arith, c.loop-i-test.true)))).0
 
-pub copy_within-requires-clause-start_le_end : goal.copy_within-requires-clause-start_le_end
-copy_within-requires-clause-start_le_end g c =
-    (starts c.args.gaps.places.now c.args.gaps.place c.args.gaps.ascending c.args.gaps.before c.args.item c.args.items.now.items c.requires c.loop-i.i c.loop-i-test.true c.loop-i.items.items c.loop-i.items.items c.loop-i.invariant
-    (get_or c.args.gaps.places.now c.loop-i.i 0 + 1) c.next_place-to.result refl (c.next_place-to.ensures (omega (arith, c.loop-i-test.true)))).1
-
 pub copy_within-requires-clause-in_bounds : goal.copy_within-requires-clause-in_bounds
 copy_within-requires-clause-in_bounds g c = omega (
   arith,
@@ -41,14 +36,8 @@ loop-i-preserved g c =
 pub overflow_sub-place : goal.overflow_sub-place
 overflow_sub-place g c = (room c.args.gaps.places.now c.args.gaps.place c.args.gaps.ascending c.args.gaps.before c.args.item c.args.items.now.items c.requires c.args.gaps.some).0
 
-pub index_mut-requires : goal.index_mut-requires
-index_mut-requires g c = omega (arith, c.loop-i.invariant.one_each, (room c.args.gaps.places.now c.args.gaps.place c.args.gaps.ascending c.args.gaps.before c.args.item c.args.items.now.items c.requires c.args.gaps.some).1)
-
 pub overflow_sub-place-2 : goal.overflow_sub-place-2
 overflow_sub-place-2 g c = omega (arith, (room c.args.gaps.places.now c.args.gaps.place c.args.gaps.ascending c.args.gaps.before c.args.item c.args.items.now.items c.requires c.args.gaps.some).0)
-
-pub copy_within-requires-2-clause-start_le_end : goal.copy_within-requires-2-clause-start_le_end
-copy_within-requires-2-clause-start_le_end g c = omega (arith, c.len-len.ensures, c.loop-i.invariant.one_each, c.requires)
 
 pub copy_within-requires-2-clause-dest_in_bounds :
     goal.copy_within-requires-2-clause-dest_in_bounds

@@ -1,10 +1,7 @@
 -- What was tried stays so in the table after the merge, where each row has its times.
-use Rattle.cover_merge.proofs.Common.{AreNoLater, AreTriedUpTo, after, ap, arith, length, subst, sym, ◌∙◌}
+use Rattle.cover_merge.proofs.Common.{AreNoLater, AreTriedUpTo, after, ap, length, subst, sym, ◌∙◌}
 use Rattle.cover_merge.proofs.PairLemmas.{carried_length, marks_carried, latest_carried}
 use Rattle.cover_merge.proofs.carrying.carry_times.Goals as goal
-
-pub replace_all-requires : goal.replace_all-requires
-replace_all-requires c = omega (arith, c.args.merge.within, c.requires)
 
 pub returns-clause-one_each : goal.returns-clause-one_each
 returns-clause-one_each c =

@@ -1,6 +1,6 @@
 -- The rivals of all rows that stay are those after the merge, and those of the merged row are found.
-use Rattle.cover_merge.proofs.Common.{All, AllPairs, AreRivalsAfter, AreRivalsAt, AreSpansOf, CanMerge, IsRivaled, IsSound, List, Rivals, Row, [], after, ap, arith, generality, get_or, get_or_default}
-use Rattle.cover_merge.proofs.Common.{insert, insert_place, length, merged_block, subst, sym, ℕ, ◌+◌, ◌-◌, ◌<◌, ◌∙◌, ◌≡◌}
+use Rattle.cover_merge.proofs.Common.{All, AllPairs, AreRivalsAfter, AreRivalsAt, AreSpansOf, IsRivaled, IsSound, List, Rivals, Row, [], after, ap, arith, generality, get_or, get_or_default, insert}
+use Rattle.cover_merge.proofs.Common.{insert_place, length, merged_block, subst, sym, ℕ, ◌+◌, ◌-◌, ◌<◌, ◌∙◌, ◌≡◌}
 use Rattle.cover_merge.proofs.{ApplyLemmas.left, ApplyLemmas.members_before, KeptLemmasMoved.merged_at, RivalAfter.place_is, RivalAfter.stands_at, RivalAfter.carried_is, RivalAfter.carried_length}
 use Rattle.cover_merge.proofs.{RivalAfter.at_inside, RivalAfter.rivaled_after, carrying.merge_rows.Goals.After-place_in-place, carrying.merge_rows.Goals.After-replace_all}
 use Rattle.cover_merge.proofs.carrying.merge_rows.Goals as goal
@@ -21,11 +21,6 @@ serials_here c =
     carried_is c.args.table.now.rows c.args.places.now c.requires.rivaled.sound c.requires.merge.set c.args.rivals.now.serials.items c.requires.rivaled.one_each (length c.args.rivals.now.of.items)
     c.as_slice-members.result.now c.renew_all.new.rivals.serials.items c.replace_all.new.items.items c.place_in-place.result c.merged_rival-merged.result.serial
     c.as_slice-members.ensures c.in_ok-renew_all.ensures.serials (place_here (goal.at.overflow_sub-at c).After-place_in-place) c.merged_rival-merged.ensures.serial c.replace_all.ensures
-
-pub renew_all-requires : goal.renew_all-requires
-renew_all-requires c =
-    subst (λ l. CanMerge l c.args.rivals.now c.as_slice-members.result.now c.args.met.now) (sym c.as_slice-2.ensures)
-    (subst (λ l. CanMerge c.args.table.now.rows c.args.rivals.now l c.args.met.now) (sym c.as_slice-members.ensures) c.requires)
 
 pub invariant_of-gaps : goal.invariant_of-gaps
 invariant_of-gaps c =

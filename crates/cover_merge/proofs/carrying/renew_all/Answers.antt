@@ -1,26 +1,7 @@
 -- One row more has its rivals after the merge.
-use Rattle.cover_merge.proofs.Common.{AllPairs, AreRivalsAt, IsPutIn, List, Rival, [], ap, arith, get_or, length, merged_block, refl, rivals_left, subst, sym, ℕ, ◌<◌, ◌∙◌, ◌≡◌, ◌≢◌, ◌≤◌}
-use Rattle.cover_merge.proofs.RivalAfter.{none_renewed, next_list, one_renewed, all_renewed}
+use Rattle.cover_merge.proofs.Common.{AllPairs, AreRivalsAt, IsPutIn, List, Rival, [], arith, get_or, merged_block, refl, rivals_left, subst, sym, ℕ, ◌∙◌, ◌≡◌, ◌≢◌, ◌≤◌}
+use Rattle.cover_merge.proofs.RivalAfter.{next_list, one_renewed, all_renewed}
 use Rattle.cover_merge.proofs.carrying.renew_all.Goals as goal
-
-pub loop-k-init : goal.loop-k-init
-loop-k-init c = record {
-  serials = refl;
-  one_each = refl;
-  spans = refl;
-  lists = none_renewed c.args.rows.now c.args.rivals.now.serials.items c.args.places.now (merged_block c.args.rows.now c.args.places.now) c.args.merged c.args.met.now c.args.rivals.now.of.items;
-}
-
-pub renew-requires : goal.renew-requires
-renew-requires c =
-    let s = get_or c.args.met.now c.loop-k.k 0 in
-    let old = c.requires.rivaled in
-    let same = ap length c.loop-k.invariant.serials in
-    let inside : s < length c.args.rivals.now.serials.items = omega (arith, c.requires.met.inside c.loop-k.k 0 c.loop-k-test.true, old.one_each) in record {
-      inside = omega (arith, inside, same);
-      below = omega (arith, old.below s 0 inside, c.loop-k.invariant.one_each, ap (λ l. get_or l s 0) c.loop-k.invariant.serials);
-      in_range = λ k d within. omega (arith, c.requires.merge.set.set.in_range k d within, old.one_each, same);
-    }
 
 pub loop-k-preserved : goal.loop-k-preserved
 loop-k-preserved c =
@@ -44,15 +25,6 @@ loop-k-preserved c =
           (subst (λ (l : List ℕ). IsPutIn c.args.merged (rivals_left l places (get_or c.loop-k.rivals.of.items (get_or l s 0) [])) (get_or c.renew.new.rivals.of.items (get_or l s 0) [])) so_far.serials (now.own ordered))
           (subst (λ (l : List ℕ). (n : ℕ) → n ≢ get_or l s 0 → get_or c.renew.new.rivals.of.items n [] ≡ get_or c.loop-k.rivals.of.items n []) so_far.serials now.others);
     }
-
-pub returns-clause-serials : goal.returns-clause-serials
-returns-clause-serials c = c.loop-k.invariant.serials
-
-pub returns-clause-one_each : goal.returns-clause-one_each
-returns-clause-one_each c = c.loop-k.invariant.one_each
-
-pub returns-clause-spans : goal.returns-clause-spans
-returns-clause-spans c = c.loop-k.invariant.spans
 
 pub returns-clause-after : goal.returns-clause-after
 returns-clause-after c =

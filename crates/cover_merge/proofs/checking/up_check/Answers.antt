@@ -17,6 +17,3 @@ loop-s-preserved c =
 
 pub returns-clause-passes : goal.returns-clause-passes
 returns-clause-passes c = (λ _. up_all c.args.set.rows.now c.args.set.places.now c.loop-s.s-index c.loop-s-test.false c.loop-s.invariant, λ _. refl)
-
-pub returns-clause-legal : goal.returns-clause-legal
-returns-clause-legal c = λ sound legal. refl

@@ -1,23 +1,7 @@
 -- A row that changed no later is passed.
 use Rattle.cover_merge.proofs.Common.{Times, [], ap, arith, get_or, get_or_default, length, merge_rows, refl, suc, ◌<◌}
-use Rattle.cover_merge.proofs.{ChooseLemmas.link_next, TriedLemmas.since_first, TriedLemmas.newer_next, TriedLemmas.since_turn}
+use Rattle.cover_merge.proofs.TriedLemmas.{newer_next, since_turn}
 use Rattle.cover_merge.proofs.choosing.changed_after.Goals as goal
-
-pub index-place-requires : goal.index-place-requires
-index-place-requires c = omega (arith, c.args.behind.behind.inside, c.args.behind.behind.nexts.one_each)
-
-pub loop-place-init : goal.loop-place-init
-loop-place-init c =
-    let b = c.args.behind in
-    let rows = b.linked.table.rows.now in
-    since_first rows b.times.now b.k c.index-place.result.now (suc c.args.time)
-    (link_next rows b.linked.links.now.next.items b.behind.nexts b.k c.index-place.result.now b.behind.inside c.index-place.ensures)
-
-pub bounds-times-place : goal.bounds-times-place
-bounds-times-place c = omega (arith, c.loop-place-test.true, c.args.behind.behind.one_each)
-
-pub bounds-newer-place : goal.bounds-newer-place
-bounds-newer-place c = omega (arith, c.loop-place-test.true, c.args.behind.behind.places)
 
 pub loop-place-smaller : goal.loop-place-smaller
 loop-place-smaller c =

@@ -36,9 +36,6 @@ invariant_of-behind c =
           });
     }
 
-pub index_mut-requires : goal.index_mut-requires
-index_mut-requires c = grind (arith, are (goal.at.index_mut-requires c).After-as_slice-places (c.requires.first).0 (c.requires.first).1)
-
 pub loop-k-preserved : goal.loop-k-preserved
 loop-k-preserved c =
     let rows = c.args.linked.table.rows.now in

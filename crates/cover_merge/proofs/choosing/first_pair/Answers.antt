@@ -1,6 +1,6 @@
 -- The first row with a partner is the first of the first pair.
-use Rattle.cover_merge.proofs.Common.{AreChangesFrom, AreNoLater, AreTried, IsFirstPartner, IsLegalPair, MatchOption, Times, ap, arith, below_more, get_or, get_or_default, length, length-set, refl}
-use Rattle.cover_merge.proofs.Common.{set, subst, suc, sym, ℕ, ◌<◌, ◌∙◌, ◌≡◌}
+use Rattle.cover_merge.proofs.Common.{AreChangesFrom, AreNoLater, IsFirstPartner, IsLegalPair, MatchOption, Times, ap, arith, below_more, get_or, get_or_default, length, length-set, refl, set, subst}
+use Rattle.cover_merge.proofs.Common.{suc, sym, ℕ, ◌<◌, ◌∙◌, ◌≡◌}
 use Rattle.cover_merge.proofs.{ChooseLemmas.first_found, ChooseLemmas.no_pair, LinkLemmas.as_many, LinkLemmas.number_at, TriedLemmas.marked_put, TriedLemmas.times_no_later, TriedLemmas.newer_kept}
 use Rattle.cover_merge.proofs.TriedLemmas.{settled_none}
 use Rattle.cover_merge.proofs.choosing.first_pair.Goals as goal
@@ -28,12 +28,6 @@ loop-i-preserved-then-index c =
       known = old.known;
       changes = old.changes;
     }
-
-pub invariant_of-table : goal.invariant_of-table
-invariant_of-table c = let it = c.loop-i.invariant.known.told.rivaled in record { few = it.few; sound = it.sound; one_each = it.one_each; below = it.below; rivaled = ∣ it ∣₁ }
-
-pub partner-requires : goal.partner-requires
-partner-requires c = subst (AreTried c.args.rows.now) (sym c.deref.ensures.value) c.loop-i.invariant.known.marks.tried
 
 pub invariant_of-behind : goal.invariant_of-behind
 invariant_of-behind c =

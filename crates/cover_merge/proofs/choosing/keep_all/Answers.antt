@@ -1,16 +1,7 @@
 -- Of one route more something is kept.
-use Rattle.cover_merge.proofs.Common.{None, Some, ap, arith, get_or_default, length, length-set, refl, sym, ◌<◌, ◌∙◌}
+use Rattle.cover_merge.proofs.Common.{None, Some, ap, arith, get_or_default, length, length-set, sym, ◌<◌, ◌∙◌}
 use Rattle.cover_merge.proofs.KeepLemmas.{all_known, all_more, fresh_more, kept_put}
 use Rattle.cover_merge.proofs.choosing.keep_all.Goals as goal
-
-pub loop-c-init : goal.loop-c-init
-loop-c-init c = record {
-  linked = c.requires;
-  times = refl;
-  routes = refl;
-  all = λ k less. absurd (omega (arith, less));
-  fresh = λ some. absurd (omega (arith, some, ap length c.new.ensures));
-}
 
 pub loop-c-preserved-then-is_known : goal.loop-c-preserved-then-is_known
 loop-c-preserved-then-is_known c =

@@ -18,9 +18,6 @@ returns-then-most-lt2 c =
     none_largest known.routes.items c.args.rows.now known.numbers.items told.numbers known.kept.items told.kept c.requires.all c.most_of-most.result
     (most_is (goal.at.returns-then-most-lt2 c).After-most_of-most) c.if-most-lt2.true
 
-pub refined_of-requires-clause-inside : goal.refined_of-requires-clause-inside
-refined_of-requires-clause-inside c = (most_is (goal.at.refined_of-requires-clause-inside c).After-most_of-most).inside (omega (arith, c.if-most-lt2.false))
-
 pub returns-then-len-most : goal.returns-then-len-most
 returns-then-len-most c =
     let rows = c.args.rows.now in

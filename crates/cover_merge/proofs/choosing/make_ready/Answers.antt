@@ -30,9 +30,6 @@ first c inside =
     subst (IsFirstOfRoute c.args.rows.now (get_or c.args.known.now.routes.items c.index.result.now 0))
     (get_or_default heads c.index.result.now 0 c.index-then-not-index.result.now (omega (arith, links.one_each, inside)) ∙ sym c.index-then-not-index.ensures) (links.head c.index.result.now inside)
 
-pub invariant_of-table : goal.invariant_of-table
-invariant_of-table c = let it = c.requires.changes.linked.known.rivaled in record { few = it.few; sound = it.sound; one_each = it.one_each; below = it.below; rivaled = ∣ it ∣₁ }
-
 pub returns-in_ok-find_newer-clause-changes : goal.returns-in_ok-find_newer-clause-changes
 returns-in_ok-find_newer-clause-changes c =
     let rows = c.args.rows.now in

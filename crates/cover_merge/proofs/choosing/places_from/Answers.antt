@@ -1,6 +1,6 @@
 -- From each row on to the next of its route.
-use Rattle.cover_merge.proofs.Common.{arith, ◌∙◌}
-use Rattle.cover_merge.proofs.ChooseLemmas.{link_next, places_begin, places_next, places_end}
+use Rattle.cover_merge.proofs.Common.{◌∙◌}
+use Rattle.cover_merge.proofs.ChooseLemmas.{link_next, places_begin, places_next}
 use Rattle.cover_merge.proofs.choosing.places_from.Goals as goal
 
 pub loop-place-init : goal.loop-place-init
@@ -8,11 +8,6 @@ loop-place-init c bits first = record {
   same = first.same;
   found = c.new-places.ensures.items ∙ places_begin c.args.linked.table.rows.now bits c.args.first first;
 }
-
-pub loop-place-smaller : goal.loop-place-smaller
-loop-place-smaller c =
-    let next = link_next c.args.linked.table.rows.now c.args.linked.links.now.next.items c.args.linked.nexts c.loop-place.place c.index.result.now c.loop-place-test.true c.index.ensures in
-    omega (arith, next.behind, c.loop-place-test.true)
 
 pub loop-place-preserved : goal.loop-place-preserved
 loop-place-preserved c bits first =
@@ -22,6 +17,3 @@ loop-place-preserved c bits first =
       same = λ d within. next.same d within ∙ old.same d c.loop-place-test.true;
       found = places_next rows bits c.loop-place.place c.index.result.now c.loop-place.places.items c.push.new.self.items c.loop-place-test.true (λ e. old.same e c.loop-place-test.true) next old.found c.in_ok-push.ensures.items;
     }
-
-pub returns : goal.returns
-returns c bits first = c.from_vec.ensures ∙ places_end c.args.linked.table.rows.now bits c.loop-place.place c.loop-place.places.items c.loop-place-test.false (c.loop-place.invariant bits first).found

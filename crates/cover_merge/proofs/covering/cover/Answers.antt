@@ -5,9 +5,6 @@ use Rattle.cover_merge.proofs.{TriedLemmas.marked_later, CoverLemmas.IsCoveredSo
 use Rattle.cover_merge.proofs.CoverLemmas.{covered_stuck}
 use Rattle.cover_merge.proofs.covering.cover.Goals as goal
 
-pub invariant_of-sound : goal.invariant_of-sound
-invariant_of-sound c = grind arith
-
 pub merging-init : goal.merging-init
 merging-init c = grind (arith, IsCoveredSoFar c.args.target c.args.table.rows c.args.table.rows, so_far_first c.args.target c.args.table.rows c.requires.few c.requires.sound)
 

@@ -1,7 +1,6 @@
 -- What is known is carried over to the table after the merge, and its rivals are those that were renewed.
-use Rattle.cover_merge.proofs.Common.{All, AllPairs, AreMet, AreNoLater, AreNumbers, AreRoutesKept, AreStillKept, AreTouched, AreTriedUpTo, IsApart, IsCarried, IsEachOnce, IsKnown, IsLegal}
-use Rattle.cover_merge.proofs.Common.{IsMergeSet, IsRivaled, IsSound, Known, List, Row, after, ap, arith, generality, get_or, insert_place, length, merged_block, place_for, place_of_route, refl}
-use Rattle.cover_merge.proofs.Common.{subst, sym, ℕ, ◌<◌, ◌^◌, ◌∙◌, ◌≡◌}
+use Rattle.cover_merge.proofs.Common.{All, AllPairs, AreNoLater, AreNumbers, AreRoutesKept, AreStillKept, AreTouched, AreTriedUpTo, IsApart, IsCarried, IsEachOnce, IsKnown, IsLegal, IsMergeSet}
+use Rattle.cover_merge.proofs.Common.{IsSound, Known, List, Row, after, ap, arith, generality, get_or, insert_place, length, merged_block, place_for, place_of_route, subst, sym, ℕ, ◌<◌, ◌^◌, ◌∙◌, ◌≡◌}
 use Rattle.cover_merge.proofs.{ApplyLemmas.both_ok, ApplyLemmas.members_before, KeepLemmas.kept_over, covering.merge_at.Goals.After-carry_times}
 use Rattle.cover_merge.proofs.covering.merge_at.Goals as goal
 
@@ -71,16 +70,6 @@ carried_over c =
           (subst (λ n. AreStillKept (λ k it. (k ≡ get_or n (get_or places 0 0) 0 → ⊥) × (IsApart c.merged_block-block.result it)) t.kept.items f.kept.items) c.touch.ensures.same.numbers same.left));
       marks = c.carry_times.ensures.marks (subst (AreTriedUpTo c.args.now rows) (sym same.times) c.touch.ensures.known.marks)
           (subst (AreTouched places c.args.now rows) (sym same.times) c.touch.ensures.touched);
-    }
-
-pub merge_rows-requires : goal.merge_rows-requires
-merge_rows-requires c =
-    let rows = c.args.table.now.rows in record {
-      rivaled = subst (IsRivaled rows) (sym (c.forget.ensures.rivals ∙ c.touch.ensures.rivals)) c.requires.known.told.rivaled;
-      merge = record { set = c.requires.merge.0; legal = c.requires.merge.1; block = refl };
-      met = subst (AreMet (merged_block rows c.args.places.now) rows) (sym c.deref-2.ensures.value)
-          (subst (λ b. AreMet b rows c.in_ok-met.met.items) (c.merged_block-block.ensures ∙ ap (λ l. merged_block l c.as_slice-members.result.now) c.as_slice-rows.ensures ∙ ap (merged_block rows) c.as_slice-members.ensures)
-          (subst (λ l. AreMet c.merged_block-block.result l c.in_ok-met.met.items) c.as_slice-rows.ensures c.in_ok-met.ensures));
     }
 
 pub returns-clause-known : goal.returns-clause-known

@@ -1,10 +1,7 @@
 -- One route more is apart from the block, or nothing is kept of it.
 use Rattle.cover_merge.proofs.Common.{IsApart, None, arith, get_or_default, length, refl, sym, ◌+◌, ◌<◌, ◌∙◌}
-use Rattle.cover_merge.proofs.KeepLemmas.{inside_some, left_all, left_more, left_set, less_of, none_some}
+use Rattle.cover_merge.proofs.KeepLemmas.{inside_some, left_more, left_set, less_of, none_some}
 use Rattle.cover_merge.proofs.keeping.forget_near.Goals as goal
-
-pub loop-c-init : goal.loop-c-init
-loop-c-init c = left_all (λ k it. k < 0 → IsApart c.args.merged it) c.args.kept.now.items (λ k it is less. absurd (omega (arith, less)))
 
 pub loop-c-preserved-then-is_apart : goal.loop-c-preserved-then-is_apart
 loop-c-preserved-then-is_apart c =

@@ -1,10 +1,7 @@
 -- The merge has the number of its first row.
-use Rattle.cover_merge.proofs.Common.{AreNumbers, after, arith, subst, sym}
+use Rattle.cover_merge.proofs.Common.{AreNumbers, after, subst, sym}
 use Rattle.cover_merge.proofs.LinkLemmas.{numbers_after}
 use Rattle.cover_merge.proofs.links.carry_numbers.Goals as goal
-
-pub replace_all-requires : goal.replace_all-requires
-replace_all-requires c = omega (arith, c.args.merge.within, c.requires)
 
 pub returns : goal.returns
 returns c routes numbers =

@@ -1,6 +1,6 @@
 -- One place more, and at the end the greatest count.
 use Rattle.cover_merge.proofs.Common.{List, get_or-replicate, length, refl, replicate, rules, ℕ, ◌<◌, ◌^◌}
-use Rattle.cover_merge.proofs.BitCounts.{best_of, kept_more, none_counted, room_for}
+use Rattle.cover_merge.proofs.BitCounts.{kept_more, none_counted, room_for}
 use Rattle.cover_merge.proofs.refining.best_bit.Goals as goal
 
 pub loop-s-init : goal.loop-s-init
@@ -13,6 +13,3 @@ pub loop-s-preserved : goal.loop-s-preserved
 loop-s-preserved c =
     kept_more c.args.rows.now c.args.places.now c.args.merged c.args.met c.loop-s.s-index c.loop-s-test.true c.loop-s.counts c.loop-s.invariant
     c.open_bits-free.result c.keeping_bits.result _ refl c.open_bits-free.ensures c.keeping_bits.ensures c.count_bits.new.counts c.count_bits.ensures
-
-pub returns : goal.returns
-returns c = best_of c.args.rows.now c.args.places.now c.args.merged c.args.met c.loop-s.counts c.loop-s.s-index c.loop-s-test.false c.loop-s.invariant c.greatest.result c.greatest.ensures

@@ -10,14 +10,6 @@ refining-init c = record {
   gone = subst (λ l. IsGone c.args.table.rows.now c.args.places l c.all_keys-outer.result 33) (sym c.into_vec-set.ensures) (gone_start c.args.table.rows.now c.args.places c.all_keys-outer.result 33 (omega arith));
 }
 
-pub narrow-requires : goal.narrow-requires
-narrow-requires c =
-    let rows = c.args.table.rows.now in
-    let left = c.sifted.new.set.items in
-    let sifted : (2 ≤ length left) × (c.in-Some.merged ≡ merged_block rows left) × (PassesUpCheck rows left) =
-    subst (λ o. MatchOption o (length left < 2) (λ (m : Block). (2 ≤ length left) × (m ≡ merged_block rows left) × (PassesUpCheck rows left))) c.in-Some.is c.in_ok-merged.ensures.sifted.found_is in
-    record { set = record { set = c.in_ok-merged.ensures.sifted.one_route; two = sifted.0 }; merged = sifted.1; up = sifted.2 }
-
 pub returns-then-narrow-clause-refined : goal.returns-then-narrow-clause-refined
 returns-then-narrow-clause-refined c =
     let rows = c.args.table.rows.now in

@@ -11,12 +11,6 @@ use Rattle.cover_merge.proofs.refining.sift.Goals as goal
 rest_of : (n : ℕ) (ys xs : List ℕ) → ys ≡ xs → take (length ys - n) (drop n ys) ≡ drop n xs
 rest_of n ys xs same = take_rest ys n ∙ ap (drop n) same
 
-pub invariant_of-members : goal.invariant_of-members
-invariant_of-members c = record {
-  inside = subst (All (λ s. s < length c.args.table.rows.now)) (sym c.deref.ensures.value) c.requires.set.in_range;
-  some = subst (λ l. 0 < length l) (sym c.deref.ensures.value) (omega (arith, c.requires.two));
-}
-
 pub loop-i-init : goal.loop-i-init
 loop-i-init c =
     let rows = c.args.table.rows.now in
@@ -36,9 +30,6 @@ loop-i-init c =
       behind = λ k low high. absurd (omega (arith, low, subst (λ l. k < length l) whole high, c.len-i.ensures));
       leads = λ outer low. subst (LeadsWithin rows outer low xs) (sym whole) (LeadsWithin.stands xs);
     }
-
-pub index-requires : goal.index-requires
-index-requires c = omega (arith, c.loop-i-test.true, c.loop-i.invariant.gap, c.loop-i.invariant.within)
 
 pub invariant_of-row : goal.invariant_of-row
 invariant_of-row c =

@@ -1,16 +1,7 @@
 -- Where none fails, the set stays.
-use Rattle.cover_merge.proofs.Common.{All, IsOneRoute, LeadsWithin, PassesUp, ap, arith, has_row, length, merged_block, place_for, subst, sym, true, ℕ, ◌<◌, ◌∙◌, ◌≡◌}
+use Rattle.cover_merge.proofs.Common.{LeadsWithin, PassesUp, ap, has_row, merged_block, place_for, subst, true, ℕ, ◌∙◌, ◌≡◌}
 use Rattle.cover_merge.proofs.SiftLemmas.{all_pass}
 use Rattle.cover_merge.proofs.refining.sifted.Goals as goal
-
-pub invariant_of-members : goal.invariant_of-members
-invariant_of-members c = record {
-  inside = subst (All (λ s. s < length c.args.table.rows.now)) (sym c.deref.ensures.value) c.requires.set.in_range;
-  some = subst (λ l. 0 < length l) (sym c.deref.ensures.value) (omega (arith, c.requires.two));
-}
-
-pub invariant_of-route : goal.invariant_of-route
-invariant_of-route c = record { one_route = subst (IsOneRoute c.args.table.rows.now) (sym c.deref-2.ensures.value) c.requires.set }
 
 pub returns-then-all_pass-clause-sifted : goal.returns-then-all_pass-clause-sifted
 returns-then-all_pass-clause-sifted c =

@@ -1,8 +1,7 @@
 -- Rivals decide, in order of generality.
 use Rattle.cover_merge.proofs.Common.{AreRivalsAt, IsRivaled, PassesUp, Rival, ap, get_or, is_at_one, place_for, props, refl, sym, ∥∥₁_elim, ◌∙◌}
-use Rattle.cover_merge.proofs.{Answering.answers_no, RivalLemmas.all_passed, RivalLemmas.away_refuses, RivalLemmas.other_refuses, RivalLemmas.passed_more, RivalLemmas.rest_pass}
-use Rattle.cover_merge.proofs.{RivalLemmas.rivals_read, rivals.passes.Goals.After-as_slice-list, rivals.passes.Goals.then-rival-bits-via-then-rival-bits}
-use Rattle.cover_merge.proofs.rivals.passes.Goals.{then-rival-bits-via-else-rival-bits+then-not-is_at_one}
+use Rattle.cover_merge.proofs.{Answering.answers_no, RivalLemmas.all_passed, RivalLemmas.away_refuses, RivalLemmas.other_refuses, RivalLemmas.rest_pass, RivalLemmas.rivals_read}
+use Rattle.cover_merge.proofs.rivals.passes.Goals.{After-as_slice-list, then-rival-bits-via-then-rival-bits, then-rival-bits-via-else-rival-bits+then-not-is_at_one}
 use Rattle.cover_merge.proofs.rivals.passes.Goals as goal
 
 abbrev none : Rival
@@ -36,14 +35,6 @@ returns-then-rival-bits c =
           away_refuses _ _ rivaled _ c.args.row.are.in_range _ list are c.args.general c.args.row.are.one_route c.loop-k.k none c.loop-k-test.true c.if-rival-general.false
           (sym (w.is_at_one.ensures ∙ ap (λ l. is_at_one l c.args.row.places.now (get_or list c.loop-k.k none).serial) c.deref.ensures.value) ∙ w.if-not-is_at_one.true)
     ]))
-
-pub loop-k-preserved : goal.loop-k-preserved
-loop-k-preserved c =
-    let t = c.args.row.table in
-    let list = c.as_slice-list.result.now in
-    ∥∥₁_elim t.rivaled (hlevel props) (λ rivaled.
-    passed_more _ _ rivaled _ c.args.row.are.in_range _ list (read (goal.at.loop-k-preserved c).After-as_slice-list rivaled) c.args.general c.loop-k.k c.loop-k.invariant none c.loop-k-test.true
-    (sym (c.is_at_one.ensures ∙ ap (λ l. is_at_one l c.args.row.places.now (get_or list c.loop-k.k none).serial) c.deref.ensures.value) ∙ c.if-not-is_at_one.false))
 
 pub returns : goal.returns
 returns c =

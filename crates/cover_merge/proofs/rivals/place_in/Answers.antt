@@ -1,32 +1,13 @@
--- The row in the middle tells of all on one side of it.
-use Rattle.cover_merge.proofs.Common.{arith, subst, ◌+◌, ◌-◌, ◌/◌, ◌<◌, ◌≡◌, ◌≤◌}
-use Rattle.cover_merge.proofs.RivalLemmas.{general_before, general_behind, place_found}
+-- Rows of at most the generality stand before the others.
+use Rattle.cover_merge.proofs.Common.{IsPartitionPoint-from_clause, Row, arith, cases_lt, generality, nat_le, nat_tests, rules}
+use Rattle.cover_merge.proofs.RivalLemmas.{place_found}
 use Rattle.cover_merge.proofs.rivals.place_in.Goals as goal
-
-pub loop-low-preserved-then-generality-general : goal.loop-low-preserved-then-generality-general
-loop-low-preserved-then-generality-general c =
-    let old = c.loop-low.invariant in
-    let middle = c.loop-low.low + (c.loop-low.high - c.loop-low.low) / 2 in
-    let inside : middle < c.loop-low.high = omega (arith, c.loop-low-test.true) in record {
-      order = omega (arith, inside);
-      within = old.within;
-      below = general_before _ middle c.index-rows-middle.result c.args.general c.args.table.ordered (omega (arith, inside, old.within)) (subst (λ n. n ≤ c.args.general) c.generality.ensures.value c.if-generality-general.true);
-      above = old.above;
-    }
-
-pub loop-low-preserved : goal.loop-low-preserved
-loop-low-preserved c =
-    let old = c.loop-low.invariant in
-    let middle = c.loop-low.low + (c.loop-low.high - c.loop-low.low) / 2 in
-    let inside : middle < c.loop-low.high = omega (arith, c.loop-low-test.true) in record {
-      order = omega arith;
-      within = omega (arith, inside, old.within);
-      below = old.below;
-      above = λ k d from within. omega (arith, c.if-generality-general.false, general_behind _ middle c.index-rows-middle.result c.generality.result c.args.table.ordered (omega (arith, inside, old.within)) c.generality.ensures.value k d from within);
-    }
 
 pub returns-clause-value : goal.returns-clause-value
 returns-clause-value c =
-    let old = c.loop-low.invariant in
-    let met : c.loop-low.high ≡ c.loop-low.low = omega (arith, old.order, c.loop-low-test.false) in
-    place_found _ c.args.general c.loop-low.low c.args.table.ordered (omega (arith, old.order, old.within)) old.below (λ k d from within. old.above k d (omega (arith, from, met)) within)
+    let rows = c.args.table.rows.now in
+    let g = c.args.general in
+    let point = IsPartitionPoint-from_clause (λ (r : Row). nat_le (generality r.block) g) rows _ c.partition_point.ensures.partitioned
+    (λ i j d le within passes. grind (arith, nat_tests, cases_lt i j, c.args.table.ordered i j d)) (λ a r q k. search rules) in
+    place_found rows g c.partition_point.result c.args.table.ordered c.partition_point.ensures.bound
+    (λ k d less. grind (arith, nat_tests, point.0 k d (omega arith) less)) (λ k d from within. grind (arith, nat_tests, point.1 k d from within))

@@ -1,11 +1,8 @@
 -- One row more.
 use Rattle.cover_merge.proofs.Common.{MeetsNone, arith, subst, sym, ◌+◌, ◌<◌, ◌∙◌, ◌≡◌}
-use Rattle.cover_merge.proofs.RivalLemmas.{AreRivalsTo, met_read, missed_read, rival_read, rivals_all, rivals_more, rivals_none, rivals_stay}
+use Rattle.cover_merge.proofs.RivalLemmas.{AreRivalsTo, met_read, missed_read, rival_read, rivals_all, rivals_more, rivals_stay}
 use Rattle.cover_merge.proofs.rivals.rivals_behind.Goals.{then-not-is_missed+in_ok-push, else-not-is_missed}
 use Rattle.cover_merge.proofs.rivals.rivals_behind.Goals as goal
-
-pub loop-r-init : goal.loop-r-init
-loop-r-init c = rivals_none c.args.row.rows.now c.args.row.serials.now c.args.row.s (c.args.row.s + 1) c.new-list.result c.new-list.ensures (λ r after before. absurd (omega (arith, after, before)))
 
 pub loop-r-preserved : goal.loop-r-preserved
 loop-r-preserved c =

@@ -1,10 +1,7 @@
 -- One row more.
 use Rattle.cover_merge.proofs.Common.{arith}
-use Rattle.cover_merge.proofs.RivalLemmas.{numbered_all, numbered_more, numbered_none}
+use Rattle.cover_merge.proofs.RivalLemmas.{numbered_all, numbered_more}
 use Rattle.cover_merge.proofs.rivals.rivals_of.Goals as goal
-
-pub loop-s-init : goal.loop-s-init
-loop-s-init c = numbered_none c.args.table.rows.now c.in_ok-serials.serials.items c.in_ok-of.of.items c.in_ok-serials.ensures.items c.in_ok-of.ensures.items
 
 pub loop-s-preserved : goal.loop-s-preserved
 loop-s-preserved c =

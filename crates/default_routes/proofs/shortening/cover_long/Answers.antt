@@ -1,5 +1,5 @@
 -- A table that is short enough is covered.
-use Rattle.default_routes.proofs.Common.{Contains-get_or, Contains-map, Covers, IsPermutation-refl, List, Merge, Row, arith, get_or, inl, length, served, sets_of, short, subst, sym, ◌≤◌}
+use Rattle.default_routes.proofs.Common.{Contains-get_or, Contains-map, Covers, List, Merge, Row, arith, get_or, length, sets_of, short, subst, sym, ◌≤◌}
 use Rattle.default_routes.proofs.shortening.cover_long.Goals as goal
 
 pub returns-clause-covered : goal.returns-clause-covered
@@ -8,13 +8,7 @@ returns-clause-covered c =
     let enough : length rows ≤ c.args.target = omega (arith, c.len.ensures) in
     subst (λ (merges : List Merge). Covers c.args.target rows (sets_of merges) rows) (sym c.new-merges.ensures) (short rows enough)
 
-pub returns-clause-serves : goal.returns-clause-serves
-returns-clause-serves c = IsPermutation-refl (served c.args.table.rows)
-
 pub returns-clause-routes : goal.returns-clause-routes
 returns-clause-routes c = λ k d h.
     let rows = c.args.table.rows in
     Contains-map (λ (r : Row). r.route) rows (get_or rows k d) (Contains-get_or rows k d h)
-
-pub returns-clause-ended : goal.returns-clause-ended
-returns-clause-ended c = inl (omega (arith, c.len.ensures))

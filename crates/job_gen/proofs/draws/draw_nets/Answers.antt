@@ -7,6 +7,4 @@ loop-i-init c = draws_none drawn_net c.args.generator.now c.new-nets.result.item
 
 pub loop-i-preserved : goal.loop-i-preserved
 unfolding drawn_net
-loop-i-preserved c =
-    draws_push drawn_net c.loop-i.i c.args.generator.now c.loop-i.generator c.draw_net.new.generator c.loop-i.nets.items c.push.new.self.items c.in_ok-net.net
-    c.in_ok-push.ensures.items c.loop-i.invariant c.in_ok-net.ensures
+loop-i-preserved c = draws_push _ _ _ _ _ _ _ _ c.in_ok-push.ensures.items c.loop-i.invariant c.in_ok-net.ensures

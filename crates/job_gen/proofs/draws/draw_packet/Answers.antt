@@ -3,7 +3,4 @@ use Rattle.job_gen.proofs.DrawLemmas.{packet_from, keys_there}
 use Rattle.job_gen.proofs.draws.draw_packet.Goals as goal
 
 pub returns : goal.returns
-returns c =
-    packet_from c.args.all.nets.now c.args.i c.from.result c.draw-index.result c.draw-payload.result c.args.generator.now c.draw-index.new.generator c.draw-payload.new.generator
-    (c.from.ensures ∙ keys_there c.args.all.nets.now (c.args.i / 4) c.index-all-net.result (omega arith))
-    c.draw-index.ensures.drawn c.draw-payload.ensures.drawn
+returns c = packet_from _ _ _ _ _ _ _ _ (c.from.ensures ∙ keys_there c.args.all.nets.now (c.args.i / 4) c.index-all-net.result (omega arith)) c.draw-index.ensures.drawn c.draw-payload.ensures.drawn

@@ -6,6 +6,4 @@ pub loop-i-init : goal.loop-i-init
 loop-i-init c = draws_none (drawn_packet c.args.all.nets.now) c.args.generator.now c.new-packets.result.items c.new-packets.ensures.items
 
 pub loop-i-preserved : goal.loop-i-preserved
-loop-i-preserved c =
-    draws_push (drawn_packet c.args.all.nets.now) c.loop-i.i c.args.generator.now c.loop-i.generator c.draw_packet-packet.new.generator c.loop-i.packets.items c.push.new.self.items
-    c.draw_packet-packet.result c.in_ok-push.ensures.items c.loop-i.invariant c.draw_packet-packet.ensures
+loop-i-preserved c = draws_push _ _ _ _ _ _ _ _ c.in_ok-push.ensures.items c.loop-i.invariant c.draw_packet-packet.ensures

@@ -1,10 +1,5 @@
-use Rattle.std.proofs.Common.{◌≡◌, ◌∙◌, ap, arith, length-append, map, refl, subst, sym, take_all}
-use Rattle.std.proofs.lemmas.{List.Elements.All-push, Result.err_from_is_err_and}
-use Rattle.serde_json.specs.View.{view}
-use Rattle.job_text.specs.Paths.{path_text, item_at}
-use Rattle.job_readers.specs.Items.{items_faults}
-use Rattle.job_readers.proofs.ItemSteps.{items-more, items-fail, items-none}
-use Rattle.job_requests.specs.{Steps.kept_step, Steps.step_faults, Steps.step_value, Valid.HasFirstMachine, Valid.IsValidStep}
+use Rattle.job_requests.proofs.Common.{All-push, HasFirstMachine, IsValidStep, ap, arith, err_from_is_err_and, item_at, items-fail, items-more, items-none, items_faults, kept_step, length-append, map}
+use Rattle.job_requests.proofs.Common.{path_text, refl, step_faults, step_value, subst, sym, take_all, view, ◌∙◌, ◌≡◌}
 use Rattle.job_requests.proofs.FirstMachine.{has_first_machine, kept_next, loaded_next}
 use Rattle.job_requests.proofs.steps.each_step.Goals as goal
 

@@ -1,9 +1,4 @@
-use Rattle.std.proofs.Common.{◌≡◌, length, map, take, drop}
-use Rattle.std.specs.{List.list_any, Prelude.All}
-use Rattle.serde_json.specs.View.{view}
-use Rattle.job_text.specs.Paths.{path_text}
-use Rattle.job_readers.specs.Items.{items_faults}
-use Rattle.job_requests.specs.{Steps.first_machine_alone, Steps.is_load, Steps.step_faults, Steps.step_value, Valid.IsValidStep}
+use Rattle.job_requests.proofs.Common.{All, IsValidStep, drop, first_machine_alone, is_load, items_faults, length, list_any, map, path_text, step_faults, step_value, take, view, ◌≡◌}
 use Rattle.job_requests.proofs.steps.each_step.Given as goal
 
 -- The steps so far are read, and it is known whether one of them is a load.

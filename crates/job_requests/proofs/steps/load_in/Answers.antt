@@ -1,8 +1,4 @@
-use Rattle.std.proofs.Common.{◌≡◌, sym, subst, None}
-use Rattle.std.specs.List.{All}
-use Rattle.app_graph.specs.declared.graphs.Vertex.{Vertex}
-use Rattle.job_readers.specs.declared.jobs.Job.{Job}
-use Rattle.job_requests.specs.Valid.{IsValidJob}
+use Rattle.job_requests.proofs.Common.{All, IsValidJob, Job, None, Vertex, subst, sym, ◌≡◌}
 use Rattle.job_requests.proofs.Versions.{job_of_cores}
 use Rattle.job_requests.proofs.steps.load_in.Goals as goal
 

@@ -3,8 +3,7 @@ use Rattle.key_alloc.proofs.Taking.{right_in, taken_again, free_in}
 use Rattle.key_alloc.proofs.alloc.block_for.Goals as goal
 
 pub returns-in-Some-clause-free : goal.returns-in-Some-clause-free
-returns-in-Some-clause-free c taken state among =
-    taken_again taken c.in-Some.block c.args.free.now state (subst (λ o. IfSome o (Contains taken)) c.in-Some.is among)
+returns-in-Some-clause-free c taken state among = taken_again taken _ _ state (subst (λ o. IfSome o (Contains taken)) c.in-Some.is among)
 
 pub returns-in-None-clause-free : goal.returns-in-None-clause-free
 returns-in-None-clause-free c = free_in c.args.keyed.net.now c.args.free.now _ c.least_block.result c.least_block.ensures.free

@@ -8,8 +8,7 @@ returns-in_default-clause-keys_out c = record {
   before = c.loop-i.invariant.first;
   here = c.loop-i.invariant.each_one;
   net = c.net-item.result;
-  is = sym (ap (λ l. slice_get l c.loop-i.i) c.as_slice-net-items.ensures)
-      ∙ slice_get_read c.as_slice-net-items.result.now _ c.loop-i.i c.net-item.result refl c.loop-i-test.true c.net-item.is;
+  is = grind (arith, slice_get, slice_get_read);
   free = rw c.in_default.is at c.in_ok-block.ensures.not_fixed;
   none = (rw c.in_default.is at c.in_ok-block.ensures.none) (fixed_of c.args.graph.now.nets ++ c.loop-i.blocks) c.loop-i.invariant.free;
 }
@@ -33,10 +32,7 @@ loop-i-preserved c =
 
 pub returns-clause-apart : goal.returns-clause-apart
 returns-clause-apart c =
-    blocks_apart c.args.graph.now.nets c.loop-i.blocks (have_fixed c.args.graph.now c.requires)
-    (record { first = c.loop-i.invariant.first; all = omega (arith, ap length c.as_slice-net-items.ensures, c.loop-i.invariant.first.few) })
+    blocks_apart _ _ (have_fixed _ c.requires) (record { first = c.loop-i.invariant.first; all = omega (arith, ap length c.as_slice-net-items.ensures, c.loop-i.invariant.first.few) })
 
 pub returns-clause-enough : goal.returns-clause-enough
-returns-clause-enough c =
-    keys_enough c.args.graph.now.nets c.loop-i.blocks (have_fixed c.args.graph.now c.requires)
-    (record { first = c.loop-i.invariant.first; all = omega (arith, ap length c.as_slice-net-items.ensures, c.loop-i.invariant.first.few) })
+returns-clause-enough c = grind (arith, keys_enough, have_fixed)

@@ -18,9 +18,7 @@ returns-in_default-clause-none c taken state size place is =
     λ may. none taken state place (subst (λ s. IsOpenPlace taken s place) (one_size c.args.needed.keys size _ is mine) may)
 
 pub block_of-requires-clause-fits : goal.block_of-requires-clause-fits
-block_of-requires-clause-fits c =
-    let made = c.next_power_of_two-size.ensures in
-    size_within c.args.needed.keys _ c.args.needed.few (size_from_half c.args.needed.keys _ c.args.needed.some made.power made.lower_bound made.upper_bound)
+block_of-requires-clause-fits c = grind (arith, size_within, size_from_half)
 
 pub block_of-requires-clause-aligned : goal.block_of-requires-clause-aligned
 block_of-requires-clause-aligned c =

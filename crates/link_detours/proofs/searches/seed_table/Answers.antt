@@ -1,5 +1,6 @@
-use Rattle.link_detours.proofs.Common.{IsInside, Tells-more, Tells-none, ap, arith, chip_eq, chip_eq_same, chip_eq_true, false, index_of, length, length-replicate, length-set, replicate, rules}
-use Rattle.link_detours.proofs.Common.{same_index, take_all, ◌∙◌, ◌≡◌}
+use Rattle.link_detours.proofs.Common.{IsInside, Tells-more, Tells-none, ap, arith, chip_eq, chip_eq_same, chip_eq_true, false, index_of, length, length-replicate, replicate, rules, same_index}
+use Rattle.link_detours.proofs.Common.{take_all, ◌∙◌, ◌≡◌}
+use Rattle.std.proofs.Math.ListN.{length-set}
 use Rattle.link_detours.proofs.Tabling.{Told-contains}
 use Rattle.link_detours.proofs.searches.seed_table.Goals as goal
 

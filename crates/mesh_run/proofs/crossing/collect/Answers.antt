@@ -1,9 +1,6 @@
 use Rattle.mesh_run.proofs.Common.{Cut, End, Sends, Some, Takes, ap, arith, get_or, refl, same_Some, set, slice_get-get_or, sym, ◌∙◌, ◌≡◌}
-use Rattle.mesh_run.proofs.CrossingLaws.{collected_all, collected_more, collected_none, next_laid}
+use Rattle.mesh_run.proofs.CrossingLaws.{collected_all, collected_more, next_laid}
 use Rattle.mesh_run.proofs.crossing.collect.Goals as goal
-
-pub loop-number-init : goal.loop-number-init
-loop-number-init c = let r = c.requires.none in collected_none c.args.cuts.now c.args.standing.now c.args.shares.now.items r.0 r.1 r.2
 
 pub put_end-out-requires : goal.put_end-out-requires
 put_end-out-requires c =

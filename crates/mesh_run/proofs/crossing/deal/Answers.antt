@@ -1,9 +1,6 @@
 use Rattle.mesh_run.proofs.Common.{Cut, arith, slice_get-get_or}
-use Rattle.mesh_run.proofs.CrossingLaws.{dealt_all, dealt_more, dealt_none, end_still, next_link, same_on}
+use Rattle.mesh_run.proofs.CrossingLaws.{dealt_all, dealt_more, end_still, next_link, same_on}
 use Rattle.mesh_run.proofs.crossing.deal.Goals as goal
-
-pub loop-number-init : goal.loop-number-init
-loop-number-init c = let r = c.requires.ends in dealt_none c.args.cuts.now c.args.standing.now c.args.shares.now.items r.0 r.1 r.2
 
 pub take_at-tx-requires : goal.take_at-tx-requires
 take_at-tx-requires c =
@@ -38,7 +35,3 @@ loop-number-preserved c = grind (arith, slice_get-get_or, dealt_more)
 pub returns-clause-deals : goal.returns-clause-deals
 returns-clause-deals c = λ ends holds.
     (dealt_all c.args.cuts.now c.args.standing.now c.loop-number.standing c.args.shares.now.items c.loop-number.shares.items c.loop-number.number ends c.loop-number.invariant (omega arith) holds).0
-
-pub returns-clause-none_left : goal.returns-clause-none_left
-returns-clause-none_left c = λ ends holds.
-    (dealt_all c.args.cuts.now c.args.standing.now c.loop-number.standing c.args.shares.now.items c.loop-number.shares.items c.loop-number.number ends c.loop-number.invariant (omega arith) holds).1

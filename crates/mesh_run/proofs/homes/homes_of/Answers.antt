@@ -1,15 +1,6 @@
 use Rattle.mesh_run.proofs.Common.{Description, IsInside, List, Spot, arith, get_or, grid_size, length, site_inside, slice_get-get_or, subst, sym, ◌*◌, ◌+◌, ◌<◌}
-use Rattle.mesh_run.proofs.HomeLaws.{homes_all, homes_none, ports_more, vertex_more}
+use Rattle.mesh_run.proofs.HomeLaws.{homes_all, vertex_more}
 use Rattle.mesh_run.proofs.homes.homes_of.Goals as goal
-
-pub loop-index-init : goal.loop-index-init
-loop-index-init c = homes_none c.args.table.now c.new-homes.result.items c.new-homes.ensures.items
-
-pub loop-index-preserved : goal.loop-index-preserved
-loop-index-preserved c = grind (arith, ports_more, slice_get-get_or)
-
-pub loop-vertex-init : goal.loop-vertex-init
-loop-vertex-init c = grind arith
 
 pub index-home-requires : goal.index-home-requires
 index-home-requires c =

@@ -1,9 +1,6 @@
-use Rattle.mesh_run.proofs.Common.{DownTo, IsDown, ap, arith, length, set, subst, sym, take, ◌-◌, ◌<◌, ◌≡◌, ◌≤◌}
-use Rattle.mesh_run.proofs.Holding.{as_many, only_ends, down_none, stands_next, next_are_ends, down_more, down_all}
+use Rattle.mesh_run.proofs.Common.{DownTo, IsDown, ap, length, set, subst, sym, take, ◌-◌, ◌<◌, ◌≡◌, ◌≤◌}
+use Rattle.mesh_run.proofs.Holding.{only_ends, stands_next, next_are_ends, down_more, down_all}
 use Rattle.mesh_run.proofs.queues.bring_down.Goals as goal
-
-pub loop-gone-init : goal.loop-gone-init
-loop-gone-init g c = grind (arith, as_many (c.requires.ends).0 c.args.standing (c.requires.ends).1, down_none (c.requires.ends).0 c.args.standing c.args.queues.now.items (c.requires.ends).1)
 
 pub pop-link-requires : goal.pop-link-requires
 pop-link-requires g c =
@@ -19,9 +16,6 @@ invariant_of-whole g c =
     let n = stands_next h.0 c.loop-gone.gone c.loop-gone.standing _ _ h.5 below in
     let e = next_are_ends h.0 c.loop-gone.gone c.loop-gone.standing c.pop-link.result n below h.2 (c.pop-link.ensures _ _ n.stands).0 in
     record { sends = e.tx; takes = e.rx; empty = e.empty; spare = e.spare }
-
-pub index_mut-requires : goal.index_mut-requires
-index_mut-requires g c = grind arith
 
 pub loop-gone-preserved : goal.loop-gone-preserved
 loop-gone-preserved g c =

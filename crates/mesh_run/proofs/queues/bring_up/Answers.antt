@@ -1,9 +1,6 @@
-use Rattle.mesh_run.proofs.Common.{IsUp, List, McCopy, ap, arith, length, places_for, refl, subst, sym, ◌+◌, ◌-◌, ◌∙◌, ◌≡◌, ◌≤◌}
-use Rattle.mesh_run.proofs.BringingUp.{made_with, up_none, may_rise, up_more, all_up}
+use Rattle.mesh_run.proofs.Common.{IsUp, List, McCopy, ap, arith, length, places_for, subst, sym, ◌+◌, ◌-◌, ◌∙◌, ◌≡◌, ◌≤◌}
+use Rattle.mesh_run.proofs.BringingUp.{made_with, may_rise, up_more, all_up}
 use Rattle.mesh_run.proofs.queues.bring_up.Goals as goal
-
-pub loop-place-init : goal.loop-place-init
-loop-place-init g c = up_none c.args.places.cap (c.args.places.turns + 1) (length c.args.queues.now) c.args.queues.now c.in_ok-rising.rising refl c.in_ok-rising.ensures
 
 pub invariant_of-first : goal.invariant_of-first
 invariant_of-first g c =
@@ -11,9 +8,6 @@ invariant_of-first g c =
     let fits = subst (λ (p : List McCopy). length p ≤ c.args.places.cap) (sym (c.in_ok-list.ensures ∙ (c.as_slice.ensures ∙ c.index-queues-place.is)))
     (c.requires c.loop-place.place q c.loop-place-test.true) in
     record { some = omega (arith, c.for_held-cap.ensures, c.args.places.some); fits = omega (arith, c.for_held-cap.ensures, c.len.ensures, fits) }
-
-pub put-requires : goal.put-requires
-put-requires g c = grind (arith, may_rise)
 
 pub loop-place-preserved : goal.loop-place-preserved
 loop-place-preserved g c =

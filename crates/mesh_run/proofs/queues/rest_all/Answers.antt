@@ -1,10 +1,7 @@
 use Rattle.mesh_run.proofs.Common.{Bool, LinkEnds, List, RestAll, Rested, WasUp, ap, arith, free_places_of, min, nat_eq, subst, sym, ◌&&◌, ◌∙◌, ◌≡◌}
-use Rattle.mesh_run.proofs.{Holding.only_ends, Resting.all_rest, Resting.links_past, Resting.next_at, Resting.next_was, Resting.none_rest, Resting.one_rests, Resting.rest_inside, Resting.rest_places}
+use Rattle.mesh_run.proofs.{Holding.only_ends, Resting.all_rest, Resting.links_past, Resting.next_at, Resting.next_was, Resting.one_rests, Resting.rest_inside, Resting.rest_places}
 use Rattle.mesh_run.proofs.queues.rest_all.Goals.{then-quiet, else-quiet}
 use Rattle.mesh_run.proofs.queues.rest_all.Goals as goal
-
-pub loop-place-init : goal.loop-place-init
-loop-place-init g c = let r = c.requires in (r.0, r.1, r.2, none_rest c.args.cap r.0 c.args.standing.now _ r.1)
 
 pub rest_at-held-requires : goal.rest_at-held-requires
 rest_at-held-requires g c =

@@ -1,9 +1,6 @@
-use Rattle.mesh_run.proofs.Common.{IsRx, IsTx, Link, arith, slice_get_within, subst}
+use Rattle.mesh_run.proofs.Common.{IsRx, IsTx, Link, subst}
 use Rattle.mesh_run.proofs.Resting.{lent_there, rests_there}
 use Rattle.mesh_run.proofs.queues.rest_at.Goals as goal
-
-pub take_ends-tx-requires : goal.take_ends-tx-requires
-take_ends-tx-requires g c = let r = c.requires in (r.0, r.1, r.2, r.3)
 
 pub invariant_of-lent : goal.invariant_of-lent
 invariant_of-lent g c =
@@ -12,9 +9,6 @@ invariant_of-lent g c =
     lent_there r.0 c.args.place r.1 c.take_ends-tx.new.self c.index.result.now c.take_ends-tx.result.0 c.take_ends-tx.result.1 r.3 r.4 (c.take_ends-tx.ensures.ends r.0 r.1 r.2 r.3)
     (c.take_ends-tx.ensures.left r.0 r.2) c.index.ensures in
     record { sends = both.0; takes = both.1 }
-
-pub put_ends-requires : goal.put_ends-requires
-put_ends-requires g c = grind (arith, slice_get_within)
 
 pub returns : goal.returns
 returns g c = λ ends old holds at.

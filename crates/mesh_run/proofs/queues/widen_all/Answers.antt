@@ -1,10 +1,6 @@
 use Rattle.mesh_run.proofs.Common.{HoldsAll, LinkEnds, List, StayUp, subst, ◌+◌, ◌∙◌}
-use Rattle.mesh_run.proofs.{Holding.only_ends, Resting.StaysAs, Resting.after_refusal, Resting.all_stay, Resting.links_past, Resting.next_at, Resting.next_up, Resting.none_done, Resting.one_done}
-use Rattle.mesh_run.proofs.Resting.{some_stay}
+use Rattle.mesh_run.proofs.{Holding.only_ends, Resting.after_refusal, Resting.all_stay, Resting.links_past, Resting.next_at, Resting.next_up, Resting.one_done, Resting.some_stay}
 use Rattle.mesh_run.proofs.queues.widen_all.Goals as goal
-
-pub loop-place-init : goal.loop-place-init
-loop-place-init g c = let r = c.requires in (r.0, r.1, r.2, none_done (StaysAs c.args.places.cap (c.args.places.turns + 1)) r.0 c.args.standing.now r.1)
 
 pub widen_at-requires : goal.widen_at-requires
 widen_at-requires g c =

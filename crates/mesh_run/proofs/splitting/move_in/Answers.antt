@@ -1,13 +1,7 @@
 use Rattle.mesh_run.proofs.Common.{Home, State, arith, get_or, length, slice_get-get_or, subst, ℕ, ◌<◌, ◌∙◌, ◌≡◌, ◌≤◌}
-use Rattle.mesh_run.proofs.{CrossingLaws.end_still, SplitLaws.holds_on, SplitLaws.holds_self, SplitLaws.lanes_more, SplitLaws.lanes_none, SplitLaws.moved_in, SplitLaws.place_there}
-use Rattle.mesh_run.proofs.SplitLaws.{vertex_home, vertex_there, vertices_to_more, vertices_to_none}
+use Rattle.mesh_run.proofs.{CrossingLaws.end_still, SplitLaws.holds_on, SplitLaws.lanes_more, SplitLaws.moved_in, SplitLaws.place_there, SplitLaws.vertex_home, SplitLaws.vertex_there}
+use Rattle.mesh_run.proofs.SplitLaws.{vertices_to_more}
 use Rattle.mesh_run.proofs.splitting.move_in.Goals as goal
-
-pub loop-place-init : goal.loop-place-init
-loop-place-init c = lanes_none c.args.parts.now c.args.homes.now c.args.shares.now.items
-
-pub swap_queue-copies-requires : goal.swap_queue-copies-requires
-swap_queue-copies-requires c = grind arith
 
 pub put_lane-requires : goal.put_lane-requires
 put_lane-requires c =
@@ -23,12 +17,6 @@ loop-place-preserved c =
     lanes_more c.args.parts.now c.args.homes.now c.args.shares.now.items c.loop-place.place c.loop-place.parts c.swap_queue-copies.new.parts c.loop-place.shares.items c.put_lane.new.shares.items
     (get_or c.args.homes.now c.loop-place.place nothing) c.swap_queue-copies.result _ c.loop-place.invariant (slice_get-get_or c.args.homes.now c.loop-place.place nothing c.loop-place-test.true)
     c.swap_queue-copies.ensures.stood c.swap_queue-copies.ensures.stands c.put_lane.ensures
-
-pub loop-vertex-init : goal.loop-vertex-init
-loop-vertex-init c = grind (arith, vertices_to_none)
-
-pub loop-cut-init : goal.loop-cut-init
-loop-cut-init c = holds_self c.loop-vertex.shares.items
 
 pub loop-cut-preserved : goal.loop-cut-preserved
 loop-cut-preserved c = holds_on c.loop-vertex.shares.items c.loop-cut.shares.items c.poll.new.shares.items c.loop-cut.invariant c.poll.ensures

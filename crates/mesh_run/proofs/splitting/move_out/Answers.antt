@@ -1,13 +1,6 @@
 use Rattle.mesh_run.proofs.Common.{Home, State, arith, get_or, length, slice_get-get_or, subst, sym, ℕ, ◌<◌, ◌∙◌, ◌≡◌, ◌≤◌}
-use Rattle.mesh_run.proofs.{CrossingLaws.end_still, SplitLaws.moved_out, SplitLaws.out_more, SplitLaws.out_none, SplitLaws.place_there, SplitLaws.unsent_out_more, SplitLaws.unsent_out_none}
-use Rattle.mesh_run.proofs.SplitLaws.{vertex_home, vertex_there}
+use Rattle.mesh_run.proofs.{CrossingLaws.end_still, SplitLaws.moved_out, SplitLaws.out_more, SplitLaws.place_there, SplitLaws.unsent_out_more, SplitLaws.vertex_home, SplitLaws.vertex_there}
 use Rattle.mesh_run.proofs.splitting.move_out.Goals as goal
-
-pub loop-place-init : goal.loop-place-init
-loop-place-init c = out_none c.args.parts.now c.args.homes.now c.args.shares.now.items
-
-pub take_lane-requires-clause-queue : goal.take_lane-requires-clause-queue
-take_lane-requires-clause-queue c = grind arith
 
 pub take_lane-requires-clause-end : goal.take_lane-requires-clause-end
 take_lane-requires-clause-end c =
@@ -27,9 +20,6 @@ loop-place-preserved c =
     out_more c.args.parts.now c.args.homes.now c.args.shares.now.items c.loop-place.place c.loop-place.parts c.take_lane.new.parts c.loop-place.shares.items c.take_lane.new.shares.items
     (get_or c.args.homes.now c.loop-place.place nothing) c.loop-place.invariant (slice_get-get_or c.args.homes.now c.loop-place.place nothing below)
     (omega (arith, long, inputs, cores, below)) c.take_lane.ensures
-
-pub loop-vertex-init : goal.loop-vertex-init
-loop-vertex-init c = unsent_out_none (length c.args.parts.now.inputs) c.loop-place.parts c.args.homes.now c.loop-place.shares.items
 
 pub swap_unsent-copies-requires : goal.swap_unsent-copies-requires
 swap_unsent-copies-requires c =

@@ -1,7 +1,7 @@
 use Rattle.net_plans.proofs.Common.{All, All-at, Chip, HasNoneCutOff, IfErr, IfErr-weaker, IfOk, IsCauseOne, IsInside, IsLiveChip, IsRepairCause, IsTreeTo, Some, arith, before_place, end_of, get_or}
 use Rattle.net_plans.proofs.Common.{length, rules, subst, sym, ◌<◌, ◌≢◌}
 use Rattle.net_plans.proofs.{CutOffLaws.none_cut_off, CutOffLaws.cause_one, CutOffLaws.refused_one, Planning.all_inside, Planning.source_lives, Planning.of_targets, Planning.of_chips}
-use Rattle.net_plans.proofs.Planning.{routes_targets, some_chip, plan_is}
+use Rattle.net_plans.proofs.Planning.{routes_targets, some_chip}
 use Rattle.net_plans.proofs.nets.net_plan.Goals as goal
 
 pub invariant_of-ends : goal.invariant_of-ends
@@ -34,12 +34,6 @@ pub returns-in_err-tree-clause-cut_off : goal.returns-in_err-tree-clause-cut_off
 returns-in_err-tree-clause-cut_off c =
     let none : IfOk c.from_residual-in_err-tree.result (λ _. HasNoneCutOff c.args.placed.ground.machine.now c.args.placed.spots.now c.args.placed.net.now) = search rules in
     refused_one c.args.placed.ground.machine.now c.args.placed.spots.now c.args.placed.net.now c.from_residual-in_err-tree.result none (returns-in_err-tree-clause-cause c)
-
-pub returns-clause-planned : goal.returns-clause-planned
-returns-clause-planned c =
-    plan_is c.args.placed.ground.machine.now c.args.placed.spots.now c.args.placed.net.now c.args.placed.block c.get-source.result.now c.in_ok-targets.targets c.in_ok-chips.chips c.in_ok-grown.field-0 c.in_ok-tree.tree
-    c.get-source.ensures c.in_ok-targets.ensures c.in_ok-chips.ensures c.in_ok-grown.ensures.root c.in_ok-grown.ensures.grown c.in_ok-grown.ensures.few_edges
-    c.in_ok-tree.ensures.root c.in_ok-tree.ensures.repaired
 
 pub returns-clause-routing : goal.returns-clause-routing
 returns-clause-routing c =

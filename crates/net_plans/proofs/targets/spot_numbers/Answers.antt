@@ -1,10 +1,7 @@
-use Rattle.net_plans.proofs.Common.{All-at, AreNumbersOf, List, Spot, [], ap, arith, get_or_from_slice_get, length, map_more_at, nowhere, same_chip, same_spot, slice_index_or, spot_numbered, subst}
-use Rattle.net_plans.proofs.Common.{sym, take, take_all, ℕ, ◌++◌, ◌<◌, ◌∙◌, ◌∷◌}
-use Rattle.net_plans.proofs.TargetLaws.{cores_of, numbers_more, numbers_none}
+use Rattle.net_plans.proofs.Common.{AreNumbersOf, List, Spot, [], ap, get_or_from_slice_get, map_more_at, nowhere, same_chip, same_spot, slice_index_or, spot_numbered, subst, sym, take, ℕ, ◌++◌, ◌∙◌}
+use Rattle.net_plans.proofs.Common.{◌∷◌}
+use Rattle.net_plans.proofs.TargetLaws.{cores_of, numbers_more}
 use Rattle.net_plans.proofs.targets.spot_numbers.Goals as goal
-
-pub loop-i-init : goal.loop-i-init
-loop-i-init c = numbers_none c.in_ok-numbers.numbers.items c.in_ok-numbers.ensures.items
 
 pub loop-i-preserved : goal.loop-i-preserved
 loop-i-preserved c =
@@ -17,11 +14,3 @@ loop-i-preserved c =
     subst (λ (ss : List Spot). AreNumbersOf ss c.push.new.self.items)
     (ap (λ (x : Spot). cores_of c.args.targets.spots.now (take c.loop-i.i c.args.targets.vertices.now) ++ x ∷ []) (sym at) ∙ sym more)
     (numbers_more _ c.loop-i.numbers.items c.push.new.self.items s _ c.loop-i.invariant c.spot_number.ensures.value back c.in_ok-push.ensures.items)
-
-pub returns : goal.returns
-returns c =
-    subst (λ (vs : List ℕ). AreNumbersOf (cores_of c.args.targets.spots.now vs) c.loop-i.numbers.items)
-    (take_all c.loop-i.i c.args.targets.vertices.now (omega (arith, c.loop-i-test.false, c.len-i-end.ensures))) c.loop-i.invariant
-
-pub get-requires : goal.get-requires
-get-requires c = All-at (λ v. v < length c.args.targets.spots.now) c.args.targets.vertices.now c.loop-i.i c.get-vertex.result.now c.args.targets.known c.get-vertex.ensures

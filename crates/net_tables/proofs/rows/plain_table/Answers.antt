@@ -1,11 +1,10 @@
+use Rattle.std.proofs.Common.{arith}
 use Rattle.net_tables.proofs.Common.{ap, map, row_of_mark, ◌∙◌}
 use Rattle.net_tables.proofs.{Ordering.table_sorted, Whole.as_many_rows, Whole.sound_table}
 use Rattle.net_tables.proofs.rows.plain_table.Goals as goal
 
 pub returns-clause-table : goal.returns-clause-table
-returns-clause-table c = table_sorted c.args.marks.now c.sort_marks.new.marks.items c.in_ok-rows.rows
-    (rw c.in_ok-sorted.ensures.items at c.in_ok-sort_marks.ensures.same) c.in_ok-sort_marks.ensures.in_order
-    (c.in_ok-rows.ensures ∙ ap (map row_of_mark) c.as_slice.ensures.value)
+returns-clause-table c = grind (arith, table_sorted)
 
 pub returns-clause-few : goal.returns-clause-few
 returns-clause-few c = as_many_rows c.args.marks.now (record { rows = c.in_ok-rows.rows }) (returns-clause-table c)

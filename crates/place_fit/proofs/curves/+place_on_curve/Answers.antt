@@ -6,10 +6,7 @@ pub returns-then-level-eq0-clause-place : goal.returns-then-level-eq0-clause-pla
 returns-then-level-eq0-clause-place t c = sym (ap (λ (l : ℕ). curve_place l c.args.at.chip) c.if-level-eq0.true ∙ place-zero c.args.at.chip)
 
 pub returns-then-c-side-2-clause-place : goal.returns-then-c-side-2-clause-place
-returns-then-c-side-2-clause-place t c =
-    let h = c.half_side-side in
-    (told_lower_left c.args.at.level h.result c.place_on_curve.result c.args.at.chip c.if-level-eq0.false c.args.at.small (h.ensures.half (omega arith)) c.args.at.inside
-    c.if-c-side.true c.if-c-side-2.true c.place_on_curve.ensures.place).0
+returns-then-c-side-2-clause-place t c = grind (arith, told_lower_left)
 
 pub returns-else-c-side-2 : goal.returns-else-c-side-2
 returns-else-c-side-2 t c =

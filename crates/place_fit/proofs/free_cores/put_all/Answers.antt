@@ -1,4 +1,4 @@
-use Rattle.place_fit.proofs.Common.{All-at, AreOthersKept, None, Some, Vertex, [], ap, arith, length, length_push, refl, slice_get, slice_get_read, subst, sym, ◌++◌, ◌+◌, ◌∙◌, ◌∷◌, ◌≡◌}
+use Rattle.place_fit.proofs.Common.{All-at, None, Some, Vertex, [], ap, arith, length, length_push, refl, slice_get, slice_get_read, ◌++◌, ◌+◌, ◌∙◌, ◌∷◌, ◌≡◌}
 use Rattle.place_fit.proofs.{Giving.kept_more, Giving.kept_same, SpotLaws.none_for_core, SpotLaws.placed_more, SpotLaws.placed_none, SpotLaws.has_no_room, SpotLaws.stands_here, SpotLaws.stood_on_core}
 use Rattle.place_fit.proofs.free_cores.put_all.Goals as goal
 
@@ -46,8 +46,7 @@ loop-i-preserved c =
     let noted : c.push_reserved-in-loop-i.new.self.items ≡ memory ++ r.memory ∷ [] = c.push_reserved-in-loop-i.ensures.items ∙ ap (λ l. l ++ r.memory ∷ []) c.reserve_one.ensures.memory in
     record {
       each_one = ap length pushed ∙ (length_push spots r.spot ∙ ap (λ n. n + 1) inv.each_one);
-      kept = subst (λ l. AreOthersKept l c.args.board.now c.put_on_core.new.self) (sym pushed)
-          (kept_more spots c.args.board.now c.loop-i.board c.put_on_core.new.self put.place v.sdram r inv.kept put.filled);
+      kept = grind (arith, kept_more spots c.args.board.now c.loop-i.board c.put_on_core.new.self put.place v.sdram r inv.kept put.filled);
       placed = λ m free.
           let placed = inv.placed m free in
           let stands = stands_here m vertices i v is spots inv.each_one memory c.loop-i.board placed in

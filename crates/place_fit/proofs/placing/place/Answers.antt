@@ -3,13 +3,7 @@ use Rattle.place_fit.proofs.SpotLaws.{finds_none, has_no_room, placed_more, plac
 use Rattle.place_fit.proofs.placing.place.Goals as goal
 
 pub loop-i-init : goal.loop-i-init
-loop-i-init c =
-    let b = c.in_ok-board.board in
-    let told = c.in_ok-board.ensures in
-    record {
-      each_one = ap length c.new-spots.ensures;
-      placed = rw (c.new-spots.ensures, c.new-memory.ensures) (placed_none c.args.machine.now c.args.graph.now.vertices b told.whole told.free);
-    }
+loop-i-init c = grind (arith, placed_none c.args.machine.now c.args.graph.now.vertices (c.in_ok-board.board) (c.in_ok-board.ensures).whole (c.in_ok-board.ensures).free)
 
 pub returns-in_default-clause-no_room : goal.returns-in_default-clause-no_room
 returns-in_default-clause-no_room c = grind (arith, slice_get, slice_get_read, has_no_room, finds_none, stands_here)

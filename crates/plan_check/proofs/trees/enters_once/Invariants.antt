@@ -1,7 +1,7 @@
--- The edges passed enter each chip once, and the chips that they enter have marks.
+-- The edges that are left enter anew exactly where all enter once.
 use Rattle.plan_check.proofs.Common.{◌≡◌}
-use Rattle.plan_check.proofs.Marking.{EnteredSoFar}
+use Rattle.plan_check.proofs.Marking.{GoesOn}
 use Rattle.plan_check.proofs.trees.enters_once.Given as goal
 
 abbrev pub invariant-loop-edge : goal.invariant-loop-edge
-invariant-loop-edge l = (l.entered.machine.now ≡ l.rooted.machine.now) × EnteredSoFar l.rooted.machine.now l.rooted.root l.edges l.edge-index l.entered.items.items
+invariant-loop-edge l = (l.entered.machine.now ≡ l.rooted.machine.now) × GoesOn l.rooted.machine.now l.rooted.root l.edges l.edge-index l.entered.items.items

@@ -1,19 +1,13 @@
+use Rattle.std.proofs.Common.{arith}
 use Rattle.plan_check.proofs.Common.{IsRouted, subst, sym}
 use Rattle.plan_check.proofs.Chips.{verdict_found, nets_more, all_fine}
 use Rattle.plan_check.proofs.verdicts.verdict_of.Goals as goal
 
 pub returns-in-Some : goal.returns-in-Some
-returns-in-Some c =
-    verdict_found c.args.tables.now.grid.machine.now c.args.tables.now.grid.image.now c.args.nets.now c.loop-at.at c.index-nets-at.result c.loop-at-test.true c.index-nets-at.is
-    c.first_flaw.result c.in-Some.chip c.in-Some.flaw c.verdict_from.result c.in-Some.is c.first_flaw.ensures c.loop-at.invariant.0 c.verdict_from.ensures
+returns-in-Some c = grind (arith, verdict_found)
 
 pub loop-at-preserved : goal.loop-at-preserved
-loop-at-preserved c = (
-  nets_more c.args.tables.now.grid.machine.now c.args.tables.now.grid.image.now c.args.nets.now c.loop-at.at c.index-nets-at.result c.loop-at-test.true c.index-nets-at.is
-      c.first_flaw.result c.in_default.is c.first_flaw.ensures c.loop-at.invariant.0,
-  c.set_ports.ensures.long,
-  c.set_targets.ensures.long,
-)
+loop-at-preserved c = grind (arith, nets_more)
 
 pub returns : goal.returns
 returns c = all_fine c.args.tables.now.grid.machine.now c.args.tables.now.grid.image.now c.args.nets.now c.loop-at.at c.loop-at-test.false c.loop-at.invariant.0
@@ -23,10 +17,4 @@ invariant_of-plan c =
     record { routed = ∣ subst (IsRouted c.args.tables.now.grid.machine.now) (sym c.index-nets-at.is) (c.requires.routed c.loop-at.at c.index-nets-at.result c.loop-at-test.true) ∣₁ }
 
 pub first_flaw-requires : goal.first_flaw-requires
-first_flaw-requires c = record {
-  routed = subst (IsRouted c.args.tables.now.grid.machine.now) (sym c.index-nets-at.is) (c.requires.routed c.loop-at.at c.index-nets-at.result c.loop-at-test.true);
-  ports_long = c.set_ports.ensures.long;
-  routes_long = c.set_targets.ensures.long;
-  comes_in = c.set_ports.ensures.told;
-  outputs = c.set_targets.ensures.told c.set_links.ensures.told;
-}
+first_flaw-requires c = grind arith

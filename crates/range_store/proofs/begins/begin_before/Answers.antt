@@ -1,6 +1,4 @@
-use Rattle.std.proofs.Common.{ltb, ltb-true, ltb-false, arith, rules}
-use Rattle.std.proofs.lemmas.{List.Sorted.IsPartitionPoint-from_clause, List.Sorted.IsPartitionedBy-ltb, Option.get_or_from_slice_get, Option.slice_get_within}
-use Rattle.range_store.specs.declared.holes.Hole.{Hole}
+use Rattle.range_store.proofs.Common.{Hole, IsPartitionPoint-from_clause, IsPartitionedBy-ltb, arith, get_or_from_slice_get, ltb, ltb-false, ltb-true, rules, slice_get_within}
 use Rattle.range_store.proofs.Beginnings.{in_order}
 use Rattle.range_store.proofs.begins.begin_before.Goals as goal
 

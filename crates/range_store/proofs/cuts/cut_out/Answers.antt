@@ -1,5 +1,4 @@
-use Rattle.std.proofs.Common.{arith, set, ◌-◌, Some, sym, ap, ◌∙◌, ◌++◌, take, drop, ◌+◌}
-use Rattle.range_store.specs.Regions.{rest_of, hole_end}
+use Rattle.range_store.proofs.Common.{Some, ap, arith, drop, hole_end, rest_of, set, sym, take, ◌++◌, ◌+◌, ◌-◌, ◌∙◌}
 use Rattle.range_store.proofs.RunLemmas.{read_hole, cut_none, cut_left, cut_right, cut_both}
 use Rattle.range_store.proofs.cuts.cut_out.Goals as goal
 

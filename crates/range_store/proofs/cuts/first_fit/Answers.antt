@@ -1,6 +1,4 @@
-use Rattle.std.proofs.lemmas.{Option.slice_get-get_or, Bool.cases_eq}
-use Rattle.std.proofs.Common.{◌≡◌, ◌<◌, ◌-◌, take, length, get_or, ap, ◌∙◌, inl, inr, arith}
-use Rattle.range_store.specs.{declared.holes.Hole.Hole, Regions.is_hole_range}
+use Rattle.range_store.proofs.Common.{Hole, ap, arith, cases_eq, get_or, inl, inr, is_hole_range, length, slice_get-get_or, take, ◌-◌, ◌<◌, ◌∙◌, ◌≡◌}
 use Rattle.range_store.proofs.{Beginnings.none_before, RunLemmas.end_below, RunLemmas.first_is_least}
 use Rattle.range_store.proofs.cuts.first_fit.Goals as goal
 

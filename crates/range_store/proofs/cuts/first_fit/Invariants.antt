@@ -1,5 +1,4 @@
-use Rattle.std.proofs.Common.{take}
-use Rattle.range_store.specs.Regions.{HasNoFitFrom}
+use Rattle.range_store.proofs.Common.{HasNoFitFrom, take}
 use Rattle.range_store.proofs.cuts.first_fit.Given as goal
 
 -- none of the holes before has a fit

@@ -1,5 +1,4 @@
-use Rattle.std.proofs.Common.{arith, sym, subst}
-use Rattle.range_store.specs.Fits.{IsLeastIn}
+use Rattle.range_store.proofs.Common.{IsLeastIn, arith, subst, sym}
 use Rattle.range_store.proofs.RunLemmas.{least_in, none_in}
 use Rattle.range_store.proofs.cuts.fit_in.Goals as goal
 

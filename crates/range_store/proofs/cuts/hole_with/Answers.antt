@@ -1,6 +1,4 @@
-use Rattle.std.proofs.Common.{◌-◌, arith, get_or}
-use Rattle.std.proofs.lemmas.Option.{slice_get-get_or}
-use Rattle.range_store.specs.declared.holes.Hole.{Hole}
+use Rattle.range_store.proofs.Common.{Hole, arith, get_or, slice_get-get_or, ◌-◌}
 use Rattle.range_store.proofs.{HolePlaces.has_from, RunLemmas.end_below, RunLemmas.some_len, Beginnings.before_all, Beginnings.beyond}
 use Rattle.range_store.proofs.cuts.hole_with.Goals as goal
 

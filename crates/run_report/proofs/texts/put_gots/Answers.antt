@@ -1,11 +1,6 @@
 use Rattle.run_report.proofs.Common.{ap, ap₂, arith, flat_map, flat_map-map, got_line, map, named_delivery, sym, ◌++◌, ◌∙◌}
-use Rattle.run_report.proofs.Gathering.{put_at, put_all}
+use Rattle.run_report.proofs.Gathering.{put_all}
 use Rattle.run_report.proofs.texts.put_gots.Goals as goal
-
-pub loop-delivery-preserved : goal.loop-delivery-preserved
-loop-delivery-preserved c =
-    put_at (λ d. got_line (named_delivery c.as_slice-placed.result.now d)) c.as_slice-deliveries.result.now c.args.text.now.items c.loop-delivery.text.items
-    c.loop-delivery.delivery-index c.loop-delivery.invariant _ c.put_got.new.text.items (omega arith) c.in_ok-put_got.ensures
 
 pub returns : goal.returns
 returns c =

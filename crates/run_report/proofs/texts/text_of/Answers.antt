@@ -17,8 +17,8 @@ returns c =
     ∙ ap (λ tables. listed r.placed r.keys tables) c.as_slice-3.ensures)))
     (c.in_ok-put_events.ensures ∙ ap (λ did. c.put_listed.new.text.items ++ event_lines did) c.as_slice-4.ensures))
     c.in_ok-put_gots.ensures)
-    (c.in_ok-put_dumps.ensures ∙ ap (λ dumps. c.put_gots.new.text.items ++ flat_map dump_line dumps) c.as_slice-5.ensures))
-    (c.in_ok-put_waits.ensures ∙ ap (λ waits. c.put_dumps.new.text.items ++ flat_map wait_line waits) c.as_slice-6.ensures))
+    (c.in_ok-put_each.ensures ∙ ap (λ dumps. c.put_gots.new.text.items ++ flat_map dump_line dumps) c.as_slice-5.ensures))
+    (c.in_ok-put_each-2.ensures ∙ ap (λ waits. c.put_each.new.text.items ++ flat_map wait_line waits) c.as_slice-6.ensures))
     c.in_ok-put_end.ensures
     in
     c.from_vec.ensures ∙ (put ∙ ap (λ text. text ++ report_text r) c.in_ok-text.ensures.items)

@@ -1,5 +1,5 @@
-use Rattle.spin_apps.proofs.Common.{All-at, FindHosts, Host, IsValidStep, Option, Some, ap, arith, packet_count_of, refl, rules, slice_get, slice_get_read, string_bytes, subst, sym, ◌≡◌}
-use Rattle.spin_apps.proofs.Chain.{find_after, finds_host, goes_all, goes_first, goes_more, packets_more}
+use Rattle.spin_apps.proofs.Common.{All-at, FindHosts, Host, IsValidStep, Option, Some, ap, arith, packet_count_of, refl, slice_get, slice_get_read, string_bytes, subst, sym, ◌≡◌}
+use Rattle.spin_apps.proofs.Chain.{find_after, finds_host, goes_first, goes_more, packets_more}
 use Rattle.spin_apps.proofs.answers.take_all.Goals as goal
 
 pub loop-step-init : goal.loop-step-init
@@ -35,6 +35,3 @@ loop-step-preserved c =
       find = find_after steps i step c.loop-step.hosted (string_bytes c.loop-step.text) (string_bytes c.take.new.text) c.take.new.hosted at told c.loop-step.invariant.find;
       few = omega (arith, more, c.loop-step.invariant.few);
     }
-
-pub returns : goal.returns
-returns c = goes_all c.args.steps.now c.loop-step.step-index c.loop-step.hosted (string_bytes c.loop-step.text) (search rules) c.loop-step.invariant.goes

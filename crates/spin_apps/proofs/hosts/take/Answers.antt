@@ -1,23 +1,12 @@
 use Rattle.spin_apps.proofs.Common.{Host, IfOk, IsTaken, IsWith, List, Spot, free_but, free_machine, subst, sym}
-use Rattle.spin_apps.proofs.{Keeping.with_spots, Serving.free_after_load, Serving.free_after_refusal, Serving.machine_after_load}
+use Rattle.spin_apps.proofs.{Keeping.with_spots, Serving.free_after_refusal}
 use Rattle.spin_apps.proofs.hosts.take.Goals as goal
-
-pub returns-in-Ok-clause-machine : goal.returns-in-Ok-clause-machine
-returns-in-Ok-clause-machine c =
-    machine_after_load c.load.result c.args.apps.now c.load.new.self c.args.number c.args.plan.now c.load.ensures.loaded c.load.ensures.refused
-
-pub returns-in-Ok-clause-free : goal.returns-in-Ok-clause-free
-returns-in-Ok-clause-free c = free_after_load c.args.apps.now c.load.new.self c.args.number c.args.plan.now c.args.free.now c.in-Ok.ensures.loaded c.requires.taken
 
 pub returns-in-Err-clause-taken : goal.returns-in-Err-clause-taken
 returns-in-Err-clause-taken c =
     let old = c.args.apps.now in
     subst (λ (h : Host). IfOk c.refused.result (λ a. IsTaken old c.args.number c.args.plan.now a h)) (sym c.in-Err.ensures.refused)
     (c.refused.ensures old c.args.number c.args.plan.now c.in-Err.ensures.why)
-
-pub returns-in-Err-clause-machine : goal.returns-in-Err-clause-machine
-returns-in-Err-clause-machine c =
-    machine_after_load c.load.result c.args.apps.now c.load.new.self c.args.number c.args.plan.now c.load.ensures.loaded c.load.ensures.refused
 
 pub returns-in-Err-clause-free : goal.returns-in-Err-clause-free
 returns-in-Err-clause-free c =

@@ -1,5 +1,5 @@
 use Rattle.spin_checks.proofs.Common.{Ok, rules}
-use Rattle.spin_checks.proofs.{Compiled.right_or_memory, Meaning.right_means, Meaning.wrong_means, OneAnswer.one_answer, Refusing.refused_answer}
+use Rattle.spin_checks.proofs.{Compiled.right_or_memory, Meaning.right_means, OneAnswer.one_answer, Refusing.refused_answer}
 use Rattle.spin_checks.proofs.answers.answer.Goals as goal
 
 pub returns-in_err-nets-clause-refused : goal.returns-in_err-nets-clause-refused
@@ -15,11 +15,6 @@ pub returns-in-Ok-line_of-clause-right : goal.returns-in-Ok-line_of-clause-right
 returns-in-Ok-line_of-clause-right c =
     right_means c.args.machine.now c.args.graph.now c.args.trees.now c.args.image.now c.in_ok-nets.nets c.in_ok-nets.ensures.nets c.in-Ok.finding c.in-Ok-line_of.text c.in-Ok-line_of.ensures
     c.in-Ok.ensures.right
-
-pub returns-in-Ok-line_of-clause-wrong : goal.returns-in-Ok-line_of-clause-wrong
-returns-in-Ok-line_of-clause-wrong c =
-    wrong_means c.args.machine.now c.args.graph.now c.args.trees.now c.args.image.now c.in_ok-nets.nets c.in_ok-nets.ensures.nets c.in-Ok.finding c.in-Ok-line_of.text c.in-Ok-line_of.ensures
-    c.in-Ok.ensures.wrong
 
 pub returns-in-Ok-line_of-clause-answer : goal.returns-in-Ok-line_of-clause-answer
 returns-in-Ok-line_of-clause-answer c = record {

@@ -1,9 +1,6 @@
-use Rattle.spin_checks.proofs.Common.{All-at, HasEndsAmong, Some, ap, length, rules, slice_get-get_or, sym, ◌<◌, ◌∙◌}
+use Rattle.spin_checks.proofs.Common.{Some, ap, length, rules, slice_get-get_or, sym, ◌<◌, ◌∙◌}
 use Rattle.spin_checks.proofs.Growing.{plans_more}
 use Rattle.spin_checks.proofs.nets.plans_with.Goals as goal
-
-pub invariant_of-net : goal.invariant_of-net
-invariant_of-net c = record { ends = All-at (HasEndsAmong (length c.args.handed.spots.now)) c.args.handed.nets.now c.loop-i.i c.get.result.now c.args.handed.ends c.get.ensures }
 
 pub loop-i-preserved : goal.loop-i-preserved
 loop-i-preserved c =

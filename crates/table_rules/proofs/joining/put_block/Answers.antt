@@ -1,24 +1,19 @@
--- A block that may take it in, one that may not, and the end.
-use Rattle.table_rules.proofs.Common.{ap, arith, length, sym, with_block, ◌∙◌}
-use Rattle.table_rules.proofs.JoinTurns.{passed_on, put_at_end, taken_in}
+-- A block that may take it in, or the end.
+use Rattle.table_rules.proofs.Common.{Block, ap, meets_one, merge_two, not, position, position-Some, position_nowhere, set, sym, ◌∙◌}
+use Rattle.table_rules.proofs.JoinTurns.{put_at_end, taken_in}
 use Rattle.table_rules.proofs.joining.put_block.Goals as goal
 
-pub returns-then-not-meets_one : goal.returns-then-not-meets_one
-returns-then-not-meets_one c =
-    taken_in c.args.behind.now c.args.block c.loop-at.joined.items (with_block c.args.behind.now c.args.joined.now.items c.args.block) c.loop-at.at c.loop-at.invariant.goes_on
-    c.index.result.now c.merge_two-join.result (omega (arith, c.loop-at-test.true, c.len-at-end.ensures, ap length c.loop-at.invariant.same)) c.index.ensures c.merge_two-join.ensures
-    (sym c.meets_one.ensures ∙ c.if-not-meets_one.true)
+pub returns-in-Some : goal.returns-in-Some
+returns-in-Some c =
+    let p = λ (b : Block). not (meets_one c.args.behind.now (merge_two b c.args.block)) in
+    let blocks = c.args.joined.now.items in
+    let first = position-Some p blocks c.in-Some.at c.index.result.now (ap (position p) (sym c.deref.ensures.value) ∙ sym c.place_among.ensures ∙ c.in-Some.is) in
+    ap (set blocks c.in-Some.at) (c.merge_two.ensures ∙ ap (λ (b : Block). merge_two b c.args.block) c.index.ensures)
+    ∙ taken_in c.args.behind.now c.args.block blocks c.in-Some.at c.index.result.now first.0 first.1 first.2
 
-pub loop-at-preserved : goal.loop-at-preserved
-loop-at-preserved c = record {
-  same = c.loop-at.invariant.same;
-  goes_on = passed_on c.args.behind.now c.args.block c.loop-at.joined.items (with_block c.args.behind.now c.args.joined.now.items c.args.block) c.loop-at.at c.loop-at.invariant.goes_on
-      c.index.result.now c.merge_two-join.result (omega (arith, c.loop-at-test.true, c.len-at-end.ensures, ap length c.loop-at.invariant.same)) c.index.ensures c.merge_two-join.ensures
-      (sym c.meets_one.ensures ∙ c.if-not-meets_one.false);
-}
-
-pub returns : goal.returns
-returns c =
-    c.in_ok-push.ensures.items
-    ∙ put_at_end c.args.behind.now c.args.block c.loop-at.joined.items (with_block c.args.behind.now c.args.joined.now.items c.args.block) c.loop-at.at c.loop-at.invariant.goes_on
-    (omega (arith, c.loop-at-test.false, c.len-at-end.ensures, ap length c.loop-at.invariant.same))
+pub returns-in_ok-push-in-None : goal.returns-in_ok-push-in-None
+returns-in_ok-push-in-None c =
+    let p = λ (b : Block). not (meets_one c.args.behind.now (merge_two b c.args.block)) in
+    c.in_ok-push-in-None.ensures.items
+    ∙ put_at_end c.args.behind.now c.args.block c.args.joined.now.items
+    (λ b. position_nowhere p c.args.joined.now.items b (ap (position p) (sym c.deref.ensures.value) ∙ sym c.place_among.ensures ∙ c.in-None.is))

@@ -1,6 +1,6 @@
 -- One route more.
 use Rattle.table_rules.proofs.Common.{ap, joined_blocks, map, others, own_blocks, row_by, rows_by_routes, ◌++◌, ◌∙◌}
-use Rattle.table_rules.proofs.JoinTurns.{routes_all, routes_more}
+use Rattle.table_rules.proofs.JoinTurns.{routes_more}
 use Rattle.table_rules.proofs.joining.rows_by_routes.Goals as goal
 
 pub loop-route-preserved : goal.loop-route-preserved
@@ -12,6 +12,3 @@ loop-route-preserved c =
     (c.in_ok-joined.ensures
     ∙ (ap (λ l. joined_blocks l c.as_slice-in-loop-route-3.result.now) c.as_slice-in-loop-route-2.ensures.value ∙ ap (joined_blocks c.in_ok-behind.behind.items) c.as_slice-in-loop-route-3.ensures.value))
     (c.in_ok-put_rows.ensures ∙ ap (λ l. c.loop-route.rows.items ++ map (row_by c.route-item.result) l) c.as_slice-in-loop-route-4.ensures.value)
-
-pub returns : goal.returns
-returns c = c.from_vec.ensures ∙ routes_all c.args.routes.now c.loop-route.route-index c.loop-route.rows.items c.loop-route.left.items (rows_by_routes c.args.routes.now c.args.pieces.now) c.loop-route.invariant c.loop-route-test.false

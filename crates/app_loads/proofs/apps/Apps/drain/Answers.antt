@@ -1,13 +1,9 @@
-use Rattle.app_loads.proofs.Common.{AreAlikeInBlocks, after_moved, arith, subst, sym}
+use Rattle.app_loads.proofs.Common.{after_moved, arith}
 use Rattle.app_loads.proofs.Hosts.{alike_in, apps_after_in, host_after, host_kept, host_moved, known_in}
 use Rattle.app_loads.proofs.apps.Apps.drain.Goals as goal
 
 pub drain_known-requires : goal.drain_known-requires
-drain_known-requires c = record {
-  kept = host_kept c.self.inside c.in-Some.mesh c.self.invariant c.in-Some.is;
-  known = known_in c.self.inside c.in-Some.mesh c.self.invariant c.in-Some.is;
-  alike = subst (AreAlikeInBlocks c.in-Some.mesh.setup) (sym c.deref.ensures.value) (alike_in c.self.inside c.in-Some.mesh c.self.invariant c.in-Some.is);
-}
+drain_known-requires c = grind (arith, host_kept, known_in, alike_in)
 
 pub invariant_of-self-2 : goal.invariant_of-self-2
 invariant_of-self-2 c =

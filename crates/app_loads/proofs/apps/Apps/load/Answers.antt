@@ -80,15 +80,11 @@ pub overflow_add-self : goal.overflow_add-self
 overflow_add-self c = record { fits = numbered (goal.at.overflow_add-self c).After-len (out (goal.at.overflow_add-self c).After-deref_mut) }
 
 pub push_reserved-requires : goal.push_reserved-requires
-push_reserved-requires c =
-    let room = on_ok (vec_len c.reserve_one.new.numbers + 1 ≤ vec_capacity c.reserve_one.new.numbers) c.reserve_one.result (sym c.is_err.ensures.value ∙ c.if-is_err.false)
-    c.reserve_one.ensures.number_room in
-    omega (arith, room)
+push_reserved-requires c = grind (arith, on_ok)
 
 pub push_reserved-requires-in-Ok : goal.push_reserved-requires-in-Ok
 push_reserved-requires-in-Ok c =
-    let room = on_ok (vec_len c.reserve_one.new.apps + 1 ≤ vec_capacity c.reserve_one.new.apps) c.reserve_one.result (sym c.is_err.ensures.value ∙ c.if-is_err.false) c.reserve_one.ensures.room in
-    omega (arith, room)
+    grind (arith, on_ok (vec_len c.reserve_one.new.apps + 1 ≤ vec_capacity c.reserve_one.new.apps) c.reserve_one.result (sym c.is_err.ensures.value ∙ c.if-is_err.false) c.reserve_one.ensures.room)
 
 pub invariant_of-self-in-Ok : goal.invariant_of-self-in-Ok
 invariant_of-self-in-Ok c = ok_host (out (goal.at.invariant_of-self-in-Ok c).After-deref_mut) (joined (goal.at.invariant_of-self-in-Ok c).After-push_reserved-in-Ok)

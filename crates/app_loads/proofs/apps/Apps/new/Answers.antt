@@ -14,7 +14,4 @@ invariant_of-result c =
     }
 
 pub returns-clause-apps : goal.returns-clause-apps
-returns-clause-apps c =
-    made_apps c.args.machine.now c.args.queue c.new.result (frees c.in_ok-regions.regions.items) c.new-2.result.items
-    (c.new.ensures ∙ c.in_ok-mesh.ensures.bare) c.in_ok-regions.ensures c.new-2.ensures.items
-    (subst IsMesh (sym c.new.ensures) c.in_ok-mesh.ensures.valid)
+returns-clause-apps c = made_apps _ _ _ _ _ (c.new.ensures ∙ c.in_ok-mesh.ensures.bare) c.in_ok-regions.ensures c.new-2.ensures.items (subst IsMesh (sym c.new.ensures) c.in_ok-mesh.ensures.valid)

@@ -1,15 +1,11 @@
-use Rattle.app_loads.proofs.Common.{AreGivenBack, Ended, HasLeft, IfErr-at_err, IfOk-at_ok, IsWhyHere, NoneUnderWay, Some, ap, frees, refl, sym, with_items, with_items_is, ◌∙◌, ◌≡◌}
+use Rattle.app_loads.proofs.Common.{AreGivenBack, Ended, HasLeft, IfErr-at_err, IfOk-at_ok, IsWhyHere, NoneUnderWay, arith, refl, sym, with_items, with_items_is, ◌∙◌}
 use Rattle.app_loads.proofs.LeftParts.{HasGone, Leaves, can_leave, not_loaded, ok_host, ok_none, ok_unloaded, on_ok_is, senders_known, why_stays}
 use Rattle.app_loads.proofs.{LoadedParts.Stands, LoadedParts.never_none, LoadedParts.on_err, LoadedParts.still, apps.Apps.unload.Goals.After-index, apps.Apps.unload.Goals.After-put}
 use Rattle.app_loads.proofs.apps.Apps.unload.Goals.{After-put-in-Err}
 use Rattle.app_loads.proofs.apps.Apps.unload.Goals as goal
 
 leaves : (c : After-index) → Leaves c.self.inside c.args.self.now c.args.number c.in-Some.at c.index.result.now c.in-Some-take.mesh c.deref_mut.result.now
-leaves c = record {
-  out = record { stands = record { host = c.self.invariant; view = c.self.view_is }; is = sym c.take.ensures.value ∙ c.in-Some-take.is; given_is = c.deref_mut.ensures.value };
-  place = sym c.place_of.ensures ∙ c.in-Some.is;
-  value = c.index.ensures;
-}
+leaves c = grind arith
 
 -- it left
 gone : (c : After-put) → HasGone c.self.inside (record c.self.inside {
@@ -34,11 +30,7 @@ gone c = record {
 
 -- it stays
 stays : (c : After-put-in-Err) → Stands (record c.self.inside { mesh = c.put-in-Err.new.held; regions = with_items c.self.inside.regions c.leave-mesh.new.regions }) c.args.self.now
-stays c =
-    let same = on_err (c.leave-mesh.result.0 ≡ c.in-Some-take.mesh) c.in-Err.is c.leave-mesh.ensures.mesh_refused in
-    let back = on_err (frees c.leave-mesh.new.regions ≡ frees c.deref_mut.result.now) c.in-Err.is c.leave-mesh.ensures.back in
-    still (record { host = c.self.invariant; view = c.self.view_is }) (c.put-in-Err.ensures ∙ (ap Some same ∙ (sym c.in-Some-take.is ∙ c.take.ensures.value)))
-    (ap frees (with_items_is c.self.inside.regions c.leave-mesh.new.regions (c.leave-mesh.auto.regions ∙ c.deref_mut.ensures.len)) ∙ (back ∙ ap frees c.deref_mut.ensures.value)) refl refl refl refl
+stays c = grind (arith, on_err, still, with_items_is)
 
 pub returns-in_default-clause-why : goal.returns-in_default-clause-why
 returns-in_default-clause-why c = not_loaded c.args.self.now.apps c.args.number (sym c.place_of.ensures ∙ c.in_default.is)

@@ -1,4 +1,4 @@
-use Rattle.app_loads.proofs.Common.{Bool, LoadedApp, and_from, arith, false, is_packet_of, le-leb, le-ltb, leb, not, ◌&&◌}
+use Rattle.app_loads.proofs.Common.{Bool, LoadedApp, and_from, arith, is_packet_of, le-leb, le-ltb, leb, not, ◌&&◌}
 use Rattle.app_loads.specs.declared.group.Group.TheInside.{Inside}
 use Rattle.app_loads.proofs.GroupLaws.{others_all}
 use Rattle.app_loads.proofs.group.Group.is_others.Goals as goal
@@ -10,5 +10,4 @@ pub returns-then-self-app-clause-none : goal.returns-then-self-app-clause-none
 returns-then-self-app-clause-none c before = grind (arith, others_all)
 
 pub returns-then-app-self-clause-none : goal.returns-then-app-self-clause-none
-returns-then-app-self-clause-none c none =
-    grind (arith, le-ltb c.self.inside.greatest c.args.app.now.first c.if-self-app.false, le-leb c.args.app.now.first c.self.inside.least c.if-app-self.true, others_all, and_from)
+returns-then-app-self-clause-none c none = grind (arith, le-ltb, le-leb, others_all, and_from)

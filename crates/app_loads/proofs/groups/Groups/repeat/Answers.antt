@@ -1,4 +1,4 @@
-use Rattle.app_loads.proofs.Common.{Grouped, List, all_grouped, ap, arith, deliveries_at, last_arrivals, length, rules, sent_of, slice_set, sym, ◌++◌, ◌+◌, ◌-◌, ◌∙◌, ◌≡◌}
+use Rattle.app_loads.proofs.Common.{Grouped, all_grouped, ap, arith, last_arrivals, length, rules, sent_of, slice_set, sym, ◌+◌, ◌-◌, ◌∙◌, ◌≡◌}
 use Rattle.app_loads.proofs.GroupLaws.{counted_again, last_arrivals_stay, last_same, on_err, repeated, same_item}
 use Rattle.app_loads.proofs.groups.Groups.repeat.Goals.{After-repeat}
 use Rattle.app_loads.proofs.groups.Groups.repeat.Goals as goal
@@ -12,16 +12,13 @@ same : (c : After-repeat) → c.repeat.new.self.deliveries ≡ c.index_mut.resul
 same c is = last_same c.self.inside.groups.items c.len-count.result c.index_mut.result.now c.repeat.new.self (long c) c.if-count-eq0.false c.index_mut.ensures.value is
 
 stay : (c : After-repeat) → last_arrivals (slice_set c.self.inside.groups.items (c.len-count.result - 1) c.repeat.new.self) ≡ last_arrivals c.args.self.now
-stay c =
-    last_arrivals_stay c.self.inside.groups.items c.len-count.result c.index_mut.result.now (long c) c.if-count-eq0.false c.index_mut.ensures.value c.repeat.new.self c.repeat.ensures.arrivals
-    ∙ ap last_arrivals c.self.view_is
+stay c = grind (arith, last_arrivals_stay, long)
 
 pub invariant_of-self : goal.invariant_of-self
 invariant_of-self c = c.self.invariant ∙ ap length (sym (same (goal.at.invariant_of-self c).After-repeat c.in_err-repeat.ensures.refused))
 
 pub returns-in_err-repeat-clause-refused : goal.returns-in_err-repeat-clause-refused
-returns-in_err-repeat-clause-refused c =
-    on_err c.from_residual.result (same (goal.at.returns-in_err-repeat-clause-refused c).After-repeat c.in_err-repeat.ensures.refused ∙ ap all_grouped c.self.view_is)
+returns-in_err-repeat-clause-refused c = grind (arith, on_err, same)
 
 pub returns-in_err-repeat-clause-arrivals : goal.returns-in_err-repeat-clause-arrivals
 returns-in_err-repeat-clause-arrivals c = stay (goal.at.returns-in_err-repeat-clause-arrivals c).After-repeat
@@ -37,10 +34,7 @@ invariant_of-self-2 c =
     c.in_ok-repeat.ensures.put c.self.invariant (c.width.ensures ∙ ap (λ (x : Grouped). length x.arrivals) item) sum
 
 pub returns-clause-put : goal.returns-clause-put
-returns-clause-put c =
-    repeated c.self.inside.groups.items c.len-count.result c.index_mut.result.now (long (goal.at.returns-clause-put c).After-repeat) c.if-count-eq0.false c.index_mut.ensures.value
-    c.repeat.new.self (sent_of c.args.copy)
-    c.in_ok-repeat.ensures.put ∙ ap (λ (l : List Grouped). all_grouped l ++ deliveries_at (last_arrivals l) (sent_of c.args.copy)) c.self.view_is
+returns-clause-put c = grind (arith, repeated, long)
 
 pub returns-clause-arrivals : goal.returns-clause-arrivals
 returns-clause-arrivals c = stay (goal.at.returns-clause-arrivals c).After-repeat

@@ -3,9 +3,7 @@ use Rattle.app_loads.proofs.{GroupLaws.same_groups, groups.Groups.share.Goals.Af
 use Rattle.app_loads.proofs.groups.Groups.share.Goals as goal
 
 same : (c : After-share) → slice_set c.self.inside.groups.items (c.len-count.result - 1) c.share.new.self ≡ c.self.inside.groups.items
-same c =
-    let long : c.len-count.result ≡ length c.self.inside.groups.items = omega (arith, c.len-count.ensures, c.self.inside.groups.ok) in
-    same_groups c.self.inside.groups.items c.len-count.result c.index_mut.result.now long c.if-count-eq0.false c.index_mut.ensures.value c.share.new.self c.share.ensures
+same c = grind (arith, same_groups)
 
 pub invariant_of-self : goal.invariant_of-self
 invariant_of-self c = c.self.invariant ∙ ap (λ (gs : List Grouped). length (all_grouped gs)) (sym (same (goal.at.invariant_of-self c).After-share))

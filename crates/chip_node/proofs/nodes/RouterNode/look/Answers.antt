@@ -1,7 +1,7 @@
-use Rattle.chip_node.proofs.Common.{All-set, End, Front, HasRoomForOuts, IsEndOf, IsSeen, List, Out, Port, ap, arith, false≢true, get_or, length, one_item_at, outputs_at, port_number, port_place}
-use Rattle.chip_node.proofs.Common.{refl, set, subst, sym, ℕ, ◌*◌, ◌+◌, ◌<◌, ◌∙◌, ◌≡◌, ◌≤◌}
-use Rattle.chip_node.proofs.{EndSteps.end_lacks_idle, Flows.goes_none, Flows.ready_router_on, Looking.end_written, Looking.idle_at, Looking.idle_past, Looking.lacks_at, Looking.read_stands}
-use Rattle.chip_node.proofs.{Looking.room_kept, Looking.seen_first, Placing.stays_at, Placing.took_goes, Placing.Writes, Stays.stays_same, Turning.looks_on}
+use Rattle.chip_node.proofs.Common.{All-set, End, Front, HasRoomForOuts, IsEndOf, IsSeen, List, Out, Port, ap, arith, get_or, length, one_item_at, outputs_at, port_number, port_place, refl, set}
+use Rattle.chip_node.proofs.Common.{subst, ℕ, ◌*◌, ◌+◌, ◌<◌, ◌∙◌, ◌≡◌}
+use Rattle.chip_node.proofs.{EndSteps.end_lacks_idle, Flows.goes_none, Flows.ready_router_on, Looking.end_written, Looking.idle_at, Looking.lacks_at, Looking.read_stands, Looking.room_kept}
+use Rattle.chip_node.proofs.{Looking.seen_first, Placing.stays_at, Placing.took_goes, Placing.Writes, Stays.stays_same, Turning.looks_on}
 use Rattle.chip_node.proofs.nodes.RouterNode.look.Goals as goal
 
 -- the end at a port's place is written
@@ -12,23 +12,12 @@ written ends xs i n port old new same number below read =
     let long = ap length same in
     end_written ends _ (port_place i port) old new at (omega arith) read
 
-pub returns-in_default-clause-looks : goal.returns-in_default-clause-looks
-returns-in_default-clause-looks g c =
-    let at : 7 * c.args.self.index + c.from.result ≡ port_place c.args.self.index c.args.port = ap (λ n. 7 * c.args.self.index + n) (c.from.ensures ∙ c.number-number.ensures.number) in
-    (stays_same c.args.hold.now, idle_past c.args.hold.now.ends.items c.deref.result.now _ _ c.deref.ensures.value at c.in_default.ensures.lookup.3)
-
 pub returns-in-Nothing-clause-looks : goal.returns-in-Nothing-clause-looks
 returns-in-Nothing-clause-looks g c =
     let at : 7 * c.args.self.index + c.from.result ≡ port_place c.args.self.index c.args.port = ap (λ n. 7 * c.args.self.index + n) (c.from.ensures ∙ c.number-number.ensures.number) in
     let x = c.in-Some.end.now in
     let stands = read_stands c.args.hold.now.ends.items c.deref.result.now _ _ x c.deref.ensures.value at c.in-Some.ensures.lookup.3.0 c.in-Some.ensures.lookup.1 in
     (stays_same c.args.hold.now, idle_at c.args.hold.now.ends.items _ x stands (end_lacks_idle x x c.in-Nothing.ensures))
-
-pub returns-then-not-has_room-clause-looks : goal.returns-then-not-has_room-clause-looks
-returns-then-not-has_room-clause-looks g c = (
-  stays_same c.args.hold.now,
-  λ roomy. false≢true (c.if-not-has_room.ensures.no (subst (λ (l : List Out). length l ≤ 24) (sym c.as_slice.ensures.value) c.outputs_of-outs.ensures.few) roomy),
-)
 
 pub returns-in-Some-take-clause-looks : goal.returns-in-Some-take-clause-looks
 returns-in-Some-take-clause-looks g c =
@@ -68,12 +57,6 @@ returns-in-None-clause-looks g c =
     let w = written a.ends.items c.deref.result.now r.index c.from.result c.args.port old new c.deref.ensures.value (c.from.ensures ∙ c.number-number.ensures.number) inside
     c.index_mut.ensures.value in
     lacks_at a _ (port_place r.index c.args.port) old new w c.in-None.ensures.none refl refl refl
-
-pub returns-in-None-clause-ready : goal.returns-in-None-clause-ready
-returns-in-None-clause-ready g c =
-    ready_router_on c.args.around.capacity c.args.around.patience c.args.around.links.now c.args.self c.args.hold.now _ _
-    (goes_none c.args.around.capacity c.args.around.patience c.args.hold.now _ (returns-in-None-clause-looks g c).0)
-    (All-set (IsEndOf c.args.around.links.now) c.args.hold.now.ends.items _ c.take.new.self c.in-None.ensures.end c.requires.ends) c.requires
 
 pub returns-then-finds_nothing-clause-looks : goal.returns-then-finds_nothing-clause-looks
 returns-then-finds_nothing-clause-looks g c =

@@ -1,6 +1,5 @@
-use Rattle.chip_node.proofs.Common.{DumpRec, Holdings, List, McCopy, SendsBehind, WithRoom, [], ap, arith, place_at_router, subst, ◌++◌, ◌∙◌, ◌∷◌}
-use Rattle.chip_node.proofs.{Sending.dumped_recorded, Sending.dumped_room, Sending.sent_nowhere, Sending.sent_recorded, Sending.sent_room, Flows.ready_router_on, Placing.served_elsewhere}
-use Rattle.chip_node.proofs.Placing.{served_goes, unsent_items}
+use Rattle.chip_node.proofs.Common.{DumpRec, Holdings, List, McCopy, SendsBehind, WithRoom, [], ap, place_at_router, subst, ◌++◌, ◌∙◌, ◌∷◌}
+use Rattle.chip_node.proofs.{Sending.dumped_recorded, Sending.dumped_room, Sending.sent_recorded, Sending.sent_room, Flows.ready_router_on, Placing.served_goes, Placing.unsent_items}
 use Rattle.chip_node.proofs.nodes.RouterNode.serve.Goals as goal
 
 pub returns-in-Sent-clause-goes : goal.returns-in-Sent-clause-goes
@@ -15,9 +14,6 @@ returns-in-Sent-clause-goes g c =
     (unsent_items a b c.send-served.ensures.unsent) c.send-served.ensures.deliveries
     (sent_recorded s.chip c.args.out c.args.copy fate a.dumps b.dumps c.in-Sent.is c.send-served.ensures.dumps)
     (sent_room s.chip c.args.out c.args.copy fate a.dumps b.dumps c.in-Sent.is c.send-served.ensures.dumps)
-
-pub returns-in-Sent-clause-elsewhere : goal.returns-in-Sent-clause-elsewhere
-returns-in-Sent-clause-elsewhere g c = grind (arith, served_elsewhere)
 
 pub returns-in-Sent-clause-ready : goal.returns-in-Sent-clause-ready
 returns-in-Sent-clause-ready g c =
@@ -39,16 +35,7 @@ returns-in-Dumped-clause-goes g c =
     (dumped_recorded s.chip c.args.out c.args.copy fate a.dumps.items b.dumps.items c.in-Dumped.is (c.put.ensures.items ∙ ap (λ (l : WithRoom DumpRec). l.items ++ more) c.send-served.ensures.dumps))
     (dumped_room s.chip c.args.out c.args.copy fate a.dumps.spare b.dumps.spare c.in-Dumped.is (c.put.ensures.spare ∙ ap (λ (l : WithRoom DumpRec). l.spare) c.send-served.ensures.dumps))
 
-pub returns-in-Dumped-clause-elsewhere : goal.returns-in-Dumped-clause-elsewhere
-returns-in-Dumped-clause-elsewhere g c = grind (arith, served_elsewhere)
-
 pub returns-in-Dumped-clause-ready : goal.returns-in-Dumped-clause-ready
 returns-in-Dumped-clause-ready g c =
     ready_router_on c.args.around.capacity c.args.around.patience c.args.around.links.now c.args.self c.args.hold.now _ _ (returns-in-Dumped-clause-goes g c) c.send-served.ensures.ends
     c.requires.ready
-
-pub returns-in-Sent-clause-nowhere : goal.returns-in-Sent-clause-nowhere
-returns-in-Sent-clause-nowhere g c = grind (arith, sent_nowhere)
-
-pub returns-in-Dumped-clause-nowhere : goal.returns-in-Dumped-clause-nowhere
-returns-in-Dumped-clause-nowhere g c = grind (arith, sent_nowhere)

@@ -1,10 +1,7 @@
 use Rattle.chip_node.proofs.Common.{East, Out, Service, arith, get_or, get_or_default, length, refl, ◌<◌, ◌≡◌}
 use Rattle.spin_base.specs.declared.routes.Out.TheVariants.{Link}
-use Rattle.chip_node.proofs.Serving.{room_left, serves_more, serves_none}
+use Rattle.chip_node.proofs.Serving.{room_left, serves_more}
 use Rattle.chip_node.proofs.nodes.RouterNode.serve_all.Goals as goal
-
-pub loop-out-init : goal.loop-out-init
-loop-out-init g c = grind (arith, serves_none c.args.around.capacity c.args.around.patience c.args.self c.args.copy c.args.hold.now)
 
 pub loop-out-preserved : goal.loop-out-preserved
 loop-out-preserved g c =

@@ -1,9 +1,6 @@
-use Rattle.chip_node.proofs.Common.{All-set, HasRoomForOuts, IsEndOf, List, Out, ap, false≢true, port_place, refl, subst, sym, ◌*◌, ◌+◌, ◌∙◌}
-use Rattle.chip_node.proofs.{Flows.goes_none, Flows.ready_router_on, Looking.end_written, Looking.lacks_at, Looking.room_for_all, Looking.room_kept, Placing.took_goes, Stays.stays_same}
+use Rattle.chip_node.proofs.Common.{All-set, HasRoomForOuts, IsEndOf, List, Out, ap, port_place, refl, subst, sym, ◌*◌, ◌+◌, ◌∙◌}
+use Rattle.chip_node.proofs.{Flows.goes_none, Flows.ready_router_on, Looking.end_written, Looking.lacks_at, Looking.room_for_all, Looking.room_kept, Placing.took_goes}
 use Rattle.chip_node.proofs.nodes.RouterNode.take_over.Goals as goal
-
-pub returns-then-not-has_room_everywhere-clause-looks : goal.returns-then-not-has_room_everywhere-clause-looks
-returns-then-not-has_room_everywhere-clause-looks g c = (stays_same c.args.hold.now, λ roomy. false≢true (c.if-not-has_room_everywhere.ensures.no roomy))
 
 pub returns-in-Some-clause-looks : goal.returns-in-Some-clause-looks
 returns-in-Some-clause-looks g c =

@@ -44,9 +44,6 @@ ports-preserved g c =
           }
     ]
 
-pub ports-preserved-then-marks-at-eq0 : goal.ports-preserved-then-marks-at-eq0
-ports-preserved-then-marks-at-eq0 g c = grind arith
-
 pub returns-clause-idle : goal.returns-clause-idle
 returns-clause-idle g c = λ is none roomy port.
     ports_gone (λ (j : ℕ). (p : Port) → port_number p ≡ j → IsIdleAt c.args.hold.now.ends.items (port_place c.args.self.index p)) (c.args.number % 7) c.ports.step (omega arith)

@@ -46,5 +46,4 @@ invariant_of-self-2 c = IsMesh-step_of (state_of c.self.inside) (after c) (Injec
 
 pub returns-clause-moves : goal.returns-clause-moves
 unfolding after
-returns-clause-moves c =
-    subst (λ (s : State). after c ≡ after_event s (Inject c.args.v)) c.self.view_is (after_event-moved (state_of c.self.inside) (after c) (Inject c.args.v) (moves c))
+returns-clause-moves c = grind (arith, after, after_event-moved, moves)

@@ -45,10 +45,8 @@ unfolding after
 invariant_of-self c = IsMesh-step_of (state_of c.self.inside) (after c) (Take c.args.c c.args.port) c.self.invariant (moves c)
 
 pub returns-clause-answer : goal.returns-clause-answer
-returns-clause-answer c =
-    subst (λ (s : State). Moved ≡ answer s (Take c.args.c c.args.port)) c.self.view_is (answer-moved (state_of c.self.inside) (after c) (Take c.args.c c.args.port) (moves c))
+returns-clause-answer c = grind (arith, answer-moved, after, moves)
 
 pub returns-clause-moves : goal.returns-clause-moves
 unfolding after
-returns-clause-moves c =
-    subst (λ (s : State). after c ≡ after_event s (Take c.args.c c.args.port)) c.self.view_is (after_event-moved (state_of c.self.inside) (after c) (Take c.args.c c.args.port) (moves c))
+returns-clause-moves c = grind (arith, after, after_event-moved, moves)

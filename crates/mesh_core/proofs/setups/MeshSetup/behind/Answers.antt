@@ -1,4 +1,5 @@
 -- A core leads to the vertex on it, if there is one.
+use Rattle.std.proofs.Common.{arith}
 use Rattle.mesh_core.proofs.Common.{Setup, Spot, ap, behind, core_queue_of, sym, ◌∙◌}
 use Rattle.mesh_core.proofs.ServingLaws.{vertex_behind-core, vertex_behind-beyond}
 use Rattle.mesh_core.proofs.setups.MeshSetup.behind.Goals as goal
@@ -12,7 +13,4 @@ returns-then-core-lt-CORES-clause-queue c =
     ∙ ap (behind u c.args.c) (sym c.in-Core.is))
 
 pub returns-else-core-lt-CORES-clause-queue : goal.returns-else-core-lt-CORES-clause-queue
-returns-else-core-lt-CORES-clause-queue c =
-    let u : Setup = c.args.self.now in
-    sym (ap (behind u c.args.c) c.in-Core.is
-    ∙ ap core_queue_of (vertex_behind-beyond u.spots c.args.c c.in-Core.core c.if-core-lt-CORES.false))
+returns-else-core-lt-CORES-clause-queue c = grind (arith, vertex_behind-beyond)

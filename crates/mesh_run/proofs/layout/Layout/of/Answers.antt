@@ -1,15 +1,6 @@
-use Rattle.mesh_run.proofs.Common.{AreCutsOf, AreHomesOf, AreShareRuns, Home, IsFloorOf, IsShareTable, List, State, ap, arith, grid_size, length, subst, sym, ℕ, ◌*◌, ◌∙◌, ◌≡◌}
+use Rattle.mesh_run.proofs.Common.{AreCutsOf, AreHomesOf, AreShareRuns, Home, IsFloorOf, IsShareTable, List, State, ap, arith, grid_size, length, subst, ℕ, ◌*◌, ◌≡◌}
 use Rattle.mesh_run.proofs.PlanLaws.{few_homes}
 use Rattle.mesh_run.proofs.layout.Layout.of.Goals as goal
-
-pub invariant_of-footing : goal.invariant_of-footing
-invariant_of-footing c = record { stands = c.in_ok-floor.ensures (subst (λ (s : State). length s.setup.tables ≡ grid_size s.setup) (sym c.parts.view_is) c.requires.table_list) }
-
-pub share_table-requires : goal.share_table-requires
-share_table-requires c = grind arith
-
-pub homes_of-requires : goal.homes_of-requires
-homes_of-requires c = ap length c.deref-2.ensures.value ∙ (c.in_ok-table.ensures.long ∙ c.actors.ensures)
 
 pub cuts_of-requires : goal.cuts_of-requires
 cuts_of-requires c =

@@ -1,5 +1,5 @@
 use Rattle.mesh_run.proofs.Common.{Home, List, MovesOut, State, [], ap, arith, cut_queues, get_or_default, length, refl, subst, sym, ◌++◌, ◌<◌, ◌∙◌, ◌≤◌}
-use Rattle.mesh_run.proofs.Lowering.{all_are_ends, cut_at, cut_inside, cuts_more, cuts_none, fits_raised, lowered, no_more_links}
+use Rattle.mesh_run.proofs.Lowering.{all_are_ends, cut_at, cut_inside, cuts_more, fits_raised, lowered, no_more_links}
 use Rattle.mesh_run.proofs.raised.RaisedMesh.lower.Goals as goal
 
 pub move_out-requires : goal.move_out-requires
@@ -10,9 +10,6 @@ bring_down-requires g c =
     let r = c.requires in
     let queues = cut_queues (r.0.inputs ++ r.0.cores) c.args.self.layout.now.cuts.items in
     record { ends = (r.2.ends, r.2.holds, all_are_ends r.0.setup.capacity 0 queues r.2.ends r.2.up, no_more_links r.0 0 c.args.self r.2) }
-
-pub loop-number-init : goal.loop-number-init
-loop-number-init g c = cuts_none c.move_out.new.parts c.args.self.layout.now.cuts.items c.bring_down.new.queues.items
 
 pub swap_queue-requires : goal.swap_queue-requires
 swap_queue-requires g c =

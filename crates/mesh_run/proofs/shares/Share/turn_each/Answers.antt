@@ -1,5 +1,5 @@
 use Rattle.mesh_run.proofs.Common.{Bool, Flags, IsShareOf, Link, List, MovesAt, PlaysOne, Setup, Share, arith, refl, subst, sym, true, ◌+◌, ◌≡◌, ◌≤◌}
-use Rattle.mesh_run.proofs.{Acting.each_more, Acting.each_none, Acting.each_past, Acting.one_moves, Acting.one_stays, Acting.OneEach, shares.Share.turn_each.Goals.then-not-all+in-Some}
+use Rattle.mesh_run.proofs.{Acting.each_more, Acting.each_past, Acting.one_moves, Acting.one_stays, Acting.OneEach, shares.Share.turn_each.Goals.then-not-all+in-Some}
 use Rattle.mesh_run.proofs.shares.Share.turn_each.Goals.{else-not-all, else-at-self, then-at-self+in-Moved, then-at-self+in-Waits, then-at-self+in-Nothing+then-not-has}
 use Rattle.mesh_run.proofs.shares.Share.turn_each.Goals.{then-at-self+in-Nothing+else-not-has}
 use Rattle.mesh_run.proofs.shares.Share.turn_each.Goals as goal
@@ -8,12 +8,6 @@ use Rattle.mesh_run.proofs.shares.Share.turn_each.Goals as goal
 flagged : (u : Setup) (links : List Link) (s : Share) (awake short : Flags) (moved : Bool) →
     IsShareOf u links s → IsShareOf u links (record s { awake = awake; short = short; moved = moved })
 flagged u links s awake short moved h = grind arith
-
-pub actors-init : goal.actors-init
-actors-init g c = (c.requires, omega arith, each_none c.args.ground.footing.setup.now c.args.ground.around.patience c.args.self.now c.args.self.now.from)
-
-pub act-requires-clause-within : goal.act-requires-clause-within
-act-requires-clause-within g c = grind (arith, then-not-all+in-Some, else-not-all)
 
 pub actors-preserved : goal.actors-preserved
 actors-preserved g c =

@@ -1,12 +1,6 @@
 use Rattle.mesh_run.proofs.Common.{AreUp, HoldNothing, List, McCopy, State, ap, arith, cut_queues, length, length-map, subst, ℕ, ◌++◌, ◌+◌, ◌∙◌, ◌≡◌}
-use Rattle.mesh_run.proofs.PlanLaws.{cuts_fit, cuts_inside, plan_fits, plan_shared}
+use Rattle.mesh_run.proofs.PlanLaws.{plan_fits, plan_shared}
 use Rattle.mesh_run.proofs.splitting.SplitPlan.of.Goals as goal
-
-pub crossing_of-requires : goal.crossing_of-requires
-crossing_of-requires g c = grind (arith, cuts_inside)
-
-pub bring_up-requires : goal.bring_up-requires
-bring_up-requires g c = grind (arith, cuts_fit (c.args.parts.now) (c.args.layout.now.cuts.items) c.requires.mesh)
 
 pub returns : goal.returns
 returns g c =

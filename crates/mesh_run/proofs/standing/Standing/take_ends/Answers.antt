@@ -1,5 +1,5 @@
-use Rattle.mesh_run.proofs.Common.{LinkEnds, refl}
-use Rattle.mesh_run.proofs.Slots.{slot_stands, end_taken, ends_gone}
+use Rattle.mesh_run.proofs.Common.{LinkEnds}
+use Rattle.mesh_run.proofs.Slots.{slot_stands, end_taken}
 use Rattle.mesh_run.proofs.standing.Standing.take_ends.Goals as goal
 
 pub take_at-requires : goal.take_at-requires
@@ -15,6 +15,3 @@ returns-clause-ends c = λ ends old holds at. (
   end_taken (λ (e : LinkEnds). e.tx) ends c.args.self.now.txs.items c.args.place old c.take_at.result holds.txs at c.take_at.ensures.stood,
   end_taken (λ (e : LinkEnds). e.rx) ends c.args.self.now.rxs.items c.args.place old c.take_at-2.result holds.rxs at c.take_at-2.ensures.stood,
 )
-
-pub returns-clause-left : goal.returns-clause-left
-returns-clause-left c = λ ends holds. ends_gone ends c.args.place c.args.self.now _ holds refl refl c.take_at.ensures.left c.take_at-2.ensures.left

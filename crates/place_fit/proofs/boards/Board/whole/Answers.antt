@@ -47,14 +47,8 @@ loop-place-preserved c =
             )
       ]);
       whole = λ q low. ap (λ (l : List ℕ). get_or l q 0) written ∙ (elim (cases_lt q i) [
-        | inl before ↦ get_or-set_other rooms i q room 0 (λ e. omega (arith, e, before))
-            ∙ (v.whole q before ∙ ap (λ n. room_left n c.sdram-sdram.result) (sym (ap (λ (l : List ℕ). get_or l q 0) pushed ∙ earlier q before)))
-        | inr from ↦ (
-            let one : q ≡ i = omega (arith, low, from) in
-            ap (λ n. get_or (set rooms i room) n 0) one
-            ∙ (get_or-set_same rooms i room 0 (omega (arith, c.loop-place-test.true, v.rooms))
-            ∙ (c.room_left.ensures ∙ ap (λ n. room_left n c.sdram-sdram.result) (sym (ap (λ (l : List ℕ). get_or l q 0) pushed ∙ last q one))))
-            )
+        | inl before ↦ grind (arith, get_or-set_other, get_or)
+        | inr from ↦ grind (arith, get_or-set_same rooms i room 0 (omega (arith, c.loop-place-test.true, v.rooms)), get_or)
       ]);
     }
 

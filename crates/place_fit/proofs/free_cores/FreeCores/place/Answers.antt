@@ -3,14 +3,10 @@ use Rattle.place_fit.proofs.{Giving.whole_again, SpotLaws.all_differ, SpotLaws.f
 use Rattle.place_fit.proofs.free_cores.FreeCores.place.Goals as goal
 
 pub invariant_of-self : goal.invariant_of-self
-invariant_of-self c =
-    whole_again c.put_all.new.spots.items c.self.inside.board c.put_all.new.board c.settle.new.self c.self.invariant c.put_all.ensures.kept
-    (subst (λ l. AreSettled l c.put_all.new.board c.settle.new.self) c.deref.ensures.value c.settle.ensures.settled)
+invariant_of-self c = whole_again _ _ _ _ c.self.invariant c.put_all.ensures.kept (subst (λ l. AreSettled l c.put_all.new.board c.settle.new.self) c.deref.ensures.value c.settle.ensures.settled)
 
 pub invariant_of-self-in-Err-1 : goal.invariant_of-self-in-Err-1
-invariant_of-self-in-Err-1 c =
-    whole_again c.deref-in-Err.result.now c.self.inside.board c.put_all.new.board c.give.new.self c.self.invariant
-    (rw c.deref-in-Err.ensures.value c.put_all.ensures.kept) c.give.ensures.settled
+invariant_of-self-in-Err-1 c = whole_again _ _ _ _ c.self.invariant (rw c.deref-in-Err.ensures.value c.put_all.ensures.kept) c.give.ensures.settled
 
 pub returns-in-Ok-clause-different : goal.returns-in-Ok-clause-different
 returns-in-Ok-clause-different c m free =

@@ -1,15 +1,10 @@
-use Rattle.place_fit.proofs.Common.{All, ap, arith, get_or, get_or_default, pow_mono, pow_more, pow_pos, subst, ◌*◌, ◌+◌, ◌<◌, ◌^◌, ◌∙◌, ◌≡◌, ◌≤◌}
+use Rattle.place_fit.proofs.Common.{ap, arith, get_or, get_or_default, pow_mono, pow_more, pow_pos, subst, ◌*◌, ◌+◌, ◌<◌, ◌^◌, ◌∙◌, ◌≡◌, ◌≤◌}
 use Rattle.place_fit.proofs.{RoomLaws.IsFound, RoomLaws.none_above, RoomLaws.found_left, RoomLaws.found_right, rooms.Rooms.first_above.Goals.then-index-need-2}
 use Rattle.place_fit.proofs.rooms.Rooms.first_above.Goals.{else-index-need-2}
 use Rattle.place_fit.proofs.rooms.Rooms.first_above.Goals as goal
 
 pub returns-then-index-need-clause-none : goal.returns-then-index-need-clause-none
-returns-then-index-need-clause-none c =
-    let r = c.self.inside in
-    let t = r.tree.items in
-    let some = pow_pos r.levels in
-    let root : get_or t 1 0 ≤ c.args.need = omega (arith, c.index.ensures, get_or_default t 1 0 c.index.result.now (omega (arith, some, c.self.invariant.leaves, c.self.invariant.is_tree.long)), c.if-index-need.true) in
-    subst (All (λ room. room ≤ c.args.need)) c.self.view_is (none_above r.leaves t c.self.invariant.is_tree c.args.need (omega (arith, some, c.self.invariant.leaves)) root)
+returns-then-index-need-clause-none c = grind (arith, pow_pos, get_or, get_or_default, none_above)
 
 pub index-requires-in-loop-step : goal.index-requires-in-loop-step
 index-requires-in-loop-step c =

@@ -1,4 +1,4 @@
-use Rattle.std.proofs.Common.{arith}
+use Rattle.range_store.proofs.Common.{arith}
 use Rattle.range_store.proofs.RunLemmas.{widen}
 use Rattle.range_store.proofs.ranges.Ranges.give.Goals as goal
 

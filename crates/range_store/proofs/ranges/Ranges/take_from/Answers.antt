@@ -1,4 +1,4 @@
-use Rattle.std.proofs.Common.{arith}
+use Rattle.range_store.proofs.Common.{arith}
 use Rattle.range_store.proofs.RunLemmas.{widen, cut_is}
 use Rattle.range_store.proofs.ranges.Ranges.take_from.Goals as goal
 
