@@ -27,7 +27,7 @@ ALONE = r"\((Tests alone|No command)"
 MOST = {
     "conditions a function, in hundredths": 29,
     "conditions of one function": 4,
-    "lines of proofs": 69291,
+    "lines of proofs": 67896,
     "lines of proofs longer than 200 characters": 455,
     "lines of proofs longer than 300 characters": 0,
     "lines of definitions": 13877,
@@ -222,7 +222,7 @@ def counts():
     return {
         "conditions a function, in hundredths": 100 * sum(conditions) // len(conditions),
         "conditions of one function": max(conditions),
-        "lines of proofs": len(proofs),
+        "lines of proofs": lines_of("crates/*/proofs/**/*.antt"),
         "lines of proofs longer than 200 characters": sum(len(it) > 200 for it in proofs),
         "lines of proofs longer than 300 characters": sum(len(it) > 300 for it in proofs),
         "lines of definitions": lines_of("crates/*/specs/**/*.antt"),
