@@ -2,22 +2,26 @@
 """Makes the proofs of a crate shorter where antt finds by itself what a body spells out.
 
     tools/shorter_proofs.py bodies CRATE       from the top of the repository, with the libraries below the crate built
-    tools/shorter_proofs.py blocks CRATE       (tools/take_libraries.py)
+    tools/shorter_proofs.py blocks CRATE       (tools/take_libraries.py); about a second of a processor for each try
     tools/shorter_proofs.py imports CRATE..    needs no prover
     tools/shorter_proofs.py common CRATE..     neither do these
     tools/shorter_proofs.py unused CRATE..
 
-`bodies` looks at each body of two lines and more. Beside its lemma it writes others of the same statement: two whose body is `grind`
-with the lemmas that the first one cites, with their arguments where these are known at the head of the body and by their bare names; and
-one that makes the same call with `_` for the arguments that antt finds. One `rt check` of the crate tries all of them, since one that
-fails keeps no other from being checked. One that is not refused takes the place of the first body, and the others go. Then the crate is checked again, and bodies that are refused come back: those
-of lemmas that no check came to, and of values on which a type rests. `blocks` does the same for the parts of a body that stays: a case, a
-field, a `let`. `imports` drops the names that a file of proofs does not use, adds those of the tactics, and writes those of one
-folder on one line. `common` lets each file take what it names outside of its crate's proofs from one module, proofs/Common.antt.
-`unused` drops the lemmas that neither an answer, a definition, the code nor a promise needs.
+`bodies` looks at each lemma. Beside it it writes others of the same statement, with fewer lines: `grind` with the lemmas that a body of two
+lines and more cites, with their arguments where these are known at the head of the body and by their bare names; `search` with them; the
+same call with `_` for the arguments that antt finds; one of these in place of several equations, or of a body with the lemmas below its
+`where`; a body without a `let` that nothing names; and one that does without a lemma that no other one uses, with what that one cites. One
+`rt check` of the crate tries all of them, since one that fails keeps no other from being checked. Those that are not refused take the
+place of the first ones. Then the crate is checked again, and bodies that are refused come back: those of lemmas that no check came to,
+and of values on which a type rests. `blocks` does the same for the parts of a body that stays: a case, a field, a `let`. `imports` drops
+the names that a file of proofs does not use, adds those of the tactics, and writes those of one folder on one line. `common` lets each
+file take what it names outside of its crate's proofs from one module, proofs/Common.antt. `unused` drops the lemmas that neither an
+answer, a definition, the code nor a promise needs.
 
 No verdict rests on it: `rt ci` proves what it leaves.
 """
+import collections
+import dataclasses
 import functools
 import glob
 import os
@@ -55,36 +59,55 @@ def indent(line):
     return len(line) - len(line.lstrip())
 
 
-def lemmas_in(lines, with_locals=False):
-    """Each lemma of a file: its name, the lines of its statement, of what it unfolds, and of each of its equations, and its end. Those
-    with lemmas below `where` are left out, unless they are asked for.
+@dataclasses.dataclass
+class Lemma:
+    """A lemma of a file: its name, how far it is set in, the lines of its statement, of each of its equations, of its `where`, and of the
+    lemmas below that, and its end.
     """
-    found, at = [], 0
-    while at < len(lines):
+
+    name: str
+    depth: int
+    begin: int
+    stated: int
+    equations: list
+    where: int | None
+    end: int
+    local: list
+
+
+def lemmas_in(lines, at=0, stop=None):
+    """The lemmas that stand in these lines, those below a `where` with the lemma to which they belong."""
+    found, stop = [], len(lines) if stop is None else stop
+    while at < stop:
         head = re.match(r"^( *)(?:pub )?([^\s(){}:,.;=]+) : ", lines[at])
         if not head or head[2] in ("let", "in", "module"):
             at += 1
             continue
         depth, name, end = len(head[1]), re.escape(head[2]), at + 1
-        while end < len(lines) and lines[end].strip() and indent(lines[end]) > depth:
+        closing = re.compile(rf"^ {{{depth}}}[\])}}]")
+
+        def is_inside(line, depth=depth):
+            return line.strip() and indent(line) > depth
+
+        while end < stop and is_inside(lines[end]):
             end += 1
-        stated, unfolds, equations = (at, end), [], []
-        while end < len(lines) and re.match(rf"^ {{{depth}}}(unfolding|by_parts|measure)\b", lines[end]):
-            unfolds.append(lines[end])
+        begin, stated, equations, where = at, end, [], None
+        while end < stop and re.match(rf"^ {{{depth}}}(unfolding|by_parts|measure)\b", lines[end]):
             end += 1
-        while end < len(lines) and re.match(rf"^ {{{depth}}}{name}( .*)?$", lines[end]):
-            begin, end = end, end + 1
-            closing = re.compile(rf"^ {{{depth}}}[\])}}]")
-            while end < len(lines) and lines[end].strip() and (indent(lines[end]) > depth or closing.match(lines[end])):
+        while where is None and end < stop and re.match(rf"^ {{{depth}}}{name}( .*)?$", lines[end]):
+            first, end = end, end + 1
+            while end < stop and (is_inside(lines[end]) or closing.match(lines[end])) and lines[end].strip() != "where":
                 end += 1
-            equations.append((begin, end))
-        if any(re.search(r"\bwhere\b", it) for it in lines[at : end + 1]):
-            # What stands below `where` is checked with the lemma, and not by itself.
-            while end < len(lines) and not (lines[end].strip() and indent(lines[end]) <= depth):
+            equations.append((first, end))
+            where = end if end < stop and lines[end].strip() == "where" else None
+        if where is not None:
+            end = where + 1
+            while end < stop and not (lines[end].strip() and indent(lines[end]) <= depth):
                 end += 1
-            equations = equations if with_locals else []
+            while not lines[end - 1].strip():
+                end -= 1
         if equations:
-            found.append((head[2], stated, unfolds, equations, end))
+            found.append(Lemma(head[2], depth, begin, stated, equations, where, end, lemmas_in(lines, where + 1, end) if where else []))
         at = max(end, at + 1)
     return found
 
@@ -190,12 +213,6 @@ def facts_of(body, lemmas, own):
     return f"grind (arith, {', '.join(facts)})" if facts else "grind arith"
 
 
-def names_of(body, lemmas, own):
-    """The same with the bare names of the lemmas: for what is too long with their arguments, or needs others."""
-    names = dict.fromkeys(it for it in WORD.findall(re.sub(r"--.*", "", body)) if it in lemmas and it != own)
-    return f"grind (arith, {', '.join(names)})" if names else "grind arith"
-
-
 FACTS = re.compile(r"\.(ensures|requires|invariant|true|false|is|was|auto|branch)(\.|$)|\.x-is$|^type_inv")
 
 
@@ -250,34 +267,180 @@ def laid_out(head, text, depth, room):
     return lines if max(map(len, lines)) <= WIDTH and len(lines) < room else None
 
 
+def cited(text, lemmas, but=()):
+    """The lemmas that a text cites, each once."""
+    return list(dict.fromkeys(it for it in WORD.findall(re.sub(r"--.*", "", text)) if it in lemmas and it not in but))
+
+
+def tactics_with(names):
+    """The tactics that may find a proof by these lemmas."""
+    listed = "".join(f", {it}" for it in names)
+    return [f"grind (arith{listed})" if names else "grind arith", f"search (rules{listed})" if names else "search rules"]
+
+
 def shorter_texts(body, lemmas, lines, lemma):
     """What may stand in place of a body or of a part of one."""
-    name, stated, _, equations, _ = lemma
-    said = [it for k, it in enumerate(lines) if stated[0] <= k < stated[1] or it.lstrip().startswith("module ")]
-    bound = {it for begin, _ in equations for it in re.findall(r"[^\s(){}:,∷]+", lines[begin].partition(" =")[0])} | bound_in(body)
+    said = [it for k, it in enumerate(lines) if lemma.begin <= k < lemma.stated or it.lstrip().startswith("module ")]
+    bound = {it for begin, _ in lemma.equations for it in re.findall(r"[^\s(){}:,∷]+", lines[begin].partition(" =")[0])} | bound_in(body)
     bound |= {it for names in re.findall(r"[({]((?:[^\s(){}:]+ )+):", " ".join(said)) for it in names.split()}
     facts = bound - values_in(" ".join(said)) - {"c"}
-    found = facts_of(body, lemmas, name), names_of(body, lemmas, name), spared_of(body, lemmas, name, facts)
+    found = facts_of(body, lemmas, lemma.name), *tactics_with(cited(body, lemmas, {lemma.name})), spared_of(body, lemmas, lemma.name, facts)
     return dict.fromkeys(filter(None, found))
 
 
+def text_of(lines, parts):
+    return "\n".join(it for begin, end in parts for it in lines[begin:end])
+
+
+def head_of(lines, lemma, begin):
+    """An equation's first line: what stands up to its `=`, and what behind it."""
+    return re.match(rf"^( *{re.escape(lemma.name)}(?: .*?)? =)( .*)?$", lines[begin])
+
+
+def body_of(lines, head, begin, end):
+    return "\n".join([head[2] or "", *lines[begin + 1 : end]])
+
+
+def instead(lines, lemma, begin, end, over, texts):
+    """The edits that put each of these texts in place of the body of an equation, and of what stands behind it up to a line."""
+    head = head_of(lines, lemma, begin)
+    for text in texts if head and end <= over else ():
+        new = laid_out(head[1], text, lemma.depth, over - begin)
+        if new:
+            yield [(begin, over, new)]
+
+
 def bodies(lines, lemma, lemmas):
-    """Each body of two lines and more, as where it stands and what may stand there instead."""
-    name, _, _, equations, _ = lemma
-    for begin, end in equations:
-        head = re.match(rf"^( *{re.escape(name)}(?: .*?)? =)( .*)?$", lines[begin])
-        if end - begin > 1 and head:
-            body = "\n".join([head[2] or "", *lines[begin + 1 : end]])
-            for text in shorter_texts(body, lemmas, lines, lemma):
-                new = laid_out(head[1], text, indent(lines[begin]), end - begin)
+    """Each way to write a lemma with fewer lines, as lists of edits: from which line to which, and what stands there then."""
+    for begin, end in lemma.equations:
+        head = head_of(lines, lemma, begin)
+        if head and end - begin > 1:
+            yield from instead(lines, lemma, begin, end, end, shorter_texts(body_of(lines, head, begin, end), lemmas, lines, lemma))
+        yield from unnamed_lets(lines, begin, end)
+    if lemma.where:
+        yield from without_locals(lines, lemma, lemmas)
+    else:
+        yield from one_equation(lines, lemma, lemmas)
+
+
+def without_locals(lines, lemma, lemmas):
+    """A lemma without those below its `where`, without one of them, and with shorter ones."""
+    local = {it.name for it in lemma.local}
+    if len(lemma.equations) == 1:
+        (begin, end), behind = lemma.equations[0], (lemma.where, lemma.end)
+        names = cited(text_of(lines, [(begin, end), behind]), lemmas, local | {lemma.name})
+        yield from instead(lines, lemma, begin, end, lemma.end, tactics_with(names))
+    for it in lemma.local:
+        yield from bodies(lines, it, (lemmas | local) - {it.name})
+        for owner in [lemma, *lemma.local]:
+            gone = (lemma.where, lemma.end) if len(lemma.local) == 1 else span(lines, it)
+            places = range(lemma.equations[0][0], lemma.end)
+            yield from without_one(lines, owner, it, gone, places, lemmas | local)
+
+
+def without_one(lines, owner, gone, lines_gone, places, lemmas):
+    """An equation of the owner that does without a lemma, where no other place of these names that one."""
+    users = [k for k in places if not gone.begin <= k < gone.end and gone.name in WORD.findall(re.sub(r"--.*", "", lines[k]))]
+    within = cited(text_of(lines, [(gone.equations[0][0], gone.end)]), lemmas, {gone.name, owner.name, *(it.name for it in gone.local)})
+    for begin, end in owner.equations if users and owner is not gone else ():
+        head = head_of(lines, owner, begin)
+        if head and all(begin <= k < end for k in users):
+            names = cited(body_of(lines, head, begin, end), lemmas, {owner.name, gone.name})
+            for text in tactics_with(list(dict.fromkeys(names + within))):
+                new = laid_out(head[1], text, owner.depth, end - begin + lines_gone[1] - lines_gone[0])
                 if new:
-                    yield begin, end, new
+                    yield [(begin, end, new), (*lines_gone, [])]
+
+
+def span(lines, lemma):
+    """The lines of a lemma with the sentence above it, and with a blank line. A sentence stays that is of the next lemma, too."""
+    begin, end = lemma.begin, lemma.end
+    is_last = end + 1 >= len(lines) or not lines[end + 1].strip() or indent(lines[end + 1]) < lemma.depth
+    if is_last or lines[end + 1].lstrip().startswith("-- "):
+        while begin and re.match(r" *-- (?!--)", lines[begin - 1]):
+            begin -= 1
+    return (begin - (not lines[begin - 1].strip()), end) if is_last else (begin, end + 1)
+
+
+def unnamed_lets(lines, begin, end):
+    """A body without one of the `let`s at its beginning whose name stands nowhere behind it."""
+    at, depth = begin + 1, indent(lines[min(begin + 1, len(lines) - 1)])
+    while at < end:
+        name, over = re.match(rf" {{{depth}}}let ([^\s(){{}}:,;=]+) (?::|=)", lines[at]), at + 1
+        while over < end and (indent(lines[over]) > depth or lines[over].strip() == "in" or lines[over].lstrip()[0] in ")]}"):
+            over += 1
+        if not name or over == end or not re.search(r"\bin$", lines[over - 1]):
+            return
+        if not re.search(f"{BEFORE}{re.escape(name[1])}{BEHIND}", text_of(lines, [(over, end)])):
+            yield [(at, over, [])]
+        at = over
+
+
+def patterns(head):
+    """The patterns of an equation, behind its name."""
+    found, at = [], 0
+    head = head.strip()
+    while at < len(head):
+        end = end_of_part(head, at)
+        if end is None:
+            return []
+        found.append(head[at:end])
+        at = end + 1 if head[end : end + 1] == " " else end
+    return found
+
+
+def named_arguments(lines, lemma):
+    """The names of what a lemma takes, by its statement: the premises without one are numbered."""
+    said = re.sub(r"\s+", " ", re.sub(r"--.*", "", text_of(lines, [(lemma.begin, lemma.stated)]))).strip().partition(" : ")[2]
+    names, depth, part = [], 0, ""
+    for mark in said + " →":
+        depth += {"(": 1, "[": 1, "{": 1, ")": -1, "]": -1, "}": -1}.get(mark, 0)
+        part += mark
+        group = re.match(r" *\(([^\s(){}:]+(?: [^\s(){}:]+)*) : .*\)$", part) if mark == ")" and depth == 0 else None
+        if group:
+            names += group[1].split()
+            part = ""
+        elif mark == "→" and depth == 0:
+            names += [f"its_{len(names)}"] if part.strip("→ ") and not part.strip().startswith("{") else []
+            part = ""
+    return names[:-1] if names and names[-1].startswith("its_") else names
+
+
+def one_equation(lines, lemma, lemmas):
+    """One equation in place of several, where none is by induction."""
+    heads = [head_of(lines, lemma, begin) for begin, _ in lemma.equations]
+    bodies_of = [body_of(lines, head, *it) for head, it in zip(heads, lemma.equations) if head]
+    if len(heads) < 2 or not all(heads) or any(lemma.name in WORD.findall(it) for it in bodies_of):
+        return
+    rows = [patterns(it[1].strip()[len(lemma.name) : -1]) for it in heads]
+    names = named_arguments(lines, lemma)
+    if not rows[0] or len({len(it) for it in rows}) > 1 or len(names) < len(rows[0]):
+        return
+    plain = re.compile(r"^[^\s(){}\[\]]+$")
+    arguments = [same[0] if len(set(same)) == 1 and plain.match(same[0]) else names[k] for k, same in enumerate(zip(*rows))]
+    begin, end = lemma.equations[0][0], lemma.equations[-1][1]
+    for text in tactics_with(cited("\n".join(bodies_of), lemmas, {lemma.name})) if len(set(arguments)) == len(arguments) else ():
+        new = laid_out(f"{' ' * lemma.depth}{lemma.name} {' '.join(arguments)} =", text, lemma.depth, end - begin)
+        if new:
+            yield [(begin, end, new)]
+
+
+def uses_once(lines, every, lemmas, words):
+    """Lemmas that one other lemma of the file uses, and nothing else: without them, by what they cite or with their body there."""
+    for gone in every:
+        own = re.sub(r"--.*", "", text_of(lines, [(gone.begin, gone.end)]))
+        here = [k for k, it in enumerate(lines) if not gone.begin <= k < gone.end and not re.match(r"(pub )?use ", it)]
+        there = sum(WORD.findall(re.sub(r"--.*", "", lines[k])).count(gone.name) for k in here)
+        if "goal." not in lines[gone.begin] and there and words[gone.name] == there + WORD.findall(own).count(gone.name):
+            for owner in every:
+                if not owner.where:
+                    for edits in without_one(lines, owner, gone, span(lines, gone), here, lemmas):
+                        yield owner, edits
 
 
 def blocks(lines, lemma, lemmas):
     """Each part of a body, of two lines and more, that stands behind ↦ or =."""
-    name, _, _, equations, _ = lemma
-    for first, last in equations:
+    for first, last in lemma.equations:
         for begin in range(first + 1, last):
             depth, end = indent(lines[begin]), begin + 1
             while end < last and indent(lines[end]) > depth:
@@ -295,29 +458,33 @@ def blocks(lines, lemma, lemmas):
             for text in shorter_texts(body.removesuffix(tail), lemmas, lines, lemma):
                 new = laid_out(head[0], text + tail, depth, end - begin)
                 if new:
-                    yield begin, end, new
+                    yield [(begin, end, new)]
 
 
-def planted(file, parts, count):
-    """The file with a second lemma for each part, and what each of these puts where, by its name."""
+def planted(file, parts, words, count):
+    """The file with a second lemma for each try, the lines where each of these stands, and what it puts where, by its name."""
     lines, tries, added = read(file), {}, []
-    lemmas = cited_names(lines)
-    own = {it[0] for it in lemmas_in(lines)}
-    for lemma in lemmas_in(lines):
-        name, stated, unfolds, equations, end = lemma
-        for begin, over, new in parts(lines, lemma, (lemmas | own) - {name}):
-            other = f"{name}__{count + len(tries)}"
-            text = lines[stated[0] : stated[1]] + unfolds
-            for first, last in equations:
-                is_here = first <= begin < last
-                text += lines[first:begin] + new + lines[over:last] if is_here else lines[first:last]
-            text = [re.sub(f"{BEFORE}{re.escape(name)}{BEHIND}", other, it) for it in text]
-            text[0] = re.sub(r"^( *)pub ", r"\1", text[0])
-            added.append((end, ["", *text]))
-            tries[other] = (file, begin, over, new)
-    for end, text in reversed(added):
-        lines[end:end] = text
-    return with_tactics(lines), tries
+    every = lemmas_in(lines)
+    lemmas = cited_names(lines) | {it.name for it in every}
+    found = [(it, edits) for it in every for edits in parts(lines, it, lemmas - {it.name})]
+    found += uses_once(lines, every, lemmas, words) if parts is bodies else []
+    for lemma, edits in sorted({repr(it[1]): it for it in found}.values(), key=lambda it: it[0].end):
+        name = f"{lemma.name}__{count + len(tries)}"
+        text = lines[: lemma.end]
+        for begin, over, new in sorted((it for it in edits if it[0] >= lemma.begin and it[1] <= lemma.end), reverse=True):
+            text[begin:over] = new
+        text = [re.sub(f"{BEFORE}{re.escape(lemma.name)}{BEHIND}", name, it) for it in text[lemma.begin :]]
+        text[0] = re.sub(r"^( *)pub ", r"\1", text[0])
+        added.append((lemma.end, text, name))
+        tries[name] = (file, lemma.name, edits)
+    for end, text, _ in reversed(added):
+        lines[end:end] = ["", *text]
+    whole, places, before = with_tactics(lines), {}, 0
+    shift = len(whole) - len(lines)
+    for end, text, name in added:
+        places[name] = range(end + before + shift + 2, end + before + shift + 2 + len(text))
+        before += len(text) + 1
+    return whole, places, tries
 
 
 def with_tactics(lines):
@@ -338,45 +505,62 @@ def said_of(crate):
     return ran.stdout
 
 
+def gain_of(edits):
+    return sum(end - begin - len(new) for begin, end, new in edits)
+
+
 def put(before, taken):
-    """Writes the files as they were, but for the bodies that are taken; those that overlap another one are left."""
+    """Writes the files as they were, but for the edits that are taken, those that spare most first; what overlaps another one is left."""
     count = gain = 0
     for file, lines in before.items():
-        lines, free = list(lines), len(lines)
-        for _, _, begin, end, new in sorted((it for it in taken if it[1] == file), key=lambda it: (-it[2], it[3])):
-            if end <= free:
-                lines[begin:end] = new
-                count, gain, free = count + 1, gain + end - begin - len(new), begin
+        lines, chosen = list(lines), []
+        for edits in sorted((it[2] for it in taken if it[0] == file), key=lambda it: (-gain_of(it), it[0][0])):
+            if not any(begin < end_of and begin_of < end for begin, end, _ in edits for begin_of, end_of, _ in chosen):
+                chosen += edits
+                count, gain = count + 1, gain + gain_of(edits)
+        for begin, end, new in sorted(chosen, reverse=True):
+            lines[begin:end] = new
         write(file, with_tactics(lines))
     return count, gain
 
 
+def errors_in(crate, said):
+    found = re.findall(r"^\.?/?(proofs/\S+\.antt):(\d+):\d+: error: (?!\d+ declaration)(.*)", said or "", re.M)
+    return [(f"crates/{crate}/{file}", int(line), text) for file, line, text in found]
+
+
 def shorten(crate, parts):
     before = {file: read(file) for file in files_of(crate)}
-    tries = {}
+    texts = glob.glob("crates/*/**/*.antt", recursive=True) + glob.glob("crates/*/src/**/*.rt", recursive=True)
+    words = collections.Counter(it.rpartition(".")[2] for file in texts for it in WORD.findall(re.sub(r"--.*", "", "\n".join(read(file))).replace("::", " ")))
+    tries, places = {}, {}
     for file in before:
-        lines, more = planted(file, parts, len(tries))
+        lines, where, more = planted(file, parts, words, len(tries))
         if more:
             write(file, lines)
             tries |= more
+            places |= where
     print(f"{crate}: {len(tries)} tries", flush=True)
     said = said_of(crate)
     put(before, [])
     if not said:
         return 1
-    refused = set(re.findall(r"([^\s`,()]+__\d+)", said))
-    broken = {f"crates/{crate}/{it}" for it in re.findall(r"^\.?/?(proofs/\S+\.antt):\d+:\d+: error: (?!`|\d+ declaration)", said, re.M)}
-    taken = [(name.rpartition("__")[0], *it) for name, it in tries.items() if name not in refused and it[0] not in broken]
+    refused, broken = set(re.findall(r"([^\s`,()]+__\d+)", said)), set()
+    for file, line, text in errors_in(crate, said):
+        here = {name for name, it in tries.items() if it[0] == file and line in places[name]}
+        refused |= here
+        broken |= set() if here or "`" in text else {file}
+    taken = [it for name, it in tries.items() if name not in refused and it[0] not in broken]
     while taken:
         count, gain = put(before, taken)
         said = said_of(crate)
-        errors = re.findall(r"^\.?/?(proofs/\S+\.antt):\d+:\d+: error: (?!\d+ declaration)(.*)", said or "", re.M)
+        errors = errors_in(crate, said)
         if said and not errors:
             break
-        words = {(f"crates/{crate}/{file}", name) for file, text in errors for name in re.findall(r"[^\s`(),]+", text)}
-        left = [it for it in taken if (it[1], it[0]) not in words]
+        words = {(file, name) for file, _, text in errors for name in re.findall(r"[^\s`(),]+", text)}
+        left = [it for it in taken if it[:2] not in words]
         files = {file for file, _ in words}
-        taken = left if len(left) < len(taken) else [it for it in taken if it[1] not in files] if said and files & {it[1] for it in taken} else []
+        taken = left if len(left) < len(taken) else [it for it in taken if it[0] not in files] if said and files & {it[0] for it in taken} else []
         print(f"{crate}: {len(taken)} left after {len(errors)} errors", flush=True)
     if not taken:
         put(before, [])
@@ -570,12 +754,11 @@ def drop_unused(*crates):
     for file in sorted(glob.glob("crates/*/proofs/**/*.antt", recursive=True)):
         files[file] = lines = read(file)
         inside = set()
-        for name, stated, _, _, end in lemmas_in(lines, with_locals=True):
-            text = lines[stated[0] : end]
-            if not any("goal." in it for it in text[:1]):
-                cites.setdefault(name, set()).update(words_of(text) - {name})
-                places.setdefault(name, []).append((file, stated[0], end))
-                inside.update(range(stated[0], end))
+        for it in lemmas_in(lines):
+            if "goal." not in lines[it.begin]:
+                cites.setdefault(it.name, set()).update(words_of(lines[it.begin : it.end]) - {it.name})
+                places.setdefault(it.name, []).append((file, it.begin, it.end))
+                inside.update(range(it.begin, it.end))
         needed |= words_of(it for k, it in enumerate(lines) if k not in inside and not re.match(r"(pub )?use ", it))
     for file in glob.glob("crates/*/src/**/*.rt", recursive=True):
         needed |= set(re.findall(r"proofs::\w+::([\w-]+)", "\n".join(read(file))))
