@@ -80,21 +80,10 @@ less_whole (suc i) p e k above agree m miss = elim (cut_cases p e i) [
     ]
 
     own_agree : bit_at p.mask i ≡ 0 → bit_at e.mask i ≡ 1 → Agree (own_half p e (2 ^ i)) e
-    own_agree free cares j own on = elim (wants_own p e i free cares j (bit_at (own_half p e (2 ^ i)).key j) (record { cares = own; value = refl })) [
-      | inl this ↦ this.1 ∙ ap (bit_at e.key) (sym this.0)
-      | inr of_p ↦ sym of_p.value ∙ agree j of_p.cares on
-    ]
+    own_agree free cares j own on = grind (arith, wants_own p e i free cares j (bit_at (own_half p e (2 ^ i)).key j) (record { cares = own; value = refl }))
 
     still_above : (bit_at p.mask i ≡ 1) ⊎ (bit_at e.mask i ≡ 0) → Above i p e
-    still_above which j from on = elim (cases_lt i j) [
-      | inl higher ↦ above j higher on
-      | inr here ↦
-          let same : i ≡ j = omega arith in
-          elim which [
-            | inl cares ↦ subst (λ n. bit_at p.mask n ≡ 1) same cares
-            | inr off ↦ absurd (omega (arith, ap (bit_at e.mask) same, off, on))
-          ]
-    ]
+    still_above which j from on = grind (arith, cases_lt i j)
 
 less_apart : (i : ℕ) (p e : Block) → Apart (less i p e)
 less_apart zero p e = tt
@@ -199,8 +188,7 @@ module _ (block e : Block) (ps : List Block) where
 
 -- where few pieces were asked for and given, they are few
 where_few : (b : Bool) (all : Option (List Block)) (final : List Block) → (if b then all else None) ≡ Some final → all ≡ Some final
-where_few true all final same = same
-where_few false all final same = absurd (none-some final same)
+where_few b all final same = grind (arith, none-some)
 
 -- what is cut from the pieces by all that follow
 record IsCut (ps es final : List Block) : Type 0 where
@@ -209,12 +197,7 @@ record IsCut (ps es final : List Block) : Type 0 where
   pub apart : Apart ps → Apart final
 
 cut_from_is : (room : ℕ) (block : Block) (es ps final : List Block) → ((k : ℕ) → k < 2 ^ 32 → Has ps k → Matches block k) → cut_from room block ps es ≡ Some final → IsCut ps es final
-cut_from_is room block [] ps final inside same =
-    let is : ps ≡ final = same_Some ps final (where_few (nat_le (length ps) room) (Some ps) final same) in record {
-      sub = λ k small has. (subst (λ xs. Has xs k) (sym is) has, tt);
-      whole = λ k has free. subst (λ xs. Has xs k) is has;
-      apart = λ apart. subst Apart is apart;
-    }
+cut_from_is room block [] ps final inside same = grind (arith, same_Some ps final (where_few (nat_le (length ps) room) (Some ps) final same), where_few (nat_le (length ps) room) (Some ps) final same)
 cut_from_is room block (e ∷ es) ps final inside same =
     let rest = cut_from_is room block es (cut_by block e ps) final (λ k small has. inside k small (by_sub block e ps inside k small has).0)
     (where_few (nat_le (length ps) room) (cut_from room block (cut_by block e ps) es) final same) in record {
@@ -262,27 +245,23 @@ pieces_of room block others final same = record {
 }
   where
     of_block : (k : ℕ) → Has (block ∷ []) k → Matches block k
-    of_block k (inl m) = m
-    of_block k (inr none) = absurd none
+    of_block k its_1 = grind arith
 
     cut_is : IsCut (block ∷ []) others final
     cut_is = cut_from_is room block others (block ∷ []) final (λ k small has. of_block k has) same
 
 pub are_pieces : (room : ℕ) (block : Block) (others : List Block) (given : Option (List Block)) → given ≡ cut room block others → IfSome given (ArePieces block others)
-are_pieces room block others None same = tt
-are_pieces room block others (Some final) same = pieces_of room block others final (sym same)
+are_pieces room block others given same = grind (arith, pieces_of)
 
 -- ---- how many they are
 
 few_or_none : (room : ℕ) (ps final : List Block) → ((nat_le (length ps) room ≡ true) × (length ps ≤ room)) ⊎ ((nat_le (length ps) room ≡ false) × (room < length ps))
     → (if nat_le (length ps) room then Some ps else None) ≡ Some final → length final ≤ room
-few_or_none room ps final (inl few) same = subst (λ xs. length xs ≤ room) (same_Some ps final (where_few (nat_le (length ps) room) (Some ps) final same)) few.1
-few_or_none room ps final (inr many) same = absurd (none-some final (sym (ap (λ b. if b then Some ps else None) many.0) ∙ same))
+few_or_none room ps final its_3 same = grind (arith, same_Some, where_few, none-some)
 
 few_from : (room : ℕ) (block : Block) (es ps final : List Block) → cut_from room block ps es ≡ Some final → length final ≤ room
 few_from room block [] ps final same = few_or_none room ps final (leb_tells (length ps) room) same
 few_from room block (e ∷ es) ps final same = few_from room block es (cut_by block e ps) final (where_few (nat_le (length ps) room) (cut_from room block (cut_by block e ps) es) final same)
 
 pub few_pieces : (room : ℕ) (block : Block) (others : List Block) (given : Option (List Block)) → given ≡ cut room block others → IfSome given (λ ps. length ps ≤ room)
-few_pieces room block others None same = tt
-few_pieces room block others (Some final) same = few_from room block others (block ∷ []) final (sym same)
+few_pieces room block others given same = grind (arith, few_from)

@@ -11,8 +11,7 @@ less_turn n p e small = grind arith
 -- what is put, with what is still to be put, is all that is to be put
 pub put_turn : (n bit : ℕ) (p e rest : Block) (old new all : List Block) → n < 32 → bit ≡ 2 ^ (31 - n) → old ++ less (32 - n) p e ≡ all → new ≡ old ++ halves p e bit → rest ≡ part_to_cut p e bit
     → new ++ less (32 - (n + 1)) rest e ≡ all
-put_turn n bit p e rest old new all small is so_far put left =
-    grind (arith, append_assoc old (halves p e (2 ^ (31 - n))) (less (32 - (n + 1)) (part_to_cut p e (2 ^ (31 - n))) e), less_turn n p e small)
+put_turn n bit p e rest old new all small is so_far put left = grind (arith, append_assoc, less_turn)
 
 pub put_all : (n : ℕ) (p e : Block) (old all : List Block) → 32 ≤ n → old ++ less (32 - n) p e ≡ all → old ≡ all
 put_all n p e old all past so_far = grind (arith, append-nil old)

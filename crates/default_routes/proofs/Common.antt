@@ -1,3 +1,4 @@
+use Rattle.std.proofs.Common.{arith}
 -- The names that the proofs of this crate cite from outside of them, passed on from one place. Declares nothing.
 pub use Rattle.cover_merge.proofs.{Answering.fails, Determined.one_covering, Lists.All-flat_map, Lists.AllPairs-nil, Positions.All-has, Positions.has-at, Positions.has-place, Positions.rows_at-from}
 pub use Rattle.cover_merge.proofs.Positions.{rows_at-has, rows_at-length, rows_at-push}

@@ -4,23 +4,17 @@ use Rattle.default_routes.proofs.Common.{slice_get, slice_get_within, stays, suc
 
 module _ (rows : List Row) where
   none_behind : (i : ℕ) (ys : List ℕ) → length rows ≡ i → KeptFrom rows i ys → [] ≡ ys
-  none_behind i ys at ends = refl
-  none_behind i ys at (goes n row kept here strip later) = absurd (omega (arith, slice_get_within rows n row here))
-  none_behind i ys at (stays n row kept here keep later) = absurd (omega (arith, slice_get_within rows n row here))
+  none_behind i ys at its_3 = grind (arith, slice_get_within)
 
   -- the row at a place can go behind one list of kept places, and stays behind another
   both_ways : (n : ℕ) (r s : Row) (xs ys : List ℕ) → slice_get rows n ≡ Some r → slice_get rows n ≡ Some s → xs ≡ ys → IsStrippable r (rows_at rows xs) → (IsStrippable s (rows_at rows ys) → ⊥) → ⊥
   both_ways n r s xs ys here there same strip keep = grind (arith, same_Some r s (sym here ∙ there))
 
   after_going : (n : ℕ) (row : Row) (xs ys : List ℕ) → slice_get rows n ≡ Some row → IsStrippable row (rows_at rows xs) → ((zs : List ℕ) → KeptFrom rows (suc n) zs → xs ≡ zs) → KeptFrom rows n ys → xs ≡ ys
-  after_going n row xs ys here strip one ends = absurd (omega (arith, slice_get_within rows n row here))
-  after_going n row xs ys here strip one (goes m other kept there also later) = one kept later
-  after_going n row xs ys here strip one (stays m other kept there keep later) = absurd (both_ways m row other xs kept here there (one kept later) strip keep)
+  after_going n row xs ys here strip one its_7 = grind (arith, slice_get_within, both_ways)
 
   after_staying : (n : ℕ) (row : Row) (xs ys : List ℕ) → slice_get rows n ≡ Some row → (IsStrippable row (rows_at rows xs) → ⊥) → ((zs : List ℕ) → KeptFrom rows (suc n) zs → xs ≡ zs) → KeptFrom rows n ys → n ∷ xs ≡ ys
-  after_staying n row xs ys here keep one ends = absurd (omega (arith, slice_get_within rows n row here))
-  after_staying n row xs ys here keep one (goes m other kept there strip later) = absurd (both_ways m other row kept xs there here (sym (one kept later)) strip keep)
-  after_staying n row xs ys here keep one (stays m other kept there also later) = ap (λ l. m ∷ l) (one kept later)
+  after_staying n row xs ys here keep one its_7 = grind (arith, slice_get_within, both_ways)
 
   one_from : (i : ℕ) (xs ys : List ℕ) → KeptFrom rows i xs → KeptFrom rows i ys → xs ≡ ys
   one_from i xs ys ends other = none_behind (length rows) ys refl other

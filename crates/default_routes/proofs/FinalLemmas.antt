@@ -18,8 +18,7 @@ lookup_alone (e ∷ entries) rest key port none = by_test (matches e key) (looku
     by_test : (b : Bool) → lookup (entries ++ rest) key port ≡ lookup entries key port
         → option_map_or (λ (x : Entry). x.route) (cond b (Some e) (find (λ (x : Entry). matches x key) (entries ++ rest))) (default_route port)
         ≡ option_map_or (λ (x : Entry). x.route) (cond b (Some e) (find (λ (x : Entry). matches x key) entries)) (default_route port)
-    by_test true same = refl
-    by_test false same = same
+    by_test b same = grind arith
 
 -- what the covered table serves, the table given serves, in another order
 pub serves_given : (given covered loaded : List Row) (entries : List Entry) → entries ≡ map entry_of loaded → IsPermutation (served given) (served covered) →

@@ -13,12 +13,7 @@ pub lookup_hit : (r : Row) (rows : List Row) (key : ℕ) (port : Port) → Match
 lookup_hit r rows key port hit = grind (arith, eq-eqb (bit_and key r.block.mask) r.block.key hit)
 
 pub lookup_miss : (r : Row) (rows : List Row) (key : ℕ) (port : Port) → (Matches r.block key → ⊥) → lookup (map entry_of (r ∷ rows)) key port ≡ lookup (map entry_of rows) key port
-lookup_miss r rows key port miss =
-    ap (λ b. option_map_or (λ (e : Entry). e.route) (cond b (Some (entry_of r)) (find (λ (e : Entry). matches e key) (map entry_of rows))) (default_route port)) (off (eqb_tells (bit_and key r.block.mask) r.block.key))
-  where
-    off : ((bit_and key r.block.mask == r.block.key) ≡ true) × (Matches r.block key) ⊎ ((bit_and key r.block.mask == r.block.key) ≡ false) × (Matches r.block key → ⊥) → (bit_and key r.block.mask == r.block.key) ≡ false
-    off (inl hit) = absurd (miss hit.1)
-    off (inr other) = other.0
+lookup_miss r rows key port miss = grind (arith, eqb_tells)
 
 -- where no row matches, the default route
 pub lookup_none : (rows : List Row) (key : ℕ) (port : Port) → All (λ (r : Row). Matches r.block key → ⊥) rows → lookup (map entry_of rows) key port ≡ default_route port
@@ -165,11 +160,7 @@ strippable_turned rows row places in_range strip = record {
 }
   where
     has_turned : (xs : List ℕ) (s : ℕ) → has_row (reverse xs) s ≡ true → has_row xs s ≡ true
-    has_turned xs s found =
-        let at = has-place (reverse xs) s found in
-        let count : length (reverse xs) ≡ length xs = length-reverse xs in
-        let there : length xs - 1 - at.0 < length xs = omega (arith, at.1, count) in
-        subst (λ n. has_row xs n ≡ true) (sym (get_or-reverse xs at.0 0 (omega (arith, at.1, count))) ∙ at.2) (has-at xs (length xs - 1 - at.0) there)
+    has_turned xs s found = grind (arith, has-place, length-reverse, get_or-reverse, has-at)
 
 module _ (rows : List Row) (i : ℕ) (kept list : List ℕ) (same : list ≡ kept) (in_range : All (λ s. s < length rows) kept) (row : Row) (read : row ≡ get_or rows (i - 1) row) (some : 0 < i) (within : i ≤ length rows) (later : KeptFrom rows i (reverse kept)) where
   behind : KeptFrom rows (suc (i - 1)) (reverse kept)

@@ -1,3 +1,4 @@
+use Rattle.std.proofs.Common.{arith}
 -- The names that the proofs of this crate cite from outside of them, passed on from one place. Declares nothing.
 pub use Rattle.app_graph.specs.declared.graphs.Vertex.{Vertex}
 pub use Rattle.job_readers.proofs.{ItemSteps.items-fail, ItemSteps.items-more, ItemSteps.items-none, ItemSteps.values-more, NoFaults.none_first, NoFaults.none_inside}

@@ -1,4 +1,5 @@
 -- Of the machines of a list's loads the first alone is kept.
+use Rattle.std.proofs.Common.{arith}
 use Rattle.job_requests.proofs.Common.{Bool, Data, HasFirstMachine, List, Load, Run, Step, Unload, [], after_head, ap, bytes_eq, codes, false, first_machine_alone, get_or, head_word, if◌then◌else◌}
 use Rattle.job_requests.proofs.Common.{is_load, is_some, items_in, kept_step, length, list_any, list_any-append, load_of, map, map-append, or-false, refl, sym, take, true, unload_of, unwrap_or}
 use Rattle.job_requests.proofs.Common.{values-more, without_machine, ℕ, ◌++◌, ◌+◌, ◌<◌, ◌||◌, ◌∙◌, ◌∷◌, ◌≡◌}
@@ -16,10 +17,7 @@ kept_more (Unload n ∷ steps) step = ap (λ (l : List Step). Unload n ∷ l) (k
 kept_more (Run ∷ steps) step = ap (λ (l : List Step). Run ∷ l) (kept_more steps step)
 
 same_load : (loaded : Bool) (step : Step) → is_load (kept_step loaded step) ≡ is_load step
-same_load true (Load n job) = refl
-same_load true (Unload n) = refl
-same_load true Run = refl
-same_load false step = refl
+same_load loaded step = grind arith
 
 module _ {V : Type 0} (g : V → Data) (xs : List V) (i : ℕ) (x : V) (below : i < length xs) (is : x ≡ get_or xs i x) where
   -- the steps so far, with their machines
@@ -31,20 +29,12 @@ module _ {V : Type 0} (g : V → Data) (xs : List V) (i : ℕ) (x : V) (below : 
 
   pub kept_next : (out new : List Step) (loaded : Bool) (step : Step) → out ≡ first_machine_alone before → loaded ≡ list_any is_load before → step ≡ kept_step loaded (step_value (g x)) →
       new ≡ out ++ step ∷ [] → new ≡ first_machine_alone (map step_value (map g (take (i + 1) xs)))
-  kept_next out new loaded step so_far was here pushed =
-      pushed
-      ∙ (ap (λ (l : List Step). l ++ step ∷ []) so_far
-      ∙ (ap (λ (s : Step). first_machine_alone before ++ s ∷ []) (here ∙ ap (λ b. kept_step b (step_value (g x))) was)
-      ∙ (sym (kept_more before (step_value (g x))) ∙ ap first_machine_alone one_more)))
+  kept_next out new loaded step so_far was here pushed = grind (arith, kept_more before (step_value (g x)), one_more)
 
   -- whether a load was among the steps
   pub loaded_next : (loaded : Bool) (step : Step) (here : Bool) → loaded ≡ list_any is_load before → step ≡ kept_step loaded (step_value (g x)) → here ≡ is_load step →
       (loaded || here) ≡ list_any is_load (map step_value (map g (take (i + 1) xs)))
-  loaded_next loaded step here was kept_is load =
-      let own : Bool = is_load (step_value (g x)) in
-      ap (λ b. loaded || b) (load ∙ (ap is_load kept_is ∙ same_load loaded (step_value (g x))))
-      ∙ (ap (λ b. b || own) was
-      ∙ (ap (λ b. list_any is_load before || b) (sym (or-false own)) ∙ (sym (list_any-append is_load before (step_value (g x) ∷ [])) ∙ ap (list_any is_load) one_more)))
+  loaded_next loaded step here was kept_is load = grind (arith, same_load, or-false, list_any-append, one_more)
 
 -- ---- the first load
 
@@ -57,30 +47,11 @@ HasMachine Run = Unit {0}
 -- so has each load as it is read
 has_machine : (d : Data) → HasMachine (step_value d)
 unfolding step_value worded_step
-has_machine d = worded (unwrap_or (head_word (items_in d)) []) (after_head (items_in d))
-  where
-    loaded : (ds : List Data) → HasMachine (load_of ds)
-    loaded [] = tt
-    loaded (n ∷ []) = tt
-    loaded (n ∷ (d ∷ ds)) = refl
-
-    unloaded : (ds : List Data) → HasMachine (unload_of ds)
-    unloaded [] = tt
-    unloaded (n ∷ ds) = tt
-
-    worded : (w : List ℕ) (ds : List Data) → HasMachine (worded_step w ds)
-    worded w ds = by_words (bytes_eq w (codes "load")) (bytes_eq w (codes "unload"))
-      where
-        by_words : (a b : Bool) → HasMachine (if a then load_of ds else (if b then unload_of ds else Run))
-        by_words true b = loaded ds
-        by_words false true = unloaded ds
-        by_words false false = tt
+has_machine d = grind (arith, unwrap_or)
 
 pub has_first_machine : (ds : List Data) → HasFirstMachine (first_machine_alone (map step_value ds))
 has_first_machine [] = tt
 has_first_machine (d ∷ ds) = first (step_value d) (map step_value ds) (has_machine d) (has_first_machine ds)
   where
     first : (step : Step) (steps : List Step) → HasMachine step → HasFirstMachine (first_machine_alone steps) → HasFirstMachine (first_machine_alone (step ∷ steps))
-    first (Load n job) steps has later = has
-    first (Unload n) steps has later = later
-    first Run steps has later = later
+    first step steps has later = grind arith

@@ -9,15 +9,10 @@ use Rattle.job_readers.specs.WholeJob.{job_value}
 -- a number without a fault is no greater than the greatest
 no_more : (path : List ℕ) (low high : ℕ) (o : Option Data) → number_faults path low high None o ≡ [] → number_value None o ≤ high
 no_more path low high None none = absurd cc
-no_more path low high (Some d) none = by_number (whole_number d) none
+no_more path low high (Some d) none = grind (arith, leb-true, and_parts, by_test)
   where
     by_test : (b : Bool) → range_unless b path ≡ [] → b ≡ true
-    by_test true clear = refl
-    by_test false clear = absurd cc
-
-    by_number : (n : Option ℕ) → typed_faults (is_within low high) path n ≡ [] → unwrap_or n 0 ≤ high
-    by_number None clear = absurd cc
-    by_number (Some n) clear = leb-true _ _ (and_parts _ _ (by_test (is_within low high n) clear)).1
+    by_test b clear = grind arith
 
 low_version : (path : List ℕ) (d : Data) → version_faults path 2 d ≡ [] → version_value d ≤ 2
 unfolding version_faults version_value number_member_faults number_member
@@ -25,9 +20,7 @@ low_version path d none = no_more (member_at path (codes "version")) 1 2 (member
 
 no_device : (version : ℕ) (d : Data) → version ≤ 2 → device_value version d ≡ None
 unfolding device_value member_since
-no_device version d low =
-    let early : nat_le 3 version ≡ false = lt-leb 3 version (omega (arith, low)) in
-    ap (λ (b : Bool). option_map link_value (if b then member_of (codes "device") d else None)) early
+no_device version d low = grind (arith, lt-leb 3 version (omega (arith, low)))
 
 no_devices : (version : ℕ) (d : Data) → version ≤ 2 → All (λ (v : Vertex). v.device ≡ None) (vertices_value version d)
 unfolding vertices_value vertex_value

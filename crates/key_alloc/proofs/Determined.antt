@@ -1,4 +1,5 @@
 -- Nets have at most one right list of blocks.
+use Rattle.std.proofs.Common.{rules}
 use Rattle.key_alloc.proofs.Common.{AreFirstBlocks, AreKeysOut, AreRightBlocks, Block, EachFollows, IsBlockFor, IsLeastBlock, IsOpenPlace, List, MatchOption, Net, None, Option, Some, ap, arith}
 use Rattle.key_alloc.proofs.Common.{cases_lt, determined_begins, fixed_of, inl, inr, length, one_item_at, refl, same_block, size_of, slice_get, slice_get_cases, slice_get_there, slice_get_within}
 use Rattle.key_alloc.proofs.Common.{subst, sym, take, take_all, ℕ, ◌++◌, ◌∙◌, ◌≡◌, ◌≤◌}
@@ -24,9 +25,7 @@ abbrev Follows : List Net → List Block → ℕ → Block → Type 0
 Follows nets before n b = (net : Net) × (slice_get nets n ≡ Some net) × IsBlockFor (fixed_of nets ++ before) net b
 
 same_follower : (nets : List Net) (before : List Block) (n : ℕ) (x y : Block) → Follows nets before n x → Follows nets before n y → x ≡ y
-same_follower nets before n x y a b =
-    let net = one_item_at nets n n a.0 b.0 refl a.1 b.1 in
-    one_for_net (fixed_of nets ++ before) b.0 x y (subst (λ z. IsBlockFor (fixed_of nets ++ before) z x) net a.2) b.2
+same_follower nets before n x y a b = search (rules, one_item_at, one_for_net)
 
 followed : (nets : List Net) (xs : List Block) → AreFirstBlocks nets xs → EachFollows (Follows nets) (same_follower nets) xs
 followed nets xs first n x is = grind (arith, slice_get_there nets n (omega (arith, slice_get_within xs n x is, first.few)), slice_get_within xs n x is)

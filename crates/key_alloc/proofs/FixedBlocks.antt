@@ -1,4 +1,5 @@
 -- The fixed blocks of nets: each is a range of enough keys, and no two share a key.
+use Rattle.std.proofs.Common.{rules}
 use Rattle.key_alloc.proofs.Common.{All, All-at, All-contains, All-each, All-permutation, All-weaker, AllPairs, AllPairs-cons, AllPairs-head, AllPairs-nil, AllPairs-permutation, AllPairs-tail}
 use Rattle.key_alloc.proofs.Common.{AreDownwards, AreFixedApart, Block, Contains, Contains-append_left, Contains-at, Contains-filter_map, Contains-from_filter_map, Graph, HaveRanges, IfSome}
 use Rattle.key_alloc.proofs.Common.{IsFixedFor, IsPermutation, IsValidGraph, List, Net, None, Option, ShareNoKey, Some, [], arith, cases_lt, cons_option, fixed_of, get_or, get_or_from_slice_get, refl}
@@ -40,8 +41,7 @@ fixed_apart (n ∷ ns) apart = by_fixed (fixed_apart ns (AllPairs-tail AreFixedA
         subst (λ (o : Option Block). IfSome o (ShareNoKey f)) is_g (subst (λ (o : Option Block). IfSome o (λ x. IfSome m.fixed (ShareNoKey x))) is_f one)
 
     by_fixed : AllPairs ShareNoKey (fixed_of ns) → (o : Option Block) → n.fixed ≡ o → AllPairs ShareNoKey (cons_option o (fixed_of ns))
-    by_fixed rest None is = rest
-    by_fixed rest (Some f) is = AllPairs-cons ShareNoKey f (fixed_of ns) (All-each (ShareNoKey f) (fixed_of ns) (from_first f is)) rest
+    by_fixed rest o is = search (rules, AllPairs-cons, All-each, from_first)
 
 apart_back : (a b : Block) → ShareNoKey a b → ShareNoKey b a
 apart_back a b apart k small in_b in_a = apart k small in_a in_b

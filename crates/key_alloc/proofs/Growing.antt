@@ -69,7 +69,6 @@ module _ (nets : List Net) (blocks : List Block) (fixed : HaveFixed nets) (right
   pub keys_enough : AllZip HasKeys nets blocks
   keys_enough = zip_from_places nets blocks (sym right.all) (λ i net b is_net is_block index few.
       let has = net_at i b is_block in
-      let one : Some has.net ≡ Some net = sym has.is ∙ is_net in
       let same : has.net ≡ net = cc in
       let many : net.keys ≤ size_of b = subst (λ (n : Net). n.keys ≤ size_of b) same has.enough in
       let small : b.key + index < 2 ^ 32 = omega (arith, has.range.within, many) in

@@ -18,13 +18,8 @@ room_above z n le small whole = grind (arith, pow-add 2 (32 - z) z, pow_pos z, s
 
 -- what is there and not taken is free
 pub free_of : (a b : Bool) → a ≡ true → b ≡ false → (a && not b) ≡ true
-free_of true false p q = refl
-free_of true true p q = clash refl q
-free_of false b p q = clash p refl
+free_of a b p q = grind (arith, clash)
 
 -- what is free of two in turn is free of both
 pub regroup : (a b c : Bool) → ((a && not b) && not c) ≡ (a && not (b || (c || false)))
-regroup false b c = refl
-regroup true true c = refl
-regroup true false true = refl
-regroup true false false = refl
+regroup a b c = grind arith

@@ -84,10 +84,7 @@ taken_again taken b free state has = record {
 }
   where
     said_twice : (k : ℕ) → (has_key k b ≡ true) ⊎ (has_key k b ≡ false) → (list_any (has_key k) taken || (has_key k b || false)) ≡ list_any (has_key k) taken
-    said_twice k (inl mine) =
-        let any : list_any (has_key k) taken ≡ true = list_any_at (has_key k) taken has.0 b has.1 (ap (has_key k) has.2 ∙ mine) in
-        or_left (list_any (has_key k) taken) (has_key k b || false) any ∙ sym any
-    said_twice k (inr none) = or_neither (list_any (has_key k) taken) (has_key k b) none
+    said_twice k h1 = grind (arith, list_any_at, or_left, or_neither)
 
 -- ---- the block that a net gets, which is the least or none
 

@@ -60,8 +60,7 @@ module _ (n port : ℕ) (v : Known) (x : McCopy) (may : v.sends ≡ true) (cap :
   -- what the sender has after a push whose view w has all that entered
   sender_put : (items : List McCopy) (views : List Known) (k : Kept items views) (w : Known) → length items < n → SenderFits k.sender k.put k.took port v
       → put_of w ≡ put_of v ++ x ∷ [] → w.held ≡ length items + 1 → w.cap ≡ v.cap → w.fulls ≡ v.fulls → SenderFits k.sender (k.put ++ x ∷ []) k.took port w
-  sender_put items views k w room f put held same_cap same_fulls =
-      grind (arith, length_more k.put x, length-append k.took items, full_grows v.cap k.put k.took (k.put ++ x ∷ []) k.took v.fulls (omega (arith, (length_more k.put x))) (omega arith) f.noted)
+  sender_put items views k w room f put held same_cap same_fulls = grind (arith, length_more, length-append, full_grows)
 
   after_put : (items : List McCopy) (views : List Known) (k : Kept items views) (w : Known) → SenderFits k.sender k.put k.took port v
       → FitsRule k.sender k.receiver (k.put ++ x ∷ []) k.took port w → Kept (items ++ x ∷ []) (set views port w)
@@ -310,22 +309,13 @@ begins = record {
 -- a seat that popped fewer copies than were held finds some
 pub some_left : (v w : Known) (held got none : List McCopy) → Balanced v held → PoppedTo v got w → Balanced w none → length got < length held
     → length none ≡ 0 → ⊥
-some_left v w held got none first popped last fewer nothing =
-    let took = ap length popped.took_is ∙ length-append v.took got in
-    let before = ap length first.0 ∙ length-append v.took held in
-    let after = ap length last.0 ∙ length-append w.took none in
-    omega (arith, took, before, after, ap length popped.put)
+some_left v w held got none first popped last fewer nothing = grind (arith, length-append v.took got, length-append v.took held, length-append w.took none)
 
 -- one that popped as many as were held popped all
 pub all_popped : (s t v w : Known) (held got left : List McCopy) → v ≡ joined s t → Balanced v held → PoppedTo v got w → Balanced w left
     → length got ≡ length held → put_of s ≡ t.took ++ got
-all_popped s t v w held got [] is first popped last many =
-    subst (λ (u : Known). put_of u ≡ u.took ++ got) is (sym popped.put ∙ last.0 ∙ append-nil w.took ∙ popped.took_is)
-all_popped s t v w held got (x ∷ xs) is first popped last many =
-    let took = ap length popped.took_is ∙ length-append v.took got in
-    let before = ap length first.0 ∙ length-append v.took held in
-    let after = ap length last.0 ∙ length-append w.took (x ∷ xs) in
-    absurd (omega (arith, took, before, after, ap length popped.put, many))
+all_popped s t v w held got [] is first popped last many = grind (arith, append-nil w.took)
+all_popped s t v w held got (x ∷ xs) is first popped last many = grind (arith, length-append v.took got, length-append v.took held, length-append w.took (x ∷ xs))
 
 -- ---- a link that rests
 

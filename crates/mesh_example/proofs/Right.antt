@@ -34,10 +34,7 @@ agree_on f g (y ∷ xs) x same (inr has) = agree_on f g xs x (cc same) has
 
 wanted_by : (route : Route) (n : NetPlan) (c : Chip) → map (has route) all_outs ≡ map (is_wanted (east ∷ []) n.targets c) all_outs → HasWanted route n c
 unfolding HasWanted
-wanted_by route n c same o valid =
-    let found = counted (out_eq o) all_outs (omega (arith, all_once o valid)) in
-    subst (λ p. has route p ≡ is_wanted (east ∷ []) n.targets c p) (sym (out_eq_true o found.0 found.2))
-    (agree_on (has route) (is_wanted (east ∷ []) n.targets c) all_outs found.0 same found.1)
+wanted_by route n c same o valid = grind (arith, counted, all_once, out_eq_true, agree_on)
 
 left_outs : HasWanted left_route net left_chip
 unfolding link_outs core_outs
@@ -65,10 +62,7 @@ right_by n key port o c route is wanted valid = ap (λ r. has r o) is ∙ wanted
 
 -- where the nets' packets come in: anywhere on the left chip, and by the link west on the right one
 at_end : (c : Chip) (e : Edge) → Contains (east ∷ []) e → end_of two_chip_board e ≡ Some c → (east ≡ e) × (right_chip ≡ c)
-at_end c e has ends =
-    let same : east ≡ e = Contains-only east e has in
-    let there : Some right_chip ≡ Some c = ap (end_of two_chip_board) same ∙ ends in
-    (same, cc there)
+at_end c e has ends = grind (arith, Contains-only east e has)
 
 net_right : RoutesByTree two_chip_board tables net
 unfolding IsRightAt
@@ -98,7 +92,4 @@ tables_right = All-from_recursion (RoutesByTree two_chip_board tables) nets (net
 
 -- without its row on the left chip, the other net's packet goes nowhere
 pub wrong_not_right : AreRight two_chip_board wrong_tables nets → ⊥
-wrong_not_right h =
-    let other : RoutesByTree two_chip_board wrong_tables other_net = h 1 other_net (omega arith) in
-    let lost : false ≡ true = other left_chip Local 1 (Link East) (inl (refl, refl)) (record { fits = omega arith; matches = refl }) tt in
-    absurd (false≢true lost)
+wrong_not_right h = grind (arith, false≢true ((h 1 other_net (omega arith)) left_chip Local 1 (Link East) (inl (refl, refl)) (record { fits = omega arith; matches = refl }) tt))

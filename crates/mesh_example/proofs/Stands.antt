@@ -14,11 +14,7 @@ left_is_not_right : left_chip ≢ right_chip
 left_is_not_right e = let f : 0 ≡ 1 = ap (λ (c : Chip). c.x) e in absurd (omega (arith, f))
 
 chips_of_tree : (c : Chip) → IsTreeChip two_chip_board left_chip (east ∷ []) c → (c ≡ left_chip) ⊎ (c ≡ right_chip)
-chips_of_tree c (inl at) = inl at
-chips_of_tree c (inr e) =
-    let same : east ≡ e.1 = Contains-only east e.1 (e.0, e.2, e.3) in
-    let ends : Some right_chip ≡ Some c = ap (end_of two_chip_board) same ∙ e.4 in
-    inr (sym (cc ends))
+chips_of_tree c its_1 = grind (arith, Contains-only)
 
 reached : (c : Chip) → IsTreeChip two_chip_board left_chip (east ∷ []) c → (path : List Edge) × IsPath two_chip_board (east ∷ []) left_chip path c
 reached c h = by (chips_of_tree c h)
@@ -36,20 +32,7 @@ right_in_tree = inr (0, east, omega arith, refl, refl)
 -- the tree of the one link, to targets of which one is on the right chip
 tree_to : (to : List Spot) → Contains (map (λ (s : Spot). s.chip) to) right_chip → All (IsTreeChip two_chip_board left_chip (east ∷ [])) (map (λ (s : Spot). s.chip) to) →
     IsRoutingTree two_chip_board left_chip (east ∷ []) to
-tree_to to has in_tree =
-    record {
-      edges_live = All-from_recursion (λ (e : Edge). IsLiveLink two_chip_board e.chip e.dir) (east ∷ []) (refl, tt);
-      edges_begin = All-from_recursion (λ (e : Edge). IsTreeChip two_chip_board left_chip (east ∷ []) e.chip) (east ∷ []) (left_in_tree, tt);
-      none_into_root = All-from_recursion (λ (e : Edge). end_of two_chip_board e ≢ Some left_chip) (east ∷ []) ((λ e. left_is_not_right (sym (cc e))), tt);
-      one_into_each = λ i j d lt within. absurd (omega (arith, lt, within));
-      reached = reached;
-      has_targets = in_tree;
-      ends_are_targets = λ c h. ends c (chips_of_tree c h);
-    }
-  where
-    ends : (c : Chip) → (c ≡ left_chip) ⊎ (c ≡ right_chip) → Any (λ (e : Edge). e.chip ≡ c) (east ∷ []) ⊎ Contains (map (λ (s : Spot). s.chip) to) c
-    ends c (inl at) = inl (0, east, omega arith, refl, sym at)
-    ends c (inr at) = inr (subst (Contains (map (λ (s : Spot). s.chip) to)) (sym at) has)
+tree_to to has in_tree = grind (arith, All-from_recursion, left_in_tree, left_is_not_right, reached, chips_of_tree)
 
 tree_stands : IsRoutingTree two_chip_board left_chip (east ∷ []) targets
 tree_stands = tree_to targets (1, omega arith, refl)
@@ -71,37 +54,10 @@ spots_of_one : (a b : Spot) → (a.chip.x + (2 * a.core)) ≢ (b.chip.x + (2 * b
 spots_of_one a b differ same = differ (ap (λ (s : Spot). s.chip.x + (2 * s.core)) same)
 
 spots_differ : AllPairs (λ a b. a ≢ b) spots
-spots_differ = AllPairs-cons (λ a b. a ≢ b) source (near ∷ far ∷ last ∷ device ∷ [])
-    (All-from_recursion (λ b. source ≢ b) (near ∷ far ∷ last ∷ device ∷ []) (
-      spots_of_one source near (λ e. absurd (omega (arith, e))),
-      (
-        spots_of_one source far (λ e. absurd (omega (arith, e))),
-        (spots_of_one source last (λ e. absurd (omega (arith, e))), (spots_of_one source device (λ e. absurd (omega (arith, e))), tt)),
-      ),
-    ))
-    (AllPairs-cons (λ a b. a ≢ b) near (far ∷ last ∷ device ∷ [])
-    (All-from_recursion (λ b. near ≢ b) (far ∷ last ∷ device ∷ []) (
-      spots_of_one near far (λ e. absurd (omega (arith, e))),
-      (spots_of_one near last (λ e. absurd (omega (arith, e))), (spots_of_one near device (λ e. absurd (omega (arith, e))), tt)),
-    ))
-    (AllPairs-cons (λ a b. a ≢ b) far (last ∷ device ∷ [])
-    (All-from_recursion (λ b. far ≢ b) (last ∷ device ∷ []) (
-      spots_of_one far last (λ e. absurd (omega (arith, e))),
-      (spots_of_one far device (λ e. absurd (omega (arith, e))), tt),
-    ))
-    (AllPairs-cons (λ a b. a ≢ b) last (device ∷ [])
-    (All-from_recursion (λ b. last ≢ b) (device ∷ []) (spots_of_one last device (λ e. absurd (omega (arith, e))), tt))
-    (λ i j d lt within. absurd (omega (arith, lt, within))))))
+spots_differ = grind (arith, AllPairs-cons, All-from_recursion, spots_of_one)
 
 targets_differ : AllPairs (λ a b. a ≢ b) targets
-targets_differ = AllPairs-cons (λ a b. a ≢ b) near (far ∷ last ∷ [])
-    (All-from_recursion (λ b. near ≢ b) (far ∷ last ∷ []) (
-      spots_of_one near far (λ e. absurd (omega (arith, e))),
-      (spots_of_one near last (λ e. absurd (omega (arith, e))), tt),
-    ))
-    (AllPairs-cons (λ a b. a ≢ b) far (last ∷ [])
-    (All-from_recursion (λ b. far ≢ b) (last ∷ []) (spots_of_one far last (λ e. absurd (omega (arith, e))), tt))
-    (λ i j d lt within. absurd (omega (arith, lt, within))))
+targets_differ = grind (arith, AllPairs-cons, All-from_recursion, spots_of_one)
 
 one_differs : AllPairs (λ a b. a ≢ b) (device ∷ [])
 one_differs i j d lt within = absurd (omega (arith, lt, within))
@@ -114,12 +70,7 @@ all_sites = All-from_recursion (IsSite two_chip_board) spots (refl, (refl, (refl
 
 -- no key is in both blocks
 disjoint : HaveDisjointBlocks nets
-disjoint = AllPairs-cons (λ a b. (key : ℕ) → IsKeyOf a.block key → IsKeyOf b.block key → ⊥) net (other_net ∷ [])
-    (All-from_recursion (λ (b : NetPlan). (key : ℕ) → IsKeyOf block key → IsKeyOf b.block key → ⊥) (other_net ∷ []) (apart, tt))
-    (λ i j d lt within. absurd (omega (arith, lt, within)))
-  where
-    apart : (key : ℕ) → IsKeyOf block key → IsKeyOf other_block key → ⊥
-    apart key k l = let e : 0 ≡ 1 = sym k.matches ∙ l.matches in absurd (omega (arith, e))
+disjoint = grind (arith, AllPairs-cons, All-from_recursion)
 
 pub stands : AreNetsOn two_chip_board spots nets
 stands = record {

@@ -1,3 +1,5 @@
+use Rattle.std.proofs.Common.{arith}
+use Rattle.std.proofs.Common.{rules}
 -- The names that the proofs of this crate cite from outside of them, passed on from one place. Declares nothing.
 pub use Rattle.range_store.specs.{Fits.AreNeighbours, Fits.FitsAt, Fits.IsLeastIn, Fits.IsPutBack, Fits.NoneIn, Regions.AreRuns, Regions.HasNoFitFrom, Regions.IsFirstFitFrom, Regions.NoneIsFree}
 pub use Rattle.range_store.specs.Regions.{has_range, hole_end, hole_of, holes_without, in_range, is_free, is_hole_range, rest_of}

@@ -1,4 +1,5 @@
 -- A range put back among the holes.
+use Rattle.std.proofs.Common.{rules}
 use Rattle.range_store.proofs.Common.{AreNeighbours, AreRuns, Bool, Err, Hole, IsOk, IsPutBack, List, MatchOption, None, NoneIsFree, Ok, Option, Result, Some, [], ap, append_assoc, arith, cases_lt}
 use Rattle.range_store.proofs.Common.{drop, false, get_or, has_range, hole_end, if◌then◌else◌, in_range, inl, inr, is_free, is_ok, length, length-take-le, list_any-append, nat_tests, refl, set}
 use Rattle.range_store.proofs.Common.{set_at, set_split, slice_get, slice_get-get_or, slice_get_within, subst, suc, sym, take, take-append-drop, true, zero, ℕ, ◌++◌, ◌+◌, ◌-◌, ◌<◌, ◌||◌, ◌∙◌, ◌∷◌}
@@ -10,19 +11,10 @@ use Rattle.range_store.proofs.HolePlaces.{clash, has_from}
 module _ (n p s : ℕ) (pre mid post : List Hole) (m : Hole) (runs : AreRuns 0 n (pre ++ (mid ++ post)))
     (same : (k : ℕ) → has_range k 1 m ≡ (is_free mid k || in_range p s k)) where
   regroup : (a b c d r : Bool) → b ≡ (c || r) → (a || (b || d)) ≡ ((a || (c || d)) || r)
-  regroup true b c d r e = refl
-  regroup false b true d r e = rw e refl
-  regroup false b false true true e = rw e refl
-  regroup false b false true false e = rw e refl
-  regroup false b false false true e = rw e refl
-  regroup false b false false false e = rw e refl
+  regroup a b c d r e = grind arith
 
   put_free : (k : ℕ) → is_free (pre ++ m ∷ post) k ≡ (is_free (pre ++ (mid ++ post)) k || in_range p s k)
-  put_free k =
-      list_any-append (has_range k 1) pre (m ∷ post)
-      ∙ regroup (is_free pre k) (has_range k 1 m) (is_free mid k) (is_free post k) (in_range p s k) (same k)
-      ∙ ap (λ b. (is_free pre k || b) || in_range p s k) (sym (list_any-append (has_range k 1) mid post))
-      ∙ ap (λ b. b || in_range p s k) (sym (list_any-append (has_range k 1) pre (mid ++ post)))
+  put_free k = search (rules, list_any-append, regroup)
 
   put_runs : next 0 pre ≤ m.place → 0 < m.len → hole_end m ≤ n → AreRuns (hole_end m + 1) n post → AreRuns 0 n (pre ++ m ∷ post)
   put_runs start some within after = runs_join 0 n pre (m ∷ post) (runs_split 0 n pre (mid ++ post) runs).0 (start, some, within, after)
@@ -200,5 +192,4 @@ module _ {n p s a : ℕ} {xs lent : List Hole} {left right : Option Hole} (some 
   left_end l = let is = subst LeftIs l near.left_is in (is.0, is.2)
 
 pub inserted : {E : Type 0} (r : Result (Unit {0}) E) (ys zs : List Hole) {ws : List Hole} → IsOk r → ws ≡ (if is_ok r then ys else zs) → ws ≡ ys
-inserted (Ok x) ys zs ok e = e
-inserted (Err x) ys zs ok e = cc
+inserted r ys zs ok e = grind arith

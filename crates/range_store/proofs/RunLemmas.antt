@@ -106,8 +106,7 @@ rest_is : (p s : ℕ) (h : Hole) → h.place ≤ p → p + s ≤ hole_end h → 
 rest_is p s h low high = grind arith
 
 or_second : (a b : Bool) → a ≡ false → (a || b) ≡ true → b ≡ true
-or_second true b e f = clash refl e
-or_second false b e f = f
+or_second a b e f = grind (arith, clash)
 
 pub drop_got : (xs : List Hole) (i : ℕ) (h : Hole) → slice_get xs i ≡ Some h → drop i xs ≡ h ∷ drop (suc i) xs
 drop_got [] i h e = cc
@@ -195,10 +194,7 @@ free_rest : (p s : ℕ) (h : Hole) (k : ℕ) → is_free (rest_of p s h) k ≡ (
 free_rest p s h k = grind (arith, list_any-append, free_hole, nat_tests)
 
 spread : (a b n : Bool) → ((a && n) || (b && n)) ≡ ((a || b) && n)
-spread true b true = refl
-spread true true false = refl
-spread true false false = refl
-spread false b n = refl
+spread a b n = grind arith
 
 free_without : (p s : ℕ) (xs : List Hole) (k : ℕ) → is_free (holes_without p s xs) k ≡ (is_free xs k && not (in_range p s k))
 free_without p s [] k = refl

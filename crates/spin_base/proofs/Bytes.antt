@@ -6,46 +6,27 @@ use Rattle.spin_base.specs.Outside.{FaultsRose, GivesFirst, GivesAll, HasMoreTha
 
 -- before the first read nothing was given
 pub gives_nothing : (a : Option (List ℕ)) → GivesFirst a [] a
-gives_nothing (Some bytes) = refl
-gives_nothing None = tt
+gives_nothing a = grind arith
 
 -- what two reads give is given in order
 pub gives_then : (a b c : Option (List ℕ)) (g h : List ℕ) → GivesFirst a g b → GivesFirst b h c → GivesFirst a (g ++ h) c
-gives_then (Some x) (Some y) (Some z) g h first second = first ∙ ap (λ v. g ++ v) second ∙ sym (append_assoc g h z)
-gives_then (Some x) (Some y) None g h first second = absurd second
-gives_then (Some x) None c g h first second = absurd first
-gives_then None (Some y) c g h first second = absurd first
-gives_then None None (Some z) g h first second = absurd second
-gives_then None None None g h first second = tt
+gives_then a b c g h first second = grind (arith, append_assoc)
 
 -- more than the limit was given, so more was to come
 pub gives_more : (a b : Option (List ℕ)) (g : List ℕ) (limit : ℕ) → GivesFirst a g b → limit < length g → HasMoreThan limit a
-gives_more (Some x) (Some y) g limit gives more = omega (arith, ap length gives, length-append g y)
-gives_more (Some x) None g limit gives more = absurd gives
-gives_more None b g limit gives more = tt
+gives_more a b g limit gives more = grind (arith, length-append)
 
 -- what two writes take is taken in order
 pub takes_then : (a b c : Option (List ℕ)) (g h : List ℕ) → Takes a g b → Takes b h c → Takes a (g ++ h) c
-takes_then (Some x) (Some y) (Some z) g h first second = second ∙ ap (λ v. v ++ h) first ∙ append_assoc x g h
-takes_then (Some x) (Some y) None g h first second = absurd second
-takes_then (Some x) None c g h first second = absurd first
-takes_then None (Some y) c g h first second = absurd first
-takes_then None None (Some z) g h first second = absurd second
-takes_then None None None g h first second = tt
+takes_then a b c g h first second = grind (arith, append_assoc)
 
 -- a fault that shows against a later count shows against an earlier one
 pub rose_since : (early late after : ℕ) → early ≤ late → FaultsRose late after → FaultsRose early after
-rose_since early late after before (inl more) = inl (omega arith)
-rose_since early late after before (inr last) = inr last
+rose_since early late after before h2 = grind arith
 
 -- at the end of input all has been given
 pub gives_end : (a b c : Option (List ℕ)) (g : List ℕ) (n : ℕ) (buffer : List ℕ) → GivesFirst a g b → Reads b n buffer c → n ≡ 0 → GivesAll a g c
-gives_end (Some x) (Some y) (Some z) g n buffer given reads none = grind arith
-gives_end (Some x) (Some y) None g n buffer given reads none = absurd reads.gives
-gives_end (Some x) None c g n buffer given reads none = absurd given
-gives_end None (Some y) c g n buffer given reads none = absurd given
-gives_end None None (Some z) g n buffer given reads none = absurd reads.gives
-gives_end None None None g n buffer given reads none = record { gives = tt; at_end = tt }
+gives_end a b c g n buffer given reads none = grind arith
 
 -- one read past the limit
 pub loses_too_many : (a b c : Option (List ℕ)) (g buffer : List ℕ) (n limit : ℕ) → GivesFirst a g b → GivesFirst b (take n buffer) c → n ≤ length buffer → limit - length g < n → LosesMoreThan limit a c

@@ -35,10 +35,7 @@ dir_eq_true a b e = dir_number_injective a b (eqb-true _ _ e)
 
 -- ports of one number are one port
 pub port_number_injective : (a b : Port) → port_number a ≡ port_number b → a ≡ b
-port_number_injective (FromLink d) (FromLink d') e = ap FromLink (dir_number_injective d d' e)
-port_number_injective (FromLink d) Local e = absurd (omega (arith, dir_number_below d))
-port_number_injective Local (FromLink d) e = absurd (omega (arith, dir_number_below d))
-port_number_injective Local Local e = refl
+port_number_injective a b e = grind (arith, dir_number_injective, dir_number_below)
 
 -- no link is the chip's own cores
 pub link_is_not_local : (d : Dir) → FromLink d ≡ Local → ⊥

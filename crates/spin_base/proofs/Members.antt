@@ -17,8 +17,7 @@ pub Contains-later : {X : Type 0} (x : X) (xs : List X) (y : X) → Contains xs 
 Contains-later x xs y has = (suc has.0, (let within : has.0 < length xs = has.1 in omega arith), has.2)
 
 pub Contains-cases : {X : Type 0} (x : X) (xs : List X) (y : X) → Contains (x ∷ xs) y → (x ≡ y) ⊎ Contains xs y
-Contains-cases x xs y (zero, within, same) = inl same
-Contains-cases x xs y (suc k, within, same) = inr (k, omega (arith, within), same)
+Contains-cases x xs y h1 = grind arith
 
 -- a list of one item has that item alone
 pub Contains-only : {X : Type 0} (x y : X) → Contains (x ∷ []) y → x ≡ y
@@ -125,11 +124,7 @@ Contains-from_filter_map {X} {Y} h (x ∷ xs) y has = elim (given (h x) refl has
 ]
   where
     given : (o : Option Y) → h x ≡ o → Contains (cons_option o (filter_map h xs)) y → (h x ≡ Some y) ⊎ Contains (filter_map h xs) y
-    given None is has = inr has
-    given (Some z) is has = elim (Contains-cases z (filter_map h xs) y has) [
-      | inl here ↦ inl (is ∙ ap Some here)
-      | inr later ↦ inr later
-    ]
+    given o is has = grind (arith, Contains-cases)
 
 pub Contains-filter_map : {X Y : Type 0} (h : X → Option Y) (xs : List X) (x : X) (y : Y) → Contains xs x → h x ≡ Some y → Contains (filter_map h xs) y
 Contains-filter_map h [] x y has is = absurd (Contains-none x has)
@@ -160,11 +155,4 @@ position_there p xs i d is =
 
 -- where no place is found, no item passes
 pub position_nowhere : {X : Type 0} (p : X → Bool) (xs : List X) (x : X) → position p xs ≡ None → Among x xs → p x ≡ true → ⊥
-position_nowhere {X} p xs x is a passes = by_size (nat_lt first (length xs)) refl is
-  where
-    first : ℕ
-    first = position_or_len p xs
-
-    by_size : (b : Bool) → nat_lt first (length xs) ≡ b → cond b (Some first) None ≡ None → ⊥
-    by_size true e none = cc
-    by_size false e none = grind (arith, among_contains x xs a, ltb-false first (length xs) e, fails_before_first)
+position_nowhere {X} p xs x is a passes = grind (arith, nat_lt, among_contains, ltb-false, fails_before_first)

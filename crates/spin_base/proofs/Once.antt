@@ -1,4 +1,5 @@
 -- How often an output stands in what a route names: once where the route has it, else not.
+use Rattle.std.proofs.Common.{rules}
 use Rattle.std.proofs.Common.{◌≡◌, ℕ, ◌+◌, ◌<◌, ◌≤◌, List, [], ◌∷◌, map, filter, Bool, true, false, ◌==◌, arith, ◌∙◌, refl, cond, if◌then◌else◌, count_by, suc, zero}
 use Rattle.std.specs.List.{range_with_len}
 use Rattle.std.proofs.lemmas.{Bool.eqb-true, Bool.ne_eqb, List.Sums.sum_by-append, List.Sums.sum_by-cons}
@@ -12,14 +13,7 @@ count_by-cons : (q : Out → Bool) (x : Out) (xs : List Out) → count_by q (x �
 count_by-cons q x xs = sum_by-cons (λ y. cond (q y) 1 0) x xs
 
 count_step : (p q : Out → Bool) (b : Bool) (x : Out) (xs ys : List Out) → (q x ≡ true → p x ≡ b) → count_by q ys ≡ cond b (count_by q xs) 0 → (px qx : Bool) → p x ≡ px → q x ≡ qx → count_by q (cond px (x ∷ ys) ys) ≡ cond b (cond qx 1 0 + count_by q xs) 0
-count_step p q true x xs ys same rest true true epx eqx = rw (count_by-cons q x ys, eqx) (omega (arith, rest))
-count_step p q false x xs ys same rest true true epx eqx = let no = same eqx in cc
-count_step p q true x xs ys same rest true false epx eqx = rw (count_by-cons q x ys, eqx) (omega (arith, rest))
-count_step p q false x xs ys same rest true false epx eqx = rw (count_by-cons q x ys, eqx) (omega (arith, rest))
-count_step p q true x xs ys same rest false true epx eqx = let no = same eqx in cc
-count_step p q false x xs ys same rest false true epx eqx = rest
-count_step p q true x xs ys same rest false false epx eqx = omega (arith, rest)
-count_step p q false x xs ys same rest false false epx eqx = rest
+count_step p q b x xs ys same rest px qx epx eqx = grind (arith, count_by-cons)
 
 -- a count of what passes a test, where the test says one thing of all that are counted
 pub count_by-filter_same : (p q : Out → Bool) (b : Bool) (xs : List Out) → ((x : Out) → q x ≡ true → p x ≡ b) → count_by q (filter p xs) ≡ cond b (count_by q xs) 0
@@ -37,9 +31,7 @@ cores_before p a zero before = refl
 cores_before p a (suc n) before = grind (arith, count_by-cons (out_eq (Core p)) (Core a) (map Core (range_with_len (a + 1) n)), cores_before p (a + 1) n (omega arith), ne_eqb)
 
 cores_once_by : (p a n : ℕ) → a ≤ p → p < a + suc n → (a + 1 ≤ p → count_by (out_eq (Core p)) (map Core (range_with_len (a + 1) n)) ≡ 1) → (b : Bool) → (6 + p == 6 + a) ≡ b → cond b 1 0 + count_by (out_eq (Core p)) (map Core (range_with_len (a + 1) n)) ≡ 1
-cores_once_by p a n after before later true here =
-    let same : 6 + p ≡ 6 + a = eqb-true (6 + p) (6 + a) here in
-    omega (arith, cores_before p (a + 1) n (omega arith))
+cores_once_by p a n after before later true here = search (rules, eqb-true, cores_before)
 cores_once_by p a n after before later false here = grind (arith, nat_eq_same (6 + p))
 
 cores_once : (p a n : ℕ) → a ≤ p → p < a + n → count_by (out_eq (Core p)) (map Core (range_with_len a n)) ≡ 1
@@ -50,12 +42,7 @@ cores_once p a (suc n) after before =
 
 link_once : (d : Dir) → count_by (out_eq (Link d)) link_outs ≡ 1
 unfolding link_outs
-link_once East = refl
-link_once NorthEast = refl
-link_once North = refl
-link_once West = refl
-link_once SouthWest = refl
-link_once South = refl
+link_once d = grind arith
 
 links_none : (p : ℕ) → count_by (out_eq (Core p)) link_outs ≡ 0
 unfolding link_outs

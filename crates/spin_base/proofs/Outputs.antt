@@ -14,34 +14,19 @@ no_high_bit r k high = bit_at_above r.bits 24 k r.within high
 
 -- a link's number is below 6
 pub dir_number_below : (d : Dir) → dir_number d < 6
-dir_number_below East = lit< tt
-dir_number_below NorthEast = lit< tt
-dir_number_below North = lit< tt
-dir_number_below West = lit< tt
-dir_number_below SouthWest = lit< tt
-dir_number_below South = lit< tt
+dir_number_below d = grind arith
 
 -- links of one number are one link
 pub dir_number_injective : (a b : Dir) → dir_number a ≡ dir_number b → a ≡ b
-dir_number_injective East East e = refl
-dir_number_injective NorthEast NorthEast e = refl
-dir_number_injective North North e = refl
-dir_number_injective West West e = refl
-dir_number_injective SouthWest SouthWest e = refl
-dir_number_injective South South e = refl
-dir_number_injective _ _ e = absurd (omega arith)
+dir_number_injective a b e = grind arith
 
 -- outputs of one number are one output
 pub out_number_injective : (a b : Out) → out_number a ≡ out_number b → a ≡ b
-out_number_injective (Link d) (Link d') e = ap Link (dir_number_injective d d' e)
-out_number_injective (Link d) (Core p) e = absurd (omega (arith, dir_number_below d))
-out_number_injective (Core p) (Link d) e = absurd (omega (arith, dir_number_below d))
-out_number_injective (Core p) (Core q) e = let same : p ≡ q = omega arith in ap Core same
+out_number_injective a b e = grind (arith, dir_number_injective, dir_number_below)
 
 -- an output that has a bit has one of the 24
 pub out_number_below : (o : Out) → IsOutput o → out_number o < 24
-out_number_below (Link d) valid = omega (arith, dir_number_below d)
-out_number_below (Core p) valid = omega arith
+out_number_below o valid = grind (arith, dir_number_below)
 
 pow_below : (n : ℕ) → n < 24 → 2 ^ n < 2 ^ 24
 pow_below n below = pow-lt below

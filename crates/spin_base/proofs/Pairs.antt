@@ -93,15 +93,7 @@ AllPairs-from_map {X} {Y} f S xs pairs i j d less below =
 
 -- two places with the same item are one place, where all items differ
 pub AllPairs-apart : {X : Type 0} (xs : List X) (x : X) → AllPairs (λ a b. a ≢ b) xs → (i j : ℕ) → slice_get xs i ≡ Some x → slice_get xs j ≡ Some x → i ≡ j
-AllPairs-apart xs x different i j at_i at_j = elim (cases_order i j) [
-  | inl same ↦ same
-  | inr (inl before) ↦ absurd (twice i j at_i at_j before)
-  | inr (inr after) ↦ absurd (twice j i at_j at_i after)
-]
-  where
-    twice : (v w : ℕ) → slice_get xs v ≡ Some x → slice_get xs w ≡ Some x → v < w → ⊥
-    twice v w at_v at_w before =
-        different v w x before (slice_get_within xs w x at_w) (get_or_from_slice_get xs v x x at_v ∙ sym (get_or_from_slice_get xs w x x at_w))
+AllPairs-apart xs x different i j at_i at_j = grind (arith, cases_order, slice_get_within, get_or_from_slice_get)
 
 -- ---- in another order
 
@@ -125,15 +117,7 @@ moved l i j k d il jl kl = elim (cases_eq k j) [
 
 differ : (i j p q m n : ℕ) → p < q → (((p ≡ j) × (m ≡ i)) ⊎ (((p ≡ i) × (m ≡ j)) ⊎ ((p ≢ j) × (p ≢ i) × (m ≡ p)))) →
     (((q ≡ j) × (n ≡ i)) ⊎ (((q ≡ i) × (n ≡ j)) ⊎ ((q ≢ j) × (q ≢ i) × (n ≡ q)))) → m ≡ n → ⊥
-differ i j p q m n less (inl a) (inl b) e = omega arith
-differ i j p q m n less (inl a) (inr (inl b)) e = omega arith
-differ i j p q m n less (inl a) (inr (inr b)) e = b.1 (sym b.2 ∙ (sym e ∙ a.1))
-differ i j p q m n less (inr (inl a)) (inl b) e = omega arith
-differ i j p q m n less (inr (inl a)) (inr (inl b)) e = omega arith
-differ i j p q m n less (inr (inl a)) (inr (inr b)) e = b.0 (sym b.2 ∙ (sym e ∙ a.1))
-differ i j p q m n less (inr (inr a)) (inl b) e = a.1 (sym a.2 ∙ (e ∙ b.1))
-differ i j p q m n less (inr (inr a)) (inr (inl b)) e = a.0 (sym a.2 ∙ (e ∙ b.1))
-differ i j p q m n less (inr (inr a)) (inr (inr b)) e = (let x : m ≡ p = a.2 in let y : n ≡ q = b.2 in omega arith)
+differ i j p q m n less h2 h3 e = grind arith
 
 pub AllPairs-permutation : {X : Type 0} (R : X → X → Type 0) → ((x y : X) → R x y → R y x) → (xs ys : List X) → IsPermutation xs ys → AllPairs R xs → AllPairs R ys
 AllPairs-permutation {X} R turn xs ys perm all = IsPermutation-keeps xs (λ l. AllPairs R l) all (λ l i j il jl pairs p q d less short.

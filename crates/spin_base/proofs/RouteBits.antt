@@ -12,6 +12,4 @@ same_route a b e = subst (λ n. (w : n < 2 ^ 24) → ◌≡◌ {A = Route} a (re
 
 -- what is less than 2 and not 1 is 0
 pub zero_of : (n : ℕ) → n < 2 → (n ≡ 1 → ⊥) → n ≡ 0
-zero_of zero low not_one = refl
-zero_of (suc zero) low not_one = absurd (not_one refl)
-zero_of (suc (suc n)) low not_one = absurd (omega arith)
+zero_of n low not_one = grind arith

@@ -6,21 +6,10 @@ use Rattle.spin_base.specs.{declared.routes.Out.TheVariants.Link, declared.route
 
 -- the link of a number has that number
 pub dir_number-dir_at : (n : ℕ) → n < 6 → dir_number (dir_at n) ≡ n
-dir_number-dir_at zero h = refl
-dir_number-dir_at (suc zero) h = refl
-dir_number-dir_at (suc (suc zero)) h = refl
-dir_number-dir_at (suc (suc (suc zero))) h = refl
-dir_number-dir_at (suc (suc (suc (suc zero)))) h = refl
-dir_number-dir_at (suc (suc (suc (suc (suc zero))))) h = refl
-dir_number-dir_at (suc (suc (suc (suc (suc (suc n)))))) h = absurd (omega (arith, h))
+dir_number-dir_at n h = grind arith
 
 pub dir_at-dir_number : (d : Dir) → dir_at (dir_number d) ≡ d
-dir_at-dir_number East = refl
-dir_at-dir_number NorthEast = refl
-dir_at-dir_number North = refl
-dir_at-dir_number West = refl
-dir_at-dir_number SouthWest = refl
-dir_at-dir_number South = refl
+dir_at-dir_number d = grind arith
 
 -- a spot below 18 is left by its core, one from 18 on by a link
 pub out_of-core : (p : ℕ) → p < 18 → out_of p ≡ Core p

@@ -1,3 +1,5 @@
+use Rattle.std.proofs.Common.{arith}
+use Rattle.std.proofs.Common.{rules}
 -- The names that the proofs of this crate cite from outside of them, passed on from one place. Declares nothing.
 pub use Rattle.app_graph.specs.{ValidGraph.IsValidNet, declared.graphs.Graph.Graph, declared.graphs.Net.Net, declared.graphs.Vertex.Vertex}
 pub use Rattle.key_alloc.specs.{Cause.IsKeysCause, declared.alloc.KeyErr.KeyErr}

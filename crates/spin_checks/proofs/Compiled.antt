@@ -1,4 +1,5 @@
 -- What the compiler makes of a graph is answered right.
+use Rattle.std.proofs.Common.{rules}
 use Rattle.spin_checks.proofs.Common.{All, All-at, AllPairs, AreInPlaceOrder, AreNetsWith, AreRoutedApart, Block, Description, Edge, Err, Graph, HasGoodTree, HasKeptRows, HasNoAnswer, IfErr, IfOk}
 use Rattle.spin_checks.proofs.Common.{Image, IsAnswer, IsEdgeBefore, IsImageOf, IsInside, IsNetWith, IsPermutation-refl, IsPlanOf, IsPlannedNet, IsRoutingTree, IsVerdict, Judged, List, MatchResult}
 use Rattle.spin_checks.proofs.Common.{Memory, Net, NetPlan, Ok, Plan, Refusal, Result, Right, Some, Spells, arith, before_place, blocks_of, edges_inside, get_or, inl, inr, length-map, one_item_at}
@@ -19,16 +20,7 @@ module _ (m : Description) (graph : Graph) (target : ℕ) (plan : Plan) (is : Is
   -- a planned net is one with its tree
   net_with : (i : ℕ) (net : Net) (block : Block) (p : NetPlan) → IsPlannedNet m plan.placement.spots net block p → slice_get plan.nets i ≡ Some p →
       IsNetWith plan.placement.spots net block p.tree.edges p
-  net_with i net block p planned at = record {
-    keyed = planned.block;
-    source = planned.source;
-    targets = planned.targets;
-    tree = record {
-      begins = planned.root;
-      same_edges = IsPermutation-refl p.tree.edges;
-      in_order = tree_in_order m p.tree.edges (edges_inside m p.tree.root p.tree.edges p.targets (its_tree i p at)) planned.repaired.in_order;
-    };
-  }
+  net_with i net block p planned at = search (rules, IsPermutation-refl, tree_in_order, edges_inside, its_tree)
 
   -- so are all, each with the edges of its tree
   pub are_nets_with : AreNetsWith m graph (trees_of plan.nets) plan.nets

@@ -18,38 +18,22 @@ letter_of (Judged (Wrong net c key)) = 119
 letter_of (Judged (Split net c row)) = 115
 
 line_letter : (nets : List Net) (f : Finding) → letter (finding_line nets f) ≡ letter_of f
-line_letter nets (BadTree net) = refl
-line_letter nets (BadImage at) = refl
-line_letter nets OtherMachine = refl
-line_letter nets (Judged Right) = refl
-line_letter nets (Judged (Wrong net c key)) = refl
-line_letter nets (Judged (Split net c row)) = refl
+line_letter nets f = grind arith
 
 -- a line whose first word is wrong
 wrong_letter : (words : List (List ℕ)) → letter (line (codes "wrong" ∷ words)) ≡ 119
-wrong_letter [] = refl
-wrong_letter (w ∷ ws) = refl
+wrong_letter words = grind arith
 
 same_letter : (nets : List Net) (f : Finding) (text other : List ℕ) → text ≡ finding_line nets f → text ≡ other → letter_of f ≡ letter other
 same_letter nets f text other told is = sym (line_letter nets f) ∙ ap letter (sym told ∙ is)
 
 -- the finding that begins as `right`
 is_right : (f : Finding) → letter_of f ≡ 114 → f ≡ Judged Right
-is_right (BadTree net) at = absurd (omega (arith, at))
-is_right (BadImage place) at = absurd (omega (arith, at))
-is_right OtherMachine at = absurd (omega (arith, at))
-is_right (Judged Right) at = refl
-is_right (Judged (Wrong net c key)) at = absurd (omega (arith, at))
-is_right (Judged (Split net c row)) at = absurd (omega (arith, at))
+is_right f at = grind arith
 
 -- the findings that begin as `wrong`
 is_wrong : (f : Finding) → letter_of f ≡ 119 → (i : ℕ) × (c : Chip) × (key : ℕ) × (f ≡ Judged (Wrong i c key))
-is_wrong (BadTree net) at = absurd (omega (arith, at))
-is_wrong (BadImage place) at = absurd (omega (arith, at))
-is_wrong OtherMachine at = absurd (omega (arith, at))
-is_wrong (Judged Right) at = absurd (omega (arith, at))
-is_wrong (Judged (Wrong net c key)) at = (net, c, key, refl)
-is_wrong (Judged (Split net c row)) at = absurd (omega (arith, at))
+is_wrong f at = grind arith
 
 module _ (m : Description) (graph : Graph) (trees : List (List Edge)) (bytes : List ℕ) (nets : List NetPlan) (are : AreNetsWith m graph trees nets) (f : Finding) (text : List ℕ)
     (told : text ≡ finding_line graph.nets f) where

@@ -1,10 +1,8 @@
 -- There is one answer.
+use Rattle.std.proofs.Common.{arith}
 use Rattle.spin_checks.proofs.Common.{All, AreNetsWith, Description, Edge, Finding, Graph, IsAnswer, IsFinding, List, NetPlan, StandsOnSites, ap, finding_line, subst, sym, ℕ, ◌∙◌, ◌≡◌}
 use Rattle.spin_checks.proofs.{OneFinding.AreLaws, OneFinding.one_finding, OneNets.one_list}
 
 pub one_answer : AreLaws → (m : Description) (graph : Graph) (trees : List (List Edge)) (bytes : List ℕ) (nets : List NetPlan) → All (StandsOnSites m) nets → AreNetsWith m graph trees nets →
     (f : Finding) (text other : List ℕ) → IsFinding m nets bytes f → text ≡ finding_line graph.nets f → IsAnswer m graph trees bytes other → other ≡ text
-one_answer laws m graph trees bytes nets sites are f text other found told is =
-    let same : is.nets ≡ nets = one_list m graph trees is.nets nets is.are are in
-    let finding : is.finding ≡ f = one_finding laws m nets bytes sites is.finding f (subst (λ ns. IsFinding m ns bytes is.finding) same is.found) found in
-    is.told ∙ (ap (finding_line graph.nets) finding ∙ sym told)
+one_answer laws m graph trees bytes nets sites are f text other found told is = grind (arith, one_list m graph trees is.nets nets is.are are, one_finding)

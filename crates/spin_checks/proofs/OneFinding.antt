@@ -1,4 +1,5 @@
 -- Nets and bytes have one finding.
+use Rattle.std.proofs.Common.{arith}
 use Rattle.spin_checks.proofs.Common.{All, All-at, BadImage, BadTree, Description, Finding, HasGoodTree, Image, IsFinding, IsFirstBad, IsInside, IsOfGrid, IsRouted, IsRoutingTree, IsVerdict, Judged}
 use Rattle.spin_checks.proofs.Common.{List, NetPlan, None, Option, OtherMachine, Some, Spells, StandsOnSites, Verdict, [], ap, append-nil, cases_order, fault_of, inl, inr, refl, subst, sym, ℕ, ◌++◌}
 use Rattle.spin_checks.proofs.Common.{◌≡◌}
@@ -6,11 +7,7 @@ use Rattle.spin_checks.proofs.OneVerdict.{one_verdict}
 
 -- a net with a good tree, on sites, is routed
 pub routed_net : (m : Description) (net : NetPlan) → HasGoodTree m net → StandsOnSites m net → IsRouted m net
-routed_net m net good sites = record {
-  tree = subst (λ root. IsRoutingTree m root net.tree.edges net.targets) (sym good.begins) good.routes;
-  root = subst (IsInside m) (sym good.begins) sites.source;
-  cores = sites.cores;
-}
+routed_net m net good sites = grind arith
 
 pub routed_nets : (m : Description) (nets : List NetPlan) → All (HasGoodTree m) nets → All (StandsOnSites m) nets → All (IsRouted m) nets
 routed_nets m nets good sites k d below = routed_net m _ (good k d below) (sites k d below)
@@ -26,10 +23,7 @@ pub one_image : AreLaws → (v w : Image) (bytes : List ℕ) → Spells v bytes 
 one_image laws v w bytes one other = (laws.apart v w bytes [] one (subst (Spells w) (sym (append-nil bytes)) other)).1
 
 no_fault : AreLaws → (v : Image) (bytes : List ℕ) (at : ℕ) → Spells v bytes → fault_of bytes ≡ Some at → ⊥
-no_fault laws v bytes at is fault = not_both (fault_of bytes) (laws.spelled v bytes is) fault
-  where
-    not_both : (o : Option ℕ) → o ≡ None → o ≡ Some at → ⊥
-    not_both o none some = cc
+no_fault laws v bytes at is fault = grind arith
 
 one_fault : (o : Option ℕ) (a b : ℕ) → o ≡ Some a → o ≡ Some b → a ≡ b
 one_fault o a b one other = cc
@@ -38,18 +32,13 @@ one_fault o a b one other = cc
 
 module _ (laws : AreLaws) (m : Description) (nets : List NetPlan) (bytes : List ℕ) (sites : All (StandsOnSites m) nets) where
   one_bad : (i j : ℕ) → IsFirstBad m nets i → IsFirstBad m nets j → i ≡ j
-  one_bad i j x y = elim (cases_order i j) [
-    | inl same ↦ same
-    | inr (inl less) ↦ absurd (x.bad (y.before i x.net less x.there))
-    | inr (inr more) ↦ absurd (y.bad (x.before j y.net more y.there))
-  ]
+  one_bad i j x y = grind (arith, cases_order i j)
 
   not_good : (i : ℕ) → IsFirstBad m nets i → All (HasGoodTree m) nets → ⊥
   not_good i x good = x.bad (All-at (HasGoodTree m) nets i x.net good x.there)
 
   judged_once : (a b : Verdict) → IsFinding m nets bytes (Judged a) → IsFinding m nets bytes (Judged b) → a ≡ b
-  judged_once a b x y =
-      one_verdict m y.1 nets (routed_nets m nets x.0 sites) a b (subst (λ v. IsVerdict m nets v a) (one_image laws x.1 y.1 bytes x.2 y.2) x.4) y.4
+  judged_once a b x y = grind (arith, routed_nets m nets x.0 sites, one_image laws x.1 y.1 bytes x.2 y.2, one_verdict)
 
   not_other : (a : Verdict) → IsFinding m nets bytes OtherMachine → IsFinding m nets bytes (Judged a) → ⊥
   not_other a x y = x.3 (subst (IsOfGrid m) (sym (one_image laws x.1 y.1 bytes x.2 y.2)) y.3)

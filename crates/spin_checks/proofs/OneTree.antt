@@ -5,9 +5,7 @@ use Rattle.spin_checks.proofs.Common.{sum_by, sum_by-IsPermutation, sum_by-cons,
 
 -- no edge is before itself
 not_before_itself : (e : Edge) → IsEdgeBefore e e → ⊥
-not_before_itself e (inl x) = omega (arith, x)
-not_before_itself e (inr (same, inl y)) = omega (arith, y)
-not_before_itself e (inr (same, inr (also, d))) = omega (arith, d)
+not_before_itself e its_1 = grind arith
 
 -- two edges of which none is before the other are the same
 level : (e f : Edge) → (IsEdgeBefore e f → ⊥) → (IsEdgeBefore f e → ⊥) → e ≡ f
@@ -39,20 +37,13 @@ not_there e f fs up before =
     omega (arith, few)
   where
     off : (g : Edge) → (e ≡ g → ⊥) → (b : Bool) → edge_eq e g ≡ b → count_at b ≤ 0
-    off g other true is = absurd (other (edge_eq-true e g is))
-    off g other false is = omega arith
+    off g other b is = grind (arith, edge_eq-true)
 
 -- two lists in order with each edge as often are the same
 same_counts : (es fs : List Edge) → IsInOrder es → IsInOrder fs → ((e : Edge) → times e es ≡ times e fs) → es ≡ fs
 same_counts [] [] up also same = refl
-same_counts [] (f ∷ fs) up also same =
-    let one : count_at (edge_eq f f) ≡ 1 = ap count_at (edge_eq_self f) in
-    let none : 0 ≡ count_at (edge_eq f f) + times f fs = same f ∙ times_more f f fs in
-    absurd (omega (arith, one, none))
-same_counts (e ∷ es) [] up also same =
-    let one : count_at (edge_eq e e) ≡ 1 = ap count_at (edge_eq_self e) in
-    let none : count_at (edge_eq e e) + times e es ≡ 0 = sym (times_more e e es) ∙ same e in
-    absurd (omega (arith, one, none))
+same_counts [] (f ∷ fs) up also same = grind (arith, edge_eq_self f, times_more f f fs)
+same_counts (e ∷ es) [] up also same = grind (arith, edge_eq_self e, times_more e e es)
 same_counts (e ∷ es) (f ∷ fs) up also same =
     let heads : e ≡ f = level e f (λ before. missed e f es fs up also before (same e)) (λ before. missed f e fs es also up before (sym (same f))) in
     let tails : es ≡ fs = same_counts es fs (AllPairs-tail (λ (a b : Edge). IsEdgeBefore b a → ⊥) e es up) (AllPairs-tail (λ (a b : Edge). IsEdgeBefore b a → ⊥) f fs also) (λ g.
@@ -62,11 +53,7 @@ same_counts (e ∷ es) (f ∷ fs) up also same =
     λ i. heads i ∷ tails i
   where
     missed : (a b : Edge) (xs ys : List Edge) → IsInOrder (a ∷ xs) → IsInOrder (b ∷ ys) → IsEdgeBefore a b → times a (a ∷ xs) ≡ times a (b ∷ ys) → ⊥
-    missed a b xs ys up also before same =
-        let one : count_at (edge_eq a a) ≡ 1 = ap count_at (edge_eq_self a) in
-        let none : times a (b ∷ ys) ≤ 0 = not_there a b ys also before in
-        let counted : count_at (edge_eq a a) + times a xs ≡ times a (b ∷ ys) = sym (times_more a a xs) ∙ same in
-        omega (arith, one, none, counted)
+    missed a b xs ys up also before same = grind (arith, edge_eq_self a, not_there a b ys also before, times_more a a xs)
 
 -- edges that are handed in have one tree
 pub one_tree : (root : Chip) (edges : List Edge) (t u : Tree) → IsTreeOf root edges t → IsTreeOf root edges u → t ≡ u

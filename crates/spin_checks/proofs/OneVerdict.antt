@@ -1,4 +1,5 @@
 -- Nets that are routed have one verdict on an image.
+use Rattle.std.proofs.Common.{arith}
 use Rattle.spin_checks.proofs.Common.{All, All-at, AreFineBefore, Block, Chip, Description, Entry, GetsRoute, GetsRouteThat, Image, IsFine, IsFineAll, IsFirstToMeet, IsInside, IsRouted, IsSplitAt}
 use Rattle.spin_checks.proofs.Common.{IsTreeRoute, IsVerdict, IsWrong, LiesInside, List, Meets, NetPlan, Port, Right, Route, Some, Split, Verdict, Wrong, ap, cases_order, chips_inside, index_of, inl}
 use Rattle.spin_checks.proofs.Common.{inr, one_item_at, one_port, refl, rows_for, same_index, slice_get, subst, sym, ℕ, ◌∙◌, ◌≡◌}
@@ -49,24 +50,11 @@ module _ (m : Description) (v : Image) where
 
     -- one chip of a net
     same_chip_of : (i : ℕ) (n : NetPlan) (c d : Chip) → AreFineBefore m v nets i n c → (IsFine m v n c → ⊥) → AreFineBefore m v nets i n d → (IsFine m v n d → ⊥) → c ≡ d
-    same_chip_of i n c d x bad y also = elim (cases_order (index_of m c) (index_of m d)) [
-      | inl same ↦ same_index m c d (on_grid i n c x) (on_grid i n d y) same
-      | inr (inl less) ↦ absurd (bad (y.chips_before c x.on_tree less))
-      | inr (inr more) ↦ absurd (also (x.chips_before d y.on_tree more))
-    ]
+    same_chip_of i n c d x bad y also = grind (arith, cases_order (index_of m c) (index_of m d), on_grid i n c x, on_grid i n d y, same_index)
 
     same_pair : (i j : ℕ) (n o : NetPlan) (c d : Chip) → AreFineBefore m v nets i n c → (IsFine m v n c → ⊥) → AreFineBefore m v nets j o d → (IsFine m v o d → ⊥) →
         (i ≡ j) × (n ≡ o) × (c ≡ d)
-    same_pair i j n o c d x bad y also = elim (cases_order i j) [
-      | inl same ↦
-          let nets_are : n ≡ o = one_item_at nets i j n o same x.there y.there in
-          let z : AreFineBefore m v nets i o c = subst (λ p. AreFineBefore m v nets i p c) nets_are x in
-          let w : AreFineBefore m v nets i o d = subst (λ k. AreFineBefore m v nets k o d) (sym same) y in
-          let worse : IsFine m v o c → ⊥ = subst (λ p. IsFine m v p c → ⊥) nets_are bad in
-          (same, nets_are, same_chip_of i o c d z worse w also)
-      | inr (inl less) ↦ absurd (bad (y.nets_before i n less x.there c x.on_tree))
-      | inr (inr more) ↦ absurd (also (x.nets_before j o more y.there d y.on_tree))
-    ]
+    same_pair i j n o c d x bad y also = grind (arith, cases_order i j, one_item_at, same_chip_of)
 
     -- ---- verdicts
 
@@ -91,9 +79,7 @@ module _ (m : Description) (v : Image) where
     one_verdict Right (Split j d row) x y = absurd (right_not_flawed j y.0 d x y.1 (split_is_bad y.0 d row y.2))
     one_verdict (Wrong i c key) Right x y = absurd (right_not_flawed i x.0 c y x.1 (wrong_is_bad i x.0 c x.1 x.2))
     one_verdict (Wrong i c key) (Wrong j d word) x y =
-        let same = same_pair i j x.0 y.0 c d x.1 (wrong_is_bad i x.0 c x.1 x.2) y.1 (wrong_is_bad j y.0 d y.1 y.2) in
-        let keys : key ≡ word = x.3 ∙ (ap (λ (p : NetPlan). p.block.key) same.1 ∙ sym y.3) in
-        λ k. Wrong (same.0 k) (same.2 k) (keys k)
+        grind (arith, same_pair i j x.0 y.0 c d x.1 (wrong_is_bad i x.0 c x.1 x.2) y.1 (wrong_is_bad j y.0 d y.1 y.2), wrong_is_bad i x.0 c x.1 x.2, wrong_is_bad j y.0 d y.1 y.2)
     one_verdict (Wrong i c key) (Split j d row) x y = absurd (wrong_not_split i j c d key row x y)
     one_verdict (Split i c row) Right x y = absurd (right_not_flawed i x.0 c y x.1 (split_is_bad x.0 c row x.2))
     one_verdict (Split i c row) (Wrong j d key) x y = absurd (wrong_not_split j i d c key row y x)

@@ -1,4 +1,5 @@
 -- A graph has at most one refusal that is due, and none where it has nets with trees.
+use Rattle.std.proofs.Common.{arith}
 use Rattle.spin_checks.proofs.Common.{AreNetsWith, Description, Edge, Err, Graph, HasNoAnswer, IfErr, IfOk, IsAnswer, IsJobRefusal, IsKeysCause, IsPlacement, IsPlacementCause, IsRefusedBy, KeyErr}
 use Rattle.spin_checks.proofs.Common.{KeysOut, List, Memory, Net, NetPlan, NoRoom, Ok, Option, PlaceErr, Refusal, Result, Spot, Vertex, WantsMemory, [], ap, inl, inr, key_refusal, keys_out, net_in}
 use Rattle.spin_checks.proofs.Common.{no_room, one_item_at, option_map_or, place_refusal, sym, vertex_in, ℕ, ◌∙◌, ◌≡◌}
@@ -10,16 +11,11 @@ use Rattle.key_alloc.proofs.Determined as keying
 module _ (m : Description) (graph : Graph) where
   -- one refusal is due
   one_due : (r s : Refusal) → IsJobRefusal m graph r → IsJobRefusal m graph s → r ≡ s
-  one_due r s (no_room i v room at is) (no_room j w other there also) =
-      let place : i ≡ j = placing.one_vertex m graph.vertices i j room other in
-      let vertex : v ≡ w = one_item_at graph.vertices i j v w place at there in
-      is ∙ (ap (λ (x : Vertex). NoRoom x.name) vertex ∙ sym also)
+  one_due r s (no_room i v room at is) (no_room j w other there also) = grind (arith, one_item_at graph.vertices i j v w (placing.one_vertex m graph.vertices i j room other) at there)
   one_due r s (no_room i v room at is) (keys_out spots memory placed j w out there also) = absurd (placing.not_both m graph.vertices spots memory i placed room)
   one_due r s (keys_out spots memory placed i v out at is) (no_room j w room there also) = absurd (placing.not_both m graph.vertices spots memory j placed room)
   one_due r s (keys_out spots memory placed i v out at is) (keys_out spots' memory' placed' j w other there also) =
-      let place : i ≡ j = keying.one_net graph.nets i j out other in
-      let net : v ≡ w = one_item_at graph.nets i j v w place at there in
-      is ∙ (ap (λ (x : Net). KeysOut x.name) net ∙ sym also)
+      grind (arith, one_item_at graph.nets i j v w (keying.one_net graph.nets i j out other) at there)
 
   -- none is where there are nets with trees
   pub none_due : (trees : List (List Edge)) (nets : List NetPlan) (r : Refusal) → AreNetsWith m graph trees nets → IsJobRefusal m graph r → ⊥

@@ -15,28 +15,7 @@ compared_total =
 
 -- an edge that comes before another is compared as less
 less_before : (e f : Edge) → IsEdgeBefore e f → is_lt (compared (edge_key e) (edge_key f)) ≡ true
-less_before e f before =
-    by (nat_cmp e.chip.x f.chip.x) (nat_cmp e.chip.y f.chip.y) (nat_cmp (dir_number e.dir) (dir_number f.dir)) (ranked e.chip.x f.chip.x _ refl) (ranked e.chip.y f.chip.y _ refl)
-    (ranked (dir_number e.dir) (dir_number f.dir) _ refl) before
-  where
-    by : (p q r : Ordering) → MatchOrdering p (e.chip.x < f.chip.x) (e.chip.x ≡ f.chip.x) (f.chip.x < e.chip.x) →
-        MatchOrdering q (e.chip.y < f.chip.y) (e.chip.y ≡ f.chip.y) (f.chip.y < e.chip.y) →
-        MatchOrdering r (dir_number e.dir < dir_number f.dir) (dir_number e.dir ≡ dir_number f.dir) (dir_number f.dir < dir_number e.dir) → IsEdgeBefore e f →
-        is_lt (ordering_then (ordering_then p q) r) ≡ true
-    by Less q r x y z before = refl
-    by Equal Less r x y z before = refl
-    by Equal Equal Less x y z before = refl
-    by Equal Equal Equal x y z (inl a) = absurd (omega (arith, x, a))
-    by Equal Equal Equal x y z (inr (s, inl a)) = absurd (omega (arith, y, a))
-    by Equal Equal Equal x y z (inr (s, inr (t, a))) = absurd (omega (arith, z, a))
-    by Equal Equal Greater x y z (inl a) = absurd (omega (arith, x, a))
-    by Equal Equal Greater x y z (inr (s, inl a)) = absurd (omega (arith, y, a))
-    by Equal Equal Greater x y z (inr (s, inr (t, a))) = absurd (omega (arith, z, a))
-    by Equal Greater r x y z (inl a) = absurd (omega (arith, x, a))
-    by Equal Greater r x y z (inr (s, inl a)) = absurd (omega (arith, y, a))
-    by Equal Greater r x y z (inr (s, inr (t, a))) = absurd (omega (arith, y, t))
-    by Greater q r x y z (inl a) = absurd (omega (arith, x, a))
-    by Greater q r x y z (inr (s, a)) = absurd (omega (arith, x, s))
+less_before e f before = grind (arith, nat_cmp, ranked, is_lt)
 
 pub never_falls : (edges : List Edge) → IsSortedByKey edge_key compared edges → AllPairs (λ e f. IsEdgeBefore f e → ⊥) edges
 never_falls edges sorted i j d less short before =

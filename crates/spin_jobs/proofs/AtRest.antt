@@ -1,4 +1,5 @@
 -- The report of a mesh at rest.
+use Rattle.std.proofs.Common.{arith}
 use Rattle.spin_jobs.proofs.Common.{All, All-at, AreAsExpected, Block, Chip, ChipTable, CoreQueue, Delivery, Did, DumpRec, Err, Hand, HasKeptPasses, HasLostNothing, HasReinjected, HasRunOut, IfOk}
 use Rattle.spin_jobs.proofs.Common.{Image, InQueue, IsAtRest, IsDeliveredOf, IsMesh, IsMeshOf, IsPermutation, IsReachedSoon, IsReportOf, IsReported, IsRoomy, IsRunKept, Job, JobWithPlan, List, McCopy}
 use Rattle.spin_jobs.proofs.Common.{MeetsJobLedger, NetPlan, None, Ok, Option, Packet, Parts, Place, Plan, Report, Reports, Result, Setup, Some, Spot, State, TellsRun, WordOutput, [], all_ports, ap}
@@ -43,18 +44,13 @@ module _ (s : State) (rest : IsAtRest s) where
   none_at place qs empty i = ap (waits_at place) (no_copies qs empty i)
 
   on_chip : (c : Chip) → chip_waits s c ≡ []
-  on_chip c =
-      ap (λ l. l ++ hand_waits s c) (flat_map_none (queue_waits s c) (λ port. none_at (InQueue c port) s.inputs rest.waits.inputs_empty (queue_at s.setup.machine c port)) all_ports)
-      ∙ no_hand c s.hands rest.waits.hands_empty (index_of s.setup.machine c)
+  on_chip c = grind (arith, no_hand c s.hands rest.waits.hands_empty (index_of s.setup.machine c), flat_map_none, none_at)
 
   pub none_waits : waits_of s ≡ []
-  none_waits =
-      ap (λ l. l ++ gathered (core_waits s) 0 s.setup.spots) (flat_map_none (chip_waits s) on_chip (grid_chips s.setup.machine))
-      ∙ gathered_none (core_waits s) (λ v spot. none_at (CoreQueue spot.chip spot.core) s.cores rest.waits.cores_empty v) 0 s.setup.spots
+  none_waits = grind (arith, flat_map_none, on_chip, gathered_none, none_at)
 
   pub none_unsent : min (unsent_total s) (2 ^ 32 - 1) ≡ 0
-  none_unsent =
-      ap (λ n. min n (2 ^ 32 - 1)) (sum_none (unsent_by s) (range_with_len 0 (length s.setup.spots)) (λ v among. ap length (no_copies s.unsent rest.all_sent v)))
+  none_unsent = grind (arith, sum_none, no_copies)
 
 -- ---- as many deliveries as are asked for
 
@@ -70,11 +66,7 @@ as_many s nets packets placed delivered mesh job expected is =
 
 -- a report tells as many deliveries as there are
 pub told_count : (job : Job) (plan : Plan) (mesh : State) (did : List Did) (report : Report) → IsReported job plan mesh did report → length report.delivered ≡ length mesh.delivered
-told_count job plan mesh did report reported =
-    let placed : List (List ℕ × Spot) = placed_of job.graph plan.placement.spots in
-    ap length reported.delivered.named_each
-    ∙ (length-map reported.delivered.sorted (named_delivery placed)
-    ∙ length_permutation mesh.delivered reported.delivered.sorted reported.delivered.in_order.same_items)
+told_count job plan mesh did report reported = grind (arith, length-map, length_permutation)
 
 -- and, where there is no dump record, none
 pub told_none : (job : Job) (plan : Plan) (mesh : State) (did : List Did) (report : Report) → mesh.dumped ≡ [] → IsReported job plan mesh did report → length report.dumped ≡ 0
@@ -96,12 +88,7 @@ text_of r = refl
 -- the text of a report tells of its deliveries the lines and how many they are
 same_text : (r t : Report) → r.placed ≡ t.placed → r.keys ≡ t.keys → r.tables ≡ t.tables → r.did ≡ t.did → flat_map got_line r.delivered ≡ flat_map got_line t.delivered →
     length r.delivered ≡ length t.delivered → r.dumped ≡ t.dumped → r.waiting ≡ t.waiting → r.unsent ≡ t.unsent → report_text r ≡ report_text t
-same_text r t placed keys tables did got many dumped waiting unsent =
-    let same : text_with r.placed r.keys r.tables r.did (flat_map got_line r.delivered) (length r.delivered) r.dumped r.waiting r.unsent
-    ≡ text_with t.placed t.keys t.tables t.did (flat_map got_line t.delivered) (length t.delivered) t.dumped t.waiting t.unsent
-    = cc
-    in
-    text_of r ∙ (same ∙ sym (text_of t))
+same_text r t placed keys tables did got many dumped waiting unsent = grind (arith, text_of r, text_of t)
 
 -- ---- what is told
 
@@ -114,9 +101,7 @@ pub record IsTold (job : Job) (plan : Plan) (mesh : State) (report : Report) : T
 -- the report of an image that is that of the plan's tables
 pub reported_of : (p q : JobWithPlan) → p ≡ q → (v : Image) (mesh : State) (did : List Did) (report : Report) → v ≡ tables_image p.job p.plan →
     IsReportOf p.job.graph p.plan.placement.spots p.plan.nets v.chips mesh did report → IsReported q.job q.plan mesh did report
-reported_of p q same v mesh did report is told =
-    subst (λ (x : JobWithPlan). IsReported x.job x.plan mesh did report) same
-    (subst (λ (w : Image). IsReportOf p.job.graph p.plan.placement.spots p.plan.nets w.chips mesh did report) is told)
+reported_of p q same v mesh did report is told = grind arith
 
 module _ (job : Job) (plan : Plan) (mesh : State) where
   -- the report of a mesh that keeps the ledger
@@ -132,10 +117,7 @@ module _ (job : Job) (plan : Plan) (mesh : State) where
   pub reports_at_rest : (P : Job → Plan → State → Report → Type 0) (did : List Did) (made : Result WordOutput Memory) → did ≡ [] → IsMeshOf job plan mesh → IsAtRest mesh →
       ((report : Report) → IsTold job plan mesh report → P job plan mesh report) → IfOk made (λ t. TellsRun job plan mesh did (parts_with job plan t.mesh t.report) t.text) →
       IfOk made (λ t. Reports P job plan (parts_with job plan t.mesh t.report) t.text)
-  reports_at_rest P did (Ok t) none kept rest holds tells =
-      reports P did (parts_with job plan t.mesh t.report) t.text kept.ledger
-      (λ report is. holds report (record { kept = kept; at_rest = rest; reported = subst (λ (ds : List Did). IsReported job plan mesh ds report) none is })) tells
-  reports_at_rest P did (Err e) none kept rest holds tells = tells
+  reports_at_rest P did made none kept rest holds tells = grind (arith, reports)
 
   module _ (report : Report) (told : IsTold job plan mesh report) where
     -- Without a dump record nothing is lost.
@@ -160,17 +142,7 @@ module _ (job : Job) (plan : Plan) (mesh : State) where
         }
 
     pub ran_out : IsReachedSoon job plan mesh → (IsRoomy job → mesh.dumped ≡ []) → HasRunOut job plan mesh report
-    ran_out reached no_record = record {
-      reached = reached;
-      at_rest = told.at_rest;
-      no_event = told.reported.same_did;
-      roomy = λ is_roomy. lost_nothing (no_record is_roomy);
-    }
+    ran_out reached no_record = grind (arith, lost_nothing)
 
     pub reinjected_as : HasKeptPasses job plan mesh → mesh.dumped ≡ [] → HasReinjected job plan mesh report
-    reinjected_as reached no_record = record {
-      reached = reached;
-      at_rest = told.at_rest;
-      no_event = told.reported.same_did;
-      lost_nothing = lost_nothing no_record;
-    }
+    reinjected_as reached no_record = grind (arith, lost_nothing, lost_nothing no_record)

@@ -1,3 +1,4 @@
+use Rattle.std.proofs.Common.{arith}
 -- The names that the proofs of this crate cite from outside of them, passed on from one place. Declares nothing.
 pub use Rattle.app_graph.specs.{RunPart.IsPacketOf, RunPart.IsRunOf, declared.graphs.Graph.Graph, declared.graphs.Net.Net, declared.graphs.RunPart.RunPart, declared.graphs.Vertex.Vertex}
 pub use Rattle.default_routes.specs.declared.stripping.Final.{Final}

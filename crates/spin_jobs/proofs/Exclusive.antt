@@ -1,4 +1,5 @@
 -- A job has a plan or one reason why it has none, since the compiler has one answer.
+use Rattle.std.proofs.Common.{arith}
 use Rattle.spin_jobs.proofs.Common.{CanBePlanned, Chip, CompileErr, CutOff, Description, Err, Final, Graph, HasBlocks, HasCutOff, HasLongTable, HasNoPlan, HasPlacement, IfOk, IsCompileCause, IsNameIn}
 use Rattle.spin_jobs.proofs.Common.{IsPlanOf, IsPlanOfJob, Job, KeysOut, List, Memory, Names, Net, NoMemory, NoRoom, Ok, Plan, Refusal, Result, TableLong, Vertex, ap, inl, inr, one_item_at, refl}
 use Rattle.spin_jobs.proofs.Common.{refusal_of, refused_where, subst, sym, ℕ, ◌∙◌, ◌≡◌, ◌⊎◌}
@@ -9,12 +10,10 @@ use Rattle.run_report.specs.declared.causes.Refusal.TheVariants as refusals
 -- ---- the compiler
 
 not_ok : (plan : Plan) (e f : CompileErr) → (◌≡◌ {A = Result Plan CompileErr} (Ok plan) (Err e)) ⊎ (◌≡◌ {A = Result Plan CompileErr} (Ok plan) (Err f)) → ⊥
-not_ok plan e f (inl is) = cc
-not_ok plan e f (inr is) = cc
+not_ok plan e f its_3 = grind arith
 
 same_error : (e f m : CompileErr) → (◌≡◌ {A = Result Plan CompileErr} (Err e) (Err f)) ⊎ (◌≡◌ {A = Result Plan CompileErr} (Err e) (Err m)) → (e ≡ f) ⊎ (e ≡ m)
-same_error e f m (inl is) = inl cc
-same_error e f m (inr is) = inr cc
+same_error e f m its_3 = grind arith
 
 module _ (m : Description) (graph : Graph) (target : ℕ) where
   -- a graph with a plan has no cause
@@ -34,11 +33,7 @@ module _ (m : Description) (graph : Graph) (target : ℕ) where
 
   -- what an error is called has one name
   one_name : (e : CompileErr) (r s : Refusal) → Names graph e r → Names graph e s → r ≡ s
-  one_name (NoRoom i) r s a b = let same : a.0 ≡ b.0 = one_item_at graph.vertices i i a.0 b.0 refl a.1 b.1 in a.2 ∙ (ap (λ (v : Vertex). refusals.NoRoom v.name) same ∙ sym b.2)
-  one_name (KeysOut i) r s a b = let same : a.0 ≡ b.0 = one_item_at graph.nets i i a.0 b.0 refl a.1 b.1 in a.2 ∙ (ap (λ (n : Net). refusals.KeysOut n.name) same ∙ sym b.2)
-  one_name (CutOff i t) r s a b = let same : a.0 ≡ b.0 = one_item_at graph.nets i i a.0 b.0 refl a.1 b.1 in a.2 ∙ (ap (λ (n : Net). refusals.CutOff n.name t) same ∙ sym b.2)
-  one_name (TableLong c t) r s a b = a ∙ sym b
-  one_name Memory r s a b = absurd a
+  one_name e r s a b = grind (arith, one_item_at)
 
   -- a graph whose vertices have places and whose nets have keys, and where no target is cut off, has no cause
   none_served : HasPlacement m graph → HasBlocks graph → ((i : ℕ) (chip : Chip) → HasCutOff m graph i chip → ⊥) →
@@ -58,27 +53,14 @@ name_in_same graph e f name same is = subst (λ x. IsNameIn graph x name) (sym s
 
 -- a refusal by the name that the compiler's error numbers
 by_name : (graph : Graph) (e : CompileErr) (name : Result (List ℕ) NoMemory) → IfOk name (IsNameIn graph e) → Names graph e (refusal_of e name) ⊎ (refusal_of e name ≡ refusals.Memory)
-by_name graph (NoRoom i) (Ok name) is = inl (is.0, is.1, ap refusals.NoRoom is.2)
-by_name graph (NoRoom i) (Err memory) is = inr refl
-by_name graph (KeysOut i) (Ok name) is = inl (is.0, is.1, ap refusals.KeysOut is.2)
-by_name graph (KeysOut i) (Err memory) is = inr refl
-by_name graph (CutOff i target) (Ok name) is = inl (is.0, is.1, ap (λ n. refusals.CutOff n target) is.2)
-by_name graph (CutOff i target) (Err memory) is = inr refl
-by_name graph (TableLong chip table) name is = inl refl
-by_name graph Memory name is = inr refl
+by_name graph e name is = grind arith
 
 pub no_plan_by_name : (job : Job) (e : CompileErr) (name : Result (List ℕ) NoMemory) (r : Refusal) → IsCompileCause job.machine job.graph job.run.target e →
     IfOk name (IsNameIn job.graph e) → r ≡ refusal_of e name → HasNoPlan job r ⊎ (r ≡ refusals.Memory)
-no_plan_by_name job e name r cause named is = elim (by_name job.graph e name named) [
-  | inl names ↦ inl (record { error = e; cause = cause; names = subst (Names job.graph e) (sym is) names })
-  | inr memory ↦ inr (is ∙ memory)
-]
+no_plan_by_name job e name r cause named is = grind (arith, by_name job.graph e name named)
 
 pub one_no_plan : (job : Job) (r s : Refusal) → HasNoPlan job r → HasNoPlan job s → r ≡ s
-one_no_plan job r s a b = elim (one_cause job.machine job.graph job.run.target a.error b.error a.cause b.cause s b.names) [
-  | inl same ↦ one_name job.machine job.graph job.run.target b.error r s (subst (λ e. Names job.graph e r) same a.names) b.names
-  | inr memory ↦ absurd (subst (λ e. Names job.graph e r) memory a.names)
-]
+one_no_plan job r s a b = grind (arith, one_cause job.machine job.graph job.run.target a.error b.error a.cause b.cause s b.names, one_name)
 
 pub planned_has_plan : (job : Job) (plan : Plan) (r : Refusal) → IsPlanOfJob job plan → HasNoPlan job r → ⊥
 planned_has_plan job plan r is none = none_of_plan job.machine job.graph job.run.target plan is none.error none.cause r none.names

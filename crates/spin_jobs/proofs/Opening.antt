@@ -1,4 +1,6 @@
 -- The opened mesh of a job: what it asks of the plan, and what it keeps.
+use Rattle.std.proofs.Common.{arith}
+use Rattle.std.proofs.Common.{rules}
 use Rattle.spin_jobs.proofs.Common.{All-at, All-replicate, AllZip-at_first, AreOfNets, Block, Description, Err, Graph, Hand, HasKeys, HasNoHand, IfOk, IsKeyOf, IsMesh, IsPacketOf, IsPlanOf}
 use Rattle.spin_jobs.proofs.Common.{IsPlanOfJob, IsRunOf, Job, List, MayGoOn, McCopy, MeetsJobLedger, Net, NetPlan, None, NothingWaits, Ok, Option, Packet, Plan, Result, RunPart, Setup, Some, State}
 use Rattle.spin_jobs.proofs.Common.{[], ap, blocks_of, get_or_from_slice_get, length, map, opened_meets_ledger, opened_mesh, opened_of, option_map, refl, setup_of, slice_get, slice_get-get_or}
@@ -8,8 +10,7 @@ use Rattle.app_graph.specs.RunPart.{key_count_of}
 -- how many keys a net has
 key_count : (nets : List Net) (i : ℕ) (net : Net) → slice_get nets i ≡ Some net → key_count_of nets i ≡ net.keys
 unfolding key_count_of
-key_count nets i net there =
-    get_or_from_slice_get (map (λ (n : Net). n.keys) nets) i net.keys 0 (slice_get-map (λ (n : Net). n.keys) nets i ∙ ap (option_map (λ (n : Net). n.keys)) there)
+key_count nets i net there = get_or_from_slice_get (map (λ (n : Net). n.keys) nets) _ _ _ (slice_get-map (λ (n : Net). n.keys) nets i ∙ ap (option_map (λ (n : Net). n.keys)) there)
 
 -- the same block has the same keys
 key_of_same : (index : ℕ) (b d : Block) → d ≡ b → IsKeyOf b (b.key + index) → IsKeyOf d (d.key + index)
@@ -38,17 +39,12 @@ are_of_nets m graph target run plan is_run planned i p at =
 
 -- nothing waits in an opened mesh
 pub opened_quiet : (u : Setup) (nets : List NetPlan) (packets : List Packet) → NothingWaits (opened_mesh u nets packets)
-opened_quiet u nets packets = record {
-  inputs_empty = All-replicate (λ (q : List McCopy). q ≡ []) (7 * (u.machine.width * u.machine.height)) [] refl;
-  hands_empty = All-replicate (λ (h : Option Hand). h ≡ None) (u.machine.width * u.machine.height) None refl;
-  cores_empty = All-replicate (λ (q : List McCopy). q ≡ []) (length u.spots) [] refl;
-}
+opened_quiet u nets packets = search (rules, All-replicate)
 
 -- so it may go by rounds, by the law that a mesh in which nothing waits may
 pub opened_ready : {E : Type 0} → ((s : State) → NothingWaits s → HasNoHand s) → (u : Setup) (nets : List NetPlan) (packets : List Packet)
     (mesh : Result State E) → IfOk mesh (λ m. m ≡ opened_mesh u nets packets) → IfOk mesh IsMesh → IfOk mesh MayGoOn
-opened_ready no_hand u nets packets (Ok m) is is_mesh =
-    let waits : NothingWaits m = subst NothingWaits (sym is) (opened_quiet u nets packets) in record { mesh = is_mesh; no_hand = no_hand m waits }
+opened_ready no_hand u nets packets (Ok m) is is_mesh = grind (arith, opened_quiet u nets packets)
 opened_ready no_hand u nets packets (Err e) is is_mesh = is
 
 -- the packets of a planned job are of its nets

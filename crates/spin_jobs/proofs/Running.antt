@@ -1,4 +1,5 @@
 -- Rounds from the opened mesh of a job, and copies put back between them: what is kept after each of these.
+use Rattle.std.proofs.Common.{rules}
 use Rattle.spin_jobs.proofs.Common.{AreNetsOn, AreOfNets, AreRight, HasKeptPasses, HasKeptRounds, HasPasses, HasRounds, IsMesh, IsMeshOf, IsPlanOfJob, IsReachedSoon, IsRoomy, IsRunOf, Job, LeadsSoon}
 use Rattle.spin_jobs.proofs.Common.{List, MeetsJobLedger, NetPlan, Packet, Plan, Setup, State, [], after_put_back, ap, arith, by_putting_back, by_round, first_opened, kept_in, length, more, no_pass}
 use Rattle.spin_jobs.proofs.Common.{none, opened, opened_mesh, opened_of, refl, round, rounds_in, setup_of, suc, then_put_back, then_round, ℕ, ◌≡◌, ◌≤◌}
@@ -56,9 +57,7 @@ module _ (job : Job) (plan : Plan) (run : IsRunOf job.graph job.run) (planned : 
     soon_leads n soon = (soon plan.nets job.run.packets planned.right (opened_keeps job plan run planned)).rounds
 
   pub none_dropped : RoomyRoundsDropNone → (n : State) → HasRounds job.run.patience job.run.turns (opened_of job plan) n → IsRoomy job → n.dumped ≡ []
-  none_dropped law n led roomy =
-      law job.run.patience job.run.turns (setup_of job plan) n plan.nets job.run.packets run.patience.0 mesh planned.right planned.routing.stand
-      (job_of_nets job plan run planned) roomy led
+  none_dropped law n led roomy = search (rules, job_of_nets)
 
   module _ (keep : Keeps HasPasses) (on : LeadsOn HasPasses) where
     pub by_passes : (n : State) → HasPasses job.run.patience job.run.turns (opened_of job plan) n → IsMeshOf job plan n

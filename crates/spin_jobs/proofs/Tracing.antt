@@ -1,4 +1,5 @@
 -- Events one by one, and what a trace keeps.
+use Rattle.std.proofs.Common.{rules}
 use Rattle.spin_jobs.proofs.Common.{Did, Event, IsMesh, IsPlanOfJob, IsRunOf, Job, List, MeetsJobLedger, Plan, State, [], after_event, after_events, answer, answers_of, ap, events_keep_job, length}
 use Rattle.spin_jobs.proofs.Common.{opened_of, refl, slice_get-get_or, slice_index_or, sym, take, take_more_at, ℕ, ◌++◌, ◌+◌, ◌<◌, ◌∙◌, ◌∷◌, ◌≡◌}
 use Rattle.spin_jobs.proofs.Opening.{opened_keeps}
@@ -31,5 +32,4 @@ one_event_more s now next did more es i d answered below so_far moved told setup
 -- after each list of events the opened mesh of a planned job keeps the job's ledger
 pub traced_ledger : (job : Job) (plan : Plan) → IsRunOf job.graph job.run → IsPlanOfJob job plan → IsMesh (opened_of job plan) → (es : List Event) →
     MeetsJobLedger (after_events (opened_of job plan) es) plan.nets job.run.packets
-traced_ledger job plan run planned mesh es =
-    events_keep_job (opened_of job plan) plan.nets job.run.packets mesh planned.right (opened_keeps job plan run planned) es
+traced_ledger job plan run planned mesh es = search (rules, events_keep_job, opened_keeps)

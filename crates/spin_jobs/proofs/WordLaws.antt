@@ -1,4 +1,5 @@
 -- What holds of the parts that a word makes of a job.
+use Rattle.std.proofs.Common.{arith}
 use Rattle.spin_jobs.proofs.Common.{Err, Gen, HasReinjected, HasRunOut, IfOk, IsMadeOf, IsRunKept, IsThePlan, IsTraced, Job, JobWord, List, Makes, MeetsJobLedger, Ok, Parts, Plan, Reinject, Report}
 use Rattle.spin_jobs.proofs.Common.{Result, Run, State, Trace, WhereGiven, WhereRun, WordOutput, generated, imaged, listed, parts_with, plan_parts, ran, reinjected, run_parts, subst, sym, traced, ℕ}
 use Rattle.spin_jobs.proofs.Common.{◌≡◌}
@@ -39,14 +40,7 @@ by_word : (P : Parts → Type 0) (w : JobWord) (job : Job) (plan : Plan) (parts 
     (w ≡ Trace → (mesh : State) (report : Report) → IsRunKept job plan mesh report → IsTraced job plan mesh report → P (run_parts job plan mesh report)) →
     ((n : ℕ) → w ≡ Gen n → (mesh : State) (report : Report) → IsRunKept job plan mesh report → HasRunOut job plan mesh report → P (run_parts job plan mesh report)) →
     P (plan_parts job plan) → P parts
-by_word P w job plan parts text makes on_run on_reinject on_trace on_gen on_tables = elim makes [
-  | ran is r ↦ subst P (sym r.4) (on_run is r.0 r.1 r.2 r.3)
-  | reinjected is r ↦ subst P (sym r.4) (on_reinject is r.0 r.1 r.2 r.3)
-  | traced is r ↦ subst P (sym r.4) (on_trace is r.0 r.1 r.2 r.3)
-  | imaged is l ↦ subst P (sym l.given) on_tables
-  | listed is l ↦ subst P (sym l.0) on_tables
-  | generated n is r ↦ subst P (sym r.4) (on_gen n is r.0 r.1 r.2 r.3)
-]
+by_word P w job plan parts text makes on_run on_reinject on_trace on_gen on_tables = grind arith
 
 -- ---- what is given
 
@@ -56,29 +50,19 @@ KeepsLedger job plan mesh report = MeetsJobLedger mesh plan.nets job.run.packets
 
 module _ {w : JobWord} {job : Job} {parts : Parts} {text : List ℕ} (m : IsMadeOf w job parts text) where
   pub plan_given : WhereGiven parts IsThePlan
-  plan_given = by_word (λ p. WhereGiven p IsThePlan) w job m.plan parts text m.makes
-      (λ is mesh report kept run. m.planned) (λ is mesh report kept run. m.planned) (λ is mesh report kept trace. m.planned) (λ n is mesh report kept run. m.planned) m.planned
+  plan_given = grind (arith, by_word)
 
   pub ledger_given : WhereRun parts KeepsLedger
-  ledger_given = by_word (λ p. WhereRun p KeepsLedger) w job m.plan parts text m.makes
-      (λ is mesh report kept run. kept.ledger) (λ is mesh report kept run. kept.ledger) (λ is mesh report kept trace. kept.ledger) (λ n is mesh report kept run. kept.ledger) tt
+  ledger_given = grind (arith, by_word)
 
   pub run_given : w ≡ Run → WhereRun parts HasRunOut
-  run_given asked = by_word (λ p. WhereRun p HasRunOut) w job m.plan parts text m.makes
-      (λ is mesh report kept run. run) (λ is mesh report kept run. absurd (reinject_not_run w is asked))
-      (λ is mesh report kept trace. absurd (trace_not_run w is asked)) (λ n is mesh report kept run. run) tt
+  run_given asked = grind (arith, by_word, reinject_not_run, trace_not_run)
 
   pub reinject_given : w ≡ Reinject → WhereRun parts HasReinjected
-  reinject_given asked = by_word (λ p. WhereRun p HasReinjected) w job m.plan parts text m.makes
-      (λ is mesh report kept run. absurd (reinject_not_run w asked is)) (λ is mesh report kept run. run)
-      (λ is mesh report kept trace. absurd (reinject_not_trace w asked is)) (λ n is mesh report kept run. absurd (gen_not_reinject w n is asked)) tt
+  reinject_given asked = grind (arith, by_word, reinject_not_run, reinject_not_trace, gen_not_reinject)
 
   pub trace_given : w ≡ Trace → WhereRun parts IsTraced
-  trace_given asked = by_word (λ p. WhereRun p IsTraced) w job m.plan parts text m.makes
-      (λ is mesh report kept run. absurd (trace_not_run w asked is)) (λ is mesh report kept run. absurd (reinject_not_trace w is asked))
-      (λ is mesh report kept trace. trace) (λ n is mesh report kept run. absurd (gen_not_trace w n is asked)) tt
+  trace_given asked = grind (arith, by_word, trace_not_run, reinject_not_trace, gen_not_trace)
 
   pub generated_given : (n : ℕ) → w ≡ Gen n → WhereRun parts HasRunOut
-  generated_given n asked = by_word (λ p. WhereRun p HasRunOut) w job m.plan parts text m.makes
-      (λ is mesh report kept run. run) (λ is mesh report kept run. absurd (gen_not_reinject w n asked is))
-      (λ is mesh report kept trace. absurd (gen_not_trace w n asked is)) (λ k is mesh report kept run. run) tt
+  generated_given n asked = grind (arith, by_word, gen_not_reinject, gen_not_trace)

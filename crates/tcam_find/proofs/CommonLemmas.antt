@@ -14,10 +14,7 @@ agree a b small_a small_b =
     (λ i low. bit_at_and a (alike a b) i ∙ at_bit i low ∙ sym (bit_at_and b (alike a b) i))
   where
     at_bit : (i : ℕ) → i < 32 → min (bit_at a i) (bit_at (alike a b) i) ≡ min (bit_at b i) (bit_at (alike a b) i)
-    at_bit i low =
-        let is : bit_at (alike a b) i ≡ 1 - (bit_at a i + bit_at b i) % 2 =
-        bit_at_not w32 (bit_xor a b) i (xor_lt 32 a b small_a small_b) low ∙ ap (λ x. 1 - x) (bit_at_xor a b i) in
-        omega (arith, is, bit_at-lt a i, bit_at-lt b i)
+    at_bit i low = grind (arith, bit_at_not w32 (bit_xor a b) i (xor_lt 32 a b small_a small_b) low, xor_lt 32 a b small_a small_b, bit_at_xor a b i, bit_at-lt a i, bit_at-lt b i)
 
 swapped : (a b c : ℕ) → bit_and (bit_and a b) c ≡ bit_and (bit_and a c) b
 swapped a b c = and_assoc c a b ∙ ap (bit_and a) (and_comm b c) ∙ sym (and_assoc b a c)
@@ -30,11 +27,7 @@ within : (k m n : ℕ) → bit_and k m ≡ n → bit_and n m ≡ n
 within k m n is = ap (λ x. bit_and x m) (sym is) ∙ and_assoc m k m ∙ ap (bit_and k) (and_self m) ∙ is
 
 differ : (a b : ℕ) → a ≢ b → eqb a b ≡ false
-differ a b other = by_test (eqb a b) refl
-  where
-    by_test : (test : Bool) → eqb a b ≡ test → eqb a b ≡ false
-    by_test true is = absurd (other (eqb-true a b is))
-    by_test false is = is
+differ a b other = grind (arith, eqb-true)
 
 apart : (x y a b : ℕ) → (a ≡ b → x ≡ y) → eqb x y ≡ false → eqb a b ≡ false
 apart x y a b same other = differ a b (λ equal. eqb-false x y other (same equal))
@@ -49,15 +42,10 @@ apart_from_others key common value mask x = grind (arith, bit_and key common, sp
 pub apart_from_entry : (key common value mask e : ℕ) → value < 2 ^ 32 → e < 2 ^ 32
     → eqb (bit_and key (bit_and (bit_and common mask) (alike value e))) (bit_and value (bit_and (bit_and common mask) (alike value e))) ≡ false
     → eqb (bit_and key mask) e ≡ false
-apart_from_entry key common value mask e small_value small_e = apart _ _ (bit_and key mask) e (λ is. left is ∙ sym (right is))
+apart_from_entry key common value mask e small_value small_e = grind (arith, apart, bit_and, right, x, and_comm, spread, swapped)
   where
     x : ℕ
     x = alike value e
-
-    left : bit_and key mask ≡ e → bit_and key (bit_and (bit_and common mask) x) ≡ bit_and (bit_and e x) common
-    left is =
-        ap (λ n. bit_and key (bit_and n x)) (and_comm common mask) ∙ spread key mask common x
-        ∙ ap (λ n. bit_and (bit_and n common) x) is ∙ swapped e common x
 
     right : bit_and key mask ≡ e → bit_and value (bit_and (bit_and common mask) x) ≡ bit_and (bit_and e x) common
     right is =

@@ -25,13 +25,7 @@ module _ (common values : List ℕ) (i c v : ℕ) (in_common : i < length common
   -- a key that misses them has missed what stood there
   pub missed_before : ((key : ℕ) → eqb (bit_and key c) v ≡ false → Misses common values i key)
       → (k key : ℕ) → Misses (set common i c) (set values i v) k key → Misses common values k key
-  missed_before others k key miss = by_place (eqb k i) refl
-    where
-      by_place : (b : Bool) → eqb k i ≡ b → Misses common values k key
-      by_place true is =
-          let same : k ≡ i = eqb-true k i is in
-          subst (λ n. Misses common values n key) (sym same) (others key (sym (at_set k key same) ∙ miss))
-      by_place false is = sym (off_set k key (eqb-false k i is)) ∙ miss
+  missed_before others k key miss = grind (arith, eqb-true, at_set, off_set, eqb-false)
 
 -- once a group has other bits, and its block has them too
 pub blocks_after : (common values block_common block_values : List ℕ) (i c v d w : ℕ)
@@ -41,16 +35,7 @@ pub blocks_after : (common values block_common block_values : List ℕ) (i c v d
     → ((key : ℕ) → eqb (bit_and key d) w ≡ false → eqb (bit_and key c) v ≡ false)
     → TellOfGroups (set common i c) (set values i v) (set block_common (i / 8) d) (set block_values (i / 8) w)
 blocks_after common values block_common block_values i c v d w in_common in_values in_blocks in_block_values tell of_others of_group k key below miss =
-    by_place (eqb k i) refl
-  where
-    by_place : (b : Bool) → eqb k i ≡ b → Misses (set common i c) (set values i v) k key
-    by_place true is =
-        let same : k ≡ i = eqb-true k i is in
-        at_set common values i c v in_common in_values k key same
-        ∙ of_group key (sym (at_set block_common block_values (i / 8) d w in_blocks in_block_values (k / 8) key (ap (λ n. n / 8) same)) ∙ miss)
-    by_place false is =
-        off_set common values i c v in_common in_values k key (eqb-false k i is)
-        ∙ tell k key below (missed_before block_common block_values (i / 8) d w in_blocks in_block_values of_others (k / 8) key miss)
+    grind (arith, eqb-true, at_set, off_set, eqb-false, missed_before)
 
 -- groups whose blocks the key misses
 pub blocks_passed : (common values block_common block_values : List ℕ) (from block key : ℕ) → block ≤ 16

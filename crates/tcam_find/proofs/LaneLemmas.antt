@@ -1,4 +1,5 @@
 -- From the mask of eight comparisons to the entries that were compared.
+use Rattle.std.proofs.Common.{rules}
 use Rattle.std.proofs.Common.{◌≡◌, ℕ, ◌+◌, ◌-◌, ◌%◌, ◌^◌, ◌<◌, ◌≤◌, eqb, cond, Bool, true, false, not, List, map, length, get_or, take, drop, replicate, bit_and, sym, ap, ◌∙◌, arith}
 use Rattle.std.proofs.lemmas.{Bool.not-true, Bool.not-false, List.map-id, List.length-take-le, List.length-drop, List.length-replicate, List.get_or-take, List.get_or-drop, List.get_or-replicate}
 use Rattle.std.proofs.lemmas.{List.Sums.prefix_len-le-length, List.Sums.prefix_len_passes, List.Sums.prefix_len_stops, Simd.mask_l-mod, Simd.length-chunk, Simd.length-zip2, Simd.get_or-chunk}
@@ -12,10 +13,7 @@ abbrev lanes : List ℕ → ℕ → List ℕ
 lanes row at = chunk 0 8 (take (at + 8 - at) (drop at row))
 
 long : (row : List ℕ) (at : ℕ) → at + 8 ≤ length row → length (lanes row at) ≡ 8
-long row at room =
-    let whole : length (take (at + 8 - at) (drop at row)) ≡ 8 =
-    length-take-le (at + 8 - at) (drop at row) (omega (arith, length-drop at row)) ∙ (omega arith) in
-    length-chunk 0 8 (take (at + 8 - at) (drop at row)) (omega arith)
+long row at room = search (rules, length-take-le, length-drop, length-chunk)
 
 lane : (row : List ℕ) (at k : ℕ) → k < 8 → get_or (lanes row at) k 0 ≡ get_or row (at + k) 0
 lane row at k inside = grind (arith, get_or-chunk 0 8 (take (at + 8 - at) (drop at row)) k 0 inside, get_or-take (at + 8 - at) (drop at row) k 0 (omega arith), get_or-drop at row k 0, get_or)

@@ -1,4 +1,5 @@
 -- The entries of a memory, which stand in groups of eight.
+use Rattle.std.proofs.Common.{rules}
 use Rattle.std.proofs.Common.{◌≡◌, ℕ, ◌+◌, ◌*◌, ◌/◌, ◌<◌, ◌≤◌, eqb, Bool, true, false, List, [], ◌∷◌, ◌++◌, length, get_or, set, replicate, bit_and, refl, sym, ap, ◌∙◌, subst, arith, zero, suc, Some}
 use Rattle.std.proofs.Common.{None, slice_get, ◌-◌, inl, inr}
 use Rattle.std.proofs.lemmas.{Bool.cases_lt, Bool.eqb-false, Bool.eqb-true, List.length-replicate, List.length-append, List.length-set, List.set_past, List.length_push, List.append_assoc}
@@ -87,10 +88,7 @@ none_routed [] key no_route = All-nil (λ e. matches e key ≡ false)
 none_routed (e ∷ es) key no_route = by_test (none_routed es key) (matches e key) refl
   where
     by_test : (None ≡ first_route es key → NoneMatches key es) → (b : Bool) → matches e key ≡ b → NoneMatches key (e ∷ es)
-    by_test others true is = let bad : None ≡ Some e.route = no_route ∙ (rw is refl) in cc
-    by_test others false is =
-        let later : None ≡ first_route es key = no_route ∙ (rw is refl) in
-        All-cons (λ e. matches e key ≡ false) e es is (others later)
+    by_test others b is = grind (arith, All-cons)
 
 -- ---- groups of eight
 
@@ -107,10 +105,7 @@ get_behind (x ∷ xs) ys (suc n) j e long got = grind (arith, get_behind xs ys n
 pub get_in_groups : (gs : List Group) (i j : ℕ) (g : Group) (e : Entry)
     → slice_get gs i ≡ Some g → slice_get (entries_in g) j ≡ Some e → slice_get (entries_of_groups gs) (8 * i + j) ≡ Some e
 get_in_groups [] i j g e got there = cc
-get_in_groups (x ∷ xs) zero j g e got there =
-    let same : x ≡ g = cc in
-    let at : 8 * 0 + j ≡ j = omega arith in
-    rw at (slice_get-append_left (entries_in x) (entries_of_groups xs) j e (rw same there))
+get_in_groups (x ∷ xs) zero j g e got there = search (rules, slice_get-append_left)
 get_in_groups (x ∷ xs) (suc i) j g e got there =
     let at : 8 * suc i + j ≡ 8 + (8 * i + j) = omega arith in
     rw at (get_behind (entries_in x) (entries_of_groups xs) 8 (8 * i + j) e (length_in x) (get_in_groups xs i j g e got there))
@@ -136,8 +131,7 @@ hit (x ∷ xs) ys key port r routed = by_test (hit xs ys key port r) (matches x 
   where
     by_test : (Some r ≡ first_route xs key → r ≡ lookup (xs ++ ys) key port) → (b : Bool) → matches x key ≡ b
         → r ≡ lookup (x ∷ (xs ++ ys)) key port
-    by_test others true is = let here : Some r ≡ Some x.route = routed ∙ (rw is refl) in rw is cc
-    by_test others false is = let later : Some r ≡ first_route xs key = routed ∙ (rw is refl) in rw is (others later)
+    by_test others b is = grind arith
 
 -- the first group that has a route for the key decides
 pub lookup_found : (gs : List Group) (tail : List Entry) (i key : ℕ) (port : Port) (g : Group) (r : Route) → slice_get gs i ≡ Some g
@@ -159,8 +153,7 @@ none_found (e ∷ es) key port none =
 pub lookup_none : (gs : List Group) (n key : ℕ) (port : Port)
     → ((k : ℕ) (x : Group) → slice_get gs k ≡ Some x → NoneMatches key (entries_in x))
     → default_route port ≡ lookup (entries_of_groups gs ++ replicate n unused) key port
-lookup_none [] n key port none =
-    none_found (replicate n unused) key port (All-replicate (λ e. matches e key ≡ false) n unused (unused_matches key))
+lookup_none [] n key port none = search (rules, none_found, All-replicate, unused_matches)
 lookup_none (x ∷ xs) n key port none =
     lookup_none xs n key port (λ k y there. none (suc k) y there)
     ∙ pass (entries_in x) (entries_of_groups xs ++ replicate n unused) key port (none 0 x refl)
@@ -172,14 +165,7 @@ pub passed_over : (gs : List Group) (group next key : ℕ)
     → ((x : Group) → slice_get gs group ≡ Some x → NoneMatches key (entries_in x))
     → ((i : ℕ) (x : Group) → 1 ≤ i → group + 1 ≤ i → i < next → slice_get gs i ≡ Some x → NoneMatches key (entries_in x))
     → (i : ℕ) (x : Group) → i < next → slice_get gs i ≡ Some x → NoneMatches key (entries_in x)
-passed_over gs group next key before here others i x early got =
-    elim (cases_lt i group) [
-      | inl less ↦ before i x less got
-      | inr late ↦ elim (cases_lt group i) [
-        | inl more ↦ others i x (omega (arith, more)) (omega (arith, more)) early got
-        | inr equal ↦ (let same : i ≡ group = omega (arith, late, equal) in here x (ap (slice_get gs) (sym same) ∙ got))
-      ]
-    ]
+passed_over gs group next key before here others i x early got = search (rules, cases_lt, slice_get)
 
 -- groups of which none has one
 pub passed_all : (gs : List Group) (group key : ℕ) → length gs ≤ group
@@ -194,8 +180,7 @@ length_held gs few = grind (arith, length-append (entries_of_groups gs) (replica
 
 pub empty_is : (gs : List Group) → gs ≡ [] → entries_held gs ≡ empty_memory
 unfolding empty_memory
-empty_is [] is = refl
-empty_is (g ∷ gs) is = cc
+empty_is gs is = search rules
 
 -- an entry behind the groups
 pub get_behind_groups : (gs : List Group) (k : ℕ) → length gs ≤ k / 8 → k < 1024 → slice_get (entries_held gs) k ≡ Some unused
@@ -211,11 +196,7 @@ get_behind_groups gs k behind below =
 pub set_in_held : (gs : List Group) (i j : ℕ) (g h : Group) (e : Entry)
     → slice_get gs i ≡ Some g → j < 8 → entries_in h ≡ set (entries_in g) j e
     → entries_held (set gs i h) ≡ set (entries_held gs) (8 * i + j) e
-set_in_held gs i j g h e got inside put =
-    ap (λ n. entries_of_groups (set gs i h) ++ replicate (1024 - 8 * n) unused) (length-set gs i h)
-    ∙ ap (λ es. es ++ replicate (1024 - 8 * length gs) unused) (set_in_groups gs i j g h e got inside put)
-    ∙ sym (set-append_left (entries_of_groups gs) (replicate (1024 - 8 * length gs) unused) (8 * i + j) e
-    (omega (arith, inside, length_groups gs, slice_get_within gs i g got)))
+set_in_held gs i j g h e got inside put = search (rules, length-set, set_in_groups, set-append_left, length_groups, slice_get_within)
 
 -- ---- a group of unused entries more
 
@@ -247,32 +228,16 @@ pub common_after : (gs : List Group) (common values new_common new_values : List
     → ((key : ℕ) → Misses new_common new_values i key → matches e key ≡ false)
     → HaveInCommon (set gs i h) new_common new_values
 common_after gs common values new_common new_values i j g h e got put others before of_entry k key x behind got_x miss =
-    by_place (eqb k i) refl
-  where
-    by_place : (b : Bool) → eqb k i ≡ b → NoneMatches key (entries_in x)
-    by_place true is =
-        let same : k ≡ i = eqb-true k i is in
-        let at : slice_get (set gs i h) k ≡ Some h = ap (slice_get (set gs i h)) same ∙ slice_get-set_same gs i g h got in
-        let is_h : h ≡ x = cc in
-        let here : Misses new_common new_values i key = subst (λ n. Misses new_common new_values n key) same miss in
-        subst (NoneMatches key) (sym put ∙ ap entries_in is_h)
-        (All-set (λ e. matches e key ≡ false) (entries_in g) j e (of_entry key here) (others i key g (omega (arith, behind, same)) got (before i key here)))
-    by_place false is =
-        others k key x behind (sym (slice_get-set_other gs i k h (eqb-false k i is)) ∙ got_x) (before k key miss)
+    search (rules, eqb-true, slice_get, slice_get-set_same, All-set, slice_get-set_other, eqb-false)
 
 -- an unused entry is put into a group
 pub common_cleared : (gs : List Group) (common values : List ℕ) (i j : ℕ) (g h : Group)
     → slice_get gs i ≡ Some g → entries_in h ≡ set (entries_in g) j unused → HaveInCommon gs common values → HaveInCommon (set gs i h) common values
-common_cleared gs common values i j g h got put others =
-    common_after gs common values common values i j g h unused got put others (λ k key miss. miss) (λ key miss. unused_matches key)
+common_cleared gs common values i j g h got put others = search (rules, common_after, unused_matches)
 
 -- an entry behind the groups is unused as it is
 pub clear_behind : (gs : List Group) (k : ℕ) → length gs ≤ 128 → length gs ≤ k / 8 → entries_held gs ≡ set (entries_held gs) k unused
-clear_behind gs k few behind =
-    elim (cases_lt k 1024) [
-      | inl below ↦ sym (set-slice_get (entries_held gs) k unused (get_behind_groups gs k behind below))
-      | inr past ↦ sym (set_past (entries_held gs) k unused (rw (length_held gs few) past))
-    ]
+clear_behind gs k few behind = search (rules, cases_lt, set-slice_get, get_behind_groups, set_past, length_held)
 
 pub lengthened_none : (gs : List Group) → AreLengthened gs gs
 lengthened_none gs = record { few = λ few. few; held = refl; others = λ common values knows. knows }

@@ -1,4 +1,5 @@
 -- What covering promises of the covered table, and stripping of its rows, together.
+use Rattle.std.proofs.Common.{arith}
 use Rattle.default_routes.proofs.Common.{All, ArePlaces, List, Original, Routes, Row, refl, rows_at, served, sets_of, subst}
 use Rattle.default_routes.proofs.FinalLemmas.{loaded_routes, of_kept, serves_given, shortened}
 use Rattle.default_routes.proofs.shortening.shorten.Goals as goal
@@ -16,8 +17,4 @@ returns-clause-routes c =
     (subst (λ (rs : List Row). ArePlaces rs c.in_ok-kept.kept) c.as_slice-rows.ensures c.in_ok-kept.ensures.places).in_range c.in_ok-covered.ensures.routes
 
 pub returns-clause-serves : goal.returns-clause-serves
-returns-clause-serves c =
-    serves_given c.args.table.rows c.in_ok-covered.covered.table.rows (rows_at c.in_ok-covered.covered.table.rows c.in_ok-kept.kept) c.in_ok-done.done.entries
-    (of_kept c.in_ok-covered.covered.table.rows c.as_slice-rows.result.now c.in_ok-kept.kept c.as_slice.result.now c.in_ok-done.done.entries c.as_slice-rows.ensures c.as_slice.ensures c.in_ok-done.ensures)
-    c.in_ok-covered.ensures.serves
-    (subst (λ (rs : List Row). All (λ (o : Original). Routes (rows_at rs c.in_ok-kept.kept) o) (served rs)) c.as_slice-rows.ensures c.in_ok-kept.ensures.serves)
+returns-clause-serves c = grind (arith, serves_given, of_kept)

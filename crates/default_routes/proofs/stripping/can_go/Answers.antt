@@ -5,5 +5,4 @@ use Rattle.default_routes.proofs.stripping.can_go.Goals as goal
 
 pub returns-then-all_arrive : goal.returns-then-all_arrive
 returns-then-all_arrive c apart =
-    match_strip c.args.row.now (rows_at c.args.kept.rows.now c.args.kept.places.now) c.in-Some.arrival c.is_clear.result c.in-Some.ensures
-    (subst (All (λ (a : Alias). a.port ≡ Link c.in-Some.arrival)) c.as_slice.ensures c.if-all_arrive.ensures) (c.is_clear.ensures apart)
+    match_strip _ _ _ _ c.in-Some.ensures (subst (All (λ (a : Alias). a.port ≡ Link c.in-Some.arrival)) c.as_slice.ensures c.if-all_arrive.ensures) (c.is_clear.ensures apart)

@@ -4,8 +4,7 @@ use Rattle.default_routes.proofs.StripLemmas.{kept_goes, kept_stays, in_range_mo
 use Rattle.default_routes.proofs.stripping.kept_places.Goals as goal
 
 pub loop-i-init : goal.loop-i-init
-loop-i-init c =
-    grind (arith, in_range_none (length c.args.sound.rows.now) c.new-kept.result.items c.new-kept.ensures.items, none_kept c.args.sound.rows.now c.new-kept.result.items c.new-kept.ensures.items)
+loop-i-init c = grind (arith, in_range_none, none_kept)
 
 pub loop-i-preserved-in-Continue-1 : goal.loop-i-preserved-in-Continue-1
 loop-i-preserved-in-Continue-1 c =

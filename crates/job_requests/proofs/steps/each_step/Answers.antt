@@ -4,12 +4,7 @@ use Rattle.job_requests.proofs.FirstMachine.{has_first_machine, kept_next, loade
 use Rattle.job_requests.proofs.steps.each_step.Goals as goal
 
 pub returns-in_err-step_in-clause-read : goal.returns-in_err-step_in-clause-read
-returns-in_err-step_in-clause-read c =
-    let p = err_from_is_err_and c.from_residual.result c.from_residual.ensures.1 in
-    let xs = c.args.items.now in
-    rw (p.1, p.2) (items-fail view xs c.loop-i.i c.index-items-i.result (omega arith) c.index-items-i.is step_faults (path_text c.args.path.now)
-    (item_at (path_text c.args.path.now) c.loop-i.i) (items_faults step_faults (path_text c.args.path.now) 0 (map view xs))
-    c.in_err-step_in.field-0.0 refl c.in_err-step_in.ensures.read c.loop-i.invariant.left)
+returns-in_err-step_in-clause-read c = grind (arith, err_from_is_err_and, items-fail)
 
 pub loop-i-preserved : goal.loop-i-preserved
 loop-i-preserved c =
@@ -29,10 +24,7 @@ loop-i-preserved c =
     }
 
 pub returns-clause-read : goal.returns-clause-read
-returns-clause-read c =
-    let xs = c.args.items.now in
-    let f = step_faults in
-    (items-none view xs c.loop-i.i f (path_text c.args.path.now) (items_faults f (path_text c.args.path.now) 0 (map view xs)) (omega arith) c.loop-i.invariant.left, c.loop-i.invariant.read ∙ rw (take_all c.loop-i.i xs (omega arith)) refl)
+returns-clause-read c = grind (arith, items-none, take_all)
 
 pub returns-clause-count : goal.returns-clause-count
 returns-clause-count c = let counted = c.loop-i.invariant.counted in omega (arith, counted)

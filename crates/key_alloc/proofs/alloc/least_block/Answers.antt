@@ -1,14 +1,10 @@
+use Rattle.std.proofs.Common.{rules}
 use Rattle.key_alloc.proofs.Common.{IsOpenPlace, arith, subst}
 use Rattle.key_alloc.proofs.{Sizes.size_from_half, Sizes.size_within, Sizes.one_size, Taking.block_from_least}
 use Rattle.key_alloc.proofs.alloc.least_block.Goals as goal
 
 pub invariant_of-wanted : goal.invariant_of-wanted
-invariant_of-wanted c =
-    let made = c.next_power_of_two-size.ensures in
-    record {
-      some = omega (arith, c.args.needed.some, made.lower_bound);
-      few = size_within c.args.needed.keys _ c.args.needed.few (size_from_half c.args.needed.keys _ c.args.needed.some made.power made.lower_bound made.upper_bound);
-    }
+invariant_of-wanted c = search (rules, size_within, size_from_half)
 
 pub returns-in_default-clause-none : goal.returns-in_default-clause-none
 returns-in_default-clause-none c taken state size place is =

@@ -1,3 +1,4 @@
+use Rattle.std.proofs.Common.{arith}
 use Rattle.std.proofs.Common.{◌≡◌, true, ap, ◌∙◌, subst}
 use Rattle.crossbeam_queue.specs.Passes.{view}
 use Rattle.link_queue.specs.{declared.known.Known.Known, Ends.cap_of, Ends.sending, Ends.taking, Steps.joined, Steps.renewed, Steps.sender_of, Steps.receiver_of, Steps.Balanced}
@@ -15,11 +16,7 @@ len_as-held-requires-clause-rule g c =
     balanced _ _ takes sends
 
 pub another-taker-requires-clause-rule : goal.another-taker-requires-clause-rule
-another-taker-requires-clause-rule g c =
-    let is = c.len_as-held.ensures.queue.1 ∙ c.absorb.ensures.rule in
-    let takes : (view c.len_as-held.new.pass).takes ≡ true = ap (λ (v : Known). v.takes) is in
-    let sends : (view c.len_as-held.new.pass).sends ≡ true = ap (λ (v : Known). v.sends) is ∙ c.args.lent.sends.sends in
-    renews _ _ sends takes
+another-taker-requires-clause-rule g c = grind (arith, renews)
 
 pub returns-clause-rests : goal.returns-clause-rests
 returns-clause-rests g c =

@@ -1,3 +1,4 @@
+use Rattle.std.proofs.Common.{rules}
 use Rattle.std.proofs.Common.{arith, ap, sym, subst, ◌∙◌, ◌++◌}
 use Rattle.link_queue.specs.{Ends.sending, Ends.taking, declared.known.Known.Known, Steps.Balanced}
 use Rattle.link_queue.proofs.StepLemmas.{all_popped, balanced, empties, joins, some_left}
@@ -12,8 +13,7 @@ len_as-held-requires-clause-rule g c =
     balanced _ _ (ap (λ (v : Known). v.takes) is) (ap (λ (v : Known). v.sends) is ∙ c.args.whole.sends.sends)
 
 pub pop_as-requires-clause-rule : goal.pop_as-requires-clause-rule
-pop_as-requires-clause-rule g c =
-    let p = c.loop.invariant.1 in (empties _ _ p.takes, balanced _ _ p.takes p.sends)
+pop_as-requires-clause-rule g c = search (rules, empties, balanced)
 
 pub learn_as-requires-clause-rule : goal.learn_as-requires-clause-rule
 learn_as-requires-clause-rule g c = let p = c.loop.invariant.1 in balanced _ _ p.takes p.sends
@@ -27,11 +27,4 @@ unreachable-requires g c =
     some_left _ _ _ _ _ first inv.1 r.1.2 (omega (arith, inv.2, seen.rule.1.1)) r.1.1
 
 pub returns-clause-held : goal.returns-clause-held
-returns-clause-held g c =
-    let seen = c.len_as-held.ensures in
-    let learnt = c.learn_as.ensures.rule in
-    let inv = c.loop.invariant in
-    let first = subst (λ (u : Known). Balanced u seen.rule.1.0) (sym seen.queue.1) seen.rule.1.2 in
-    all_popped (sending c.args.whole.tx) (taking c.args.whole.rx) _ _ _ _ _ (seen.queue.1 ∙ c.absorb.ensures.rule) first inv.1 learnt.1
-    (omega (arith, inv.2, seen.rule.1.1))
-    ∙ ap (λ l. (taking c.args.whole.rx).took ++ l) (sym c.into_seq.ensures)
+returns-clause-held g c = grind (arith, all_popped)

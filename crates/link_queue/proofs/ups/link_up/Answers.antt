@@ -1,3 +1,4 @@
+use Rattle.std.proofs.Common.{arith}
 use Rattle.std.proofs.Common.{sym}
 use Rattle.link_queue.proofs.StepLemmas.{places, seats, sees_full}
 use Rattle.link_queue.proofs.ups.link_up.Goals as goal
@@ -8,6 +9,4 @@ push_as-requires-clause-rule g c =
     (places _ _ _ _ p.sends (sym p.cap_is) p.start.sent p.start.nones, sees_full _ _ p.sends)
 
 pub another-taker-requires-clause-rule : goal.another-taker-requires-clause-rule
-another-taker-requires-clause-rule g c =
-    let p = c.loop-copy.invariant.1 in
-    seats _ _ p.sends p.takes p.start.took p.start.sent p.start.nones
+another-taker-requires-clause-rule g c = grind (arith, seats)

@@ -1,3 +1,4 @@
+use Rattle.std.proofs.Common.{rules}
 use Rattle.range_store.proofs.Common.{Hole, ap, arith, cases_eq, get_or, inl, inr, is_hole_range, length, slice_get-get_or, take, ◌-◌, ◌<◌, ◌∙◌, ◌≡◌}
 use Rattle.range_store.proofs.{Beginnings.none_before, RunLemmas.end_below, RunLemmas.first_is_least}
 use Rattle.range_store.proofs.cuts.first_fit.Goals as goal
@@ -26,10 +27,4 @@ returns-in-Some-clause-first c =
     (slice_get-get_or c.args.holes.list.now c.loop-at.at _ c.loop-at-test.true) c.in-Some.ensures.least c.loop-at.invariant c.args.claim.some
 
 pub returns-in-Some-clause-at : goal.returns-in-Some-clause-at
-returns-in-Some-clause-at c = record {
-  hole = _;
-  is = slice_get-get_or c.args.holes.list.now c.loop-at.at (record { place = 0; len = 0 }) c.loop-at-test.true;
-  inside = c.loop-at-test.true;
-  fits = c.in-Some.ensures.least.fits;
-  below = end_below 0 4294967296 c.args.holes.list.now c.loop-at.at _ c.args.holes.runs c.loop-at-test.true;
-}
+returns-in-Some-clause-at c = search (rules, slice_get-get_or, end_below)

@@ -1,3 +1,4 @@
+use Rattle.std.proofs.Common.{rules}
 use Rattle.range_store.proofs.Common.{AreRuns, arith, subst, sym}
 use Rattle.range_store.proofs.GiveLemmas.{arm_none, arm_right, arm_left, arm_both, right_end, left_end, inserted}
 use Rattle.range_store.proofs.gives.put_back.Goals as goal
@@ -11,12 +12,10 @@ returns-in-None-None-clause-put c room taken n runs within =
     (arm_none c.args.span.some within runs c.as_slice.ensures.value c.neighbours-at.ensures taken c.in-None-None.is-0 c.in-None-None.is-1)
 
 pub returns-in-None-Some-clause-put : goal.returns-in-None-Some-clause-put
-returns-in-None-Some-clause-put c room taken n runs within =
-    arm_right c.args.span.some within runs c.as_slice.ensures.value c.neighbours-at.ensures taken c.in-None-Some.is-0 c.in-None-Some.is-1
+returns-in-None-Some-clause-put c room taken n runs within = search (rules, arm_right)
 
 pub returns-in-Some-None-clause-put : goal.returns-in-Some-None-clause-put
-returns-in-Some-None-clause-put c room taken n runs within =
-    arm_left c.args.span.some within runs c.as_slice.ensures.value c.neighbours-at.ensures taken c.in-Some-None.is-0 c.in-Some-None.is-1
+returns-in-Some-None-clause-put c room taken n runs within = search (rules, arm_left)
 
 pub returns-in-Some-Some-clause-put : goal.returns-in-Some-Some-clause-put
 returns-in-Some-Some-clause-put c room taken n runs within =
@@ -24,17 +23,10 @@ returns-in-Some-Some-clause-put c room taken n runs within =
     (arm_both c.args.span.some within runs c.as_slice.ensures.value c.neighbours-at.ensures taken c.in-Some-Some.is-0 c.in-Some-Some.is-1)
 
 pub overflow_add-left-in-Some-Some : goal.overflow_add-left-in-Some-Some
-overflow_add-left-in-Some-Some c =
-    let l = left_end c.args.span.some c.args.span.within c.requires c.as_slice.ensures.value c.neighbours-at.ensures c.in-Some-Some.is-0 in
-    let r = right_end c.args.span.some c.args.span.within c.requires c.as_slice.ensures.value c.neighbours-at.ensures c.in-Some-Some.is-1 in
-    record { fits = omega (arith, l.1, r.1, r.2) }
+overflow_add-left-in-Some-Some c = search (rules, left_end, right_end)
 
 pub overflow_add-size : goal.overflow_add-size
-overflow_add-size c =
-    let r = right_end c.args.span.some c.args.span.within c.requires c.as_slice.ensures.value c.neighbours-at.ensures c.in-None-Some.is-1 in
-    record { fits = omega (arith, r.1, r.2) }
+overflow_add-size c = search (rules, right_end)
 
 pub index_mut-requires-in-None-Some : goal.index_mut-requires-in-None-Some
-index_mut-requires-in-None-Some c =
-    let r = right_end c.args.span.some c.args.span.within c.requires c.as_slice.ensures.value c.neighbours-at.ensures c.in-None-Some.is-1 in
-    omega (arith, r.0)
+index_mut-requires-in-None-Some c = search (rules, right_end)

@@ -1,3 +1,4 @@
+use Rattle.std.proofs.Common.{arith}
 use Rattle.spin_checks.proofs.Common.{Ok, rules}
 use Rattle.spin_checks.proofs.{Compiled.right_or_memory, Meaning.right_means, OneAnswer.one_answer, Refusing.refused_answer}
 use Rattle.spin_checks.proofs.answers.answer.Goals as goal
@@ -12,18 +13,10 @@ returns-in-Ok-line_of-clause-only c = λ other is.
     c.in-Ok.ensures.finding c.in-Ok-line_of.ensures is
 
 pub returns-in-Ok-line_of-clause-right : goal.returns-in-Ok-line_of-clause-right
-returns-in-Ok-line_of-clause-right c =
-    right_means c.args.machine.now c.args.graph.now c.args.trees.now c.args.image.now c.in_ok-nets.nets c.in_ok-nets.ensures.nets c.in-Ok.finding c.in-Ok-line_of.text c.in-Ok-line_of.ensures
-    c.in-Ok.ensures.right
+returns-in-Ok-line_of-clause-right c = right_means _ _ _ _ _ c.in_ok-nets.ensures.nets _ _ c.in-Ok-line_of.ensures c.in-Ok.ensures.right
 
 pub returns-in-Ok-line_of-clause-answer : goal.returns-in-Ok-line_of-clause-answer
-returns-in-Ok-line_of-clause-answer c = record {
-  nets = c.in_ok-nets.nets;
-  are = c.in_ok-nets.ensures.nets;
-  finding = c.in-Ok.finding;
-  found = c.in-Ok.ensures.finding;
-  told = c.in-Ok-line_of.ensures;
-}
+returns-in-Ok-line_of-clause-answer c = grind arith
 
 pub returns-in-Ok-line_of-clause-refused : goal.returns-in-Ok-line_of-clause-refused
 returns-in-Ok-line_of-clause-refused c =

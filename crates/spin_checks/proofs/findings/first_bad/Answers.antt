@@ -11,8 +11,7 @@ returns-then-not-branch c = record {
 }
 
 pub loop-i-preserved : goal.loop-i-preserved
-loop-i-preserved c =
-    good_more c.args.standing.machine.now c.args.standing.nets.now c.loop-i.i c.get-net.result.now c.loop-i.invariant c.get-net.ensures (c.in_ok-good.ensures.0 (search rules))
+loop-i-preserved c = good_more _ _ _ _ c.loop-i.invariant c.get-net.ensures (c.in_ok-good.ensures.0 (search rules))
 
 pub returns : goal.returns
 returns c = all_good c.args.standing.machine.now c.args.standing.nets.now c.loop-i.i (search rules) c.loop-i.invariant

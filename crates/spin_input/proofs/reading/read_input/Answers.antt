@@ -1,3 +1,4 @@
+use Rattle.std.proofs.Common.{arith}
 use Rattle.std.proofs.Common.{◌≡◌, ◌⊎◌, Ok, Err, ap, ◌∙◌, subst, sym, inl, inr}
 use Rattle.job_text.specs.Json.{json_of}
 use Rattle.run_report.specs.declared.causes.Refusal.{Refusal}
@@ -8,22 +9,7 @@ use Rattle.spin_input.proofs.JobBytes.{input_in-few, read_quiet, unread_input}
 use Rattle.spin_input.proofs.reading.read_input.Goals as goal
 
 pub returns-in-Ok-clause-input : goal.returns-in-Ok-clause-input
-returns-in-Ok-clause-input g c =
-    let kind = input_of g.I.Input.faults g.I.Input.value_of in
-    let reading : Reading = record {
-      left = g.S.Source.left c.args.source.now;
-      rest = g.S.Source.left c.read_all.new.src;
-      faults = g.S.Source.faults c.args.source.now;
-      faults' = g.S.Source.faults c.read_all.new.src;
-    }
-    in
-    let quiet : HasNoFault reading = read_quiet c.in-Ok.bytes reading c.in-Ok.ensures.no_fault in
-    let same : input_in kind c.in-Ok.bytes ≡ input_from kind (json_of c.as_slice.result.now) =
-    input_in-few kind c.in-Ok.bytes c.in-Ok.ensures.within ∙ ap (λ b. input_from kind (json_of b)) (sym c.as_slice.ensures)
-    in
-    IfOk-weaker c.input_of_text.result (λ input. input_from kind (json_of c.as_slice.result.now) ≡ Ok input) (IsReadAs (input_in kind) reading)
-    (λ input is. record { bytes = c.in-Ok.bytes; all = c.in-Ok.ensures.all; no_fault = quiet; is = same ∙ is })
-    c.input_of_text.ensures.input
+returns-in-Ok-clause-input g c = grind (arith, read_quiet, input_in-few, IfOk-weaker)
 
 pub returns-in-Ok-clause-err : goal.returns-in-Ok-clause-err
 returns-in-Ok-clause-err g c =
@@ -47,14 +33,4 @@ returns-in-Ok-clause-err g c =
     c.input_of_text.ensures.err
 
 pub returns-in-Err-clause-err : goal.returns-in-Err-clause-err
-returns-in-Err-clause-err g c =
-    let kind = input_of g.I.Input.faults g.I.Input.value_of in
-    let reading : Reading = record {
-      left = g.S.Source.left c.args.source.now;
-      rest = g.S.Source.left c.read_all.new.src;
-      faults = g.S.Source.faults c.args.source.now;
-      faults' = g.S.Source.faults c.read_all.new.src;
-    }
-    in
-    subst (HasNoInput (input_in kind) reading) (sym c.unread.ensures)
-    (unread_input (input_in kind) reading c.in-Err.error c.in-Err.ensures.lost c.in-Err.ensures.fault c.in-Err.ensures.past_limit c.in-Err.ensures.up_to_limit c.in-Err.ensures.no_fault)
+returns-in-Err-clause-err g c = grind (arith, unread_input)

@@ -1,12 +1,10 @@
+use Rattle.std.proofs.Common.{arith}
 use Rattle.spin_jobs.proofs.Common.{Did, IsReported, JobWithPlan, List, Setup, [], ap, few_rows, refl, row_total, subst, summary_text, sym, ◌<◌, ◌^◌, ◌∙◌}
 use Rattle.spin_jobs.proofs.{AtRest.is_kept, AtRest.ran_out, AtRest.reported_of, AtRest.told_count, AtRest.told_none, Generating.generated_roomy}
 use Rattle.spin_jobs.proofs.makes.generated.Goals as goal
 
 pub report_of-requires : goal.report_of-requires
-report_of-requires g c = record {
-  graph = c.planned.invariant.graph;
-  mesh = ap (λ (s : Setup). s.spots) c.in_ok-mesh.ensures.kept.setup ∙ ap (λ (p : JobWithPlan). p.plan.placement.spots) (sym c.planned.view_is);
-}
+report_of-requires g c = grind arith
 
 pub summary_text-requires : goal.summary_text-requires
 summary_text-requires g c = subst (λ ts. row_total ts < 2 ^ 64) (sym c.in_ok-report.ensures.same_tables) (few_rows c.in_ok-image.image c.in_ok-image.ensures.valid)

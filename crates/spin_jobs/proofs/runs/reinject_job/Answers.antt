@@ -1,3 +1,4 @@
+use Rattle.std.proofs.Common.{arith}
 use Rattle.spin_jobs.proofs.Common.{HasPasses, IsOfNets, JobWithPlan, ap, opened_of, subst, sym, ℕ, ◌∙◌}
 use Rattle.spin_jobs.proofs.Opening.{opened_keeps}
 use Rattle.spin_jobs.proofs.runs.reinject_job.Goals as goal
@@ -6,12 +7,7 @@ pub reinject-requires-clause-no_hand : goal.reinject-requires-clause-no_hand
 reinject-requires-clause-no_hand g c κs within = c.in_ok-mesh.ensures.ready.no_hand
 
 pub reinject-requires-clause-ledger : goal.reinject-requires-clause-ledger
-reinject-requires-clause-ledger g c κs within =
-    let job = c.planned.inside.job.now in
-    let plan = c.planned.inside.plan.now in
-    let opened = c.in_ok-mesh.ensures.opened ∙ ap (λ (p : JobWithPlan). opened_of p.job p.plan) (sym c.planned.view_is) in
-    let ledger = (opened_keeps job plan c.planned.invariant.run c.planned.invariant.planned).ledger in
-    subst IsOfNets (sym opened) (plan.nets, _, c.planned.invariant.planned.right, ledger.ledger)
+reinject-requires-clause-ledger g c κs within = grind (arith, opened_keeps (c.planned.inside.job.now) (c.planned.inside.plan.now) c.planned.invariant.run c.planned.invariant.planned)
 
 pub returns-in-Ok : goal.returns-in-Ok
 returns-in-Ok g c =

@@ -1,3 +1,4 @@
+use Rattle.std.proofs.Common.{rules}
 use Rattle.std.proofs.Common.{◌++◌, ap, arith}
 use Rattle.spin_base.specs.Outputs.{all_outs}
 use Rattle.spin_base.proofs.{Once.outs_once, Outputs.all_found, Outputs.less_fits, Outputs.less_is_less, Outputs.lowest_below, Outputs.one_more, Outputs.outs_in, Outputs.room_left}
@@ -7,8 +8,7 @@ pub of_bit-requires : goal.of_bit-requires
 of_bit-requires c = lowest_below c.loop-left.left c.loop-left.invariant.fits c.loop-left-test.true
 
 pub push-requires : goal.push-requires
-push-requires c =
-    grind (arith, room_left c.loop-left.left c.loop-left.invariant.fits c.loop-left-test.true c.args.self c.loop-left.outs.items c.loop-left.invariant.found c.of_bit.result c.of_bit.ensures.number)
+push-requires c = search (rules, room_left)
 
 pub loop-left-smaller : goal.loop-left-smaller
 loop-left-smaller c = less_is_less c.loop-left.left c.loop-left.invariant.fits c.loop-left-test.true

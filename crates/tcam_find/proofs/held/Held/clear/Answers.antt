@@ -1,3 +1,4 @@
+use Rattle.std.proofs.Common.{rules}
 use Rattle.std.proofs.Common.{◌/◌, ◌%◌, ◌∙◌, length, arith, sym, subst, ap, slice_set}
 use Rattle.std.specs.Prelude.{IfSome}
 use Rattle.std.proofs.lemmas.{List.length-set, Option.IfSome_then}
@@ -7,8 +8,7 @@ use Rattle.tcam_find.proofs.MemoryLemmas.{clear_behind, common_cleared, set_in_h
 use Rattle.tcam_find.proofs.held.Held.clear.Goals as goal
 
 pub returns-then-place-len : goal.returns-then-place-len
-returns-then-place-len c =
-    clear_behind c.args.self.now.groups.items c.args.place c.args.self.now.few (omega (arith, c.if-place-len.true, c.len.ensures, c.args.self.now.groups.ok.0))
+returns-then-place-len c = search (rules, clear_behind)
 
 pub invariant_of-self : goal.invariant_of-self
 invariant_of-self c =

@@ -1,3 +1,4 @@
+use Rattle.std.proofs.Common.{rules}
 use Rattle.std.proofs.Common.{◌≡◌, ◌+◌, ◌*◌, eqb, false, bit_and, get_or, arith}
 use Rattle.tcam_find.proofs.KnownLemmas.{through_block}
 use Rattle.tcam_find.proofs.known.Known.block_from.Goals as goal
@@ -18,5 +19,4 @@ returns-then-ahead-lt-LANES c i behind before =
     i behind before
 
 pub returns : goal.returns
-returns c i behind before =
-    c.loop-eight.invariant i behind (omega (arith, before, c.loop-eight-test.false))
+returns c i behind before = search rules

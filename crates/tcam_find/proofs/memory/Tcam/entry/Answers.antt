@@ -1,3 +1,4 @@
+use Rattle.std.proofs.Common.{rules}
 use Rattle.std.proofs.Common.{◌+◌, ◌-◌, ◌*◌, ◌/◌, ◌%◌, length, arith, sym, ap, ◌∙◌, replicate, slice_get}
 use Rattle.std.proofs.lemmas.Option.{get_or_from_slice_get}
 use Rattle.spin_base.proofs.Places.{slice_get-append_left, slice_get_there}
@@ -20,8 +21,7 @@ pub returns-then-group-len-clause-size : goal.returns-then-group-len-clause-size
 returns-then-group-len-clause-size c = ap length (sym c.self.view_is) ∙ length_held c.self.inside.held.groups.items c.self.inside.held.few
 
 pub returns-else-group-len-clause-at_place : goal.returns-else-group-len-clause-at_place
-returns-else-group-len-clause-at_place c =
-    grind (arith, get_behind_groups c.self.inside.held.groups.items c.args.place (omega (arith, c.if-group-len.false, c.len.ensures, c.self.inside.held.groups.ok.0)) c.requires, slice_get)
+returns-else-group-len-clause-at_place c = search (rules, get_behind_groups, slice_get)
 
 pub returns-else-group-len-clause-size : goal.returns-else-group-len-clause-size
 returns-else-group-len-clause-size c = ap length (sym c.self.view_is) ∙ length_held c.self.inside.held.groups.items c.self.inside.held.few
