@@ -1,18 +1,18 @@
 -- The nets of a loaded application: their blocks are ranges of their own, and their trees stand on its spots.
-use Rattle.app_loads.proofs.Common.{All, All-at, All-contains, All-each, All-weaker, AllPairs, AllZip, AllZip-at_first, AppNet, AreRoutedApart, Block, Claim, Contains, Contains-at, Description}
-use Rattle.app_loads.proofs.Common.{HaveDisjointBlocks, IsAppNet, IsBlockOf, IsInside, IsKeyOf, IsLoadedOn, IsRangeFor, IsRoutingTree, IsSpotBefore, IsUsable, KeysOut, List, LoadedApp, Matches}
-use Rattle.app_loads.proofs.Common.{NetPlan, Range, ShareNoPlace, Some, Spot, [], and_from, ap, arith, cases_eq, cases_lt, claims_of, eq-eqb, get_or, get_or_from_slice_get, in_from, inl, inr}
-use Rattle.app_loads.proofs.Common.{live_inside, net_with, nets_of, nets_with, place_of, range_has, refl, same_Some, slice_get, slice_get-get_or, slice_get_within, subst, suc, sym, true, usable_parts}
-use Rattle.app_loads.proofs.Common.{zero, ℕ, ◌+◌, ◌<◌, ◌^◌, ◌↔◌, ◌∙◌, ◌∷◌, ◌≡◌, ◌≢◌, ◌≤◌}
-use Rattle.app_loads.proofs.{Blocks.block_keys, ClaimCases.facts, ClaimCases.same_net, ClaimCases.IsKeyClaim}
+use Rattle.app_loads.proofs.Common.{All, All-at, All-contains, All-each, All-flat_map, All-head, All-tail, All-weaker, AllPairs, AllPairs-across, AllPairs-append, AllPairs-left, AllPairs-nil}
+use Rattle.app_loads.proofs.Common.{AllPairs-right, AllZip, AllZip-at_first, AppNet, AreNetsOn, AreRoutedApart, Block, Claim, Contains, Contains-at, Description, HaveDisjointBlocks, IsAppNet}
+use Rattle.app_loads.proofs.Common.{IsBlockOf, IsInside, IsKeyOf, IsLoadedOn, IsPacketOfApp, IsRangeFor, IsRangeWithin, IsRoutingTree, IsSpotBefore, IsUsable, KeysOut, List, LoadedApp, Matches}
+use Rattle.app_loads.proofs.Common.{NetPlan, Packet, Range, ShareNoPlace, Some, Spot, [], all_nets, all_ranges, and_from, ap, arith, cases_eq, cases_lt, chip_count, claims_of, eq-eqb, get_or}
+use Rattle.app_loads.proofs.Common.{get_or_from_slice_get, in_from, inl, inr, live_inside, net_with, nets_of, nets_with, place_of, range_has, refl, region_size, same_Some, slice_get}
+use Rattle.app_loads.proofs.Common.{slice_get-get_or, slice_get_within, subst, suc, sym, true, usable_parts, usable_spots, zero, ℕ, ◌+◌, ◌<◌, ◌^◌, ◌↔◌, ◌∙◌, ◌∷◌, ◌≡◌, ◌≢◌, ◌≤◌}
+use Rattle.app_loads.proofs.{Blocks.block_keys, ClaimCases.IsKeyClaim, ClaimCases.facts, ClaimCases.same_net, LeavingLists.flat_has, LeavingLists.flat_of, Spots.usable_there}
 
 -- a net with its block is made of the net and the block of its place
 pub nets_with_parts : (nets : List AppNet) (blocks : List Block) (i : ℕ) (x : NetPlan) → slice_get (nets_with nets blocks) i ≡ Some x →
     (net : AppNet) × (block : Block) × (slice_get nets i ≡ Some net) × (slice_get blocks i ≡ Some block) × (net_with net block ≡ x)
-nets_with_parts [] blocks i x e = cc
-nets_with_parts (n ∷ ns) [] i x e = cc
 nets_with_parts (n ∷ ns) (b ∷ bs) zero x e = (n, b, refl, refl, same_Some (net_with n b) x e)
 nets_with_parts (n ∷ ns) (b ∷ bs) (suc i) x e = nets_with_parts ns bs i x e
+nets_with_parts nets blocks i x e = cc
 
 pub member_at : {X : Type 0} (xs : List X) (x : X) (has : Contains xs x) → slice_get xs has.0 ≡ Some x
 member_at xs x has = slice_get-get_or xs has.0 x has.1 ∙ ap Some has.2
@@ -98,6 +98,15 @@ module _ (m : Description) (app : LoadedApp) (loaded : IsLoadedOn m app) where
       (f.block.key + index < 2 ^ 32) × IsKeyOf f.block (f.block.key + index)
   key_of_index x j f index below room = grind (arith, index_fits, within_keys)
 
+  -- a packet's key is its net's
+  pub packet_key : (p : Packet) → IsPacketOfApp app.plan.nets p → (x : NetPlan) → slice_get (nets_of app) p.net ≡ Some x → IsKeyOf x.block (x.block.key + p.index)
+  packet_key p of_net x at =
+      let f = facts_at p.net x at in
+      let same : f.net ≡ of_net.0 = same_Some _ _ (sym f.at_net ∙ of_net.1) in
+      let within = (All-at (IsRangeWithin m (1 + (chip_count m + chip_count m))) app.ranges f.at f.range loaded.within f.got).within in
+      let room : f.range.place + f.range.size ≤ 4294967296 = subst (λ r. f.range.place + f.range.size ≤ r) (ap (region_size m) f.region) within in
+      subst (λ (n : NetPlan). IsKeyOf n.block (n.block.key + p.index)) f.is (key_of_index x p.net f p.index (subst (λ (n : AppNet). p.index < n.keys) (sym same) of_net.2) room).1
+
   pub usable_spot : (s : Spot) → Contains app.plan.spots s → IsUsable m s
   usable_spot s has = All-contains (IsUsable m) app.plan.spots s loaded.plan.usable has
 
@@ -125,44 +134,66 @@ module _ (m : Description) (app : LoadedApp) (loaded : IsLoadedOn m app) where
         ]
       ]
 
-  pub trees_of : All (λ (x : NetPlan). IsRoutingTree m x.tree.root x.tree.edges x.targets) (nets_of app)
-  trees_of = All-each (λ (x : NetPlan). IsRoutingTree m x.tree.root x.tree.edges x.targets) (nets_of app) (λ x has.
-      let f = facts_of x has in subst (λ (y : NetPlan). IsRoutingTree m y.tree.root y.tree.edges y.targets) f.is f.valid.tree)
+  -- what holds of each net with its block holds of the application's nets
+  pub each_net : (P : NetPlan → Type 0) → ((net : AppNet) (block : Block) → IsAppNet m app.plan.spots net → P (net_with net block)) → All P (nets_of app)
+  each_net P each = All-each P (nets_of app) (λ x has. let f = facts_of x has in subst P f.is (each f.net f.block f.valid))
 
-  pub roots_of : All (λ (x : NetPlan). x.tree.root ≡ x.source.chip) (nets_of app)
-  roots_of = All-each (λ (x : NetPlan). x.tree.root ≡ x.source.chip) (nets_of app) (λ x has. let f = facts_of x has in subst (λ (y : NetPlan). y.tree.root ≡ y.source.chip) f.is f.valid.root)
+  pub routed : AllPairs ShareNoPlace app.ranges → AreRoutedApart m (nets_of app)
+  routed apart = record {
+    trees = each_net (λ x. IsRoutingTree m x.tree.root x.tree.edges x.targets) (λ net block valid. valid.tree);
+    roots = each_net (λ x. IsInside m x.tree.root) (λ net block valid. subst (IsInside m) (sym valid.root) (spot_inside net.source valid.source));
+    cores = each_net (λ x. All (λ (s : Spot). s.core < 24) x.targets) (λ net block valid.
+        All-weaker (Contains app.plan.spots) (λ (s : Spot). s.core < 24) (λ s has. let most = (usable_parts m s (usable_spot s has)).2 in omega (arith, most)) net.targets valid.targets);
+    apart = λ i j d less below meet. own_disjoint apart i j d less below meet.key (record { fits = meet.small; matches = meet.first }) (record { fits = meet.small; matches = meet.second });
+  }
 
-  pub sources_in : (spots : List Spot) → ((s : Spot) → Contains app.plan.spots s → Contains spots s) → All (λ (x : NetPlan). Contains spots x.source) (nets_of app)
-  sources_in spots more = All-each (λ (x : NetPlan). Contains spots x.source) (nets_of app)
-      (λ x has. let f = facts_of x has in subst (λ (y : NetPlan). Contains spots y.source) f.is (more f.net.source f.valid.source))
+-- ---- the nets of all applications
 
-  pub targets_in : (P : Spot → Type 0) → ((s : Spot) → Contains app.plan.spots s → P s) → All (λ (x : NetPlan). All P x.targets) (nets_of app)
-  targets_in P more = All-each (λ (x : NetPlan). All P x.targets) (nets_of app) (λ x has.
-      let f = facts_of x has in subst (λ (y : NetPlan). All P y.targets) f.is (All-weaker (Contains app.plan.spots) P more f.net.targets f.valid.targets))
+abbrev pub AreDisjoint : NetPlan → NetPlan → Type 0
+AreDisjoint a b = (key : ℕ) → IsKeyOf a.block key → IsKeyOf b.block key → ⊥
 
-  pub different_of : All (λ (x : NetPlan). AllPairs (λ a b. a ≢ b) x.targets) (nets_of app)
-  different_of = All-each (λ (x : NetPlan). AllPairs (λ a b. a ≢ b) x.targets) (nets_of app) (λ x has.
-      let f = facts_of x has in subst (λ (y : NetPlan). AllPairs (λ a b. a ≢ b) y.targets) f.is
-      (λ i j d less below same. never (get_or f.net.targets i d) (get_or f.net.targets j d) (f.valid.in_order i j d less below) same))
+module _ (m : Description) where
+  -- where their ranges are apart no two nets share a key
+  pub disjoint_blocks : (apps : List LoadedApp) → All (IsLoadedOn m) apps → AllPairs ShareNoPlace (all_ranges apps) → HaveDisjointBlocks (all_nets apps)
+  disjoint_blocks [] loaded apart = AllPairs-nil AreDisjoint
+  disjoint_blocks (app ∷ apps) loaded apart =
+      AllPairs-append AreDisjoint (nets_of app) (all_nets apps) (own_disjoint m app on (AllPairs-left ShareNoPlace app.ranges (all_ranges apps) apart))
+      (disjoint_blocks apps rest (AllPairs-right ShareNoPlace app.ranges (all_ranges apps) apart))
+      (All-each (λ x. All (AreDisjoint x) (all_nets apps)) (nets_of app) (λ x in_x. All-each (AreDisjoint x) (all_nets apps) (λ y in_y key first second.
+      let by = flat_of nets_of apps y in_y in
+      let on_b = All-contains (IsLoadedOn m) apps by.0 rest by.1 in
+      let f = facts_of m app on x in_x in
+      let g = facts_of m by.0 on_b y by.2 in
+      All-contains (ShareNoPlace f.range) (all_ranges apps) g.range
+      (All-contains (λ r. All (ShareNoPlace r) (all_ranges apps)) app.ranges f.range (AllPairs-across ShareNoPlace app.ranges (all_ranges apps) apart) (Contains-at app.ranges f.at f.range f.got))
+      (flat_has (λ (b : LoadedApp). b.ranges) apps by.0 g.range by.1 (Contains-at by.0.ranges g.at g.range g.got)) 0 key
+      (key_place m app on x in_x.0 f key first) (key_place m by.0 on_b y by.2.0 g key second))))
     where
+      on : IsLoadedOn m app
+      on = All-head (IsLoadedOn m) app apps loaded
+
+      rest : All (IsLoadedOn m) apps
+      rest = All-tail (IsLoadedOn m) app apps loaded
+
+  -- and all nets stand on the usable cores
+  pub nets_on : (apps : List LoadedApp) → All (IsLoadedOn m) apps → HaveDisjointBlocks (all_nets apps) → AreNetsOn m (usable_spots m) (all_nets apps)
+  nets_on apps loaded disjoint = record {
+    disjoint = disjoint;
+    trees = every (λ x. IsRoutingTree m x.tree.root x.tree.edges x.targets) (λ app on net block valid. valid.tree);
+    roots = every (λ x. x.tree.root ≡ x.source.chip) (λ app on net block valid. valid.root);
+    sources = every (λ x. Contains (usable_spots m) x.source) (λ app on net block valid. listed app on net.source valid.source);
+    targets = every (λ x. All (Contains (usable_spots m)) x.targets) (λ app on net block valid.
+        All-weaker (Contains app.plan.spots) (Contains (usable_spots m)) (listed app on) net.targets valid.targets);
+    different = every (λ x. AllPairs (λ a b. a ≢ b) x.targets) (λ app on net block valid i j d less below. never _ _ (valid.in_order i j d less below));
+  }
+    where
+      every : (P : NetPlan → Type 0) → ((app : LoadedApp) → IsLoadedOn m app → (net : AppNet) (block : Block) → IsAppNet m app.plan.spots net → P (net_with net block)) → All P (all_nets apps)
+      every P each = All-flat_map P nets_of apps (All-weaker (IsLoadedOn m) (λ app. All P (nets_of app)) (λ app on. each_net m app on P (each app on)) apps loaded)
+
+      listed : (app : LoadedApp) → IsLoadedOn m app → (s : Spot) → Contains app.plan.spots s → Contains (usable_spots m) s
+      listed app on s has = usable_there m s (usable_spot m app on s has)
+
       never : (a b : Spot) → IsSpotBefore a b → a ≡ b → ⊥
       never a b (inl x) same = let e : a.chip.x ≡ b.chip.x = ap (λ (s : Spot). s.chip.x) same in absurd (omega (arith, x, e))
       never a b (inr (e, inl y)) same = let e' : a.chip.y ≡ b.chip.y = ap (λ (s : Spot). s.chip.y) same in absurd (omega (arith, y, e'))
       never a b (inr (e, inr (e', c))) same = let e'' : a.core ≡ b.core = ap (λ (s : Spot). s.core) same in absurd (omega (arith, c, e''))
-
-  pub routed : AllPairs ShareNoPlace app.ranges → AreRoutedApart m (nets_of app)
-  routed apart = record {
-    trees = trees_of;
-    roots = All-each (λ (x : NetPlan). IsInside m x.tree.root) (nets_of app) (λ x has.
-        let f = facts_of x has in subst (λ (y : NetPlan). IsInside m y.tree.root) f.is (subst (IsInside m) (sym f.valid.root) (spot_inside f.net.source f.valid.source)));
-    cores = targets_in (λ (s : Spot). s.core < 24) (λ s has. let p = usable_parts m s (usable_spot s has) in let most = p.2 in omega (arith, most));
-    apart = λ i j d less below meet. own_disjoint apart i j d less below meet.key (record { fits = meet.small; matches = meet.first }) (record { fits = meet.small; matches = meet.second });
-  }
-
--- two applications whose ranges are apart share no key
-pub apps_disjoint : (m : Description) (a b : LoadedApp) → IsLoadedOn m a → IsLoadedOn m b → ((r s : Range) → Contains a.ranges r → Contains b.ranges s → ShareNoPlace r s) →
-    (x y : NetPlan) → Contains (nets_of a) x → Contains (nets_of b) y → (key : ℕ) → IsKeyOf x.block key → IsKeyOf y.block key → ⊥
-apps_disjoint m a b on_a on_b apart x y in_a in_b key first second =
-    let f = facts_of m a on_a x in_a in
-    let g = facts_of m b on_b y in_b in
-    apart f.range g.range (Contains-at a.ranges f.at f.range f.got) (Contains-at b.ranges g.at g.range g.got) 0 key (key_place m a on_a x in_a.0 f key first) (key_place m b on_b y in_b.0 g key second)

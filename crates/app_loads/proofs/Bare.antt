@@ -3,11 +3,11 @@ use Rattle.app_loads.proofs.Common.{All-nil, All-replicate, AreApps, AreNetsOn, 
 use Rattle.app_loads.proofs.Common.{List, LoadedApp, Mark, McCopy, MeetsLedgerFor, None, Option, SendAlone, Setup, Some, Spot, State, [], all_free, all_hand_marks, ap, arith, asked_of, at_core}
 use Rattle.app_loads.proofs.Common.{bare_host, bare_mesh, cases_lt, chip_count, chip_of, core_marks, empty_mesh, false, gathered_nothing, get_or, get_or-append_right, get_or-replicate}
 use Rattle.app_loads.proofs.Common.{get_or_append_left, get_or_from_slice_get, hand_marks, hole_of, if◌then◌else◌, in_queue, index_below, index_of, input_marks, is_free, leb, leb-false, leb-true}
-use Rattle.app_loads.proofs.Common.{length, length-append, length-replicate, ltb, marks_at, marks_of, nat_tests, not, open_regions, port_of, refl, region_size, replicate, same_Some, slice_get}
-use Rattle.app_loads.proofs.Common.{slice_get-get_or, slice_get_within, subst, suc, sym, table_at, true, unsent, unsent_marks, unused, zero, ℕ, ◌%◌, ◌&&◌, ◌*◌, ◌++◌, ◌+◌, ◌-◌, ◌/◌, ◌<◌, ◌==◌, ◌∙◌}
-use Rattle.app_loads.proofs.Common.{◌∷◌, ◌≡◌, ◌≤◌}
+use Rattle.app_loads.proofs.Common.{length, length-append, length-replicate, ltb, marks_at, marks_of, nat_tests, none-some, not, open_regions, port_of, refl, region_size, replicate, same_Some}
+use Rattle.app_loads.proofs.Common.{slice_get, slice_get-get_or, slice_get_within, subst, suc, sym, table_at, true, unsent, unsent_marks, unused, zero, ℕ, ◌%◌, ◌&&◌, ◌*◌, ◌++◌, ◌+◌, ◌-◌, ◌/◌, ◌<◌}
+use Rattle.app_loads.proofs.Common.{◌==◌, ◌∙◌, ◌∷◌, ◌≡◌, ◌≤◌}
+use Rattle.app_loads.proofs.{Ledgers.from_packets, Resting.rest_alone}
 use Rattle.tcam_find.specs.Memory.{empty_memory}
-use Rattle.app_loads.proofs.Resting.{rest_alone}
 
 -- ---- copies
 
@@ -19,11 +19,7 @@ no_marks u =
     let third : all_hand_marks (empty_mesh u) ≡ [] =
     gathered_nothing (λ i (h : Option Hand). hand_marks (chip_of u.machine i) h) None (λ j. refl) 0 (u.machine.width * u.machine.height) in
     let fourth : core_marks (empty_mesh u) ≡ [] = gathered_nothing (λ v (copies : List McCopy). marks_at (at_core v) copies) [] (λ j. refl) 0 (length u.spots) in
-    joined (unsent_marks (empty_mesh u)) (input_marks (empty_mesh u)) (all_hand_marks (empty_mesh u)) (core_marks (empty_mesh u)) first second third fourth
-  where
-    joined : (a b c d : List Mark) → a ≡ [] → b ≡ [] → c ≡ [] → d ≡ [] → a ++ (b ++ (c ++ (d ++ ([] ++ [])))) ≡ []
-    joined a b c d ea eb ec ed =
-        ap (λ l. l ++ (b ++ (c ++ (d ++ ([] ++ []))))) ea ∙ (ap (λ l. l ++ (c ++ (d ++ ([] ++ [])))) eb ∙ (ap (λ l. l ++ (d ++ ([] ++ []))) ec ∙ ap (λ l. l ++ ([] ++ [])) ed))
+    rw (first, second, third, fourth) refl
 
 none_marked : (u : Setup) (k : Mark) → Contains (marks_of (empty_mesh u)) k → ⊥
 none_marked u k has = Contains-none k (subst (λ (l : List Mark). Contains l k) (no_marks u) has)
@@ -32,17 +28,7 @@ no_nets : (m : Description) (spots : List Spot) → AreNetsOn m spots []
 no_nets m spots = grind (arith, All-nil)
 
 no_ledger : (u : Setup) → MeetsLedgerFor (empty_mesh u) [] (asked_of [])
-no_ledger u = record {
-  ledger = record {
-    nets_stand = no_nets u.machine u.spots;
-    labelled = λ k has. absurd (none_marked u k has);
-    on_a_trail = λ k has. absurd (none_marked u k has);
-    once_on_each = λ k has. absurd (none_marked u k has);
-  };
-  of_its_net = λ i a asked. absurd (cc);
-  was_asked = λ k has. absurd (none_marked u k has);
-  each_asked = λ i a asked. absurd (cc);
-}
+no_ledger u = from_packets (empty_mesh u) [] (asked_of []) (no_nets u.machine u.spots) (λ i a asked. absurd (none-some a asked)) (λ k has. absurd (none_marked u k has))
 
 -- ---- regions
 

@@ -1,13 +1,13 @@
 -- What the claims of a plan are, and that each net and chip has its own.
-use Rattle.app_loads.proofs.Common.{All-at, Among, AppNet, AppPlan, Block, Bool, Claim, Contains, Description, IfSome, IsAppNet, IsFair, IsPlan, IsUsable, Keys, KeysOut, List, Loaded, MemoryOut, None}
-use Rattle.app_loads.proofs.Common.{Option, Rows, RowsOut, Some, [], among_contains, among_either, among_gathered, among_left, among_right, ap, arith, both_ways, cases_eq, cases_lt, chip_count}
-use Rattle.app_loads.proofs.Common.{chip_of, chip_of-inside, claims_of, contains_among, count_by, eq-eqb, fails_before_first, false, find, find_at, fixed_claim, flat_map, gathered, gathered_among}
-use Rattle.app_loads.proofs.Common.{get_or, get_or-map-range_with_len, has_chip, if◌then◌else◌, index_below, index_of, index_of-chip_of, inl, inr, key_claim, le-leb, leb, leb-true, length}
-use Rattle.app_loads.proofs.Common.{length-map-range_with_len, live_inside, map, memory_claim, ne_eqb, passes_at_first, place_of, position_or_len, position_or_len_is, pow_pos, range_with_len, refl}
-use Rattle.app_loads.proofs.Common.{row_claim, size_for, size_of, slice_get, slice_get-get_or, slice_get_there, subst, suc, sym, true, unwrap_or, usable_parts, zero, zip, zip-first_at, ℕ, ◌%◌, ◌++◌}
-use Rattle.app_loads.proofs.Common.{◌+◌, ◌-◌, ◌<◌, ◌==◌, ◌^◌, ◌∙◌, ◌∷◌, ◌≡◌, ◌≢◌, ◌≤◌}
+use Rattle.app_loads.proofs.Common.{All-at, Among, AppNet, AppPlan, Block, Bool, Claim, Contains, Description, IfSome, IsAppNet, IsFair, IsPlan, IsRegion, IsUsable, Keys, KeysOut, List, Loaded}
+use Rattle.app_loads.proofs.Common.{MemoryOut, None, Option, Rows, RowsOut, Some, [], among_contains, among_either, among_gathered, among_left, among_right, ap, arith, both_ways, cases_eq, cases_lt}
+use Rattle.app_loads.proofs.Common.{chip_count, chip_of, chip_of-inside, claims_of, contains_among, count_by, eq-eqb, fails_before_first, false, find, find_at, fixed_claim, flat_map, gathered}
+use Rattle.app_loads.proofs.Common.{gathered_among, get_or, get_or-map-range_with_len, has_chip, if◌then◌else◌, index_below, index_of, index_of-chip_of, inl, inr, key_claim, le-leb, leb, leb-true}
+use Rattle.app_loads.proofs.Common.{length, length-map-range_with_len, live_inside, map, memory_claim, ne_eqb, passes_at_first, place_of, position_or_len, position_or_len_is, pow_pos, range_with_len}
+use Rattle.app_loads.proofs.Common.{refl, region_size, row_claim, size_for, size_of, slice_get, slice_get-get_or, slice_get_there, subst, suc, sym, true, unwrap_or, usable_parts, zero, zip}
+use Rattle.app_loads.proofs.Common.{zip-first_at, ℕ, ◌%◌, ◌++◌, ◌+◌, ◌-◌, ◌<◌, ◌==◌, ◌^◌, ◌∙◌, ◌∷◌, ◌≡◌, ◌≢◌, ◌≤◌}
+use Rattle.app_loads.proofs.{Blocks.block_aligned, Blocks.block_room, LeavingLists.among_flat, LeavingLists.flat_among}
 use Rattle.app_loads.specs.declared.places.Region.TheVariants.{Memory}
-use Rattle.app_loads.proofs.Blocks.{block_aligned, block_room}
 
 -- ---- the size for a number of keys
 
@@ -45,18 +45,6 @@ size_facts keys few =
     (made.0, omega (arith, made.1), ap (λ o. unwrap_or o 0) made.2, leb-true keys (2 ^ made.0) made.3)
 
 -- ---- members of the parts
-
-pub among_flat : {X Y : Type 0} (f : X → List Y) (y : Y) (xs : List X) → Among y (flat_map f xs) → (x : X) × Among x xs × Among y (f x)
-among_flat f y [] a = absurd a
-among_flat f y (x ∷ xs) a = elim (among_either y (f x) (flat_map f xs) a) [
-  | inl here ↦ (x, inl refl, here)
-  | inr later ↦ (let rest = among_flat f y xs later in (rest.0, inr rest.1, rest.2))
-]
-
-pub flat_among : {X Y : Type 0} (f : X → List Y) (y : Y) (xs : List X) (x : X) → Among x xs → Among y (f x) → Among y (flat_map f xs)
-flat_among f y [] x in_xs a = absurd in_xs
-flat_among f y (z ∷ xs) x (inl here) a = among_left y (f z) (flat_map f xs) (subst (λ w. Among y (f w)) here a)
-flat_among f y (z ∷ xs) x (inr later) a = among_right y (f z) (flat_map f xs) (flat_among f y xs x later a)
 
 among_range : (i a n : ℕ) → Among i (range_with_len a n) → (a ≤ i) × (i < a + n)
 among_range i a zero x = absurd x
@@ -146,6 +134,35 @@ module _ (m : Description) (plan : AppPlan) (valid : IsPlan m plan) where
         due = λ e. cc;
       })
 
+  -- of a claim of a power of two of keys for a net
+  of_net : (j : ℕ) (net : AppNet) → slice_get plan.nets j ≡ Some net → (claim : Claim) → claim.region ≡ Keys → claim.refusal ≡ KeysOut j →
+      (e : ℕ) → e ≤ 32 → claim.size ≡ 2 ^ e → net.keys ≤ claim.size →
+      0 < claim.align → IfSome claim.fixed (λ p. (p % claim.align ≡ 0) × (p + claim.size ≤ 4294967296)) →
+      ((p : ℕ) → p % claim.align ≡ 0 → IfSome claim.fixed (λ q. p ≡ q) → p % claim.size ≡ 0) → Facts claim
+  of_net j net is claim region refusal e few size enough step fixed aligned =
+      let place : place_of m claim.region ≡ 0 = ap (place_of m) region in
+      record {
+        fair = record {
+          region = subst (IsRegion m) (sym region) tt;
+          there = omega (arith, place);
+          some = omega (arith, size, pow_pos e);
+          step = step;
+          fixed = subst (λ n. IfSome claim.fixed (λ p. (p % claim.align ≡ 0) × (p + claim.size ≤ n))) (sym (ap (region_size m) place)) fixed;
+        };
+        keyed = λ i its. record {
+          net = net;
+          is = ap (slice_get plan.nets) (sym (same_net j i (sym refusal ∙ its))) ∙ is;
+          region = region;
+          e = e;
+          few = few;
+          size = size;
+          enough = enough;
+          aligned = aligned;
+        };
+        row = λ i at. absurd (omega (arith, place, at));
+        due = λ its. let never : KeysOut j ≡ Loaded = sym refusal ∙ its in cc;
+      }
+
   of_fixed : (claim : Claim) → Among claim fixed → Facts claim
   of_fixed claim a =
       let found = among_gathered (λ j (net : AppNet). fixed_claim j net.fixed) claim plan.nets a in
@@ -157,26 +174,12 @@ module _ (m : Description) (plan : AppPlan) (valid : IsPlan m plan) where
       by_fixed j net is (Some block) e (inl here) =
           let f = subst (λ o. IfSome o (λ b. (zeros : ℕ) × (zeros ≤ 32) × (b.mask + 2 ^ zeros ≡ 2 ^ 32) × (net.keys ≤ 2 ^ zeros))) e (net_at j net is).fixed in
           let sum = f.2 in
-          let size : size_of block ≡ 2 ^ f.0 = omega (arith, sum) in
-          let aligned = block_aligned block f.0 f.1 f.2 in
-          let room = block_room block f.0 f.1 f.2 in
-          let pos = pow_pos f.0 in
           let many = f.3 in
-          subst Facts (sym here) (record {
-            fair = record { region = tt; there = omega arith; some = omega (arith, size, pos); step = omega arith; fixed = (omega arith, omega (arith, size, room)) };
-            keyed = λ i e'. record {
-              net = net;
-              is = ap (slice_get plan.nets) (sym (same_net j i e')) ∙ is;
-              region = refl;
-              e = f.0;
-              few = f.1;
-              size = size;
-              enough = omega (arith, many, size);
-              aligned = λ p at p_is. subst (λ q. q % size_of block ≡ 0) (sym p_is) (subst (λ s. block.key % s ≡ 0) (sym size) aligned);
-            };
-            row = λ i at. absurd (let r : 0 ≡ 1 + (n + i) = at in omega (arith, r));
-            due = λ e'. cc;
-          })
+          let size : size_of block ≡ 2 ^ f.0 = omega (arith, sum) in
+          let room = block_room block f.0 f.1 f.2 in
+          let aligned : block.key % size_of block ≡ 0 = subst (λ s. block.key % s ≡ 0) (sym size) (block_aligned block f.0 f.1 f.2) in
+          subst Facts (sym here) (of_net j net is _ refl refl f.0 f.1 size (omega (arith, many, size)) (omega arith) (omega arith, omega (arith, size, room))
+          (λ p at p_is. subst (λ q. q % size_of block ≡ 0) (sym p_is) aligned))
 
   of_keys : (claim : Claim) → Among claim keys → Facts claim
   of_keys claim a =
@@ -189,23 +192,8 @@ module _ (m : Description) (plan : AppPlan) (valid : IsPlan m plan) where
       by_fixed j net is None e (inl here) =
           let s = size_facts net.keys (net_at j net is).few_keys in
           let size = s.2 in
-          let pos = pow_pos s.0 in
           let many = s.3 in
-          subst Facts (sym here) (record {
-            fair = record { region = tt; there = omega arith; some = omega (arith, size, pos); step = omega (arith, size, pos); fixed = tt };
-            keyed = λ i e'. record {
-              net = net;
-              is = ap (slice_get plan.nets) (sym (same_net j i e')) ∙ is;
-              region = refl;
-              e = s.0;
-              few = s.1;
-              size = size;
-              enough = omega (arith, many, size);
-              aligned = λ p at p_is. at;
-            };
-            row = λ i at. absurd (let r : 0 ≡ 1 + (n + i) = at in omega (arith, r));
-            due = λ e'. cc;
-          })
+          subst Facts (sym here) (of_net j net is _ refl refl s.0 s.1 size (omega (arith, many, size)) (omega (arith, size, pow_pos s.0)) tt (λ p at p_is. at))
 
   of_rows : (claim : Claim) → Among claim rows → Facts claim
   of_rows claim a = grind (arith, found, among_flat, among_range, count_by, index_of-chip_of, chip_of-inside, at)

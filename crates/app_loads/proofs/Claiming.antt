@@ -2,7 +2,7 @@
 use Rattle.app_loads.proofs.Common.{AppNet, AppPlan, Claim, Description, IsPowerOfTwo, List, Some, Spot, [], ap, append_assoc, arith, cases_lt, chip_count, claims_of, false, fixed_claim, flat_map}
 use Rattle.app_loads.proofs.Common.{gathered, gathered_more, get_or, inl, inr, key_claim, le-leb, leb, length, length-zip, lt-leb, max, memory_claim, pow_mono, pow_more, range_with_len, refl}
 use Rattle.app_loads.proofs.Common.{row_claim, size_for, slice_get, suc, sym, take, take_all, unwrap_or, zero, zip, ℕ, ◌++◌, ◌+◌, ◌/◌, ◌<◌, ◌^◌, ◌∙◌, ◌∷◌, ◌≡◌, ◌≤◌}
-use Rattle.app_loads.proofs.ClaimCases.{first_of_row}
+use Rattle.app_loads.proofs.{ClaimCases.first_of_row}
 
 -- ---- lists gathered item by item
 
@@ -19,10 +19,9 @@ joined a b c d x0 x1 x2 x3 x4 e0 e1 e2 e3 e4 = grind (arith, append_assoc (a ++ 
 -- ---- two lists side by side
 
 pub zip_at : {X Y : Type 0} (xs : List X) (ys : List Y) (i : ℕ) (d : X) (e : Y) → length ys ≡ length xs → i < length xs → slice_get (zip xs ys) i ≡ Some (get_or xs i d, get_or ys i e)
-zip_at [] ys i d e same below = absurd (omega (arith, below))
-zip_at (x ∷ xs) [] i d e same below = absurd (omega (arith, same))
 zip_at (x ∷ xs) (y ∷ ys) zero d e same below = refl
 zip_at (x ∷ xs) (y ∷ ys) (suc i) d e same below = zip_at xs ys i d e (omega (arith, same)) (omega (arith, below))
+zip_at xs ys i d e same below = absurd (omega (arith, same, below))
 
 pub zip_long : {X Y : Type 0} (xs : List X) (ys : List Y) (i : ℕ) → length xs ≤ i → length (zip xs ys) ≤ i
 zip_long xs ys i end = omega (arith, length-zip xs ys, end)

@@ -1,14 +1,16 @@
 -- The names that the proofs of this crate cite from outside of them, passed on from one place. Declares nothing.
 pub use Rattle.app_loads.specs.{Alike.AreAlike, Alike.IsQuiet, Applications.AreApps, Applications.HasRows, Applications.HaveOtherNumbers, Applications.HaveRows, Applications.IsLoadedOn}
 pub use Rattle.app_loads.specs.{Applications.IsRangeFor, Claims.AreBlocks, Claims.AreServed, Claims.IsBlockOf, Claims.IsLeastOpenRange, Claims.IsOpenRange, Claims.IsRefusalDue, Claims.IsRefusedClaim}
-pub use Rattle.app_loads.specs.{Claims.claims_of, Claims.entries_claim, Claims.fixed_claim, Claims.has_chip, Claims.key_claim, Claims.memory_claim, Claims.row_claim, Claims.size_for, Counting.HasTree}
+pub use Rattle.app_loads.specs.{Claims.claims_of, Claims.entries_claim, Claims.fixed_claim, Claims.has_chip, Claims.key_claim, Claims.memory_claim, Claims.row_claim, Claims.size_for}
+pub use Rattle.app_loads.specs.{Counting.HasTree}
 pub use Rattle.app_loads.specs.{Counting.HasTreeInside, Counting.IsRunEnd, Counting.chip_places, Counting.end_places, Counting.run_claim, Counting.tree_places, Earlier.with_earlier, Grouping.Grouped}
 pub use Rattle.app_loads.specs.{Grouping.HasPut, Grouping.all_grouped, Grouping.is_mixed_group, Grouping.is_others_group, Grouping.is_own_group, Groups.EndsWith, Groups.IsBetween, Groups.IsGroup}
 pub use Rattle.app_loads.specs.{Groups.deliveries_at, Groups.deliveries_in, Groups.delivery_of, Groups.grouped_of, Groups.last_arrivals, Groups.sent_of, Host.Free, Host.Host, Host.all_nets}
 pub use Rattle.app_loads.specs.Host.{all_ranges, all_spots, asked_of, asked_of_app, either, is_loaded, is_spot_taken, net_with, nets_of, nets_with}
 pub use Rattle.app_loads.specs.{Inner.IsHost, Inner.host_of, Inner.mesh_in, Inner.numbers_of, Joining.AreKeyed, Joining.AreSent, Joining.AreWritten, Joining.CanJoin, Joining.CanSettle}
 pub use Rattle.app_loads.specs.{Joining.IsKeyRange, Joining.IsSent, Joining.IsServedApp, Joining.IsSettled, Joining.NoneUnsent, Leaving.IsLeastUnderWay, Leaving.NoneUnderWay, Leaving.WaitsIn}
-pub use Rattle.app_loads.specs.Leaving.{held_packets, is_delivery_of, is_packet_of, least_own_packet, lesser_of, mesh_without, others_than, own_packet, packet_numbers_of, unsent_numbers}
+pub use Rattle.app_loads.specs.Leaving.{held_packets, is_delivery_of, is_packet_of, is_record_of, least_own_packet, lesser_of, mesh_without, others_than, own_packet, packet_numbers_of}
+pub use Rattle.app_loads.specs.Leaving.{unsent_numbers}
 pub use Rattle.app_loads.specs.{Loading.HasLoaded, Loading.IsLoadRefusal, Loading.IsWhyNotLoaded, Opening.bare_host, Opening.bare_mesh, Opening.grid_spots, Opening.spot_of, Opening.usable_spots}
 pub use Rattle.app_loads.specs.{Plans.IsAppNet, Plans.IsPacketOfApp, Plans.IsPlan, Plans.IsSpotBefore, Plans.MayLoad, Regions.AreFreeBeside, Regions.IsFreeBeside, Regions.IsRangeWithin}
 pub use Rattle.app_loads.specs.Regions.{IsRegion, ShareNoPlace, all_free, chip_count, is_taken, open_regions, place_of, range_has, region_size}
@@ -16,8 +18,10 @@ pub use Rattle.app_loads.specs.{Removing.CanLeave, Removing.HasLeft, Removing.Is
 pub use Rattle.app_loads.specs.{Running.HasMovedMesh, Running.HasSomeUnsent, Running.IsBlockWith, Running.IsClean, Sending.AreCleared, Sending.AreSources, Sending.AreWithSources, Sending.CanAdd}
 pub use Rattle.app_loads.specs.{Sending.CanSend, Sending.IsPacketOn, Sending.IsSameBeside, Sending.IsSendingFrom, Sending.source_at, Sending.source_vertex, Taking.AreFreeAgain, Taking.AreGivenBack}
 pub use Rattle.app_loads.specs.Taking.{AreRegionsOf, AreServedAlways, AreTaken, AreTakenAlways, CanServe, HaveRoom, HaveServed, IsDueAlways, IsDueOf, IsFair, IsFairFor, RefusesClaim, ServesClaim}
-pub use Rattle.app_loads.specs.{Taking.free_places_in, Taking.frees, Taking.range_at, Unloading.HasUnloaded, Unloading.IsWhyNotUnloaded, Unloading.NoneWaits, Writing.AreCopied, Writing.AreUnused}
-pub use Rattle.app_loads.specs.{Writing.AreUnusedFrom, Writing.CanClear, Writing.CanCopy, Writing.HaveRooms, Writing.tables_in, declared.answers.Ended.Ended, declared.answers.LoadErr.LoadErr}
+pub use Rattle.app_loads.specs.{Taking.free_places_in, Taking.frees, Taking.range_at, Unloading.HasUnloaded, Unloading.IsWhyNotUnloaded, Unloading.NoneWaits, Writing.AreCopied, Writing.AreFilled}
+pub use Rattle.app_loads.specs.{Writing.AreFilledFrom, Writing.AreUnused}
+pub use Rattle.app_loads.specs.{Writing.CanClear, Writing.CanCopy, Writing.FitsTable, Writing.row_entry, Writing.HaveRooms, Writing.tables_in, declared.answers.Ended.Ended}
+pub use Rattle.app_loads.specs.{declared.answers.LoadErr.LoadErr}
 pub use Rattle.app_loads.specs.declared.answers.{LoadErr.TheVariants.Refused, LoadRefusal.LoadRefusal, LoadRefusal.TheVariants.KeysOut, LoadRefusal.TheVariants.Loaded}
 pub use Rattle.app_loads.specs.declared.answers.{LoadRefusal.TheVariants.MemoryOut, LoadRefusal.TheVariants.RowsOut, UnloadErr.TheVariants.NotLoaded, UnloadErr.TheVariants.Waiting}
 pub use Rattle.app_loads.specs.declared.{answers.UnloadErr.UnloadErr, apps.Apps.TheInside.Inside, arrivals.Arrival.Arrival, group.Sent.Sent, known.KnownBlock.KnownBlock, leaving.Left.Left}
@@ -34,6 +38,7 @@ pub use Rattle.mesh_core.proofs.{AskedPackets.asked_from, AskedPackets.asked_par
 pub use Rattle.mesh_core.proofs.{Counting.counts_one, EventsLaw.IsMesh-after_events, EventsLaw.events_keep_for, ExpectedList.is_of, ExpectedList.is_of_from, ExpectedList.is_of_parts}
 pub use Rattle.mesh_core.proofs.{Fixed.setup_after, LedgerLaw.one_net, Moves.chip_of-index_of, Moves.mark, ServingLaws.vertex_at-below, ServingLaws.vertex_behind-core, Standing.StandsAt}
 pub use Rattle.mesh_core.proofs.{Standing.delivered_mark, Standing.mark_stands, VertexTableLaws.same_spot_place, VertexTableLaws.site_inside, VertexTableLaws.spot_place-below, Ways.some_way}
+pub use Rattle.mesh_core.proofs.{MarkTests.mark_eq, MarkTests.mark_eq_same, MarkTests.mark_eq_true, Moves.behind_hands, Moves.behind_inputs, Moves.behind_unsent}
 pub use Rattle.mesh_core.proofs.Ways.{vertex_at_stands, vertex_there}
 pub use Rattle.mesh_core.specs.{Expected.IsAtRest, Expected.NothingWaits, Ledger.Asked, Ledger.Label, Ledger.MeetsLedger, Ledger.MeetsLedgerFor, Ledger.all_hand_marks, Ledger.core_marks}
 pub use Rattle.mesh_core.specs.Ledger.{delivered_marks, dumped_marks, hand_marks, input_marks, label_of, marks_at, marks_of, port_of, unsent_marks}
@@ -55,9 +60,11 @@ pub use Rattle.range_store.specs.{Views.CanGive, Views.Region, declared.holes.Ho
 pub use Rattle.spin_base.proofs.{Counts.count_by-append, Counts.count_by-cons, Counts.count_by-map, Counts.count_by-none, Equality.chip_eq_true, Equality.spot_eq_same, Equality.spot_eq_true}
 pub use Rattle.spin_base.proofs.{Exchange.PutIn, Exchange.count_put_in, Exchange.put_in_before, Exchange.put_in_gathered, Gathering.among_gathered, Gathering.gathered_among, Gathering.gathered_more}
 pub use Rattle.spin_base.proofs.{Gathering.gathered_nothing, Gathering.gathered_of_none, Members.Among, Members.Contains-at, Members.Contains-cases, Members.Contains-filter, Members.Contains-first}
-pub use Rattle.spin_base.proofs.Members.{Contains-from_filter, Contains-later, Contains-map, Contains-none, Contains-unmap, among_any, among_at, among_contains, among_either, among_filter, among_left}
+pub use Rattle.spin_base.proofs.Members.{Contains-from_filter, Contains-later, Contains-map, Contains-none, Contains-unmap, among_any, among_at, among_contains, among_either, among_filter}
+pub use Rattle.spin_base.proofs.Members.{among_left}
 pub use Rattle.spin_base.proofs.Members.{among_map, among_right, any_among, contains_among, map_among, position_nowhere, position_there}
-pub use Rattle.spin_base.proofs.{Pairs.All-flat_map, Pairs.AllPairs-across, Pairs.AllPairs-append, Pairs.AllPairs-head, Pairs.AllPairs-left, Pairs.AllPairs-right, Pairs.AllPairs-tail, Places.All-at}
+pub use Rattle.spin_base.proofs.{Pairs.All-flat_map, Pairs.AllPairs-across, Pairs.AllPairs-append, Pairs.AllPairs-head, Pairs.AllPairs-left, Pairs.AllPairs-nil, Pairs.AllPairs-right}
+pub use Rattle.spin_base.proofs.{Pairs.AllPairs-tail, Places.All-at}
 pub use Rattle.spin_base.proofs.Places.{All-each, AllZip-at_first, AllZip-at_second, enumerate_more, map_more_at, none_within, set-slice_get, slice_get-mapped, slice_get-push_cases}
 pub use Rattle.spin_base.proofs.{Places.slice_get-set_other, Places.slice_get-set_same, Places.slice_get_there, Places.take_more_at, Places.unmapped, Places.zip-first_at, Ranges.slice_get-map_range}
 pub use Rattle.spin_base.specs.{Equality.chip_eq, Equality.spot_eq, Gathered.gathered, Lookup.default_route, Lookup.matches, Outputs.IsOutput, Outputs.has, declared.blocks.Block.Block}
@@ -68,7 +75,8 @@ pub use Rattle.std.proofs.Common.{Bool, Err, Global, IfOk, IsTrue, List, None, O
 pub use Rattle.std.proofs.Common.{false, find, get_or, if◌then◌else◌, inl, inr, leb, length, ltb, map, max, min, not, refl, replicate, rules, set, subst, suc, sym, take, take-append-drop, true, zero}
 pub use Rattle.std.proofs.Common.{ℕ, ◌%◌, ◌&&◌, ◌*◌, ◌++◌, ◌+◌, ◌-◌, ◌/◌, ◌<◌, ◌==◌, ◌^◌, ◌||◌, ◌↔◌, ◌∙◌, ◌∷◌, ◌≡◌, ◌≢◌, ◌≤◌, ◌⊎◌}
 pub use Rattle.std.proofs.{Math.Bool.or-false, Math.Pow.pow_mono, Math.Seq.drop-cons, Math.Seq.take-length, iter.runs.Made.chains, lemmas.Bool.Decides.nat_tests, lemmas.Bool.and_from}
-pub use Rattle.std.proofs.lemmas.Bool.{and_parts, and_right, both_ways, cases_Bool, cases_eq, cases_lt, cases_order, cond-false, cond-true, cond_both, eq-eqb, eqb-true, false_from_ne_true, false≢true}
+pub use Rattle.std.proofs.lemmas.Bool.{and_parts, and_right, both_ways, cases_Bool, cases_eq, cases_lt, cases_order, cond-false, cond-true, cond_both, eq-eqb, eqb-true, false_from_ne_true}
+pub use Rattle.std.proofs.lemmas.Bool.{false≢true}
 pub use Rattle.std.proofs.lemmas.Bool.{le-leb, le-ltb, leb-false, leb-true, lt-leb, lt-ltb, ltb-true, ne_eqb, not-false, not-true, or_cases, or_left, or_parts, or_right}
 pub use Rattle.std.proofs.lemmas.{Grind.common_steps, Grind.flat_map-append, Grind.pow_more, Iterator.Consumers.YieldsList-at, Iterator.Consumers.YieldsList-from_chain}
 pub use Rattle.std.proofs.lemmas.Iterator.{Consumers.YieldsList-from_filter, Consumers.fold_from_yields_List, YieldsList-from_map, YieldsList-from_range, YieldsList-from_slice, items_from_collect}

@@ -1,59 +1,43 @@
 -- Of packets of which no copy is under way, two meshes that meet the ledger of the same packets have as many deliveries.
-use Rattle.app_loads.proofs.Common.{Among, AreNetsOn, Asked, Bool, Contains, Contains-filter, Delivery, Description, DumpRec, Exit, IsKeyOf, IsUnderWayAt, IsWayOn, List, Mark, McCopy, MeetsLedgerFor}
-use Rattle.app_loads.proofs.Common.{NetPlan, Option, Some, Spot, StandsAt, State, Station, [], among_contains, among_filter, and_from, and_parts, ap, arith, at_core, contains_among, count_by}
-use Rattle.app_loads.proofs.Common.{count_by-append, count_by-map, count_covered, count_le, counted, delivered, delivered_mark, dumped, eq-eqb, eqb-true, filter, in_hand, in_queue, is_of, is_of_from}
-use Rattle.app_loads.proofs.Common.{is_of_parts, is_packet_on_trail, label_of, length, length-filter, mark, mark_stands, marks_of, on_trail, one_net, same_Some, subst, sym, true, unsent}
-use Rattle.app_loads.proofs.Common.{vertex_at_stands, ℕ, ◌&&◌, ◌==◌, ◌∙◌, ◌≡◌, ◌≤◌}
-use Rattle.app_loads.proofs.LeavingLists.{after_cores, after_hands, after_inputs, after_unsent}
+use Rattle.app_loads.proofs.Common.{Among, AreNetsOn, Asked, Bool, Contains, Contains-filter, Delivery, Description, DumpRec, Exit, IsUnderWayAt, IsWayOn, List, Mark, McCopy, MeetsLedgerFor, NetPlan}
+use Rattle.app_loads.proofs.Common.{Option, Some, Spot, StandsAt, State, Station, [], among_contains, among_filter, and_from, and_parts, ap, arith, behind_hands, behind_inputs, behind_unsent}
+use Rattle.app_loads.proofs.Common.{contains_among, count_by, count_by-append, count_by-map, count_covered, count_le, counted, delivered, delivered_mark, dumped, eq-eqb, eqb-true, filter, is_of}
+use Rattle.app_loads.proofs.Common.{is_of_from, is_of_parts, is_packet_on_trail, length, length-filter, mark, mark_stands, marks_of, on_trail, refl, same_Some, subst, sym, true, vertex_at_stands, ℕ}
+use Rattle.app_loads.proofs.Common.{◌&&◌, ◌==◌, ◌∙◌, ◌≡◌, ◌≤◌}
+use Rattle.app_loads.proofs.{Ledgers.trailed}
 
 abbrev mark_of : Delivery → Mark
 mark_of d = mark d.copy (delivered d.vertex)
 
 -- The marks of deliveries are some of all marks.
 few_delivered : (p : Mark → Bool) (s : State) → count_by (λ d. p (mark_of d)) s.delivered ≤ count_by p (marks_of s)
-few_delivered p s = grind (arith, count_by, count_by-map, count_by-append, after_unsent, after_inputs, after_hands, after_cores)
+few_delivered p s = grind (arith, count_by, count_by-map, count_by-append, behind_unsent, behind_inputs, behind_hands)
 
--- What the ledger says of a delivery: the way on which it came, and what was asked for.
-record HasArrived (s : State) (nets : List NetPlan) (asked : ℕ → Option Asked) (d : Delivery) : Type 0 where
-  net : NetPlan
-  in_nets : Contains nets net
-  is_key : IsKeyOf net.block d.copy.key
+-- What the ledger says of a delivery: what was asked for, and the way on which it came.
+record HasArrived (s : State) (asked : ℕ → Option Asked) (d : Delivery) : Type 0 where
+  for : Asked
+  was_asked : asked d.copy.packet ≡ Some for
   target : Spot
   branch : List Exit
   from : ℕ
-  way : IsWayOn s.setup.machine s.setup.spots net target branch from d.vertex
+  way : IsWayOn s.setup.machine s.setup.spots for.net target branch from d.vertex
   hops : d.copy.hop ≡ length branch
-  for : Asked
-  was_asked : asked d.copy.packet ≡ Some for
-  key : d.copy.key ≡ for.label.key
 
-module _ (s : State) (nets : List NetPlan) (asked : ℕ → Option Asked) (meets : MeetsLedgerFor s nets asked) where
-  has_arrived : (d : Delivery) → Among d s.delivered → HasArrived s nets asked d
-  has_arrived d a =
-      let has = among_contains (mark_of d) (marks_of s) (delivered_mark s d a) in
-      let on = meets.ledger.on_a_trail (mark_of d) has in
-      let parts = and_parts (d.vertex == on.3.3) (d.copy.hop == length on.3.1) on.3.5 in
-      let vertex : d.vertex ≡ on.3.3 = eqb-true d.vertex on.3.3 parts.0 in
-      let what = meets.was_asked (mark_of d) has in
-      record {
-        net = on.0;
-        in_nets = on.1;
-        is_key = on.2;
-        target = on.3.0;
-        branch = on.3.1;
-        from = on.3.2;
-        way = subst (λ v. IsWayOn s.setup.machine s.setup.spots on.0 on.3.0 on.3.1 on.3.2 v) (sym vertex) on.3.4;
-        hops = eqb-true d.copy.hop (length on.3.1) parts.1;
-        for = what.0;
-        was_asked = what.1;
-        key = (meets.ledger.labelled (mark_of d) has).0 ∙ ap (λ (o : Option Asked). (label_of o).key) what.1;
-      }
-
-  -- of each packet that was asked for, one mark is on each way of its net
-  one_on_way : (i : ℕ) (a : Asked) → asked i ≡ Some a → (net : NetPlan) → Contains nets net → IsKeyOf net.block a.label.key →
-      (target : Spot) (branch : List Exit) (from to : ℕ) → IsWayOn s.setup.machine s.setup.spots net target branch from to →
-      count_by (is_packet_on_trail i from to branch) (marks_of s) ≡ 1
-  one_on_way i a is net in_nets key target branch from to way = grind (arith, count_by)
+has_arrived : (s : State) (nets : List NetPlan) (asked : ℕ → Option Asked) → MeetsLedgerFor s nets asked → (d : Delivery) → Among d s.delivered → HasArrived s asked d
+has_arrived s nets asked meets d a =
+    let has = among_contains (mark_of d) (marks_of s) (delivered_mark s d a) in
+    let what = meets.was_asked (mark_of d) has in
+    let on = ((trailed s nets asked meets d.copy.packet what.0 what.1).its (mark_of d) has refl).2 in
+    let parts = and_parts (d.vertex == on.3) (d.copy.hop == length on.1) on.5 in
+    record {
+      for = what.0;
+      was_asked = what.1;
+      target = on.0;
+      branch = on.1;
+      from = on.2;
+      way = subst (λ v. IsWayOn s.setup.machine s.setup.spots what.0.net on.0 on.1 on.2 v) (sym (eqb-true d.vertex on.3 parts.0)) on.4;
+      hops = eqb-true d.copy.hop (length on.1) parts.1;
+    }
 
 -- that each target has one way
 abbrev pub HasOneWay : Type 0
@@ -82,9 +66,7 @@ module _ (one_way : HasOneWay) (s t : State) (nets : List NetPlan) (asked : ℕ 
   matched : (d : Delivery) → Among d s.delivered → is_own d ≡ true → IsMatched d
   matched d a passes =
       let v = has_arrived s nets asked meets d a in
-      let one =
-      one_on_way t nets asked also d.copy.packet v.for v.was_asked v.net v.in_nets (subst (λ n. IsKeyOf v.net.block n) v.key v.is_key) v.target v.branch v.from d.vertex
-      (there v.net v.target v.branch v.from d.vertex v.way) in
+      let one = (trailed t nets asked also d.copy.packet v.for v.was_asked).once v.target v.branch v.from d.vertex (there v.for.net v.target v.branch v.from d.vertex v.way) in
       let k = counted (is_packet_on_trail d.copy.packet v.from d.vertex v.branch) (marks_of t) (omega (arith, one)) in
       let parts = and_parts (k.0.copy.packet == d.copy.packet) (on_trail v.from d.vertex v.branch k.0.copy.hop k.0.station) k.2 in
       let number : k.0.copy.packet ≡ d.copy.packet = eqb-true k.0.copy.packet d.copy.packet parts.0 in
@@ -93,41 +75,34 @@ module _ (one_way : HasOneWay) (s t : State) (nets : List NetPlan) (asked : ℕ 
     where
       by_station : (c : McCopy) (at : Station) → c.packet ≡ d.copy.packet → own c.packet ≡ true → (IsUnderWayAt at → ⊥) → StandsAt t c at →
           (from : ℕ) (branch : List Exit) → on_trail from d.vertex branch c.hop at ≡ true → IsMatched d
-      by_station c (unsent v) number mine never stands from branch on = absurd (never tt)
-      by_station c (in_queue x port) number mine never stands from branch on = absurd (never tt)
-      by_station c (in_hand x o) number mine never stands from branch on = absurd (never tt)
-      by_station c (at_core v) number mine never stands from branch on = absurd (never tt)
       by_station c (dumped x o) number mine never stands from branch on =
           absurd (subst (λ (rs : List DumpRec). Among (record { chip = x; out = o; copy = c }) rs) no_record stands)
       by_station c (delivered v) number mine never stands from branch on =
           let w : Delivery = record { vertex = v; copy = c } in
           let at : v ≡ d.vertex = eqb-true v d.vertex ((and_parts (v == d.vertex) (c.hop == length branch) on).0) in
           (w, contains_among w (filter is_own t.delivered) (Contains-filter is_own t.delivered w (among_contains w t.delivered stands) mine), is_of_from c.packet v d (sym number) (sym at))
+      by_station c at number mine never stands from branch on = absurd (never tt)
 
   -- and no two of one packet are at one vertex
   once : (w : Delivery) → Among w (filter is_own t.delivered) → count_by (is_of w.copy.packet w.vertex) s.delivered ≤ 1
   once w a =
       let v = has_arrived t nets asked also w (among_filter is_own w t.delivered a).0 in
-      let way = back v.net v.target v.branch v.from w.vertex v.way in
-      let its : IsKeyOf v.net.block v.for.label.key = subst (λ n. IsKeyOf v.net.block n) v.key v.is_key in
-      let one = one_on_way s nets asked meets w.copy.packet v.for v.was_asked v.net v.in_nets its v.target v.branch v.from w.vertex way in
+      let way = back v.for.net v.target v.branch v.from w.vertex v.way in
+      let one = (trailed s nets asked meets w.copy.packet v.for v.was_asked).once v.target v.branch v.from w.vertex way in
       let trail : Mark → Bool = is_packet_on_trail w.copy.packet v.from w.vertex v.branch in
       let fewer : count_by (is_of w.copy.packet w.vertex) s.delivered ≤ count_by (λ d. trail (mark_of d)) s.delivered =
       count_le (is_of w.copy.packet w.vertex) (λ d. trail (mark_of d)) s.delivered (λ d has passes.
       let same = is_of_parts w.copy.packet w.vertex d passes in
       let u = has_arrived s nets asked meets d has in
       let what : u.for ≡ v.for = same_Some u.for v.for (sym u.was_asked ∙ (ap asked same.0 ∙ v.was_asked)) in
-      let key : IsKeyOf u.net.block v.for.label.key = subst (λ (x : Asked). IsKeyOf u.net.block x.label.key) what (subst (λ n. IsKeyOf u.net.block n) u.key u.is_key) in
-      let net : u.net ≡ v.net = one_net nets meets.ledger.nets_stand.disjoint u.net v.net u.in_nets v.in_nets v.for.label.key key its in
-      let at_w : IsWayOn s.setup.machine s.setup.spots u.net u.target u.branch u.from w.vertex =
-      subst (λ n. IsWayOn s.setup.machine s.setup.spots u.net u.target u.branch u.from n) same.1 u.way in
+      let at_w : IsWayOn s.setup.machine s.setup.spots v.for.net u.target u.branch u.from w.vertex =
+      subst (λ (x : Asked). IsWayOn s.setup.machine s.setup.spots x.net u.target u.branch u.from w.vertex) what
+      (subst (λ n. IsWayOn s.setup.machine s.setup.spots u.for.net u.target u.branch u.from n) same.1 u.way) in
       let target : u.target ≡ v.target =
       same_Some u.target v.target (sym (vertex_at_stands s.setup.spots u.target w.vertex at_w.ends) ∙ vertex_at_stands s.setup.spots v.target w.vertex way.ends) in
-      let along : IsWayOn s.setup.machine s.setup.spots v.net v.target u.branch u.from w.vertex =
-      subst (λ (x : Spot). IsWayOn s.setup.machine s.setup.spots v.net x u.branch u.from w.vertex) target
-      (subst (λ (n : NetPlan). IsWayOn s.setup.machine s.setup.spots n u.target u.branch u.from w.vertex) net at_w) in
       let branch : u.branch ≡ v.branch =
-      (one_way s.setup.machine s.setup.spots nets v.net v.target u.branch v.branch u.from v.from w.vertex w.vertex meets.ledger.nets_stand v.in_nets along way).0 in
+      (one_way s.setup.machine s.setup.spots nets v.for.net v.target u.branch v.branch u.from v.from w.vertex w.vertex meets.ledger.nets_stand
+      (meets.of_its_net w.copy.packet v.for v.was_asked).0 (subst (λ (x : Spot). IsWayOn s.setup.machine s.setup.spots v.for.net x u.branch u.from w.vertex) target at_w) way).0 in
       and_from (d.copy.packet == w.copy.packet) ((d.vertex == w.vertex) && (d.copy.hop == length v.branch)) (eq-eqb d.copy.packet w.copy.packet same.0)
       (and_from (d.vertex == w.vertex) (d.copy.hop == length v.branch) (eq-eqb d.vertex w.vertex same.1)
       (eq-eqb d.copy.hop (length v.branch) (u.hops ∙ ap length branch)))) in

@@ -2,10 +2,10 @@
 -- them.
 use Rattle.app_loads.proofs.Common.{Bool, Chip, Collect, Contains, Contains-append_left, Delivery, Dump, Event, Exit, Hand, Inject, IsMesh, IsReachedDropless, Label, List, Mark, McCopy, MeetsLedger}
 use Rattle.app_loads.proofs.Common.{MeetsSomeLedger, NetPlan, None, NothingWaits, Option, Out, Port, Queue, Send, Some, Spot, State, Station, Take, [], after_event, after_events, all_hand_marks}
-use Rattle.app_loads.proofs.Common.{among_gathered, among_map, ap, append-nil, append_assoc, arith, at_core, chip_of, collect_of, contains_among, core, core_marks, count_by, count_by-append}
-use Rattle.app_loads.proofs.Common.{count_some, delivered_marks, dump_of, dumped_marks, eq-eqb, false, gathered_of_none, hand_marks, has_room_behind, if◌then◌else◌, in_queue, index_of, inject_of}
-use Rattle.app_loads.proofs.Common.{input, input_marks, is_packet_on_trail, marks_at, marks_of, nowhere, on_trail, one_net, port_of, push_behind, queue_at, refl, same_Some, send_of, slice_get}
-use Rattle.app_loads.proofs.Common.{step_of, subst, sym, take_of, true, unsent, unsent_marks, unwrap_or, vertex_at, with_earlier, ℕ, ◌%◌, ◌&&◌, ◌++◌, ◌/◌, ◌∙◌, ◌∷◌, ◌≡◌}
+use Rattle.app_loads.proofs.Common.{among_gathered, among_map, ap, append-nil, append_assoc, arith, at_core, chip_of, collect_of, contains_among, core_marks, count_by, count_by-append, count_some}
+use Rattle.app_loads.proofs.Common.{delivered_marks, dump_of, dumped_marks, eq-eqb, false, gathered_of_none, hand_marks, has_room_behind, if◌then◌else◌, in_queue, index_of, inject_of, input}
+use Rattle.app_loads.proofs.Common.{input_marks, is_packet_on_trail, marks_at, marks_of, on_trail, one_net, port_of, push_behind, queue_at, refl, same_Some, send_of, slice_get, step_of, subst, sym}
+use Rattle.app_loads.proofs.Common.{take_of, true, unsent, unsent_marks, unwrap_or, vertex_at, with_earlier, ℕ, ◌%◌, ◌&&◌, ◌++◌, ◌/◌, ◌∙◌, ◌∷◌, ◌≡◌}
 
 -- ---- events
 
@@ -23,41 +23,31 @@ module _ (ds : List Delivery) where
 
   pushed : (s : State) (q : Queue) (k : McCopy) → push_behind (we s) q k ≡ we (push_behind s q k)
   pushed s (input i) k = refl
-  pushed s (core v) k = refl
-  pushed s nowhere k = refl
+  pushed s q k = refl
 
   roomy : (s : State) (q : Queue) → has_room_behind (we s) q ≡ has_room_behind s q
   roomy s (input i) = refl
-  roomy s (core v) = refl
-  roomy s nowhere = refl
+  roomy s q = refl
 
   injected : (s : State) (v : ℕ) (spot : Option Spot) (q : Option (List McCopy)) → inject_of (we s) v spot q ≡ later (inject_of s v spot q)
   injected s v (Some spot) (Some (k ∷ rest)) = grind (arith, chosen)
-  injected s v (Some spot) (Some []) = refl
-  injected s v (Some spot) None = refl
-  injected s v None q = refl
+  injected s v spot q = refl
 
   taken : (s : State) (c : Chip) (port : Port) (hand : Option (Option Hand)) (q : Option (List McCopy)) → take_of (we s) c port hand q ≡ later (take_of s c port hand q)
   taken s c port (Some None) (Some (k ∷ rest)) = chosen _ _ _ refl
-  taken s c port (Some None) (Some []) = refl
-  taken s c port (Some None) None = refl
-  taken s c port (Some (Some h)) q = refl
-  taken s c port None q = refl
+  taken s c port hand q = refl
 
   sent : (s : State) (c : Chip) (o : Out) (hand : Option (Option Hand)) → send_of (we s) c o hand ≡ later (send_of s c o hand)
   sent s c o (Some (Some h)) = grind (arith, roomy, chosen, pushed)
-  sent s c o (Some None) = refl
-  sent s c o None = refl
+  sent s c o hand = refl
 
   dropped : (s : State) (c : Chip) (o : Out) (hand : Option (Option Hand)) → dump_of (we s) c o hand ≡ later (dump_of s c o hand)
   dropped s c o (Some (Some h)) = grind (arith, roomy, chosen)
-  dropped s c o (Some None) = refl
-  dropped s c o None = refl
+  dropped s c o hand = refl
 
   collected : (s : State) (v : ℕ) (q : Option (List McCopy)) → collect_of (we s) v q ≡ later (collect_of s v q)
   collected s v (Some (k ∷ rest)) = grind (arith, append_assoc ds s.delivered (record { vertex = v; copy = k } ∷ []))
-  collected s v (Some []) = refl
-  collected s v None = refl
+  collected s v q = refl
 
   stepped : (s : State) (e : Event) → step_of (we s) e ≡ later (step_of s e)
   stepped s (Inject v) = injected s v (slice_get s.setup.spots v) (slice_get s.unsent v)

@@ -2,9 +2,10 @@
 use Rattle.app_loads.proofs.Common.{All, All-flat_map, All-head, All-map, All-tail, All-weaker, Arrival, Bool, Delivery, EndsWith, Err, Grouped, HasPut, IfOk, IsBetween, IsGroup, List, LoadedApp}
 use Rattle.app_loads.proofs.Common.{McCopy, Ok, OnErr, Result, Sent, Some, [], all_grouped, and_from, and_parts, ap, append-nil, append_assoc, arith, cases_Bool, cases_lt, cond, deliveries_at}
 use Rattle.app_loads.proofs.Common.{deliveries_in, delivery_of, drop, drop_at, false, false≢true, filter, filter-append, flat_map-append, grouped_of, inl, inr, is_delivery_of, is_mixed_group}
-use Rattle.app_loads.proofs.Common.{is_others_group, is_own_group, is_packet_of, last_arrivals, le-leb, leb, leb-true, length, length-append, length-filter_both, length-map, length-set, list_any}
-use Rattle.app_loads.proofs.Common.{lt-ltb, ltb, ltb-true, not, not-false, not-true, or_parts, refl, same_Some, sent_of, set-get_or, slice_get, slice_get-get_or, slice_get_within, slice_index_or}
-use Rattle.app_loads.proofs.Common.{slice_set, subst, suc, sym, take, take_all, take_more_at, true, zero, ℕ, ◌&&◌, ◌++◌, ◌+◌, ◌-◌, ◌<◌, ◌||◌, ◌∙◌, ◌∷◌, ◌≡◌, ◌≢◌, ◌≤◌}
+use Rattle.app_loads.proofs.Common.{is_others_group, is_own_group, is_packet_of, last_arrivals, le-leb, leb, leb-true, length, length-append, length-filter_both, length-map, length-take-le, list_any}
+use Rattle.app_loads.proofs.Common.{lt-ltb, ltb, ltb-true, not, not-false, not-true, or_parts, refl, same_Some, sent_of, set-get_or, set_at, slice_get, slice_get-get_or, slice_get_within}
+use Rattle.app_loads.proofs.Common.{slice_index_or, slice_set, subst, sym, take, take_all, take_more_at, true, ℕ, ◌&&◌, ◌++◌, ◌+◌, ◌-◌, ◌<◌, ◌||◌, ◌∙◌, ◌∷◌, ◌≡◌, ◌≢◌, ◌≤◌}
+use Rattle.app_loads.proofs.{PacketLedger.packet_bounds}
 use Rattle.app_loads.specs.declared.group.Group.TheInside.{Inside}
 
 -- ---- one group
@@ -36,21 +37,18 @@ module _ (app : LoadedApp) (g : Inside) (is : IsGroup g) where
   is_one : (n : ℕ) → app.first ≤ n → n < end → is_packet_of app n ≡ true
   is_one n low high = and_from _ _ (le-leb app.first n low) (lt-ltb n end high)
 
-  bounds : (n : ℕ) → is_packet_of app n ≡ true → (app.first ≤ n) × (n < end)
-  bounds n one = let parts = and_parts _ _ one in (leb-true app.first n parts.0, ltb-true n end parts.1)
-
   pub own_all : is_own_group app (grouped_of g) ≡ true → All (λ (d : Delivery). is_delivery_of app d ≡ true) (deliveries_in g.sent g.arrivals)
   own_all own =
       let parts = and_parts _ _ own in
-      let low = (bounds g.least parts.0).0 in
-      let high = (bounds g.greatest parts.1).1 in
+      let low = (packet_bounds app g.least parts.0).0 in
+      let high = (packet_bounds app g.greatest parts.1).1 in
       of_all (λ n. is_packet_of app n ≡ true) (λ n above below. is_one n (omega (arith, low, above)) (omega (arith, high, below)))
 
   before : (n : ℕ) → n < app.first → is_packet_of app n ≡ false
-  before n low = elim (cases_Bool (is_packet_of app n)) [ inr none ↦ none | inl one ↦ (let b = (bounds n one).0 in absurd (omega (arith, b, low))) ]
+  before n low = elim (cases_Bool (is_packet_of app n)) [ inr none ↦ none | inl one ↦ (let b = (packet_bounds app n one).0 in absurd (omega (arith, b, low))) ]
 
   behind : (n : ℕ) → end ≤ n → is_packet_of app n ≡ false
-  behind n high = elim (cases_Bool (is_packet_of app n)) [ inr none ↦ none | inl one ↦ (let b = (bounds n one).1 in absurd (omega (arith, b, high))) ]
+  behind n high = elim (cases_Bool (is_packet_of app n)) [ inr none ↦ none | inl one ↦ (let b = (packet_bounds app n one).1 in absurd (omega (arith, b, high))) ]
 
   -- a number that is none of the application's, and not before its first one, is behind them
   past : (n : ℕ) → app.first ≤ n → is_packet_of app n ≡ false → end ≤ n
@@ -76,19 +74,15 @@ pub rest_is : (p : Delivery → Bool) (own all : List Delivery) {lent rest : Lis
     own ++ filter p (all_grouped lent) ≡ filter p all → own ++ filter p (all_grouped rest) ≡ filter p all
 rest_is p own all is = subst (λ (gs : List Grouped). own ++ filter p (all_grouped gs) ≡ filter p all) is
 
--- deliveries that were put into the last group, or not, were so into all
-pub put_last : (b : Bool) (gs : List Grouped) (n : ℕ) (g new : Grouped) (more : List Delivery) → slice_get gs n ≡ Some g → length gs ≡ n + 1 → HasPut b g.deliveries more new.deliveries →
-    HasPut b (all_grouped gs) more (all_grouped (slice_set gs n new))
-put_last b [] n g new more at long put = absurd (omega (arith, long))
-put_last true (h ∷ []) zero g new more at long put = grind (arith, same_Some h g at, append-nil (g.deliveries ++ more), append-nil g.deliveries)
-put_last false (h ∷ []) zero g new more at long put = ap (λ l. l ++ []) (put ∙ ap (λ (x : Grouped). x.deliveries) (sym (same_Some h g at)))
-put_last b (h ∷ k ∷ gs) zero g new more at long put = absurd (omega (arith, long))
-put_last true (h ∷ gs) (suc n) g new more at long put = grind (arith, put_last true gs n g new more at (omega (arith, long)) put, append_assoc h.deliveries (all_grouped gs) more)
-put_last false (h ∷ gs) (suc n) g new more at long put = ap (λ l. h.deliveries ++ l) (put_last false gs n g new more at (omega (arith, long)) put)
-
 -- the deliveries of a group at the back come last
 pub grouped_push : (gs : List Grouped) (g : Grouped) → all_grouped (gs ++ g ∷ []) ≡ all_grouped gs ++ g.deliveries
 grouped_push gs g = flat_map-append (λ (x : Grouped). x.deliveries) gs (g ∷ []) ∙ ap (λ l. all_grouped gs ++ l) (append-nil g.deliveries)
+
+-- a group at the back is the last
+last_pushed : (gs : List Grouped) (g : Grouped) → last_arrivals (gs ++ g ∷ []) ≡ g.arrivals
+last_pushed [] g = refl
+last_pushed (h ∷ []) g = refl
+last_pushed (h ∷ k ∷ gs) g = last_pushed (k ∷ gs) g
 
 -- all pass a test, or none
 all_pass : {X : Type 0} (p : X → Bool) (xs : List X) → All (λ x. p x ≡ true) xs → filter p xs ≡ xs
@@ -106,10 +100,35 @@ all_apart p xs all = (all_pass p xs all, none_pass (λ x. not (p x)) xs (All-wea
 pub none_apart : {X : Type 0} (p : X → Bool) (xs : List X) → All (λ x. p x ≡ false) xs → (filter p xs ≡ []) × (filter (λ x. not (p x)) xs ≡ xs)
 none_apart p xs none = (none_pass p xs none, all_pass (λ x. not (p x)) xs (All-weaker (λ x. p x ≡ false) (λ x. not (p x) ≡ true) (λ x no'. ap not no') xs none))
 
+-- groups are some and a last one, which may become another
+record IsLast (gs : List Grouped) (at : ℕ) (g : Grouped) : Type 0 where
+  front : List Grouped
+  is : gs ≡ front ++ g ∷ []
+  now : (new : Grouped) → slice_set gs at new ≡ front ++ new ∷ []
+  all : all_grouped gs ≡ all_grouped front ++ g.deliveries
+
+last_one : (gs : List Grouped) (count : ℕ) (g : Grouped) → count ≡ length gs → count ≢ 0 → g ≡ slice_index_or gs (count - 1) g → IsLast gs (count - 1) g
+last_one gs count g long some value = record {
+  front = take (count - 1) gs;
+  is = split;
+  now = λ new. ap (λ l. slice_set l (count - 1) new) split ∙ set_at (take (count - 1) gs) g [] new (count - 1) (length-take-le (count - 1) gs (omega (arith, long)));
+  all = ap all_grouped split ∙ grouped_push (take (count - 1) gs) g;
+}
+  where
+    split : gs ≡ take (count - 1) gs ++ g ∷ []
+    split = sym (take_all (count - 1 + 1) gs (omega (arith, long, some))) ∙ take_more_at gs (count - 1) g (slice_get-get_or gs (count - 1) g (omega (arith, long, some)) ∙ ap Some (sym value))
+
 -- what was put into the last of so many groups was put into all
 pub last_put : (b : Bool) (gs : List Grouped) (count : ℕ) (g new : Grouped) (more : List Delivery) → count ≡ length gs → count ≢ 0 → g ≡ slice_index_or gs (count - 1) g →
     HasPut b g.deliveries more new.deliveries → HasPut b (all_grouped gs) more (all_grouped (slice_set gs (count - 1) new))
-last_put b gs count g new more long some value put = grind (arith, put_last, slice_get-get_or)
+last_put true gs count g new more long some value put =
+    let last = last_one gs count g long some value in
+    ap all_grouped (last.now new)
+    ∙ (grouped_push last.front new
+    ∙ (ap (λ l. all_grouped last.front ++ l) put ∙ (sym (append_assoc (all_grouped last.front) g.deliveries more) ∙ ap (λ l. l ++ more) (sym last.all))))
+last_put false gs count g new more long some value put =
+    let last = last_one gs count g long some value in
+    ap all_grouped (last.now new) ∙ (grouped_push last.front new ∙ (ap (λ l. all_grouped last.front ++ l) put ∙ sym last.all))
 
 pub last_put_if : {E : Type 0} (r : Result Bool E) (gs : List Grouped) (count : ℕ) (g new : Grouped) (more : List Delivery) → count ≡ length gs → count ≢ 0 → g ≡ slice_index_or gs (count - 1) g →
     IfOk r (λ put. HasPut put g.deliveries more new.deliveries) → IfOk r (λ put. HasPut put (all_grouped gs) more (all_grouped (slice_set gs (count - 1) new)))
@@ -165,47 +184,27 @@ module _ (p : Delivery → Bool) (all own others : List Delivery) (count left : 
 
 -- ---- the last group
 
--- the deliveries of the last group come last
-last_split : (gs : List Grouped) (n : ℕ) (g : Grouped) → slice_get gs n ≡ Some g → length gs ≡ n + 1 →
-    (front : List Delivery) × (all_grouped gs ≡ front ++ g.deliveries) × (last_arrivals gs ≡ g.arrivals)
-last_split [] n g at long = absurd (omega (arith, long))
-last_split (h ∷ []) zero g at long = grind (arith, same_Some h g at, append-nil h.deliveries)
-last_split (h ∷ []) (suc n) g at long = absurd (omega (arith, long))
-last_split (h ∷ k ∷ gs) zero g at long = absurd (omega (arith, long))
-last_split (h ∷ k ∷ gs) (suc n) g at long = grind (arith, last_split (k ∷ gs) n g at (omega (arith, long)), append_assoc h.deliveries (last_split (k ∷ gs) n g at (omega (arith, long))).0 g.deliveries)
-
-last_more : (h : Grouped) (gs : List Grouped) → gs ≢ [] → last_arrivals (h ∷ gs) ≡ last_arrivals gs
-last_more h [] some = absurd (some refl)
-last_more h (k ∷ gs) some = refl
-
-last_set : (gs : List Grouped) (n : ℕ) (new : Grouped) → length gs ≡ n + 1 → last_arrivals (slice_set gs n new) ≡ new.arrivals
-last_set [] n new long = absurd (omega (arith, long))
-last_set (h ∷ []) zero new long = refl
-last_set (h ∷ []) (suc n) new long = absurd (omega (arith, long))
-last_set (h ∷ k ∷ gs) zero new long = absurd (omega (arith, long))
-last_set (h ∷ k ∷ gs) (suc n) new long = grind (arith, last_set (k ∷ gs) n new (omega (arith, long)), length-set (k ∷ gs) n new, last_more)
-
 module _ (gs : List Grouped) (count : ℕ) (g : Grouped) (long : count ≡ length gs) (some : count ≢ 0) (value : g ≡ slice_index_or gs (count - 1) g) where
   last_there : slice_get gs (count - 1) ≡ Some g
   last_there = slice_get-get_or gs (count - 1) g (omega (arith, long, some)) ∙ ap Some (sym value)
 
-  last_long : length gs ≡ count - 1 + 1
-  last_long = omega (arith, long, some)
+  last : IsLast gs (count - 1) g
+  last = last_one gs count g long some value
 
   pub last_arrivals_are : last_arrivals gs ≡ g.arrivals
-  last_arrivals_are = (last_split gs (count - 1) g last_there last_long).2
+  last_arrivals_are = ap last_arrivals last.is ∙ last_pushed last.front g
 
   -- where the last group ends with a packet's deliveries, which are as many as come behind others, they are those behind
   pub behind_others : (first all left : ℕ) (p : Sent) → all ≡ length (all_grouped gs) → first ≤ all → left ≡ all - first → EndsWith g p left →
       drop first (all_grouped gs) ≡ deliveries_at (last_arrivals gs) p
   behind_others first all left p total within less ends =
-      let split = last_split gs (count - 1) g last_there last_long in
       let own : List Delivery = deliveries_at g.arrivals p in
-      let is : all_grouped gs ≡ (split.0 ++ ends.before) ++ own = split.1 ∙ (ap (λ l. split.0 ++ l) ends.is ∙ sym (append_assoc split.0 ends.before own)) in
-      let sum = ap length is ∙ length-append (split.0 ++ ends.before) own in
+      let front : List Delivery = all_grouped last.front in
+      let is : all_grouped gs ≡ (front ++ ends.before) ++ own = last.all ∙ (ap (λ l. front ++ l) ends.is ∙ sym (append_assoc front ends.before own)) in
+      let sum = ap length is ∙ length-append (front ++ ends.before) own in
       let one = length-map g.arrivals (delivery_of p) in
-      let place : length (split.0 ++ ends.before) ≡ first = omega (arith, total, within, less, sum, one, ends.long) in
-      ap (drop first) is ∙ (drop_at (split.0 ++ ends.before) own first place ∙ ap (λ l. deliveries_at l p) (sym split.2))
+      let place : length (front ++ ends.before) ≡ first = omega (arith, total, within, less, sum, one, ends.long) in
+      ap (drop first) is ∙ (drop_at (front ++ ends.before) own first place ∙ ap (λ l. deliveries_at l p) (sym last_arrivals_are))
 
   -- a packet more in the last group
   pub repeated : (new : Grouped) (p : Sent) → new.deliveries ≡ g.deliveries ++ deliveries_at g.arrivals p →
@@ -221,19 +220,13 @@ module _ (gs : List Grouped) (count : ℕ) (g : Grouped) (long : count ≡ lengt
   same_item h is = same_Some h g (sym (slice_get-get_or gs (count - 1) h (omega (arith, long, some)) ∙ ap Some (sym is)) ∙ last_there)
 
   pub last_arrivals_stay : (new : Grouped) → new.arrivals ≡ g.arrivals → last_arrivals (slice_set gs (count - 1) new) ≡ last_arrivals gs
-  last_arrivals_stay new same = last_set gs (count - 1) new last_long ∙ (same ∙ sym last_arrivals_are)
+  last_arrivals_stay new same = ap last_arrivals (last.now new) ∙ (last_pushed last.front new ∙ (same ∙ sym last_arrivals_are))
 
   -- a group that is as it was
   pub same_groups : (new : Grouped) → new ≡ g → slice_set gs (count - 1) new ≡ gs
   same_groups new same = ap (slice_set gs (count - 1)) (same ∙ value) ∙ set-get_or gs (count - 1) g
 
 -- ---- a group at the back
-
--- a group at the back is the last
-last_pushed : (gs : List Grouped) (g : Grouped) → last_arrivals (gs ++ g ∷ []) ≡ g.arrivals
-last_pushed [] g = refl
-last_pushed (h ∷ []) g = refl
-last_pushed (h ∷ k ∷ gs) g = last_pushed (k ∷ gs) g
 
 module _ (gs new : List Grouped) (g : Grouped) (p : Sent) (arrivals : List Arrival) (is : new ≡ gs ++ g ∷ []) where
   pub put_back : g.deliveries ≡ deliveries_at arrivals p → all_grouped new ≡ all_grouped gs ++ deliveries_at arrivals p

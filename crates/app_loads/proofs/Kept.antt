@@ -1,13 +1,10 @@
 -- A mesh whose earlier deliveries are held apart, seen as one mesh.
-use Rattle.app_loads.proofs.Common.{Among, AreAlikeInBlocks, AreKnown, AreRoutedAlike, Arrival, BTreeMap, Block, Bool, CanSettle, Comes, Contains, Delivery, Err, HasBrought, HasBroughtMore}
-use Rattle.app_loads.proofs.Common.{HasFirstUnsent, HasSomeUnsent, IsClean, IsKeyOf, IsMesh, IsMoved, IsReachedDropless, IsUnderWayAt, IsWhyHere, KnownBlock, List, LoadedApp, Mark, MaySend, McCopy}
-use Rattle.app_loads.proofs.Common.{NoneUnderWay, NotLoaded, NothingWaits, Ok, OnOk, Option, Result, SendAlone, Setup, Some, State, UnloadErr, Updates, Waiting, WaitsIn, [], all_hand_marks}
-use Rattle.app_loads.proofs.Common.{among_contains, among_either, among_left, among_map, among_right, ap, append-nil, arith, cases_Bool, contains_among, core_marks, count_by-le-length, delivered}
-use Rattle.app_loads.proofs.Common.{delivered_marks, deliveries_at, drop, drop_at, drop_front, dumped_marks, dumped_reached, eq-eqb, filter, get_or, inl, input_marks, inr, is_at, kept_reached, length}
-use Rattle.app_loads.proofs.Common.{length-filter, lookup, map, map-append, marks_of, nat_cmp, none-some, of_packet, refl, same_Some, sent_of, setup_reached, slice_get, slice_set, subst, sym}
-use Rattle.app_loads.proofs.Common.{unsent_marks, with_earlier, ℕ, ◌++◌, ◌+◌, ◌<◌, ◌^◌, ◌∙◌, ◌∷◌, ◌≡◌, ◌≢◌}
-use Rattle.app_loads.specs.declared.answers.UnloadErr.TheVariants.{Memory}
-use Rattle.app_loads.proofs.{Earlier.kept_without, Earlier.reached_with, LeftMesh.mesh_with}
+use Rattle.app_loads.proofs.Common.{AreAlikeInBlocks, AreKnown, AreRoutedAlike, Arrival, BTreeMap, Block, Bool, CanSettle, Comes, Delivery, Err, HasBrought, HasBroughtMore, HasFirstUnsent}
+use Rattle.app_loads.proofs.Common.{HasSomeUnsent, IsClean, IsKeyOf, IsMesh, IsMoved, IsReachedDropless, IsWhyHere, KnownBlock, List, LoadedApp, MaySend, McCopy, NoneUnderWay, NothingWaits, Ok, OnOk}
+use Rattle.app_loads.proofs.Common.{Option, Result, SendAlone, Setup, Some, State, UnloadErr, Updates, Waiting, WaitsIn, [], ap, append-nil, arith, cases_Bool, count_by-le-length, delivered}
+use Rattle.app_loads.proofs.Common.{deliveries_at, drop, drop_at, drop_front, dumped_reached, eq-eqb, filter, get_or, is_at, kept_reached, length, length-filter, lookup, map, nat_cmp, none-some}
+use Rattle.app_loads.proofs.Common.{of_packet, refl, same_Some, sent_of, setup_reached, slice_get, slice_set, subst, sym, with_earlier, ℕ, ◌++◌, ◌+◌, ◌<◌, ◌^◌, ◌∙◌, ◌∷◌, ◌≡◌, ◌≢◌}
+use Rattle.app_loads.proofs.{Earlier.kept_without, Earlier.reached_with, LeavingLedger.still_marked, LeftMesh.mesh_with}
 
 -- what follows where a call was answered
 pub ok_then : {X E : Type 0} {P Q : Type 0} (r : Result X E) → (P → Q) → OnOk r P → OnOk r Q
@@ -44,52 +41,18 @@ module _ (ds : List Delivery) where
 
   -- ---- what is under way
 
-  abbrev mapped : Delivery → Mark
-  mapped d = record { copy = d.copy; station = delivered d.vertex }
-
-  inside : {X : Type 0} (x : X) (xs ys zs : List X) → (Among x ys → Among x zs) → Among x (xs ++ ys) → Among x (xs ++ zs)
-  inside x xs ys zs more a = elim (among_either x xs ys a) [ inl left ↦ among_left x xs zs left | inr right ↦ among_right x xs zs (more right) ]
-
-  -- the marks up to the deliveries are the same
-  past_copies : (s : State) (k : Mark) (ys zs : List Mark) → (Among k ys → Among k zs) → Among k (unsent_marks s ++ (input_marks s ++ (all_hand_marks s ++ (core_marks s ++ ys)))) →
-      Among k (unsent_marks s ++ (input_marks s ++ (all_hand_marks s ++ (core_marks s ++ zs))))
-  past_copies s k ys zs more =
-      inside k (unsent_marks s) _ _ (inside k (input_marks s) _ _ (inside k (all_hand_marks s) _ _ (inside k (core_marks s) ys zs more)))
-
-  own_delivered : (s : State) → delivered_marks (we s) ≡ map mapped ds ++ delivered_marks s
-  own_delivered s = map-append mapped ds s.delivered
-
-  pub has_with : (s : State) (k : Mark) → Contains (marks_of s) k → Contains (marks_of (we s)) k
-  has_with s k has =
-      among_contains k (marks_of (we s))
-      (past_copies s k (delivered_marks s ++ dumped_marks s) (delivered_marks (we s) ++ dumped_marks s)
-      (λ a. elim (among_either k (delivered_marks s) (dumped_marks s) a) [
-        | inl left ↦ among_left k (delivered_marks (we s)) (dumped_marks s) (subst (Among k) (sym (own_delivered s)) (among_right k (map mapped ds) (delivered_marks s) left))
-        | inr right ↦ among_right k (delivered_marks (we s)) (dumped_marks s) right
-      ]) (contains_among k (marks_of s) has))
-
-  pub has_own : (s : State) (k : Mark) → IsUnderWayAt k.station → Contains (marks_of (we s)) k → Contains (marks_of s) k
-  has_own s k under has =
-      among_contains k (marks_of s)
-      (past_copies s k (delivered_marks (we s) ++ dumped_marks s) (delivered_marks s ++ dumped_marks s)
-      (λ a. elim (among_either k (delivered_marks (we s)) (dumped_marks s) a) [
-        | inl left ↦ (let d = among_map mapped k (ds ++ s.delivered) left in absurd (subst (λ (m : Mark). IsUnderWayAt m.station) d.2 under))
-        | inr right ↦ among_right k (delivered_marks s) (dumped_marks s) right
-      ]) (contains_among k (marks_of (we s)) has))
-
   waits_with : (s : State) (app : LoadedApp) (n : ℕ) → WaitsIn s app n → WaitsIn (we s) app n
-  waits_with s app n waits = (waits.0, (waits.1.0, has_with s waits.1.0 waits.1.1, waits.1.2, waits.1.3))
+  waits_with s app n waits = (waits.0, (waits.1.0, still_marked s s.setup.tables (ds ++ s.delivered) s.dumped waits.1.0 waits.1.3 waits.1.1, waits.1.2, waits.1.3))
 
   waits_own : (s : State) (app : LoadedApp) (n : ℕ) → WaitsIn (we s) app n → WaitsIn s app n
-  waits_own s app n waits = (waits.0, (waits.1.0, has_own s waits.1.0 waits.1.3 waits.1.1, waits.1.2, waits.1.3))
+  waits_own s app n waits = (waits.0, (waits.1.0, still_marked (we s) s.setup.tables s.delivered s.dumped waits.1.0 waits.1.3 waits.1.1, waits.1.2, waits.1.3))
 
   pub none_with : (s : State) (app : LoadedApp) → NoneUnderWay s app → NoneUnderWay (we s) app
   none_with s app none n waits = none n (waits_own s app n waits)
 
   pub why_with : (s : State) (app : LoadedApp) (cause : UnloadErr) → IsWhyHere s app cause → IsWhyHere (we s) app cause
-  why_with s app NotLoaded why = why
   why_with s app (Waiting packet) why = (waits_with s app packet why.0, λ other waits. why.1 other (waits_own s app other waits))
-  why_with s app Memory why = why
+  why_with s app cause why = why
 
 -- ---- a clean mesh
 

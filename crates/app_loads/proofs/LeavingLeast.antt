@@ -1,11 +1,11 @@
 -- The least packet of an application that is under way, from the lists of the mesh.
 use Rattle.app_loads.proofs.Common.{All, All-at, All-contains, Among, Bool, Chip, Contains, FitsHand, Hand, IfNone, IfSome, IsLeastUnderWay, IsMesh, IsUnderWayAt, List, LoadedApp, Mark, McCopy, None}
 use Rattle.app_loads.proofs.Common.{NoneUnderWay, Option, Out, SendAlone, Some, StandsAt, State, Station, WaitsIn, [], all_hand_marks, among_at, among_contains, among_either, among_left, among_map}
-use Rattle.app_loads.proofs.Common.{among_right, ap, arith, at_core, cases_lt, chip_of, contains_among, core_marks, delivered, dumped, false, flat_map, fold, gathered, gathered_among, get_or}
-use Rattle.app_loads.proofs.Common.{get_or_from_slice_get, hand_marks, held_packets, if◌then◌else◌, in_hand, in_queue, inl, input_marks, inr, is_packet_of, least_own_packet, length, lesser_of}
-use Rattle.app_loads.proofs.Common.{map_among, mark, mark_stands, marks_at, marks_of, min, own_packet, packet_numbers_of, port_of, refl, slice_get, slice_get-get_or, subst, sym, true, unsent}
-use Rattle.app_loads.proofs.Common.{unsent_marks, unsent_numbers, ℕ, ◌%◌, ◌++◌, ◌+◌, ◌/◌, ◌<◌, ◌∙◌, ◌∷◌, ◌≡◌, ◌≤◌}
-use Rattle.app_loads.proofs.{ClaimCases.among_flat, ClaimCases.flat_among, LeavingLists.after_cores, LeavingLists.after_hands, LeavingLists.after_inputs, LeavingLists.after_unsent}
+use Rattle.app_loads.proofs.Common.{among_right, ap, arith, at_core, behind_hands, behind_inputs, behind_unsent, cases_lt, chip_of, contains_among, core_marks, delivered_marks, dumped_marks, false}
+use Rattle.app_loads.proofs.Common.{flat_map, fold, gathered, gathered_among, get_or, get_or_from_slice_get, hand_marks, held_packets, if◌then◌else◌, in_hand, in_queue, inl, input_marks, inr}
+use Rattle.app_loads.proofs.Common.{is_packet_of, least_own_packet, length, lesser_of, map_among, mark, mark_stands, marks_at, marks_of, min, own_packet, packet_numbers_of, port_of, refl, slice_get}
+use Rattle.app_loads.proofs.Common.{slice_get-get_or, subst, sym, true, unsent, unsent_marks, unsent_numbers, ℕ, ◌%◌, ◌++◌, ◌/◌, ◌<◌, ◌∙◌, ◌∷◌, ◌≡◌, ◌≤◌}
+use Rattle.app_loads.proofs.{AppNets.member_at, LeavingLists.among_flat, LeavingLists.flat_among}
 
 -- ---- the least of some numbers
 
@@ -75,7 +75,7 @@ under_way s = flat_map packet_numbers_of ((s.unsent ++ s.inputs) ++ s.cores) ++ 
 
 module _ (s : State) where
   place_of : {X : Type 0} (x : X) (xs : List X) → Among x xs → (i : ℕ) × (slice_get xs i ≡ Some x)
-  place_of x xs a = let has = among_contains x xs a in (has.0, slice_get-get_or xs has.0 x has.1 ∙ ap Some has.2)
+  place_of x xs a = let has = among_contains x xs a in (has.0, member_at xs x has)
 
   -- the packets of a queue are under way
   of_queue : (q : List McCopy) (n : ℕ) → Among q ((s.unsent ++ s.inputs) ++ s.cores) → Among n (packet_numbers_of q) → Among n (under_way s)
@@ -96,8 +96,7 @@ module _ (s : State) where
       (flat_among held_packets c.packet s.hands (Some h) (among_at s.hands i (Some h) at) (inl (ap (λ (k : McCopy). k.packet) (sym is))))
   listed c (at_core v) under (q, at, a) =
       of_queue q c.packet (among_right q (s.unsent ++ s.inputs) s.cores (among_at s.cores v q at)) (map_among (λ (k : McCopy). k.packet) c q a)
-  listed c (delivered v) under stands = absurd under
-  listed c (dumped chip out) under stands = absurd under
+  listed c at under stands = absurd under
 
   -- a mark of this packet that is under way
   abbrev IsMarked : ℕ → List Mark → Type 0
@@ -149,18 +148,18 @@ module _ (s : State) where
   has_mark : IsMesh s → (n : ℕ) → Among n (under_way s) → IsMarked n (marks_of s)
   has_mark mesh n a =
       by_list n
-      (λ q there b. let m = queue_marked unsent (λ i. tt) s.unsent n q there b in (m.0, among_left m.0 (unsent_marks s) (after_unsent s) m.1, m.2, m.3))
+      (λ q there b. let m = queue_marked unsent (λ i. tt) s.unsent n q there b in (m.0, among_left m.0 (unsent_marks s) (behind_unsent s) m.1, m.2, m.3))
       (λ q there b. let m = queue_marked (λ i. in_queue (chip_of s.setup.machine (i / 7)) (port_of (i % 7))) (λ i. tt) s.inputs n q there b in
-      (m.0, in_after_unsent m.0 (among_left m.0 (input_marks s) (after_inputs s) m.1), m.2, m.3))
-      (λ b. let m = hand_marked mesh n b in (m.0, in_after_unsent m.0 (in_after_inputs m.0 (among_left m.0 (all_hand_marks s) (after_hands s) m.1)), m.2, m.3))
+      (m.0, in_after_unsent m.0 (among_left m.0 (input_marks s) (behind_inputs s) m.1), m.2, m.3))
+      (λ b. let m = hand_marked mesh n b in (m.0, in_after_unsent m.0 (in_after_inputs m.0 (among_left m.0 (all_hand_marks s) (behind_hands s) m.1)), m.2, m.3))
       (λ q there b. let m = queue_marked at_core (λ i. tt) s.cores n q there b in
-      (m.0, in_after_unsent m.0 (in_after_inputs m.0 (among_right m.0 (all_hand_marks s) (after_hands s) (among_left m.0 (core_marks s) (after_cores s) m.1))), m.2, m.3)) a
+      (m.0, in_after_unsent m.0 (in_after_inputs m.0 (among_right m.0 (all_hand_marks s) (behind_hands s) (among_left m.0 (core_marks s) (delivered_marks s ++ dumped_marks s) m.1))), m.2, m.3)) a
     where
-      in_after_unsent : (k : Mark) → Among k (after_unsent s) → Among k (marks_of s)
-      in_after_unsent k b = among_right k (unsent_marks s) (after_unsent s) b
+      in_after_unsent : (k : Mark) → Among k (behind_unsent s) → Among k (marks_of s)
+      in_after_unsent k b = among_right k (unsent_marks s) (behind_unsent s) b
 
-      in_after_inputs : (k : Mark) → Among k (after_inputs s) → Among k (after_unsent s)
-      in_after_inputs k b = among_right k (input_marks s) (after_inputs s) b
+      in_after_inputs : (k : Mark) → Among k (behind_inputs s) → Among k (behind_unsent s)
+      in_after_inputs k b = among_right k (input_marks s) (behind_inputs s) b
 
   -- the application's packets of which a copy waits are those of its own among all that are under way
   pub waits_listed : (app : LoadedApp) (n : ℕ) → WaitsIn s app n → Among n (under_way s)
@@ -200,31 +199,24 @@ module _ (s : State) where
 
   -- so where a list has all that are under way, the least found in it is the least that waits, and where none is found, none waits
   module _ (app : LoadedApp) (own : List ℕ) (all : (n : ℕ) → Among n (under_way s) → Among n own) (o : Option ℕ) (is : o ≡ least_own_packet app own) where
-    found_waits : ((n : ℕ) → is_packet_of app n ≡ true → Among n own → WaitsIn s app n) → IfSome o (IsLeastUnderWay s app)
-    found_waits waits_there = subst (λ (r : Option ℕ). IfSome r (IsLeastUnderWay s app)) (sym is) (by_least (least_own_packet app own) (least_is app own))
+    least_found : (((n : ℕ) → is_packet_of app n ≡ true → Among n own → WaitsIn s app n) → IfSome o (IsLeastUnderWay s app)) × IfNone o (NoneUnderWay s app)
+    least_found = by_least o (subst (IsLeastIn app own) (sym is) (least_is app own))
       where
-        by_least : (r : Option ℕ) → IsLeastIn app own r → IfSome r (IsLeastUnderWay s app)
-        by_least None none = tt
-        by_least (Some p) least = (waits_there p least.1 least.0, λ q waits. least.2 q (all q (waits_listed app q waits)) waits.0)
-
-    none_found : IfNone o (NoneUnderWay s app)
-    none_found = subst (λ (r : Option ℕ). IfNone r (NoneUnderWay s app)) (sym is) (by_least (least_own_packet app own) (least_is app own))
-      where
-        by_least : (r : Option ℕ) → IsLeastIn app own r → IfNone r (NoneUnderWay s app)
-        by_least None none = λ q waits. none q (all q (waits_listed app q waits)) waits.0
-        by_least (Some p) least = tt
+        by_least : (r : Option ℕ) → IsLeastIn app own r →
+            (((n : ℕ) → is_packet_of app n ≡ true → Among n own → WaitsIn s app n) → IfSome r (IsLeastUnderWay s app)) × IfNone r (NoneUnderWay s app)
+        by_least None none = (λ waits_there. tt, λ q waits. none q (all q (waits_listed app q waits)) waits.0)
+        by_least (Some p) least = (λ waits_there. (waits_there p least.1 least.0, λ q waits. least.2 q (all q (waits_listed app q waits)) waits.0), tt)
 
   pub least_waits : IsMesh s → (app : LoadedApp) (o : Option ℕ) → o ≡ least_own_packet app (under_way s) → IfSome o (IsLeastUnderWay s app)
-  least_waits mesh app o is = found_waits app (under_way s) (λ n a. a) o is (listed_waits mesh app)
+  least_waits mesh app o is = (least_found app (under_way s) (λ n a. a) o is).0 (listed_waits mesh app)
 
   pub none_waits : (app : LoadedApp) (o : Option ℕ) → o ≡ least_own_packet app (under_way s) → IfNone o (NoneUnderWay s app)
-  none_waits app o is = none_found app (under_way s) (λ n a. a) o is
+  none_waits app o is = (least_found app (under_way s) (λ n a. a) o is).1
 
   -- the same where only vertices that may have packets unsent were looked at
   module _ (mesh : IsMesh s) (app : LoadedApp) (vertices : List ℕ) (alone : SendAlone vertices s) (o : Option ℕ) (is : o ≡ least_own_packet app (flat_map (unsent_numbers s.unsent) vertices)) where
     pub least_of_senders : IfSome o (IsLeastUnderWay s app)
-    least_of_senders =
-        found_waits app (flat_map (unsent_numbers s.unsent) vertices) (in_sender vertices alone) o is (λ n own a. listed_waits mesh app n own (of_sender mesh vertices alone n a))
+    least_of_senders = (least_found app (flat_map (unsent_numbers s.unsent) vertices) (in_sender vertices alone) o is).0 (λ n own a. listed_waits mesh app n own (of_sender mesh vertices alone n a))
 
     pub none_of_senders : IfNone o (NoneUnderWay s app)
-    none_of_senders = none_found app (flat_map (unsent_numbers s.unsent) vertices) (in_sender vertices alone) o is
+    none_of_senders = (least_found app (flat_map (unsent_numbers s.unsent) vertices) (in_sender vertices alone) o is).1

@@ -1,11 +1,11 @@
 -- A host that an application left.
-use Rattle.app_loads.proofs.Common.{All, All-contains, All-each, All-filter, AllPairs, AllPairs-append, AllPairs-filter, AreApps, AreFreeBeside, AreTaken, Chip, Contains, Description, Ended, Entry}
-use Rattle.app_loads.proofs.Common.{HasLeft, HasRows, HasUnloaded, HaveDisjointBlocks, HaveOtherNumbers, HaveRows, Host, IsInside, IsKeyOf, IsLoadedOn, IsRangeWithin, List, LoadedApp, MeetsLedgerFor}
-use Rattle.app_loads.proofs.Common.{NetPlan, NoneUnderWay, NoneWaits, Range, Region, Rows, ShareNoPlace, Spot, State, all_nets, all_ranges, among_contains, among_either, among_left, among_right, ap}
-use Rattle.app_loads.proofs.Common.{arith, asked_of, cases_Bool, contains_among, false, false_from_ne_true, false≢true, free_places_in, frees, inl, inr, is_taken, length, length-map, ltb}
-use Rattle.app_loads.proofs.Common.{mesh_without, nets_of, not, others_than, place_of, range_has, refl, subst, sym, table_at, true, ℕ, ◌&&◌, ◌++◌, ◌+◌, ◌==◌, ◌∙◌, ◌≡◌, ◌≢◌, ◌≤◌}
-use Rattle.app_loads.proofs.{Copying.mine_at, Copying.same_part, LeftMesh.mesh_with, LeavingLedger.the_ledger_without, Others.AllPairs-left_in, Others.item_of, Others.only_one, Others.other_in}
-use Rattle.app_loads.proofs.{Others.others_item, Others.own_item, Others.own_pairs, Others.same_tests, Others.with_mine, RightRows.right_rows, Serving.by_taken, Serving.none_taken, Serving.taken_by}
+use Rattle.app_loads.proofs.Common.{All, All-contains, All-each, All-filter, AllPairs, AllPairs-append, AllPairs-filter, AreApps, AreFreeBeside, AreNetsOn, AreTaken, Chip, Contains, Description}
+use Rattle.app_loads.proofs.Common.{Ended, Entry, HasLeft, HasUnloaded, HaveDisjointBlocks, HaveOtherNumbers, HaveRows, Host, IsInside, IsLoadedOn, IsRangeWithin, List, LoadedApp, MeetsLedgerFor}
+use Rattle.app_loads.proofs.Common.{NoneUnderWay, NoneWaits, Range, Region, Rows, ShareNoPlace, Some, Spot, State, all_nets, all_ranges, and_parts, ap, arith, asked_of, cases_Bool, contains_among}
+use Rattle.app_loads.proofs.Common.{eqb-true, free_places_in, frees, in_range, inl, inr, is_taken, length, length-map, list_any-append, ltb, mesh_without, not, others_than, place_of, range_has}
+use Rattle.app_loads.proofs.Common.{slice_get, subst, sym, table_at, true, unused, ℕ, ◌&&◌, ◌++◌, ◌+◌, ◌<◌, ◌==◌, ◌||◌, ◌∙◌, ◌≡◌, ◌≢◌, ◌≤◌}
+use Rattle.app_loads.proofs.{AppNets.disjoint_blocks, AppNets.nets_on, LeavingLedger.the_ledger_without, LeavingLists.any_flat, LeavingLists.flat_has, LeftMesh.mesh_with, Others.AllPairs-left_in}
+use Rattle.app_loads.proofs.{Others.any_app, Others.only_one, Others.other_in, Others.own_pairs, Others.with_mine, RightRows.RowsIn, RightRows.right_rows, RightRows.rows_stay, Serving.by_taken}
 
 flip_apart : (a b : Range) → ShareNoPlace a b → ShareNoPlace b a
 flip_apart a b apart region k in_b in_a = apart region k in_a in_b
@@ -29,20 +29,10 @@ module _ (h : Host) (apps : AreApps h) (number : ℕ) (app : LoadedApp) (in_apps
   -- ---- what is taken
 
   either_taken : (region k : ℕ) → is_taken (all_ranges others ++ app.ranges) region k ≡ is_taken (all_ranges h.apps) region k
-  either_taken region k = same_tests (is_taken (all_ranges others ++ app.ranges) region k) (is_taken (all_ranges h.apps) region k)
-      (λ hit.
-      let found = by_taken (all_ranges others ++ app.ranges) region k hit in
-      taken_by (all_ranges h.apps) region k found.0 (elim (among_either found.0 (all_ranges others) app.ranges (contains_among found.0 (all_ranges others ++ app.ranges) found.1)) [
-        | inl other ↦ others_item h.apps apps.numbers number app in_apps its ranges_in found.0 (among_contains found.0 (all_ranges others) other)
-        | inr own ↦ own_item h.apps apps.numbers number app in_apps its ranges_in found.0 (among_contains found.0 app.ranges own)
-      ]) found.2)
-      (λ hit.
-      let found = by_taken (all_ranges h.apps) region k hit in
-      taken_by (all_ranges others ++ app.ranges) region k found.0
-      (among_contains found.0 (all_ranges others ++ app.ranges) (elim (item_of h.apps apps.numbers number app in_apps its ranges_in found.0 found.1) [
-        | inl own ↦ among_right found.0 (all_ranges others) app.ranges (contains_among found.0 app.ranges own)
-        | inr other ↦ among_left found.0 (all_ranges others) app.ranges (contains_among found.0 (all_ranges others) other)
-      ])) found.2)
+  either_taken region k =
+      list_any-append (range_has region k) (all_ranges others) app.ranges
+      ∙ (ap (λ b. b || is_taken app.ranges region k) (any_flat (range_has region k) ranges_in others)
+      ∙ sym (any_flat (range_has region k) ranges_in h.apps ∙ any_app h.apps apps.numbers number app in_apps its (λ a. is_taken a.ranges region k)))
 
   others_apart : AllPairs ShareNoPlace (all_ranges others)
   others_apart = AllPairs-left_in ranges_in (λ (a : LoadedApp). not (a.number == number)) ShareNoPlace h.apps apps.apart
@@ -79,54 +69,38 @@ module _ (h : Host) (apps : AreApps h) (number : ℕ) (app : LoadedApp) (in_apps
     abbrev now : State → Host
     now s = record { mesh = s; regions = frees new; apps = others; packets = h.packets }
 
-    -- no place of another's range is one of the application's
-    none_of_mine : (r : Range) → Contains (all_ranges others) r → (region k : ℕ) → range_has region k r ≡ true → is_taken app.ranges region k ≡ false
-    none_of_mine r in_r = none_taken app.ranges r (λ other in_other. apart_from_mine r other in_r in_other)
-
     loaded_now : All (IsLoadedOn m) others
     loaded_now = All-filter (λ (a : LoadedApp). not (a.number == number)) (IsLoadedOn m) h.apps apps.loaded
 
     disjoint_now : HaveDisjointBlocks (all_nets others)
-    disjoint_now = AllPairs-left_in nets_of (λ (a : LoadedApp). not (a.number == number)) (λ (a b : NetPlan). (key : ℕ) → IsKeyOf a.block key → IsKeyOf b.block key → ⊥) h.apps apps.disjoint
+    disjoint_now = disjoint_blocks m others loaded_now others_apart
 
-    abbrev RowsOf : LoadedApp → List (List Entry) → Range → Type 0
-    RowsOf a tables r = (c : Chip) → IsInside m c → r.region ≡ place_of m (Rows c) → HasRows m (nets_of a) c (table_at m tables c) r
+    cleared : (c : Chip) (k : ℕ) → IsInside m c → k < 1024 → is_taken app.ranges (place_of m (Rows c)) k ≡ true → slice_get (table_at m t c) k ≡ Some unused
+    cleared c k inside below mine =
+        let found = by_taken app.ranges (place_of m (Rows c)) k mine in
+        let parts = and_parts (found.0.region == place_of m (Rows c)) (in_range found.0.place found.0.size k) found.2 in
+        left.cleared.filled found.0 found.1 c k inside (eqb-true found.0.region (place_of m (Rows c)) parts.0) below parts.1
 
     rows_now : HaveRows m t others
     rows_now = record {
       long = left.cleared.long;
-      rows = All-each (λ (a : LoadedApp). All (RowsOf a t) a.ranges) others (λ a in_others.
-          All-each (RowsOf a t) a.ranges (λ r in_a c inside region.
-          let from = other_in h.apps apps.numbers number app in_apps its a in_others in
-          let was = All-contains (RowsOf a h.mesh.setup.tables) a.ranges r
-          (All-contains (λ (b : LoadedApp). All (RowsOf b h.mesh.setup.tables) b.ranges) h.apps a apps.rows.rows from.0) in_a c inside region in
-          record {
-            rows = was.rows;
-            plain = was.plain;
-            entries = same_part (table_at m t c) (table_at m h.mesh.setup.tables c) r.place r.size (left.cleared.long c inside ∙ sym (apps.rows.long c inside))
-                (λ k low high. left.cleared.others c k inside (none_of_mine r (of_other a in_others r in_a) (place_of m (Rows c)) k (mine_at r (place_of m (Rows c)) k region low high))) ∙ was.entries;
-          }));
+      rows = All-each (λ (a : LoadedApp). All (RowsIn m t a) a.ranges) others (λ a in_others.
+          rows_stay m h.mesh.setup.tables t app.ranges a (λ c inside. left.cleared.long c inside ∙ sym (apps.rows.long c inside)) left.cleared.others
+          (λ r s in_r. apart_from_mine r s (flat_has ranges_in others a r in_others in_r)) (All-contains (λ (b : LoadedApp). All (RowsIn m h.mesh.setup.tables b) b.ranges) h.apps a apps.rows.rows
+          (other_in h.apps apps.numbers number app in_apps its a in_others).0));
       others = λ c k inside below free. elim (cases_Bool (is_taken app.ranges (place_of m (Rows c)) k)) [
-        | inl mine ↦ left.cleared.cleared c k inside below mine
-        | inr not_mine ↦ left.cleared.others c k inside not_mine ∙ apps.rows.others c k inside below (nobodys c k free not_mine)
+        | inl mine ↦ cleared c k inside below mine
+        | inr not_mine ↦
+            left.cleared.others c k inside not_mine
+            ∙ apps.rows.others c k inside below (sym (either_taken (place_of m (Rows c)) k) ∙ (list_any-append _ (all_ranges others) app.ranges
+            ∙ (ap (λ b. b || is_taken app.ranges (place_of m (Rows c)) k) free ∙ not_mine)))
       ];
     }
-      where
-        of_other : (a : LoadedApp) → Contains others a → (r : Range) → Contains a.ranges r → Contains (all_ranges others) r
-        of_other a has r in_a = own_item others (AllPairs-filter (λ (x y : LoadedApp). x.number ≢ y.number) (λ (x : LoadedApp). not (x.number == number)) h.apps apps.numbers)
-            a.number a has refl ranges_in r in_a
-
-        nobodys : (c : Chip) (k : ℕ) → is_taken (all_ranges others) (place_of m (Rows c)) k ≡ false → is_taken app.ranges (place_of m (Rows c)) k ≡ false →
-            is_taken (all_ranges h.apps) (place_of m (Rows c)) k ≡ false
-        nobodys c k free not_mine = false_from_ne_true (is_taken (all_ranges h.apps) (place_of m (Rows c)) k) (λ some.
-            let found = by_taken (all_ranges h.apps) (place_of m (Rows c)) k some in
-            elim (item_of h.apps apps.numbers number app in_apps its ranges_in found.0 found.1) [
-              | inl own ↦ false≢true (sym not_mine ∙ taken_by app.ranges (place_of m (Rows c)) k found.0 own found.2)
-              | inr other ↦ false≢true (sym free ∙ taken_by (all_ranges others) (place_of m (Rows c)) k found.0 other found.2)
-            ])
 
     ledger_now : MeetsLedgerFor (mesh_without app t h.mesh) (all_nets others) (asked_of others)
-    ledger_now = subst (λ n. MeetsLedgerFor (mesh_without app t h.mesh) (all_nets (others_than n h.apps)) (asked_of (others_than n h.apps))) its (the_ledger_without h app t apps in_apps none)
+    ledger_now = subst (λ n. AreNetsOn m h.mesh.setup.spots (all_nets (others_than n h.apps)) →
+        MeetsLedgerFor (mesh_without app t h.mesh) (all_nets (others_than n h.apps)) (asked_of (others_than n h.apps)))
+        its (the_ledger_without h app t apps in_apps none) (subst (λ l. AreNetsOn m l (all_nets others)) (sym apps.vertices) (nets_on m others loaded_now disjoint_now))
 
     apps_without : AreApps (now (mesh_without app t h.mesh))
     apps_without = record {
@@ -150,4 +124,4 @@ module _ (h : Host) (apps : AreApps h) (number : ℕ) (app : LoadedApp) (in_apps
     apps_left = subst (λ (s : State). AreApps (now s)) (sym left.mesh) apps_without
 
     pub has_unloaded : HasUnloaded h number ended (now mesh)
-    has_unloaded = grind arith
+    has_unloaded = grind (arith, cleared)

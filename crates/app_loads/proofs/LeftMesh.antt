@@ -1,7 +1,7 @@
 -- A mesh and regions that an application leaves.
-use Rattle.app_loads.proofs.Common.{All, AreFreeBeside, AreTaken, CanClear, CanLeave, Delivery, Description, DumpRec, Entry, IsMesh, IsRangeWithin, List, LoadedApp, Range, Region, Setup, State, ap}
-use Rattle.app_loads.proofs.Common.{free_places_in, frees, length, length-map, refl, subst, sym, ◌++◌, ◌∙◌, ◌≡◌}
-use Rattle.app_loads.proofs.Settling.{changed_mesh}
+use Rattle.app_loads.proofs.Common.{All, AllPairs-right, AreFreeBeside, AreTaken, CanClear, CanLeave, Delivery, Description, DumpRec, Entry, IsMesh, IsRangeWithin, List, LoadedApp, Range, Region}
+use Rattle.app_loads.proofs.Common.{Setup, ShareNoPlace, State, ap, free_places_in, frees, length, length-map, refl, subst, sym, ◌++◌, ◌∙◌, ◌≡◌}
+use Rattle.app_loads.proofs.{Settling.changed_mesh}
 
 -- a mesh with other tables, deliveries and records
 pub mesh_with : (s : State) (tables : List (List Entry)) (delivered : List Delivery) (dumped : List DumpRec) → IsMesh s → length tables ≡ length s.setup.tables →
@@ -20,6 +20,7 @@ can_clear {t = t} {regions = regions} {app = app} {lent = lent} same mesh can le
       tables_long = mesh.table_list;
       each_long = can.long;
       within = subst (λ n. All (IsRangeWithin t.setup.machine n) app.ranges) (sym (length-map regions free_places_in) ∙ can.taken.free.all) can.taken.within;
+      apart = AllPairs-right ShareNoPlace can.others app.ranges can.taken.apart;
     }))
 
 -- ranges are taken as before where room was made for more holes

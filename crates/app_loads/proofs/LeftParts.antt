@@ -1,11 +1,11 @@
 -- The fields of a host that an application left, or left not.
 use Rattle.app_loads.proofs.Common.{AreApps, AreGivenBack, CanLeave, Contains, Contains-at, Ended, HasLeft, HasUnloaded, Host, IfSome, Inside, IsHost, IsWhyHere, IsWhyNotUnloaded, List, LoadedApp}
 use Rattle.app_loads.proofs.Common.{None, NoneUnderWay, NoneWaits, NotLoaded, Ok, OnOk, Region, Result, SendAlone, Some, State, UnloadErr, Waiting, all_ranges, any_among, ap, arith, drop, drop-map}
-use Rattle.app_loads.proofs.Common.{eqb-true, false, false_from_ne_true, frees, get_or, host_of, is_loaded, is_some, length, map-append, mesh_in, others_than, position, position_nowhere}
-use Rattle.app_loads.proofs.Common.{position_there, same_Some, slice_get, slice_get-get_or, slice_get_within, subst, suc, sym, take, take-map, ℕ, ◌++◌, ◌<◌, ◌==◌, ◌∙◌, ◌≡◌}
-use Rattle.app_loads.specs.declared.answers.UnloadErr.TheVariants.{Memory}
+use Rattle.app_loads.proofs.Common.{eqb-true, false, false_from_ne_true, frees, get_or, host_of, is_loaded, is_some, map-append, mesh_in, others_than, position, position_nowhere, position_there}
+use Rattle.app_loads.proofs.Common.{same_Some, slice_get, slice_get-get_or, slice_get_within, subst, suc, sym, take, take-map, ℕ, ◌++◌, ◌==◌, ◌∙◌, ◌≡◌}
 use Rattle.app_loads.proofs.{FewClaims.few_ranges, LeftHost.apps_left, LeftHost.has_unloaded, LeftHost.loaded_one, LeftHost.none_waits, LeftHost.taken_beside, LoadedParts.IsOut, LoadedParts.host_is}
 use Rattle.app_loads.proofs.{LoadedParts.mesh_h, LoadedParts.old_is, Others.without_one, Resting.left_alone}
+use Rattle.app_loads.specs.declared.answers.UnloadErr.TheVariants.{Memory}
 
 -- where no place is found, the number is not loaded
 pub not_loaded : (apps : List LoadedApp) (number : ℕ) → position (λ (app : LoadedApp). app.number == number) apps ≡ None → is_loaded apps number ≡ false
@@ -13,18 +13,13 @@ not_loaded apps number none = false_from_ne_true (is_loaded apps number) (λ som
     let found = any_among (λ (app : LoadedApp). app.number == number) apps some in
     position_nowhere (λ (app : LoadedApp). app.number == number) apps found.0 none found.1 found.2)
 
--- the place that is found is one of the list
-found_below : (apps : List LoadedApp) (number at : ℕ) (d : LoadedApp) → position (λ (app : LoadedApp). app.number == number) apps ≡ Some at → at < length apps
-found_below apps number at d is = let found = position_there (λ (a : LoadedApp). a.number == number) apps at d is in slice_get_within apps at found.0 found.1
-
-pub found_there : (apps : List LoadedApp) (number at : ℕ) (app : LoadedApp) → position (λ (app : LoadedApp). app.number == number) apps ≡ Some at → app ≡ get_or apps at app → slice_get apps at ≡ Some app
-found_there apps number at app is value = slice_get-get_or apps at app (found_below apps number at app is) ∙ ap Some (sym value)
-
--- and has the application of the number
-pub found_number : (apps : List LoadedApp) (number at : ℕ) (app : LoadedApp) → position (λ (app : LoadedApp). app.number == number) apps ≡ Some at → slice_get apps at ≡ Some app → app.number ≡ number
-found_number apps number at app is here =
+-- the application at the place that is found has the number
+pub found_app : (apps : List LoadedApp) (number at : ℕ) (app : LoadedApp) → position (λ (app : LoadedApp). app.number == number) apps ≡ Some at → app ≡ get_or apps at app →
+    (slice_get apps at ≡ Some app) × (app.number ≡ number)
+found_app apps number at app is value =
     let found = position_there (λ (a : LoadedApp). a.number == number) apps at app is in
-    ap (λ (a : LoadedApp). a.number) (same_Some _ _ (sym here ∙ found.1)) ∙ eqb-true found.0.number number found.3
+    let same : found.0 ≡ app = same_Some _ _ (sym found.1 ∙ (slice_get-get_or apps at app (slice_get_within apps at found.0 found.1) ∙ ap Some (sym value))) in
+    (found.1 ∙ ap Some same, ap (λ (a : LoadedApp). a.number) (sym same) ∙ eqb-true found.0.number number found.3)
 
 -- what a call answered where it succeeded
 pub on_ok_is : {A E : Type 0} (P : Type 0) {r : Result A E} {x : A} → r ≡ Ok x → OnOk r P → P
@@ -50,10 +45,10 @@ module _ {i : Inside} {now : Host} {number at : ℕ} {app : LoadedApp} {mesh : S
   place = ap (λ (x : Host). position (λ (a : LoadedApp). a.number == number) x.apps) leaves.out.stands.view ∙ leaves.place
 
   here : slice_get i.apps.items at ≡ Some app
-  here = found_there i.apps.items number at app place leaves.value
+  here = (found_app i.apps.items number at app place leaves.value).0
 
   its : app.number ≡ number
-  its = found_number i.apps.items number at app place here
+  its = (found_app i.apps.items number at app place leaves.value).1
 
   in_apps : Contains h.apps app
   in_apps = Contains-at i.apps.items at app here

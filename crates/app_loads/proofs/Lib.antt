@@ -5,13 +5,10 @@ mod Bare
 mod Delivered
 mod Earlier
 mod FewClaims
-mod FewSpots
 mod GroupLaws
 mod Holes
 mod Hosts
-mod JoinLaws
 mod Kept
-mod Keeping
 mod LeavingLeast
 mod LeavingLedger
 mod LeavingLists
@@ -22,7 +19,6 @@ mod LeftParts
 mod LoadedHost
 mod LoadedParts
 mod Numbers
-mod OneBlock
 pub mod OneClaim
 mod Others
 mod PacketLedger
@@ -36,11 +32,9 @@ mod Serving
 mod Settling
 mod Spots
 pub mod SpotsOf
-mod Taking
 mod BlockLists
 mod Blocks
 mod ClaimCases
 mod Claiming
 mod Copying
-mod Clearing
 mod RoomToGive

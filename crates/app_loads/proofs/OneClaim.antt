@@ -1,17 +1,16 @@
 -- Each net of a plan has one claim of keys, and so one block.
-use Rattle.app_loads.proofs.Common.{AppNet, AppPlan, Block, Bool, Claim, Description, IsBlockOf, Keys, List, LoadRefusal, None, Option, Range, Rows, Some, [], among_at, ap, arith, chip_count, chip_of}
-use Rattle.app_loads.proofs.Common.{claims_of, count_by, count_by-append, count_by-cons, count_some, counts_one, eq-eqb, eqb-true, false, fixed_claim, flat_map, gathered, has_chip, if◌then◌else◌}
-use Rattle.app_loads.proofs.Common.{key_claim, memory_claim, ne_eqb, range_with_len, refl, row_claim, same_Some, same_block, size_for, size_of, slice_get, suc, sym, true, zero, zip, ℕ, ◌++◌, ◌+◌, ◌<◌}
-use Rattle.app_loads.proofs.Common.{◌==◌, ◌∙◌, ◌∷◌, ◌≡◌, ◌≤◌}
+use Rattle.app_loads.proofs.Common.{AppNet, AppPlan, Block, Bool, Claim, Description, IsBlockOf, Keys, List, LoadRefusal, None, Option, Range, Rows, Some, [], among_at, ap, arith, cases_order}
+use Rattle.app_loads.proofs.Common.{chip_count, chip_of, claims_of, count_by, count_by-append, count_by-cons, count_some, counts_one, eq-eqb, false, fixed_claim, flat_map, gathered, has_chip}
+use Rattle.app_loads.proofs.Common.{if◌then◌else◌, inl, inr, key_claim, le-leb, leb, lt-leb, memory_claim, ne_eqb, range_with_len, refl, row_claim, same_Some, same_block, size_for, size_of}
+use Rattle.app_loads.proofs.Common.{slice_get, suc, sym, true, zero, zip, ℕ, ◌++◌, ◌+◌, ◌==◌, ◌∙◌, ◌∷◌, ◌≡◌, ◌≤◌}
+use Rattle.app_loads.proofs.{LeavingLists.none_where, LeavingLists.one_if, LeavingLists.one_where}
 use Rattle.app_loads.specs.declared.places.Region.TheVariants.{Memory}
 use Rattle.app_loads.specs.declared.answers.LoadRefusal.TheVariants as refusals
 
 -- whether a claim is for the keys of a net
 abbrev names_net : ℕ → LoadRefusal → Bool
-names_net n refusals.Loaded = false
-names_net n (refusals.MemoryOut vertex) = false
 names_net n (refusals.KeysOut net) = net == n
-names_net n (refusals.RowsOut chip) = false
+names_net n refusal = false
 
 module _ (n : ℕ) where
   abbrev is_for : Claim → Bool
@@ -40,35 +39,25 @@ module _ (n : ℕ) where
   its_own j k (Some block) = grind (arith, count_by-cons is_for (record { region = Keys; size = size_of block; align = 1; fixed = Some block.key; refusal = refusals.KeysOut j }))
   its_own j k None = grind (arith, count_by-cons is_for (record { region = Keys; size = size_for k; align = size_for k; fixed = None; refusal = refusals.KeysOut j }))
 
-  none_above : (j : ℕ) (nets : List AppNet) → n < j → count_by is_for (fixed j nets) + count_by is_for (keys j nets) ≡ 0
-  none_above j [] past = refl
-  none_above j (net ∷ nets) past =
-      let other : (j == n) ≡ false = ne_eqb j n (λ e. omega (arith, e, past)) in
-      let own = its_own j net.keys net.fixed ∙ ap (λ (b : Bool). if b then 1 else 0) other in
-      let rest = none_above (j + 1) nets (omega (arith, past)) in
-      let second = count_by-append is_for (key_claim j net.keys net.fixed) (keys (j + 1) nets) in
-      omega (arith, own, rest, count_by-append is_for (fixed_claim j net.fixed) (fixed (j + 1) nets), second)
-
-  at_most_one : (j : ℕ) (nets : List AppNet) → count_by is_for (fixed j nets) + count_by is_for (keys j nets) ≤ 1
+  -- so nets from a number on claim those of this one at most once, and not where it is below
+  at_most_one : (j : ℕ) (nets : List AppNet) → count_by is_for (fixed j nets) + count_by is_for (keys j nets) ≤ one_if (leb j n)
   at_most_one j [] = omega arith
-  at_most_one j (net ∷ nets) = by_test (j == n) refl (at_most_one (j + 1) nets)
-    where
-      first : count_by is_for (fixed j (net ∷ nets)) ≡ count_by is_for (fixed_claim j net.fixed) + count_by is_for (fixed (j + 1) nets)
-      first = count_by-append is_for (fixed_claim j net.fixed) (fixed (j + 1) nets)
-
-      second : count_by is_for (keys j (net ∷ nets)) ≡ count_by is_for (key_claim j net.keys net.fixed) + count_by is_for (keys (j + 1) nets)
-      second = count_by-append is_for (key_claim j net.keys net.fixed) (keys (j + 1) nets)
-
-      own : (b : Bool) → (j == n) ≡ b → count_by is_for (fixed_claim j net.fixed) + count_by is_for (key_claim j net.keys net.fixed) ≡ (if b then 1 else 0)
-      own b is = its_own j net.keys net.fixed ∙ ap (λ (c : Bool). if c then 1 else 0) is
-
-      by_test : (b : Bool) → (j == n) ≡ b → count_by is_for (fixed (j + 1) nets) + count_by is_for (keys (j + 1) nets) ≤ 1 →
-          count_by is_for (fixed j (net ∷ nets)) + count_by is_for (keys j (net ∷ nets)) ≤ 1
-      by_test true is rest =
-          let here : j ≡ n = eqb-true j n is in
-          let none = none_above (j + 1) nets (omega (arith, here)) in
-          omega (arith, own true is, none, first, second)
-      by_test false is rest = let none = own false is in omega (arith, none, rest, first, second)
+  at_most_one j (net ∷ nets) =
+      let own = its_own j net.keys net.fixed in
+      let rest = at_most_one (j + 1) nets in
+      let first = count_by-append is_for (fixed_claim j net.fixed) (fixed (j + 1) nets) in
+      let second = count_by-append is_for (key_claim j net.keys net.fixed) (keys (j + 1) nets) in
+      elim (cases_order j n) [
+        | inl same ↦
+            let next : one_if (leb (j + 1) n) ≡ 0 = none_where (leb (j + 1) n) (lt-leb (j + 1) n (omega (arith, same))) in
+            omega (arith, own, rest, first, second, one_where (j == n) (eq-eqb j n same), one_where (leb j n) (le-leb j n (omega (arith, same))), next)
+        | inr (inl less) ↦
+            let next : one_if (leb (j + 1) n) ≡ 1 = one_where (leb (j + 1) n) (le-leb (j + 1) n (omega (arith, less))) in
+            omega (arith, own, rest, first, second, none_where (j == n) (ne_eqb j n (λ e. omega (arith, e, less))), one_where (leb j n) (le-leb j n (omega (arith, less))), next)
+        | inr (inr more) ↦
+            let next : one_if (leb (j + 1) n) ≡ 0 = none_where (leb (j + 1) n) (lt-leb (j + 1) n (omega (arith, more))) in
+            omega (arith, own, rest, first, second, none_where (j == n) (ne_eqb j n (λ e. omega (arith, e, more))), none_where (leb j n) (lt-leb j n more), next)
+      ]
 
   module _ (m : Description) (plan : AppPlan) where
     one_claim : count_by is_for (claims_of m plan) ≤ 1
@@ -82,7 +71,7 @@ module _ (n : ℕ) where
         let no_row : count_by is_for rows ≡ 0 = none_mapped (row_claim m plan.nets) (λ i.
         let long : ℕ = count_by (has_chip m (chip_of m i)) plan.nets in
         none_unless (long == 0) (record { region = Rows (chip_of m i); size = long; align = 1; fixed = None; refusal = refusals.RowsOut (chip_of m i) }) refl) (range_with_len 0 (chip_count m)) in
-        omega (arith, first, second, count_by-append is_for (keys 0 plan.nets) rows, none, no_row, at_most_one 0 plan.nets)
+        omega (arith, first, second, count_by-append is_for (keys 0 plan.nets) rows, none, no_row, at_most_one 0 plan.nets, one_where (leb 0 n) (le-leb 0 n (omega arith)))
 
   -- places at which a claim for the net stands are one
   one_place : (claims : List Claim) → count_by is_for claims ≤ 1 → (i j : ℕ) (a b : Claim) → slice_get claims i ≡ Some a → slice_get claims j ≡ Some b → is_for a ≡ true → is_for b ≡ true → i ≡ j

@@ -1,9 +1,10 @@
 -- Lists of an application's items beside those of all others.
 use Rattle.app_loads.proofs.Common.{All, All-contains, All-each, All-weaker, AllPairs, AllPairs-across, AllPairs-append, AllPairs-head, AllPairs-left, AllPairs-right, AllPairs-tail, Among, Bool}
-use Rattle.app_loads.proofs.Common.{Contains, Contains-at, Contains-filter, Contains-from_filter, List, LoadedApp, Some, [], all_pairs_push, among_at, among_contains, among_filter, ap, arith}
-use Rattle.app_loads.proofs.Common.{cases_Bool, cond-false, cond-true, cond_both, contains_among, drop, eq-eqb, eqb-true, false, false≢true, filter, flat_map, get_or, inl, inr, ne_eqb, not}
-use Rattle.app_loads.proofs.Common.{others_than, refl, same_Some, slice_get, slice_get-get_or, subst, suc, sym, take, true, zero, ℕ, ◌++◌, ◌==◌, ◌∙◌, ◌∷◌, ◌≡◌, ◌≢◌, ◌⊎◌}
-use Rattle.app_loads.proofs.{ClaimCases.among_flat, ClaimCases.flat_among, LeavingLists.either_pair}
+use Rattle.app_loads.proofs.Common.{Contains, Contains-at, Contains-filter, Contains-from_filter, List, LoadedApp, Some, [], all_pairs_push, among_any, among_at, among_contains, among_filter}
+use Rattle.app_loads.proofs.Common.{any_among, ap, arith, cases_Bool, cond-false, cond-true, cond_both, contains_among, drop, eq-eqb, eqb-true, false, false≢true, filter, flat_map, get_or, inl, inr}
+use Rattle.app_loads.proofs.Common.{list_any, ne_eqb, not, or_cases, or_left, or_right, others_than, refl, same_Some, slice_get, slice_get-get_or, subst, suc, sym, take, true, zero, ℕ, ◌++◌, ◌==◌}
+use Rattle.app_loads.proofs.Common.{◌||◌, ◌∙◌, ◌∷◌, ◌≡◌, ◌≢◌, ◌⊎◌}
+use Rattle.app_loads.proofs.{LeavingLists.either_pair, LeavingLists.flat_has, LeavingLists.flat_of}
 
 pub same_tests : (a b : Bool) → (a ≡ true → b ≡ true) → (b ≡ true → a ≡ true) → a ≡ b
 same_tests true b forth back = sym (forth refl)
@@ -17,11 +18,8 @@ pairs_with_last R xs x pairs each = all_pairs_push R xs x pairs (λ k d below. e
 -- ---- items of lists, where some lists are left out
 
 module _ {X Y : Type 0} (f : X → List Y) (p : X → Bool) where
-  pub among_left_in : (xs : List X) (y : Y) → Among y (flat_map f (filter p xs)) → Among y (flat_map f xs)
-  among_left_in xs y a = let found = among_flat f y (filter p xs) a in flat_among f y xs found.0 (among_filter p found.0 xs found.1).0 found.2
-
   pub Contains-left_in : (xs : List X) (y : Y) → Contains (flat_map f (filter p xs)) y → Contains (flat_map f xs) y
-  Contains-left_in xs y has = among_contains y (flat_map f xs) (among_left_in xs y (contains_among y (flat_map f (filter p xs)) has))
+  Contains-left_in xs y has = let found = flat_of f (filter p xs) y has in flat_has f xs found.0 y (Contains-from_filter p xs found.0 found.1).0 found.2
 
   pub All-left_in : (P : Y → Type 0) (xs : List X) → All P (flat_map f xs) → All P (flat_map f (filter p xs))
   All-left_in P xs all = All-each P (flat_map f (filter p xs)) (λ y has. All-contains P (flat_map f xs) y all (Contains-left_in xs y has))
@@ -42,20 +40,17 @@ module _ {X Y : Type 0} (R : Y → Y → Type 0) (f : X → List Y) where
   own_pairs (z ∷ zs) pairs x (inl here) = subst (λ w. AllPairs R (f w)) (sym here) (AllPairs-left R (f z) (flat_map f zs) pairs)
   own_pairs (z ∷ zs) pairs x (inr later) = own_pairs zs (AllPairs-right R (f z) (flat_map f zs) pairs) x later
 
+  first_with : (z : X) (a b : Y) (zs : List X) → AllPairs R (flat_map f (z ∷ zs)) → Contains (f z) a → (y : X) → Among y zs → Contains (f y) b → R a b
+  first_with z a b zs pairs has_a y in_y has_b =
+      All-contains (R a) (flat_map f zs) b (All-contains (λ c. All (R c) (flat_map f zs)) (f z) a (AllPairs-across R (f z) (flat_map f zs) pairs) has_a)
+      (flat_has f zs y b (among_contains y zs in_y) has_b)
+
   -- the pairs of two different lists
   pub across_pairs : ((a b : Y) → R a b → R b a) → (xs : List X) → AllPairs R (flat_map f xs) → (x y : X) → Among x xs → Among y xs → x ≢ y → (a b : Y) → Contains (f x) a → Contains (f y) b → R a b
   across_pairs flip [] pairs x y in_x in_y differ a b has_a has_b = absurd in_x
   across_pairs flip (z ∷ zs) pairs x y (inl here) (inl here') differ a b has_a has_b = absurd (differ (here ∙ sym here'))
-  across_pairs flip (z ∷ zs) pairs x y (inl here) (inr later) differ a b has_a has_b = with_first flip z zs pairs a b y (subst (λ w. Contains (f w) a) here has_a) later has_b
-    where
-      with_first : ((a b : Y) → R a b → R b a) → (z : X) (zs : List X) → AllPairs R (flat_map f (z ∷ zs)) → (a b : Y) (y : X) → Contains (f z) a → Among y zs → Contains (f y) b → R a b
-      with_first flip z zs pairs a b y has_a in_y has_b =
-          All-contains (R a) (flat_map f zs) b (All-contains (λ c. All (R c) (flat_map f zs)) (f z) a (AllPairs-across R (f z) (flat_map f zs) pairs) has_a)
-          (among_contains b (flat_map f zs) (flat_among f b zs y in_y (contains_among b (f y) has_b)))
-  across_pairs flip (z ∷ zs) pairs x y (inr later) (inl here) differ a b has_a has_b =
-      flip b a
-      (All-contains (R b) (flat_map f zs) a (All-contains (λ c. All (R c) (flat_map f zs)) (f z) b (AllPairs-across R (f z) (flat_map f zs) pairs) (subst (λ w. Contains (f w) b) here has_b))
-      (among_contains a (flat_map f zs) (flat_among f a zs x later (contains_among a (f x) has_a))))
+  across_pairs flip (z ∷ zs) pairs x y (inl here) (inr later) differ a b has_a has_b = first_with z a b zs pairs (subst (λ w. Contains (f w) a) here has_a) y later has_b
+  across_pairs flip (z ∷ zs) pairs x y (inr later) (inl here) differ a b has_a has_b = flip b a (first_with z b a zs pairs (subst (λ w. Contains (f w) b) here has_b) x later has_a)
   across_pairs flip (z ∷ zs) pairs x y (inr later) (inr later') differ a b has_a has_b = across_pairs flip zs (AllPairs-right R (f z) (flat_map f zs) pairs) x y later later' differ a b has_a has_b
 
 -- ---- the application of a number, and the others
@@ -104,26 +99,24 @@ module _ (apps : List LoadedApp) (numbers : HaveNumbers apps) (number : ℕ) (ap
   pub mine_or_other : (a : LoadedApp) → Contains apps a → (a ≡ app) ⊎ Contains (others_than number apps) a
   mine_or_other a has = grind (arith, cases_Bool (a.number == number), contains_among a apps has, contains_among app apps in_apps, only_one, Contains-filter, eqb-true)
 
-  -- an item of an application is one of this one's, or of the others'
-  pub item_of : {Y : Type 0} (f : LoadedApp → List Y) (y : Y) → Contains (flat_map f apps) y → Contains (f app) y ⊎ Contains (flat_map f (others_than number apps)) y
-  item_of f y has =
-      let found = among_flat f y apps (contains_among y (flat_map f apps) has) in
+  -- a test passes one of all where it passes this one or one of the others
+  pub any_app : (p : LoadedApp → Bool) → list_any p apps ≡ (list_any p (others_than number apps) || p app)
+  any_app p = same_tests (list_any p apps) (list_any p (others_than number apps) || p app)
+      (λ hit.
+      let found = any_among p apps hit in
       elim (mine_or_other found.0 (among_contains found.0 apps found.1)) [
-        | inl mine ↦ inl (subst (λ (a : LoadedApp). Contains (f a) y) mine (among_contains y (f found.0) found.2))
-        | inr other ↦
-            inr (among_contains y (flat_map f (others_than number apps)) (flat_among f y (others_than number apps) found.0 (contains_among found.0 (others_than number apps) other) found.2))
-      ]
-
-  pub own_item : {Y : Type 0} (f : LoadedApp → List Y) (y : Y) → Contains (f app) y → Contains (flat_map f apps) y
-  own_item f y has = among_contains y (flat_map f apps) (flat_among f y apps app (contains_among app apps in_apps) (contains_among y (f app) has))
-
-  pub others_item : {Y : Type 0} (f : LoadedApp → List Y) → (y : Y) → Contains (flat_map f (others_than number apps)) y → Contains (flat_map f apps) y
-  others_item f = Contains-left_in f (is_other number) apps
+        | inl mine ↦ or_right (list_any p (others_than number apps)) (p app) (ap p (sym mine) ∙ found.2)
+        | inr other ↦ or_left (list_any p (others_than number apps)) (p app) (among_any p found.0 (others_than number apps) (contains_among found.0 (others_than number apps) other) found.2)
+      ])
+      (λ either. elim (or_cases (list_any p (others_than number apps)) (p app) either) [
+        | inl other ↦ (let found = any_among p (others_than number apps) other in among_any p found.0 apps (among_filter (is_other number) found.0 apps found.1).0 found.2)
+        | inr mine ↦ among_any p app apps (contains_among app apps in_apps) mine
+      ])
 
   -- an item of another with one of this one
   pub with_mine : {Y : Type 0} (R : Y → Y → Type 0) → ((a b : Y) → R a b → R b a) → (f : LoadedApp → List Y) → AllPairs R (flat_map f apps) →
       (a b : Y) → Contains (flat_map f (others_than number apps)) a → Contains (f app) b → R a b
   with_mine R flip f pairs a b has_a has_b =
-      let found = among_flat f a (others_than number apps) (contains_among a (flat_map f (others_than number apps)) has_a) in
-      let other = other_in found.0 (among_contains found.0 (others_than number apps) found.1) in
-      across_pairs R f flip apps pairs found.0 app (contains_among found.0 apps other.0) (contains_among app apps in_apps) other.1 a b (among_contains a (f found.0) found.2) has_b
+      let found = flat_of f (others_than number apps) a has_a in
+      let other = other_in found.0 found.1 in
+      across_pairs R f flip apps pairs found.0 app (contains_among found.0 apps other.0) (contains_among app apps in_apps) other.1 a b found.2 has_b

@@ -1,9 +1,10 @@
 -- The ledger of a mesh to which an application's packets came.
-use Rattle.app_loads.proofs.Common.{All, All-head, All-tail, AreSent, Asked, Contains, Description, Entry, IsKeyOf, IsRoutingTree, List, LoadedApp, McCopy, MeetsLedgerFor, NetPlan, None, Option}
-use Rattle.app_loads.proofs.Common.{Packet, Some, Spot, State, [], ap, arith, asked_by, asked_from, asked_of, asked_of_app, cases_eq, cases_lt, either, eq-eqb, get_or_from_slice_get, if◌then◌else◌}
-use Rattle.app_loads.proofs.Common.{inl, inr, label_in, le-leb, length, length-map, link_on_branch, lt-leb, ne_eqb, nets_of, refl, slice_get, slice_get_past, slice_get_within, slice_set, subst, suc}
-use Rattle.app_loads.proofs.Common.{sym, zero, ℕ, ◌++◌, ◌+◌, ◌-◌, ◌<◌, ◌==◌, ◌∙◌, ◌∷◌, ◌≡◌, ◌≢◌, ◌≤◌}
-use Rattle.app_loads.proofs.Ledgers.{one_packet_more}
+use Rattle.app_loads.proofs.Common.{All, All-contains, AreSent, Asked, Contains, Contains-first, Contains-later, Description, Entry, IsKeyOf, IsRoutingTree, List, LoadedApp, McCopy, MeetsLedgerFor}
+use Rattle.app_loads.proofs.Common.{NetPlan, None, Option, Packet, Some, Spot, State, [], and_from, and_parts, ap, arith, asked_by, asked_from, asked_of, asked_of_app, asked_parts, both_ways}
+use Rattle.app_loads.proofs.Common.{cases_Bool, cases_eq, cases_lt, either, eq-eqb, false, false_from_ne_true, get_or_from_slice_get, if◌then◌else◌, inl, inr, is_packet_of, label_in, le-leb, leb}
+use Rattle.app_loads.proofs.Common.{leb-true, length, length-map, link_on_branch, lt-leb, lt-ltb, ltb, ltb-true, ne_eqb, net_in_list, nets_of, none-some, refl, slice_get, slice_get_within, slice_set}
+use Rattle.app_loads.proofs.Common.{subst, suc, sym, true, zero, ℕ, ◌++◌, ◌+◌, ◌-◌, ◌<◌, ◌==◌, ◌∙◌, ◌∷◌, ◌≡◌, ◌≢◌, ◌≤◌}
+use Rattle.app_loads.proofs.{Ledgers.one_packet_more}
 
 -- a routing tree has a target
 some_target : (m : Description) (net : NetPlan) → IsRoutingTree m net.tree.root net.tree.edges net.targets → (t : Spot) × Contains net.targets t
@@ -71,15 +72,51 @@ asked_more : (apps : List LoadedApp) (app : LoadedApp) (j : ℕ) → asked_of (a
 asked_more [] app j = either_none (asked_of_app app j)
 asked_more (a ∷ apps) app j = ap (either (asked_of_app a j)) (asked_more apps app j) ∙ either_assoc (asked_of_app a j) (asked_of apps j) (asked_of_app app j)
 
-past_app : (app : LoadedApp) (j : ℕ) → app.first + length app.plan.packets ≤ j → asked_of_app app j ≡ None
-past_app app j past = grind (arith, le-leb app.first j (omega (arith, past)), slice_get_past app.plan.packets (j - app.first) (omega (arith, past)))
+-- the bounds of the numbers of an application's packets
+pub packet_bounds : (b : LoadedApp) (i : ℕ) → is_packet_of b i ≡ true → (b.first ≤ i) × (i < b.first + length b.plan.packets)
+packet_bounds b i is = let parts = and_parts (leb b.first i) (ltb i (b.first + length b.plan.packets)) is in (leb-true b.first i parts.0, ltb-true i (b.first + length b.plan.packets) parts.1)
+
+-- what an application asks for is of its packets and nets
+pub of_app : (b : LoadedApp) (i : ℕ) (a : Asked) → asked_of_app b i ≡ Some a → (is_packet_of b i ≡ true) × Contains (nets_of b) a.net
+of_app b i a e = elim (cases_Bool (leb b.first i)) [
+  | inl from ↦
+      let parts = asked_parts (nets_of b) b.plan.packets (i - b.first) a (sym (ap (λ t. if t then asked_by (nets_of b) b.plan.packets (i - b.first) else None) from) ∙ e) in
+      let within = slice_get_within b.plan.packets (i - b.first) parts.packet parts.is_packet in (
+        and_from (leb b.first i) (ltb i (b.first + length b.plan.packets)) from (lt-ltb i (b.first + length b.plan.packets) (let low = leb-true b.first i from in omega (arith, within, low))),
+        subst (λ (c : Asked). Contains (nets_of b) c.net) (sym parts.is_asked) (net_in_list (nets_of b) parts.packet parts.net parts.is_net),
+      )
+  | inr before ↦ absurd (none-some a (sym (ap (λ t. if t then asked_by (nets_of b) b.plan.packets (i - b.first) else None) before) ∙ e))
+]
+
+pub none_of_app : (b : LoadedApp) (i : ℕ) → is_packet_of b i ≡ false → asked_of_app b i ≡ None
+none_of_app b i other = by_option (asked_of_app b i) refl
+  where
+    by_option : (o : Option Asked) → asked_of_app b i ≡ o → asked_of_app b i ≡ None
+    by_option None e = e
+    by_option (Some a) e = absurd (both_ways _ other (of_app b i a e).0)
+
+-- what is asked for is asked for by one of the applications
+pub asker : (apps : List LoadedApp) (i : ℕ) (a : Asked) → asked_of apps i ≡ Some a → (b : LoadedApp) × Contains apps b × (asked_of_app b i ≡ Some a)
+asker [] i a e = absurd (none-some a e)
+asker (b ∷ apps) i a e = by_first (asked_of_app b i) refl e (asker apps i a)
+  where
+    by_first : (o : Option Asked) → asked_of_app b i ≡ o → either o (asked_of apps i) ≡ Some a → (asked_of apps i ≡ Some a → (c : LoadedApp) × Contains apps c × (asked_of_app c i ≡ Some a)) →
+        (c : LoadedApp) × Contains (b ∷ apps) c × (asked_of_app c i ≡ Some a)
+    by_first (Some c) is e' later = (b, Contains-first b apps, is ∙ e')
+    by_first None is e' later = let rest = later e' in (rest.0, Contains-later b apps rest.0 rest.1, rest.2)
 
 pub none_past : (apps : List LoadedApp) (packets j : ℕ) → All (λ (app : LoadedApp). app.first + length app.plan.packets ≤ packets) apps → packets ≤ j → asked_of apps j ≡ None
-none_past [] packets j counted past = refl
-none_past (a ∷ apps) packets j counted past =
-    let here = All-head (λ (app : LoadedApp). app.first + length app.plan.packets ≤ packets) a apps counted in
-    ap (λ o. either o (asked_of apps j)) (past_app a j (omega (arith, here, past)))
-    ∙ none_past apps packets j (All-tail (λ (app : LoadedApp). app.first + length app.plan.packets ≤ packets) a apps counted) past
+none_past apps packets j counted past = by_option (asked_of apps j) refl
+  where
+    by_option : (o : Option Asked) → asked_of apps j ≡ o → asked_of apps j ≡ None
+    by_option None e = e
+    by_option (Some a) e =
+        let by = asker apps j a e in
+        let bounds = packet_bounds by.0 j (of_app by.0 j a by.2).0 in
+        absurd (let few = All-contains (λ (app : LoadedApp). app.first + length app.plan.packets ≤ packets) apps by.0 counted by.1 in omega (arith, few, bounds, past))
+
+past_app : (app : LoadedApp) (j : ℕ) → app.first + length app.plan.packets ≤ j → asked_of_app app j ≡ None
+past_app app j past = none_of_app app j (false_from_ne_true (is_packet_of app j) (λ is. let bounds = packet_bounds app j is in omega (arith, bounds, past)))
 
 pub asked_is : (apps : List LoadedApp) (app : LoadedApp) → ((i : ℕ) → app.first ≤ i → asked_of apps i ≡ None) → (j : ℕ) →
     upto app (asked_of apps) (length app.plan.packets) j ≡ asked_of (apps ++ app ∷ []) j

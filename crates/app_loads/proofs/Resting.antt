@@ -3,7 +3,7 @@ use Rattle.app_loads.proofs.Common.{All, All-append, All-at, All-each, All-nil, 
 use Rattle.app_loads.proofs.Common.{IsSettled, List, LoadedApp, McCopy, NetPlan, None, NothingWaits, Option, SendAlone, Some, Spot, State, Unsent, [], among_at, among_contains, among_left}
 use Rattle.app_loads.proofs.Common.{among_right, ap, arith, cases_eq, contains_among, flat_map, inl, inr, length, mesh_without, nets_of, option_to_list, refl, slice_get, slice_get-set_other}
 use Rattle.app_loads.proofs.Common.{slice_get_within, source_vertex, subst, suc, sym, usable_parts, vertex_at, vertex_behind, vertex_behind-core, zero, ℕ, ◌++◌, ◌<◌, ◌∙◌, ◌∷◌, ◌≡◌}
-use Rattle.app_loads.proofs.{AppNets.facts_of, AppNets.usable_spot, ClaimCases.among_flat, ClaimCases.flat_among}
+use Rattle.app_loads.proofs.{AppNets.facts_of, AppNets.usable_spot, LeavingLists.among_flat, LeavingLists.flat_among}
 
 -- ---- after a load
 

@@ -2,13 +2,14 @@
 use Rattle.app_loads.proofs.Common.{All, All-contains, All-each, All-from_get_or, AllZip-at_first, AreRight, Block, Bool, Chip, Contains, Contains-at, Contains-cases, Contains-first, Contains-later}
 use Rattle.app_loads.proofs.Common.{Contains-map, Contains-none, Contains-permutation, Contains-unmap, Description, Entry, HasChip, HasRows, HaveDisjointBlocks, HaveRows, IsInside, IsKeyOf}
 use Rattle.app_loads.proofs.Common.{IsLoadedOn, IsOriginalOf, IsOutput, IsPermutation-sym, IsPlainTable, IsRangeFor, IsRoutingTree, List, LoadedApp, NetPlan, Original, Out, Port, Range, Route}
-use Rattle.app_loads.proofs.Common.{RoutesByTree, Row, Rows, Some, [], all_nets, all_ranges, among_contains, and_parts, and_zero_r, ap, arith, bit_and, cases_Bool, chip_of, chip_of-index_of}
+use Rattle.app_loads.proofs.Common.{RoutesByTree, Row, Rows, ShareNoPlace, Some, [], all_nets, all_ranges, and_parts, and_zero_r, ap, arith, bit_and, cases_Bool, chip_of, chip_of-index_of}
 use Rattle.app_loads.proofs.Common.{chip_of-inside, chips_inside, claims_of, comes_in_tree, cond, contains_among, count_by, count_some, default_route, drop, entry_of, eq-eqb, eqb-true, false}
-use Rattle.app_loads.proofs.Common.{false≢true, find, from_net, get_or, has, has_chip, has_original, index_below, index_of, index_of-chip_of, inl, inr, is_taken, is_wanted, leb-true, length, ltb-true}
-use Rattle.app_loads.proofs.Common.{map, matches, nets_of, one_net, option_map_or, place_of, range_has, refl, row_of, same_Some, slice_get, slice_get-get_or, slice_get-mapped, subst, suc, sym}
-use Rattle.app_loads.proofs.Common.{table_at, take, true, unmapped, unused, zero, ℕ, ◌*◌, ◌+◌, ◌-◌, ◌<◌, ◌==◌, ◌∙◌, ◌∷◌, ◌≡◌, ◌≤◌}
+use Rattle.app_loads.proofs.Common.{false≢true, find, from_net, get_or, has, has_chip, has_original, index_below, index_of, index_of-chip_of, inl, inr, is_taken, is_wanted, leb-true, length}
+use Rattle.app_loads.proofs.Common.{ltb-true, map, matches, nets_of, one_net, option_map_or, place_of, range_has, refl, row_of, same_Some, slice_get, slice_get-get_or, slice_get-mapped, subst, suc}
+use Rattle.app_loads.proofs.Common.{sym, table_at, take, true, unmapped, unused, zero, ℕ, ◌*◌, ◌+◌, ◌-◌, ◌<◌, ◌==◌, ◌∙◌, ◌∷◌, ◌≡◌, ◌≤◌}
+use Rattle.app_loads.proofs.{AppNets.facts_of, AppNets.member_at, AppNets.spot_inside, ClaimCases.chip_claim, Copying.mine_at, Copying.same_part, LeavingLists.flat_has, LeavingLists.flat_of}
+use Rattle.app_loads.proofs.{Serving.by_taken, Serving.none_taken, Settling.has_chip-true}
 use Rattle.spin_base.specs.Lookup.{lookup}
-use Rattle.app_loads.proofs.{AppNets.facts_of, AppNets.member_at, AppNets.spot_inside, ClaimCases.among_flat, ClaimCases.flat_among, ClaimCases.chip_claim, Serving.by_taken, Settling.has_chip-true}
 
 -- ---- lookup in a table where all that match agree
 
@@ -47,6 +48,24 @@ of_part (y ∷ ys) (suc p) s j x e = let z : suc p + j ≡ suc (p + j) = omega a
 in_parts : (range : Range) (region k : ℕ) → range_has region k range ≡ true → (range.region ≡ region) × (range.place ≤ k) × (k < range.place + range.size)
 in_parts range region k e = grind (arith, and_parts, eqb-true, leb-true, ltb-true)
 
+-- ---- rows that stay
+
+-- a range of an application has its rows
+abbrev pub RowsIn : Description → List (List Entry) → LoadedApp → Range → Type 0
+RowsIn m tables app range = (c : Chip) → IsInside m c → range.region ≡ place_of m (Rows c) → HasRows m (nets_of app) c (table_at m tables c) range
+
+-- so it has where entries change in other ranges alone
+pub rows_stay : (m : Description) (old new : List (List Entry)) (changed : List Range) (app : LoadedApp) → ((c : Chip) → IsInside m c → length (table_at m new c) ≡ length (table_at m old c)) →
+    ((c : Chip) (k : ℕ) → IsInside m c → is_taken changed (place_of m (Rows c)) k ≡ false → slice_get (table_at m new c) k ≡ slice_get (table_at m old c) k) →
+    ((r s : Range) → Contains app.ranges r → Contains changed s → ShareNoPlace r s) → All (RowsIn m old app) app.ranges → All (RowsIn m new app) app.ranges
+rows_stay m old new changed app long others apart rows = All-each (RowsIn m new app) app.ranges (λ r in_app c inside region.
+    let was = All-contains (RowsIn m old app) app.ranges r rows in_app c inside region in record {
+      rows = was.rows;
+      plain = was.plain;
+      entries = same_part (table_at m new c) (table_at m old c) r.place r.size (long c inside)
+          (λ k low high. others c k inside (none_taken changed r (λ s. apart r s in_app) (place_of m (Rows c)) k (mine_at r (place_of m (Rows c)) k region low high))) ∙ was.entries;
+    })
+
 module _ (m : Description) (tables : List (List Entry)) (apps : List LoadedApp) (loaded : All (IsLoadedOn m) apps) (disjoint : HaveDisjointBlocks (all_nets apps)) (rows : HaveRows m tables apps) where
   -- the net of an application
   record Owned (x : NetPlan) : Type 0 where
@@ -55,10 +74,7 @@ module _ (m : Description) (tables : List (List Entry)) (apps : List LoadedApp) 
     in_app : Contains (nets_of app) x
 
   owner : (x : NetPlan) → Contains (all_nets apps) x → Owned x
-  owner x has' = let f = among_flat nets_of x apps (contains_among x (all_nets apps) has') in record { app = f.0; in_apps = among_contains f.0 apps f.1; in_app = among_contains x (nets_of f.0) f.2 }
-
-  in_all : (app : LoadedApp) (x : NetPlan) → Contains apps app → Contains (nets_of app) x → Contains (all_nets apps) x
-  in_all app x a b = among_contains x (all_nets apps) (flat_among nets_of x apps app (contains_among app apps a) (contains_among x (nets_of app) b))
+  owner x has' = let f = flat_of nets_of apps x has' in record { app = f.0; in_apps = f.1; in_app = f.2 }
 
   loaded_at : (app : LoadedApp) → Contains apps app → IsLoadedOn m app
   loaded_at app has' = All-contains (IsLoadedOn m) apps app loaded has'
@@ -80,7 +96,7 @@ module _ (m : Description) (tables : List (List Entry)) (apps : List LoadedApp) 
         let from = from_net m c (nets_of app) plain.originals plain.originals_are made.0 made.1 in
         let its = from.2 x in
         let y : NetPlan = get_or (nets_of app) from.0 x in
-        let in_y = in_all app y in_apps (Contains-at (nets_of app) from.0 y (slice_get-get_or (nets_of app) from.0 x from.1)) in
+        let in_y = flat_has nets_of apps app y in_apps (Contains-at (nets_of app) from.0 y (slice_get-get_or (nets_of app) from.0 x from.1)) in
         let block_is : row.block ≡ y.block = ap (λ (z : Row). z.block) (sym made.2) ∙ its.keys in
         let y_key : IsKeyOf y.block key = grind (arith, eqb-true (bit_and key row.block.mask) row.block.key hit, bit_and key row.block.mask) in
         let same : y ≡ x = one_net (all_nets apps) disjoint y x in_y in_x key y_key keyed in
@@ -90,13 +106,12 @@ module _ (m : Description) (tables : List (List Entry)) (apps : List LoadedApp) 
     each e has' hit = elim (cases_Bool (is_taken (all_ranges apps) (place_of m (Rows c)) k)) [
       | inl taken ↦ (
           let owned = by_taken (all_ranges apps) (place_of m (Rows c)) k taken in
-          let f = among_flat (λ (a : LoadedApp). a.ranges) owned.0 apps (contains_among owned.0 (all_ranges apps) owned.1) in
-          let in_apps = among_contains f.0 apps f.1 in
+          let f = flat_of (λ (a : LoadedApp). a.ranges) apps owned.0 owned.1 in
           let parts = in_parts owned.0 (place_of m (Rows c)) k owned.2 in
-          let r = rows_at f.0 in_apps owned.0 (among_contains owned.0 f.0.ranges f.2) c inside parts.0 in
+          let r = rows_at f.0 f.1 owned.0 f.2 c inside parts.0 in
           let there = part_at T owned.0.place owned.0.size k e parts.1 parts.2 at in
           let row = unmapped entry_of r.rows (k - owned.0.place) e (sym (ap (λ l. slice_get l (k - owned.0.place)) r.entries) ∙ there) in
-          let its = of_row f.0 in_apps r.rows r.plain row.0 (Contains-at r.rows (k - owned.0.place) row.0 row.1) (ap (λ (z : Entry). matches z key) row.2 ∙ hit) in
+          let its = of_row f.0 f.1 r.rows r.plain row.0 (Contains-at r.rows (k - owned.0.place) row.0 row.1) (ap (λ (z : Entry). matches z key) row.2 ∙ hit) in
           (its.0, its.1, ap entry_of its.2 ∙ row.2)
           )
       | inr free ↦ (

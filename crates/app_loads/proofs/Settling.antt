@@ -1,32 +1,14 @@
 -- An application's rows and packets on a mesh.
 use Rattle.app_loads.proofs.Common.{All, All-at, All-contains, All-each, All-head, All-push, All-set, AllZip-at_second, AppNet, AreCopied, AreOriginals, AreSent, AreWritten, AtEach, Block, CanCopy}
-use Rattle.app_loads.proofs.Common.{CanSend, CanSettle, Chip, Contains, Contains-at, Contains-filter, Delivery, Description, DumpRec, Edge, Entry, HaveRooms, IsAppNet, IsInside, IsMesh, IsPacketOfApp}
-use Rattle.app_loads.proofs.Common.{IsPacketOn, IsPermutation-refl, IsPlainTable, IsRangeFor, IsRangeWithin, IsSendingFrom, IsSettled, IsTreeChip, IsUsable, List, LoadedApp, McCopy, Original, Packet}
+use Rattle.app_loads.proofs.Common.{CanSend, CanSettle, Chip, Contains, Contains-at, Delivery, Description, DumpRec, Edge, Entry, FitsTable, HaveRooms, IsAppNet, IsInside, IsMesh, IsPacketOfApp}
+use Rattle.app_loads.proofs.Common.{IsPacketOn, IsPermutation-refl, IsPlainTable, IsRangeFor, IsRangeWithin, IsSendingFrom, IsSettled, IsTreeChip, List, LoadedApp, McCopy, Option, Original, Packet}
 use Rattle.app_loads.proofs.Common.{Range, Row, Rows, Setup, Some, Spot, State, Table, [], among_any, among_contains, any_among, ap, arith, chip_count, chip_eq, chip_eq-from_same, chip_eq_true}
-use Rattle.app_loads.proofs.Common.{chip_of, chip_of-index_of, claims_of, contains_among, count_by, count_by-cons, drop, end_of, false, false_from_ne_true, grid_spots, has_chip, if◌then◌else◌}
-use Rattle.app_loads.proofs.Common.{index_below, index_of, inl, inr, is_usable, leb, length, length-map, length-set, length_permutation, list_any, live_inside, map, nat_tests, net_with, nets_of}
-use Rattle.app_loads.proofs.Common.{nets_with, option_map_or, or_cases, or_left, or_right, place_of, refl, region_size, row_of, same_Some, same_spot, slice_get, slice_get-map_range, slice_get_there}
-use Rattle.app_loads.proofs.Common.{slice_get_within, spot_of, subst, suc, sym, table_at, take, tree_cases, tree_end, true, usable_parts, usable_spots, vertex_there, zero, ℕ, ◌%◌, ◌*◌, ◌++◌, ◌+◌, ◌-◌}
-use Rattle.app_loads.proofs.Common.{◌/◌, ◌<◌, ◌==◌, ◌^◌, ◌∙◌, ◌∷◌, ◌≡◌, ◌≤◌}
-use Rattle.app_loads.proofs.{AppNets.facts_at, AppNets.key_of_index, AppNets.member_at, AppNets.spot_inside, AppNets.usable_spot, ClaimCases.row_size, LeavingLists.one_if, RowClaims.leads_to}
-use Rattle.app_loads.proofs.Unsent.{nets_with_at}
-
--- each usable core is in the list of them
-pub usable_there : (m : Description) (s : Spot) → IsUsable m s → Contains (usable_spots m) s
-usable_there m s usable =
-    let parts = usable_parts m s usable in
-    let inside = live_inside m s.chip parts.0 in
-    let below = index_below m s.chip inside in
-    let some = parts.1 in
-    let most = parts.2 in
-    let k : ℕ = 17 * index_of m s.chip + (s.core - 1) in
-    let chip_is : k / 17 ≡ index_of m s.chip = omega (arith, some, most) in
-    let core_is : k % 17 + 1 ≡ s.core = omega (arith, some, most) in
-    let same : spot_of m k ≡ s = same_spot (spot_of m k) s (ap (chip_of m) chip_is ∙ chip_of-index_of m s.chip inside) core_is in
-    let z : 0 + k ≡ k = omega arith in
-    let at : slice_get (grid_spots m) k ≡ Some s = slice_get-map_range (spot_of m) 0 (17 * (m.width * m.height)) k (omega (arith, below, some, most))
-    ∙ (ap (λ i. Some (spot_of m i)) z ∙ ap Some same) in
-    Contains-filter (is_usable m) (grid_spots m) s (Contains-at (grid_spots m) k s at) usable
+use Rattle.app_loads.proofs.Common.{chip_of-index_of, claims_of, contains_among, count_by, count_by-cons, drop, end_of, entry_of, false, false_from_ne_true, has_chip, if◌then◌else◌, in_from}
+use Rattle.app_loads.proofs.Common.{index_below, index_of, inl, inr, leb, length, length-map, length-set, length_permutation, list_any, map, nat_tests, net_with, nets_of, nets_with, option_map_or}
+use Rattle.app_loads.proofs.Common.{or_cases, or_left, or_right, place_of, refl, region_size, row_entry, row_of, slice_get, slice_get_there, slice_get_within, subst, suc, sym, table_at, take}
+use Rattle.app_loads.proofs.Common.{tree_cases, tree_end, true, usable_parts, vertex_there, zero, ℕ, ◌*◌, ◌++◌, ◌+◌, ◌-◌, ◌==◌, ◌∙◌, ◌∷◌, ◌≡◌, ◌≤◌}
+use Rattle.app_loads.proofs.{AppNets.member_at, AppNets.packet_key, AppNets.spot_inside, AppNets.usable_spot, ClaimCases.row_size, Copying.part_is, LeavingLists.one_if, RowClaims.leads_to}
+use Rattle.app_loads.proofs.{Spots.usable_there, Unsent.nets_with_at}
 
 -- ---- rows of a chip
 
@@ -42,8 +24,6 @@ has_chip-tree m c net e = grind (arith, or_cases, chip_eq_true, any_among, tree_
 originals_count : (m : Description) (c : Chip) (nets : List AppNet) (blocks : List Block) (os : List Original) → length blocks ≡ length nets →
     AreOriginals m c (nets_with nets blocks) os → length os ≡ count_by (has_chip m c) nets
 originals_count m c [] [] os long are = ap length are
-originals_count m c [] (b ∷ bs) os long are = absurd (omega (arith, long))
-originals_count m c (n ∷ ns) [] os long are = absurd (omega (arith, long))
 originals_count m c (n ∷ ns) (b ∷ bs) os long (inl on) =
     let rest = originals_count m c ns bs on.3 (omega (arith, long)) on.5 in
     let all : length os ≡ suc (length on.3) = ap length on.4 in
@@ -51,6 +31,7 @@ originals_count m c (n ∷ ns) (b ∷ bs) os long (inl on) =
     omega (arith, rest, all, count_by-cons (has_chip m c) n ns, here)
 originals_count m c (n ∷ ns) (b ∷ bs) os long (inr off) =
     grind (arith, originals_count m c ns bs os (omega (arith, long)) off.1, count_by-cons (has_chip m c) n ns, one_if, false_from_ne_true, has_chip-tree)
+originals_count m c nets blocks os long are = absurd (omega (arith, long))
 
 pub plain_count : (m : Description) (c : Chip) (nets : List AppNet) (blocks : List Block) (rows : List Row) → length blocks ≡ length nets →
     IsPlainTable m (nets_with nets blocks) c rows → length rows ≡ count_by (has_chip m c) nets
@@ -134,19 +115,21 @@ module _ (s : State) (app : LoadedApp) (can : CanSettle s app) (mesh : IsMesh s)
       let of_net = All-contains (IsPacketOfApp app.plan.nets) app.plan.packets p can.loaded.plan.packets has in
       let below = slice_get_within app.plan.nets p.net of_net.0 of_net.1 in
       let block = slice_get_there app.blocks p.net (let l = can.loaded.blocks.all in omega (arith, below, l)) in
-      let x = net_with of_net.0 block.0 in
-      let f = facts_at m app can.loaded p.net x (nets_with_at app.plan.nets app.blocks p.net of_net.0 block.0 of_net.1 block.1) in
-      let within = (All-at (IsRangeWithin m (1 + (chip_count m + chip_count m))) app.ranges f.at f.range can.loaded.within f.got).within in
-      let room : f.range.place + f.range.size ≤ 4294967296 = subst (λ r. f.range.place + f.range.size ≤ r) (ap (region_size m) f.region) within in
-      let same_net : f.net ≡ of_net.0 = same_Some _ _ (sym f.at_net ∙ of_net.1) in
-      let same_block : f.block ≡ block.0 = same_Some _ _ (sym f.at_block ∙ block.1) in
-      let key = key_of_index m app can.loaded x p.net f p.index (subst (λ (n : AppNet). p.index < n.keys) (sym same_net) of_net.2) room in
-      record { net = below; block = block.0; is = block.1; key = subst (λ (b : Block). b.key + p.index < 2 ^ 32) same_block key.0 }
+      let key = packet_key m app can.loaded p of_net (net_with of_net.0 block.0) (nets_with_at app.plan.nets app.blocks p.net of_net.0 block.0 of_net.1 block.1) in
+      record { net = below; block = block.0; is = block.1; key = key.fits }
 
   pub can_send : (q : List (List McCopy)) → q ≡ s.unsent → CanSend s.setup app q
   can_send q is = grind (arith, All-each (IsSendingFrom s.setup) app.plan.nets sending, All-each (IsPacketOn app.blocks (length app.plan.nets)) app.plan.packets packet_on)
 
   module _ {rows lent : List Table} {ranges : List Range} (plain : ArePlain m app rows) (is_rows : lent ≡ rows) (is_ranges : ranges ≡ app.ranges) where
+    fit_there : (range : Range) → Contains app.ranges range → FitsTable m rows range
+    fit_there range has c t inside region at =
+        let size = range_size s app can range has c inside region in
+        let many = plain_count m c app.plan.nets app.blocks t.rows can.loaded.blocks.all (plain.1 c t inside at) in
+        let within = (All-contains (IsRangeWithin m (1 + (chip_count m + chip_count m))) app.ranges range can.loaded.within has).within in
+        let ends : range.place + range.size ≤ 1024 = subst (λ r. range.place + range.size ≤ r) (ap (region_size m) region ∙ rows_size m (index_of m c)) within in
+        (omega (arith, size, many, ends), size ∙ sym many)
+
     pub can_copy : {rooms : List ℕ} → HaveRooms m ranges rooms → CanCopy m s.setup.tables lent ranges rooms
     can_copy {rooms} room = subst (λ (l : List Table). CanCopy m s.setup.tables l ranges rooms) (sym is_rows)
         (subst (λ (l : List Range). CanCopy m s.setup.tables rows l rooms) (sym is_ranges) (record {
@@ -155,12 +138,7 @@ module _ (s : State) (app : LoadedApp) (can : CanSettle s app) (mesh : IsMesh s)
           each_long = can.long;
           apart = can.apart;
           there = λ range has. (All-contains (IsRangeWithin m (1 + (chip_count m + chip_count m))) app.ranges range can.loaded.within has).there;
-          fit = λ range has c t inside region at.
-              let size = range_size s app can range has c inside region in
-              let many = plain_count m c app.plan.nets app.blocks t.rows can.loaded.blocks.all (plain.1 c t inside at) in
-              let within = (All-contains (IsRangeWithin m (1 + (chip_count m + chip_count m))) app.ranges range can.loaded.within has).within in
-              let ends : range.place + range.size ≤ 1024 = subst (λ r. range.place + range.size ≤ r) (ap (region_size m) region ∙ rows_size m (index_of m c)) within in
-              (omega (arith, size, many, ends), size ∙ sym many);
+          fit = fit_there;
           room = subst (λ (l : List Range). HaveRooms m l rooms) is_ranges room;
         }))
 
@@ -172,9 +150,21 @@ module _ (s : State) (app : LoadedApp) (can : CanSettle s app) (mesh : IsMesh s)
           long = c'.long;
           rows = λ range has c inside region.
               let t = slice_get_there rows (index_of m c) (let w = index_below m c inside in let l = plain.0 in omega (arith, w, l)) in
-              record { rows = t.0.rows; plain = plain.1 c t.0 inside t.1; entries = c'.copied range has c t.0 inside region t.1 };
+              record { rows = t.0.rows; plain = plain.1 c t.0 inside t.1; entries = entries_of c' range has c inside region t.0 t.1 };
           others = c'.others;
         }
+      where
+        entries_of : AreCopied m rows app.ranges s.setup.tables new → (range : Range) → Contains app.ranges range → (c : Chip) → IsInside m c → range.region ≡ place_of m (Rows c) →
+            (t : Table) → slice_get rows (index_of m c) ≡ Some t → take range.size (drop range.place (table_at m new c)) ≡ map entry_of t.rows
+        entries_of c' range has c inside region t at =
+            let fits = fit_there range has c t inside region at in
+            let many = length-map t.rows entry_of in
+            let size : range.size ≡ length (map entry_of t.rows) = omega (arith, fits, many) in
+            ap (λ n. take n (drop range.place (table_at m new c))) size
+            ∙ part_is (table_at m new c) (map entry_of t.rows) range.place (let l = c'.long c inside in omega (arith, fits, many, l)) (λ k j e below.
+            let place : k - range.place ≡ j = omega (arith, e) in
+            c'.filled range has c k inside region (omega (arith, e, below, many, fits)) (in_from range.place range.size k (omega (arith, e)) (omega (arith, e, below, size)))
+            ∙ (ap (λ (o : Option Table). row_entry (option_map_or (λ (x : Table). x.rows) o []) range.place k) at ∙ ap (slice_get (map entry_of t.rows)) place))
 
 -- ---- the mesh
 

@@ -1,9 +1,9 @@
 -- The application of a number, where its place is asked for.
-use Rattle.app_loads.proofs.Common.{All, All-contains, Among, AreApps, Bool, Contains, Contains-filter, Host, IsLoadedOn, IsUsable, List, LoadedApp, None, Some, Spot, among_any, among_at}
-use Rattle.app_loads.proofs.Common.{among_contains, among_filter, any_among, ap, arith, both_ways, cases_Bool, contains_among, eq-eqb, eqb-true, false, false_from_ne_true, get_or, inl, inr, is_loaded}
-use Rattle.app_loads.proofs.Common.{is_spot_taken, list_any, not, not-true, or_left, or_right, others_than, position, refl, spot_eq, spot_eq_true, sym, true, ℕ, ◌==◌, ◌||◌, ◌∙◌, ◌≡◌, ◌≢◌}
-use Rattle.app_loads.proofs.{LeftParts.found_number, LeftParts.found_there, LeftParts.not_loaded, Others.HaveNumbers, Others.across_pairs, Others.only_one}
 pub use Rattle.app_loads.proofs.Others.{same_tests}
+use Rattle.app_loads.proofs.Common.{All, All-contains, Among, AreApps, Bool, Contains, Host, IsLoadedOn, IsUsable, List, LoadedApp, None, Some, Spot, among_any, among_at, among_contains}
+use Rattle.app_loads.proofs.Common.{among_filter, any_among, ap, arith, both_ways, contains_among, eq-eqb, false, false_from_ne_true, get_or, is_loaded, is_spot_taken, list_any, not, not-true}
+use Rattle.app_loads.proofs.Common.{others_than, position, spot_eq, spot_eq_true, sym, true, ℕ, ◌==◌, ◌||◌, ◌∙◌, ◌≡◌, ◌≢◌}
+use Rattle.app_loads.proofs.{LeftParts.found_app, LeftParts.not_loaded, Others.HaveNumbers, Others.across_pairs, Others.any_app, Others.only_one}
 
 -- a number of an application is loaded
 number_loaded : (apps : List LoadedApp) (number : ℕ) (app : LoadedApp) → Contains apps app → app.number ≡ number → is_loaded apps number ≡ true
@@ -17,19 +17,15 @@ module _ (apps : List LoadedApp) (number at : ℕ) (found : LoadedApp) (place : 
   -- the application at the place that is found is the only one of the number
   pub same_as_found : HaveNumbers apps → (app : LoadedApp) → Contains apps app → app.number ≡ number → found ≡ app
   same_as_found numbers app has its =
-      let there = found_there apps number at found place value in
-      only_one apps numbers found app (among_at apps at found there) (contains_among app apps has) (found_number apps number at found place there ∙ sym its)
+      let there = found_app apps number at found place value in
+      only_one apps numbers found app (among_at apps at found there.0) (contains_among app apps has) (there.1 ∙ sym its)
 
   pub found_loaded : is_loaded apps number ≡ false → ⊥
   found_loaded out =
-      let there = found_there apps number at found place value in
-      both_ways _ out (among_any (λ (a : LoadedApp). a.number == number) found apps (among_at apps at found there) (eq-eqb found.number number (found_number apps number at found place there)))
+      let there = found_app apps number at found place value in
+      both_ways _ out (among_any (λ (a : LoadedApp). a.number == number) found apps (among_at apps at found there.0) (eq-eqb found.number number there.1))
 
 -- ---- spots with and without an application
-
-or_none : (a b : Bool) → b ≡ false → (a || b) ≡ a
-or_none true b none = refl
-or_none false b none = none
 
 module _ (h : Host) (number : ℕ) (apps : AreApps h) (app : LoadedApp) (has : Contains h.apps app) (its : app.number ≡ number) (s : Spot) where
   abbrev has_spot : LoadedApp → Bool
@@ -37,9 +33,6 @@ module _ (h : Host) (number : ℕ) (apps : AreApps h) (app : LoadedApp) (has : C
 
   in_apps : Among app h.apps
   in_apps = contains_among app h.apps has
-
-  among_others : (x : LoadedApp) → Among x h.apps → (x.number == number) ≡ false → Among x (others_than number h.apps)
-  among_others x in_x differ = grind (arith, among_contains x h.apps in_x, contains_among, Contains-filter)
 
   -- a spot of another application is none of this one
   other_apart : (x : LoadedApp) → Among x (others_than number h.apps) → has_spot x ≡ true → has_spot app ≡ true → ⊥
@@ -52,35 +45,9 @@ module _ (h : Host) (number : ℕ) (apps : AreApps h) (app : LoadedApp) (has : C
       (among_contains a.0 x.plan.spots a.1) (among_contains b.0 app.plan.spots b.1)
       (sym (spot_eq_true s a.0 a.2) ∙ spot_eq_true s b.0 b.2)
 
-  -- a spot is taken where another application has it, or this one
-  taken_by : is_spot_taken h.apps s ≡ (is_spot_taken (others_than number h.apps) s || has_spot app)
-  taken_by = same_tests (is_spot_taken h.apps s) (is_spot_taken (others_than number h.apps) s || has_spot app) forth backward
-    where
-      forth : is_spot_taken h.apps s ≡ true → (is_spot_taken (others_than number h.apps) s || has_spot app) ≡ true
-      forth taken =
-          let found = any_among has_spot h.apps taken in
-          elim (cases_Bool (found.0.number == number)) [
-            | inl same ↦ (
-                let one = only_one h.apps apps.numbers found.0 app found.1 in_apps (eqb-true found.0.number number same ∙ sym its) in
-                or_right (is_spot_taken (others_than number h.apps) s) (has_spot app) (ap has_spot (sym one) ∙ found.2)
-                )
-            | inr differ ↦ or_left (is_spot_taken (others_than number h.apps) s) (has_spot app)
-                (among_any has_spot found.0 (others_than number h.apps) (among_others found.0 found.1 differ) found.2)
-          ]
-
-      backward : (is_spot_taken (others_than number h.apps) s || has_spot app) ≡ true → is_spot_taken h.apps s ≡ true
-      backward either = elim (cases_Bool (has_spot app)) [
-        | inl mine ↦ among_any has_spot app h.apps in_apps mine
-        | inr not_mine ↦ (
-            let other : is_spot_taken (others_than number h.apps) s ≡ true = sym (or_none (is_spot_taken (others_than number h.apps) s) (has_spot app) not_mine) ∙ either in
-            let found = any_among has_spot (others_than number h.apps) other in
-            among_any has_spot found.0 h.apps (among_filter (λ (a : LoadedApp). not (a.number == number)) found.0 h.apps found.1).0 found.2
-            )
-      ]
-
   pub spots_beside : (is_spot_taken h.apps s ≡ (is_spot_taken (others_than number h.apps) s || has_spot app)) × (has_spot app ≡ true → is_spot_taken (others_than number h.apps) s ≡ false)
   spots_beside = (
-    taken_by,
+    any_app h.apps apps.numbers number app has its has_spot,
     λ mine. false_from_ne_true (is_spot_taken (others_than number h.apps) s)
         (λ other. let found = any_among has_spot (others_than number h.apps) other in other_apart found.0 found.1 found.2 mine),
   )

@@ -3,20 +3,18 @@ use Rattle.app_loads.proofs.Common.{All, All-at, AppNet, AreCleared, AreSent, Ar
 use Rattle.app_loads.proofs.Common.{LoadedApp, McCopy, NoneUnsent, Packet, Setup, Some, Spot, [], among_any, among_contains, any_among, ap, arith, cases_Bool, cases_eq, contains_among, eq-eqb}
 use Rattle.app_loads.proofs.Common.{eqb-true, false≢true, get_or, inl, inr, length, length-map, length-set, list_any, map, net_with, nets_with, refl, same_Some, same_lists, slice_get}
 use Rattle.app_loads.proofs.Common.{slice_get-get_or, slice_get-mapped, slice_get-set_other, slice_get-set_same, slice_get_there, slice_get_within, slice_set, source_at, subst, suc, sym, take}
-use Rattle.app_loads.proofs.Common.{take_all, take_more_at, unwrap_or, unwrap_or-slice_get, vertex_at-below, zero, ℕ, ◌++◌, ◌+◌, ◌<◌, ◌==◌, ◌^◌, ◌∙◌, ◌∷◌, ◌≡◌, ◌≢◌, ◌≤◌}
+use Rattle.app_loads.proofs.Common.{take_all, take_more_at, unwrap_or, unwrap_or-slice_get, vertex_at-below, zero, ℕ, ◌++◌, ◌+◌, ◌<◌, ◌==◌, ◌^◌, ◌∙◌, ◌∷◌, ◌≡◌, ◌≢◌, ◌≤◌, ◌⊎◌}
 
 -- a net of the application, by its place
 pub nets_with_at : (nets : List AppNet) (blocks : List Block) (i : ℕ) (net : AppNet) (block : Block) → slice_get nets i ≡ Some net → slice_get blocks i ≡ Some block →
     slice_get (nets_with nets blocks) i ≡ Some (net_with net block)
-nets_with_at [] blocks i net block n b = cc
-nets_with_at (x ∷ xs) [] i net block n b = cc
 nets_with_at (x ∷ xs) (y ∷ ys) zero net block n b = let p : x ≡ net = cc in let q : y ≡ block = cc in ap (λ z. Some (net_with z y)) p ∙ ap (λ z. Some (net_with net z)) q
 nets_with_at (x ∷ xs) (y ∷ ys) (suc i) net block n b = nets_with_at xs ys i net block n b
+nets_with_at nets blocks i net block n b = cc
 
 pub nets_with_long : (nets : List AppNet) (blocks : List Block) → length (nets_with nets blocks) ≤ length nets
-nets_with_long [] blocks = omega arith
-nets_with_long (x ∷ xs) [] = omega arith
 nets_with_long (x ∷ xs) (y ∷ ys) = let w = nets_with_long xs ys in omega (arith, w)
+nets_with_long nets blocks = omega arith
 
 -- what is written at one of the vertices leaves the others
 pub same_still : (sources : List ℕ) (old cur : List (List McCopy)) (v : ℕ) (q : List McCopy) → Contains sources v → IsSameBeside sources old cur → IsSameBeside sources old (slice_set cur v q)
@@ -81,24 +79,19 @@ module _ (sources : List ℕ) (old cur : List (List McCopy)) (queues : All (λ v
   pub clear_below : v < length cur
   clear_below = subst (λ n. v < n) (sym same.long) (queues i d below)
 
-  pub cleared_beside : IsSameBeside sources old (slice_set cur v [])
-  cleared_beside = same_still sources old cur v [] (Contains-at sources i v at_v) same
-
-  pub cleared_more : ((w : ℕ) → Contains (take i sources) w → slice_get cur w ≡ Some []) → (w : ℕ) → Contains (take (i + 1) sources) w → slice_get (slice_set cur v []) w ≡ Some []
-  cleared_more so_far w has = elim (cases_eq w v) [
-    | inl is ↦ ap (slice_get (slice_set cur v [])) is ∙ (let there = slice_get_there cur v clear_below in slice_get-set_same cur v there.0 [] there.1)
-    | inr other ↦ slice_get-set_other cur v w [] other ∙ so_far w (before w other (subst (λ (l : List ℕ). Contains l w) (take_more_at sources i v at_v) has))
-  ]
-    where
-      before : (w : ℕ) → w ≢ v → Contains (take i sources ++ v ∷ []) w → Contains (take i sources) w
-      before w other there = elim (Contains-push_cases (take i sources) v w there) [ inl early ↦ early | inr last ↦ absurd (other (sym last)) ]
-
   pub emptied_beside : (q : List McCopy) → q ≡ [] → IsSameBeside sources old (slice_set cur v q)
-  emptied_beside q none = subst (λ (l : List McCopy). IsSameBeside sources old (slice_set cur v l)) (sym none) cleared_beside
+  emptied_beside q none = same_still sources old cur v q (Contains-at sources i v at_v) same
 
   pub emptied_more : (q : List McCopy) → q ≡ [] → ((w : ℕ) → Contains (take i sources) w → slice_get cur w ≡ Some []) → (w : ℕ) →
       Contains (take (i + 1) sources) w → slice_get (slice_set cur v q) w ≡ Some []
-  emptied_more q none so_far w has = ap (λ (l : List McCopy). slice_get (slice_set cur v l) w) none ∙ cleared_more so_far w has
+  emptied_more q none so_far w has = elim (cases_eq w v) [
+    | inl is ↦ ap (slice_get (slice_set cur v q)) is ∙ (let there = slice_get_there cur v clear_below in slice_get-set_same cur v there.0 q there.1 ∙ ap Some none)
+    | inr other ↦ slice_get-set_other cur v w q other ∙ so_far w (before (Contains-push_cases (take i sources) v w (subst (λ (l : List ℕ). Contains l w) (take_more_at sources i v at_v) has)) other)
+  ]
+    where
+      before : Contains (take i sources) w ⊎ (v ≡ w) → w ≢ v → Contains (take i sources) w
+      before (inl early) other = early
+      before (inr last) other = absurd (other (sym last))
 
 -- all are emptied
 pub all_cleared : (sources : List ℕ) (old cur : List (List McCopy)) (i : ℕ) → length sources ≤ i → IsSameBeside sources old cur →

@@ -1,13 +1,14 @@
 // The plain rows of an application, and their ranges in the tables.
-ghost use Rattle.std.specs.Prelude.{◌≡◌, ◌+◌, ◌*◌, ◌≤◌, ◌++◌, IfOk, drop, length, map, take};
+ghost use Rattle.std.specs.Prelude.{◌≡◌, ◌+◌, ◌*◌, ◌≤◌, IfOk, Some, length, map};
 ghost use Rattle.std.specs.List.{AllZip};
 ghost use Rattle.machine_desc.specs.declared.nets.NetPlan.{NetPlan as Plan};
+ghost use Rattle.tcam_find.specs.Memory.{unused};
 ghost use Rattle.tern_word.specs.Entries.{entry_of};
 ghost use Rattle.net_tables.specs.Marks.{IsTableOf, row_of_mark, table_of_sorted};
 ghost use Rattle.net_tables.specs.PlainTable.{AtEach, IsPlainTable};
 ghost use Rattle.app_loads.specs.Host.{net_with, nets_of};
 ghost use Rattle.app_loads.specs.Joining.{HasRoutes};
-ghost use Rattle.app_loads.specs.Writing.{AreCopied, AreUnused, AreUnusedFrom, CanClear, CanCopy, HasEntriesFrom, HasRoom, HaveRooms, tables_in};
+ghost use Rattle.app_loads.specs.Writing.{AreCopied, AreFilledFrom, AreUnused, CanClear, CanCopy, HasEntriesFrom, HasRoom, HaveRooms, row_entry, tables_in};
 
 use crate::loaded::{LoadedApp, Range};
 use crate::places::Region;
@@ -107,12 +108,10 @@ fn room_for(alloc: Global, machine: &Machine, range: &Range) -> Result<Room, Mem
         return Ok(Room::none(alloc));
     }
     // (a range of entries ends with the table at the latest)
-    let Some(end) = range.place.checked_add(range.size) else {
-        return Err(Memory);
-    };
-    if end > ROUTER_ENTRIES as u64 {
-        return Err(Memory);
-    }
+    let end = range
+        .place
+        .saturating_add(range.size)
+        .min(ROUTER_ENTRIES as u64);
     Room::new(alloc, end as u32)
 }
 
@@ -153,8 +152,8 @@ pub(crate) fn write_rows(
 fn put_rows(alloc: Global, table: &mut Tcam, room: Room, first: u32, marks: &[Mark])
     requires has { HasEntriesFrom table.old first (length marks.now) }
     requires fits { first + length marks.now ≤ room }
-    ensures { table.new ≡ take first table.old
-        ++ (map entry_of (map row_of_mark marks.now) ++ drop (first + length marks.now) table.old) }
+    ensures { AreFilledFrom first (length marks.now) (row_entry (map row_of_mark marks.now) first)
+        table.old table.new }
 {
     let mut roomy = RoomyTcam::new(std::mem::replace(table, Tcam::empty(alloc)), room);
     for (at, mark) in marks.iter().enumerate() {
@@ -193,7 +192,7 @@ pub(crate) fn clear_rows(machine: &Machine, tables: &mut [Tcam], ranges: &[Range
 // Makes so many entries unused, from a place on.
 fn clear_entries(table: &mut Tcam, first: u32, count: u32)
     requires { HasEntriesFrom table.old first count }
-    ensures { AreUnusedFrom first count table.old table.new }
+    ensures { AreFilledFrom first count (λ k. Some unused) table.old table.new }
 {
     for at in 0..count {
         table.clear(first + at);

@@ -5,20 +5,21 @@ pub use Rattle.link_detours.specs.{Steps.IsReachedBy, Steps.IsStepLevel, Steps.S
 pub use Rattle.link_detours.specs.{Waves.IsIn, Waves.IsSpread, Waves.IsSpreadAt, Waves.IsSpreadBut, Waves.IsStepFrom, Waves.IsWave, Waves.IsWithinLinks, Waves.LeadsInto, Whole.GoesOnFrom}
 pub use Rattle.link_detours.specs.{Whole.IsWholeTree, declared.repairs.RepairErr.RepairErr, declared.repairs.RepairErr.TheVariants.CutOff, declared.repairs.RepairErr.TheVariants.Memory}
 pub use Rattle.link_detours.specs.declared.{repairs.RepairErr.TheVariants.Memory as NoMemory, roads.Roads.Roads}
-pub use Rattle.machine_desc.proofs.{Branches.edge_on_branch, Branches.exit_of, Far.far_back, Far.far_inside, Far.far_parts, Far.index_below, Far.inside_from, Far.inside_parts, Far.live_back}
-pub use Rattle.machine_desc.proofs.{Far.live_ends, Far.live_inside, Far.opposite_of-opposite, Far.same_index, Listing.Tells-more, Listing.Tells-none, Live.chip_of-inside, Live.index_of-chip_of}
-pub use Rattle.machine_desc.proofs.{Same.below_six, Same.chip_eq-from_same, Same.edge_eq-true, Same.edge_eq_self, Same.same_chip, Same.same_dir, Same.same_edge, TreeLemmas.more_chips}
+pub use Rattle.machine_desc.proofs.{Branches.edge_down, Far.far_back, Far.far_inside, Far.far_parts, Far.index_below, Far.inside_from, Far.inside_parts, Far.live_back, Far.live_ends, Far.live_inside}
+pub use Rattle.machine_desc.proofs.{Far.opposite_of-opposite, Far.same_index, Listing.Tells-more, Listing.Tells-none, Live.chip_of-inside, Live.index_of-chip_of, Same.below_six}
+pub use Rattle.machine_desc.proofs.{Same.chip_eq-from_same, Same.edge_eq-true, Same.edge_eq_self, Same.same_chip, Same.same_dir, Same.same_edge, TreeLemmas.chip_in, TreeLemmas.more_chips}
 pub use Rattle.machine_desc.proofs.TreeLemmas.{path_more, tree_cases, tree_end}
-pub use Rattle.machine_desc.specs.{Branch.Exit, Branch.GoesOn, Branch.IsWay, Description.Description, Equality.edge_eq, Flags.is_flagged, Flags.link_place, Live.IsInside, Live.IsLiveLink}
-pub use Rattle.machine_desc.specs.Live.{IsLiveWalk, LeadsTo, chip_of, far_of, index_of, is_inside, is_live_link, stepped, x_step, y_step}
-pub use Rattle.machine_desc.specs.{RoutingTree.IsPath, RoutingTree.IsTreeChip, RoutingTree.IsTreeTo, RoutingTree.end_of, Tables.TellsListed, declared.steps.Step.Step}
-pub use Rattle.machine_desc.specs.declared.{steps.Step.TheVariants.Ahead, steps.Step.TheVariants.Back, steps.Step.TheVariants.Stay, trees.Edge.Edge}
-pub use Rattle.spin_base.proofs.{Ascending.same_in_order, Equality.chip_eq_same, Equality.chip_eq_true, Members.Contains-filter, Members.Contains-filter_map, Members.Contains-from_filter}
-pub use Rattle.spin_base.proofs.{Members.Contains-from_filter_map, Members.Contains-later, Members.Contains-map, Members.Contains-unmap, Pairs.AllPairs-from_map, Spots.dir_number-dir_at}
-pub use Rattle.spin_base.specs.{Equality.chip_eq, Links.all_dirs, Links.dir_at, Links.dir_number, Links.opposite_of, Outputs.out_of, declared.chips.Chip.Chip, declared.chips.Dir.Dir}
-pub use Rattle.spin_base.specs.declared.{chips.Dir.TheVariants.East, chips.Spot.Spot, routes.Out.Out, routes.Out.TheVariants.Core, routes.Out.TheVariants.Link}
-pub use Rattle.std.proofs.Common.{Bool, IfErr, List, None, Option, Some, [], add-one, ap, append-nil, append_assoc, arith, cond, drop, eqb, false, get_or, inl, inr, length, lit<, map, max, min, refl}
-pub use Rattle.std.proofs.Common.{replicate, rules, set, subst, suc, sym, take, tests, true, zero, ℕ, ◌%◌, ◌*◌, ◌++◌, ◌+◌, ◌-◌, ◌/◌, ◌<◌, ◌^◌, ◌↔◌, ◌∙◌, ◌∷◌, ◌≡◌, ◌≢◌, ◌≤◌, ◌⊎◌}
+pub use Rattle.machine_desc.specs.{Description.Description, Equality.edge_eq, Flags.is_flagged, Flags.link_place, Live.IsInside, Live.IsLiveLink, Live.IsLiveWalk, Live.LeadsTo, Live.chip_of}
+pub use Rattle.machine_desc.specs.{Live.far_of, Live.index_of, Live.is_inside, Live.is_live_link, Live.stepped, Live.x_step, Live.y_step, RoutingTree.IsPath, RoutingTree.IsTreeChip}
+pub use Rattle.machine_desc.specs.{RoutingTree.IsTreeTo, RoutingTree.end_of, Tables.TellsListed, declared.steps.Step.Step, declared.steps.Step.TheVariants.Ahead, declared.steps.Step.TheVariants.Back}
+pub use Rattle.machine_desc.specs.declared.{steps.Step.TheVariants.Stay, trees.Edge.Edge}
+pub use Rattle.spin_base.proofs.{Ascending.same_in_order, Equality.chip_eq_same, Equality.chip_eq_true, Members.Contains-cases, Members.Contains-filter, Members.Contains-filter_map}
+pub use Rattle.spin_base.proofs.Members.{Contains-first, Contains-from_filter, Contains-from_filter_map, Contains-later, Contains-map, Contains-none, Contains-only, Contains-unmap}
+pub use Rattle.spin_base.proofs.{Pairs.AllPairs-from_map, Spots.dir_number-dir_at}
+pub use Rattle.spin_base.specs.{Equality.chip_eq, Links.all_dirs, Links.dir_at, Links.dir_number, Links.opposite_of, declared.chips.Chip.Chip, declared.chips.Dir.Dir}
+pub use Rattle.spin_base.specs.declared.chips.Dir.TheVariants.{East}
+pub use Rattle.std.proofs.Common.{Bool, IfErr, List, None, Option, Some, [], add-one, ap, append-nil, append_assoc, arith, drop, eqb, false, get_or, inl, inr, length, lit<, map, min, refl, replicate}
+pub use Rattle.std.proofs.Common.{rules, set, subst, suc, sym, take, tests, true, zero, ℕ, ◌%◌, ◌*◌, ◌++◌, ◌+◌, ◌-◌, ◌/◌, ◌<◌, ◌^◌, ◌↔◌, ◌∙◌, ◌∷◌, ◌≡◌, ◌≢◌, ◌≤◌, ◌⊎◌}
 pub use Rattle.std.proofs.{Math.Nat.add-mod_right, Math.Nat.add-zero, Math.Nat.mod-eq_of_lt, Math.Nat.mod_self, lemmas.Bool.cases_Bool, lemmas.Bool.cases_eq, lemmas.Bool.cases_lt}
 pub use Rattle.std.proofs.lemmas.Bool.{cases_order, cond-false, cond-true, eq-eqb, false_from_ne_true, false≢true, le-ltb, lt-ltb, ne_eqb}
 pub use Rattle.std.proofs.lemmas.Iterator.{Consumers.YieldsList-from_filter, Consumers.map_from_collect, YieldsList-from_map_by, YieldsList-from_range, YieldsList-from_slice, items_from_collect}
@@ -31,7 +32,7 @@ pub use Rattle.std.proofs.lemmas.List.{length-replicate, length-set, length-take
 pub use Rattle.std.proofs.lemmas.{Map.Keys.IsStrictlyIncreasing-dedup, Map.Views.Contains-from_any, Nat.Bits.bit_at-lt, Nat.Bits.bit_at-suc, Nat.Bits.bit_at-trailing_zeros, Nat.Bits.bit_at-zero}
 pub use Rattle.std.proofs.lemmas.Nat.Bits.{bit_at_above, bit_at_and, bit_at_cat_high, bit_at_cat_low, bit_at_clear_other, bit_at_clear_same, bit_at_lowest, bit_at_ones, bit_at_ones_above, bit_at_or}
 pub use Rattle.std.proofs.lemmas.Nat.{Bits.bit_at_set_other, Bits.bit_at_set_same, and_le_l, div-add-mod', le_or_l, mod_below, mul-le, one_shl, pow_pos, same_from_place}
-pub use Rattle.std.proofs.lemmas.{Option.get_or_from_slice_get, Option.slice_get-get_or, Option.slice_get_within, Result.IfErr-weaker, Result.IfOk-at_ok, Slice.between_to_end}
+pub use Rattle.std.proofs.lemmas.{Option.get_or_from_slice_get, Option.same_Some, Option.slice_get-get_or, Option.slice_get_within, Result.IfErr-weaker, Result.IfOk-at_ok, Slice.between_to_end}
 pub use Rattle.std.specs.{Int.RustNames.bit_or, Int.bit_at, Int.bit_not, Int.trailing_zeros, Int.w64, List.All, List.AllPairs, List.Any, List.Contains, List.between, List.dedup, List.filter}
 pub use Rattle.std.specs.{List.filter_map, List.range_with_len, List.slice_get, List.sum_by, Option.option_map}
 pub use lib.Bits.{bit_and}

@@ -1,10 +1,9 @@
 -- The kept edges are a whole tree, and a whole tree stays one as targets are joined.
 use Rattle.link_detours.proofs.Common.{All, All-contains, All-push, All-weaker, AllPairs, Bool, Chip, Contains, Contains-filter, Contains-from_filter, Contains-get_or, Description, Edge, EdgeStep}
-use Rattle.link_detours.proofs.Common.{IsCutOff, IsDetour, IsFirstTargetCutOff, IsInside, IsKeptEdge, IsLiveLink, IsTreeChip, IsWholeTree, Joins, List, LiveEdgeStep, Some, Steps, [], ap, arith}
-use Rattle.link_detours.proofs.Common.{cases_order, end_of, filter, get_or, get_or-take, get_or_default, get_or_from_slice_get, inl, inr, is_live_link, is_marked, length, length-take, more_chips}
-use Rattle.link_detours.proofs.Common.{slice_get, slice_get_within, subst, suc, sym, take, take_more, tree_cases, true, zero, ℕ, ◌++◌, ◌+◌, ◌<◌, ◌↔◌, ◌∙◌, ◌∷◌, ◌≡◌, ◌≢◌}
-use Rattle.link_detours.proofs.{Reaching.link_inside, Stepping.Steps-map, Putting.TellsTree, Walks.steps_walk, Wholes.steps_on_tree, Wholes.live_steps, Wholes.whole_joined, Wholes.detour_reached}
-use Rattle.link_detours.proofs.Wholes.{Joins-more}
+use Rattle.link_detours.proofs.Common.{IsCutOff, IsDetour, IsFirstTargetCutOff, IsInside, IsKeptEdge, IsTreeChip, IsWholeTree, Joins, List, LiveEdgeStep, Some, Steps, [], ap, arith, cases_order}
+use Rattle.link_detours.proofs.Common.{end_of, filter, get_or, get_or-take, get_or_default, get_or_from_slice_get, inl, inr, is_live_link, is_marked, length, length-take, more_chips, slice_get}
+use Rattle.link_detours.proofs.Common.{slice_get_within, subst, suc, sym, take, take_more, tree_cases, true, zero, ℕ, ◌++◌, ◌+◌, ◌<◌, ◌↔◌, ◌∙◌, ◌∷◌, ◌≡◌, ◌≢◌}
+use Rattle.link_detours.proofs.{Reaching.link_inside, Stepping.Steps-map, Putting.TellsTree, Walks.steps_walk, Wholes.steps_on_tree, Wholes.live_steps, Wholes.detoured, Wholes.Joins-more}
 
 module _ (m : Description) (root : Chip) (edges : List Edge) (marks : List Bool) where
   abbrev pub live_of : List Edge
@@ -24,41 +23,52 @@ module _ (m : Description) (root : Chip) (edges : List Edge) (marks : List Bool)
     (none_into : All (λ e. end_of m e ≢ Some root) edges)
     (one_into : AllPairs (λ e f. (c : Chip) → end_of m e ≡ Some c → end_of m f ≢ Some c) edges)
     (reach : (c : Chip) → IsInside m c → (is_marked m marks c ≡ true) ↔ ((n : ℕ) × Steps (EdgeStep m (live_of m root edges marks)) n root c)) where
-  -- a kept edge is a live edge whose chip is reached
-  kept_has : (e : Edge) → Contains (kept_of m root edges marks) e →
-      Contains (live_of m root edges marks) e × Contains edges e × IsLiveLink m e.chip e.dir × ((n : ℕ) × Steps (EdgeStep m (live_of m root edges marks)) n root e.chip)
-  kept_has e has =
-      let kept = Contains-from_filter (λ f. is_marked m marks f.chip) (live_of m root edges marks) e has in
-      let live = Contains-from_filter (λ f. is_live_link m f.chip f.dir) edges e kept.0 in
-      (kept.0, live.0, live.1, (reach e.chip (link_inside m e.chip e.dir live.1)).0 kept.1)
+  -- the marked chips are those that live edges join to the root
+  reach_live : (c : Chip) → IsInside m c → (is_marked m marks c ≡ true) ↔ ((n : ℕ) × Steps (LiveEdgeStep m edges) n root c)
+  reach_live c inside = (
+    λ marked.
+        let way = (reach c inside).0 marked in (
+          way.0,
+          Steps-map (EdgeStep m (live_of m root edges marks)) (LiveEdgeStep m edges) (λ a b step.
+              let live = Contains-from_filter (λ f. is_live_link m f.chip f.dir) edges (record { chip = a; dir = step.0 }) step.1 in
+              (step.0, live.0, live.1, step.2)) way.0 root c way.1,
+        ),
+    λ way. (reach c inside).1 (
+      way.0,
+      Steps-map (LiveEdgeStep m edges) (EdgeStep m (live_of m root edges marks)) (λ a b step.
+          (step.0, Contains-filter (λ f. is_live_link m f.chip f.dir) edges (record { chip = a; dir = step.0 }) step.1 step.2, step.3)) way.0 root c way.1,
+    ),
+  )
 
-  has_kept : (e : Edge) → Contains (live_of m root edges marks) e → ((n : ℕ) × Steps (EdgeStep m (live_of m root edges marks)) n root e.chip) →
-      Contains (kept_of m root edges marks) e
-  has_kept e has way =
-      let live = Contains-from_filter (λ f. is_live_link m f.chip f.dir) edges e has in
-      Contains-filter (λ f. is_marked m marks f.chip) (live_of m root edges marks) e has
-      ((reach e.chip (link_inside m e.chip e.dir live.1)).1 way)
+  pub kept_is : (e : Edge) → Contains (kept_of m root edges marks) e ↔ IsKeptEdge m root edges e
+  kept_is e = (
+    λ has.
+        let kept = Contains-from_filter (λ f. is_marked m marks f.chip) (live_of m root edges marks) e has in
+        let live = Contains-from_filter (λ f. is_live_link m f.chip f.dir) edges e kept.0 in
+        (live.0, live.1, (reach_live e.chip (link_inside m e.chip e.dir live.1)).0 kept.1),
+    λ known.
+        Contains-filter (λ f. is_marked m marks f.chip) (live_of m root edges marks) e (Contains-filter (λ f. is_live_link m f.chip f.dir) edges e known.0 known.1)
+        ((reach_live e.chip (link_inside m e.chip e.dir known.1)).1 known.2),
+  )
 
-  kept_steps : (n : ℕ) (c : Chip) → Steps (EdgeStep m (live_of m root edges marks)) n root c → Steps (EdgeStep m (kept_of m root edges marks)) n root c
+  kept_steps : (n : ℕ) (c : Chip) → Steps (LiveEdgeStep m edges) n root c → Steps (EdgeStep m (kept_of m root edges marks)) n root c
   kept_steps zero c walk = walk
-  kept_steps (suc n) c walk = grind (arith, kept_steps n walk.0 walk.1, has_kept (record { chip = walk.0; dir = walk.2.0 }) walk.2.1 (n, walk.1))
-
-  -- a chip of the kept tree is reached by live edges
-  chip_reached : (c : Chip) → IsTreeChip m root (kept_of m root edges marks) c → (n : ℕ) × Steps (EdgeStep m (live_of m root edges marks)) n root c
-  chip_reached c on = elim (tree_cases m root (kept_of m root edges marks) c on) [
-    | inl at ↦ (0, sym at)
-    | inr into ↦
-        let known = kept_has into.0 into.1 in
-        (suc known.3.0, (into.0.chip, known.3.1, (into.0.dir, known.0, into.2)))
-  ]
+  kept_steps (suc n) c walk =
+      let kept = (kept_is (record { chip = walk.0; dir = walk.2.0 })).1 (walk.2.1, walk.2.2, (n, walk.1)) in
+      (walk.0, kept_steps n walk.0 walk.1, (walk.2.0, kept, walk.2.3))
 
   pub kept_whole : IsWholeTree m root (kept_of m root edges marks)
   kept_whole = record {
-    live = λ e has. (kept_has e has).2;
-    reached = λ c on. let way = chip_reached c on in (way.0, kept_steps way.0 c way.1);
-    none_into_root = λ e has. All-contains (λ f. end_of m f ≢ Some root) edges e none_into (kept_has e has).1;
-    begins = λ e has. let way = (kept_has e has).3 in steps_on_tree m root (kept_of m root edges marks) way.0 e.chip (kept_steps way.0 e.chip way.1);
-    one_into = λ e f c has too leads also. same e f c (kept_has e has).1 (kept_has f too).1 leads also;
+    live = λ e has. ((kept_is e).0 has).1;
+    reached = λ c on. elim (tree_cases m root (kept_of m root edges marks) c on) [
+      | inl at ↦ (0, sym at)
+      | inr into ↦
+          let known = (kept_is into.0).0 into.1 in
+          (suc known.2.0, (into.0.chip, kept_steps known.2.0 into.0.chip known.2.1, (into.0.dir, into.1, into.2)))
+    ];
+    none_into_root = λ e has. All-contains (λ f. end_of m f ≢ Some root) edges e none_into ((kept_is e).0 has).0;
+    begins = λ e has. let way = ((kept_is e).0 has).2 in steps_on_tree m root (kept_of m root edges marks) way.0 e.chip (kept_steps way.0 e.chip way.1);
+    one_into = λ e f c has too leads also. same e f c ((kept_is e).0 has).0 ((kept_is f).0 too).0 leads also;
   }
     where
       same : (e f : Edge) (c : Chip) → Contains edges e → Contains edges f → end_of m e ≡ Some c → end_of m f ≡ Some c → e ≡ f
@@ -71,28 +81,6 @@ module _ (m : Description) (root : Chip) (edges : List Edge) (marks : List Bool)
             let second : get_or edges has.0 f ≡ e = get_or_default edges has.0 f e has.1 ∙ has.2 in
             absurd (one_into too.0 has.0 f after has.1 c (ap (end_of m) too.2 ∙ also) (ap (end_of m) second ∙ leads))
       ]
-
-  pub kept_is : (e : Edge) → Contains (kept_of m root edges marks) e ↔ IsKeptEdge m root edges e
-  kept_is e = (
-    λ has.
-        let known = kept_has e has in (
-          known.1,
-          known.2,
-          (
-            known.3.0,
-            Steps-map (EdgeStep m (live_of m root edges marks)) (LiveEdgeStep m edges)
-                (λ a b step. let live = Contains-from_filter (λ f. is_live_link m f.chip f.dir) edges (record { chip = a; dir = step.0 }) step.1 in
-                (step.0, live.0, live.1, step.2)) known.3.0 root e.chip known.3.1,
-          ),
-        ),
-    λ known.
-        let live = Contains-filter (λ f. is_live_link m f.chip f.dir) edges e known.0 known.1 in
-        has_kept e live (
-          known.2.0,
-          Steps-map (LiveEdgeStep m edges) (EdgeStep m (live_of m root edges marks))
-              (λ a b step. (step.0, Contains-filter (λ f. is_live_link m f.chip f.dir) edges (record { chip = a; dir = step.0 }) step.1 step.2, step.3)) known.2.0 root e.chip known.2.1,
-        ),
-  )
 
 -- the targets that were taken are joined
 pub record JoinedSoFar (m : Description) (root : Chip) (kept : List Edge) (whole : List Edge) (chips : List ℕ) (taken : List Chip) : Type 0 where
@@ -108,16 +96,16 @@ pub joined_more : (m : Description) (root : Chip) (kept : List Edge) (whole afte
     JoinedSoFar m root kept whole chips (take i targets) → JoinedSoFar m root kept after more (take (i + 1) targets)
 joined_more m root kept whole after chips more targets i d walk within is detour long told so_far =
     let t : Chip = get_or targets i d in
-    let there = detour_reached m root whole so_far.is_whole walk t walk detour (λ f has. has) in
+    let grown = detoured m root whole so_far.is_whole t walk detour in
     subst (λ ts. JoinedSoFar m root kept after more ts) (sym (take_more targets i d within)) (record {
       joins = subst (λ es. Joins m root kept (take i targets ++ t ∷ []) es) (sym is) (Joins-more m root kept (take i targets) whole t walk so_far.joins detour);
-      is_whole = subst (λ es. IsWholeTree m root es) (sym is) (whole_joined m root whole so_far.is_whole t walk detour);
+      is_whole = subst (λ es. IsWholeTree m root es) (sym is) grown.whole;
       long = long;
       told = told;
       on_tree = subst (λ es. All (IsTreeChip m root es) (take i targets ++ t ∷ [])) (sym is)
           (All-push (IsTreeChip m root (whole ++ walk)) (take i targets) t
           (All-weaker (IsTreeChip m root whole) (IsTreeChip m root (whole ++ walk)) (more_chips m root whole walk) (take i targets) so_far.on_tree)
-          (steps_on_tree m root (whole ++ walk) there.0 t there.1));
+          grown.there);
     })
 
 -- the first target that is cut off

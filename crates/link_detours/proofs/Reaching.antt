@@ -1,7 +1,7 @@
 -- What tables of flagged links and of marked chips say of trees.
-use Rattle.link_detours.proofs.Common.{All, All-contains, Bool, Chip, Contains, Contains-get_or, Description, Dir, Edge, EdgeStep, FlaggedStep, IsInside, IsLiveLink, IsReachedBy, IsWholeTree, List}
-use Rattle.link_detours.proofs.Common.{Some, Steps, [], arith, far_back, far_of, get_or, is_flagged, is_marked, live_back, live_ends, live_inside, opposite_of, opposite_of-opposite, refl, subst, suc}
-use Rattle.link_detours.proofs.Common.{sym, true, zero, ℕ, ◌↔◌, ◌∷◌, ◌≡◌}
+use Rattle.link_detours.proofs.Common.{All, All-contains, Bool, Chip, Contains, Contains-get_or, Contains-only, Description, Dir, Edge, EdgeStep, FlaggedStep, IsInside, IsLiveLink, IsReachedBy}
+use Rattle.link_detours.proofs.Common.{IsWholeTree, List, Some, Steps, [], arith, far_back, far_of, get_or, is_flagged, is_marked, live_back, live_ends, live_inside, opposite_of, opposite_of-opposite}
+use Rattle.link_detours.proofs.Common.{refl, subst, sym, true, ℕ, ◌↔◌, ◌∷◌, ◌≡◌}
 use Rattle.link_detours.proofs.Stepping.{Steps-map}
 
 -- a live link begins inside the grid
@@ -29,10 +29,6 @@ pub turned_link : (m : Description) (at b : Chip) (d : Dir) → IsLiveLink m at 
     IsLiveLink m b d × (far_of m b d ≡ Some at)
 turned_link m at b d lives leads = grind (arith, link_turned m b at (opposite_of d) lives leads, opposite_of-opposite d)
 
-pub only_root : (root a : Chip) → Contains (root ∷ []) a → a ≡ root
-only_root root a (zero, within, same) = sym same
-only_root root a (suc k, within, same) = absurd (omega arith)
-
 -- a table marks a chip exactly where the edges that another table flags join it to the root
 pub reach_edges : (m : Description) (root : Chip) (table : List Bool) (edges : List Edge) (marks : List Bool) →
     ((e : Edge) → IsInside m e.chip → (is_flagged m table e.chip e.dir ≡ true) ↔ Contains edges e) → All (λ e. IsInside m e.chip) edges →
@@ -41,7 +37,7 @@ pub reach_edges : (m : Description) (root : Chip) (table : List Bool) (edges : L
 reach_edges m root table edges marks flags inside reached c c_inside = (
   λ marked. let by = (reached c c_inside).0 marked in (
     by.0,
-    subst (λ (a : Chip). Steps (EdgeStep m edges) by.0 a c) (only_root root by.1.0 by.1.1)
+    subst (λ (a : Chip). Steps (EdgeStep m edges) by.0 a c) (sym (Contains-only root by.1.0 by.1.1))
         (Steps-map (FlaggedStep m table) (EdgeStep m edges) (flagged_edges m table edges flags) by.0 by.1.0 c by.1.2),
   ),
   λ way. (reached c c_inside).1 (

@@ -1,17 +1,14 @@
 -- A search that marks chips until no flagged link leads from a marked chip to another.
-use Rattle.link_detours.proofs.Common.{All, All-contains, All-push, Bool, Chip, Contains, Contains-get_or, Description, Dir, East, FlaggedStep, IsInside, IsReachedBy, List, None, Some, Steps, []}
-use Rattle.link_detours.proofs.Common.{all_dirs, ap, arith, cases_Bool, cases_eq, chip_eq, chip_eq-from_same, chip_eq_true, cond, cond-false, cond-true, dir_number, dir_number-dir_at, false}
-use Rattle.link_detours.proofs.Common.{false≢true, far_inside, far_of, get_or, get_or-set_other, get_or-set_same, get_or_append_left, get_or_at, get_or_default, index_below, index_of, inl, inr}
-use Rattle.link_detours.proofs.Common.{is_flagged, is_marked, length, length-append, length-set, refl, same_dir, same_index, set, subst, suc, sum_by, sum_by-set, sym, true, zero, ℕ, ◌*◌, ◌++◌, ◌+◌}
-use Rattle.link_detours.proofs.Common.{◌<◌, ◌↔◌, ◌∙◌, ◌∷◌, ◌≡◌, ◌≢◌, ◌≤◌, ◌⊎◌}
+use Rattle.link_detours.proofs.Common.{All, All-contains, Bool, Chip, Contains, Contains-append_left, Contains-none, Contains-push, Contains-push_cases, Description, Dir, East, FlaggedStep, IsInside}
+use Rattle.link_detours.proofs.Common.{IsReachedBy, List, Some, [], all_dirs, ap, arith, below_six, cases_Bool, cases_eq, chip_eq, chip_eq-from_same, chip_eq_true, dir_number, dir_number-dir_at}
+use Rattle.link_detours.proofs.Common.{false, false≢true, far_inside, far_of, get_or, get_or-set_other, get_or-set_same, get_or_default, index_below, index_of, inl, inr, is_flagged, is_marked, length}
+use Rattle.link_detours.proofs.Common.{length-append, length-set, refl, same_Some, same_dir, same_index, set, subst, suc, sum_by, sum_by-set, sym, true, ℕ, ◌*◌, ◌++◌, ◌+◌, ◌<◌, ◌↔◌, ◌∙◌, ◌∷◌, ◌≡◌}
+use Rattle.link_detours.proofs.Common.{◌≢◌, ◌≤◌, ◌⊎◌}
+use Rattle.link_detours.proofs.Stepping.{reached_has}
 
 -- two chips are the same or not
 pub cases_chip : (a b : Chip) → (a ≡ b) ⊎ (a ≢ b)
 cases_chip a b = grind (arith, cases_Bool (chip_eq a b), chip_eq_true, false≢true, chip_eq-from_same)
-
--- the chip stands in the queue at next or behind
-abbrev pub Waits : List Chip → ℕ → Chip → Type 0
-Waits queue next c = (k : ℕ) × (next ≤ k) × (k < length queue) × (get_or queue k c ≡ c)
 
 -- what a place of a table weighs: less once it is marked
 abbrev pub unmarked : Bool → ℕ
@@ -19,27 +16,24 @@ unmarked true = 0
 unmarked false = 1
 
 module _ (m : Description) (table : List Bool) (seeds : List Chip) where
-  -- what holds of the marks and the queue while links are still to be looked at: those that the last argument names
-  pub record Ongoing (marks : List Bool) (queue : List Chip) (Waiting : Chip → ℕ → Type 0) : Type 0 where
+  -- what holds of the marks, and of the chips that are left to be looked at, while links wait: those that the last argument names
+  pub record Ongoing (marks : List Bool) (left : List Chip) (Waiting : Chip → ℕ → Type 0) : Type 0 where
     pub long : length marks ≡ m.width * m.height
-    pub inside : All (IsInside m) queue
-    pub known : All (λ c. is_marked m marks c ≡ true) queue
+    pub known : (c : Chip) → Contains left c → IsInside m c × (is_marked m marks c ≡ true)
     pub at_seeds : (a : Chip) → Contains seeds a → is_marked m marks a ≡ true
     pub walks : (c : Chip) → IsInside m c → is_marked m marks c ≡ true → (n : ℕ) × IsReachedBy (FlaggedStep m table) (Contains seeds) n c
     pub near : (c e : Chip) (d : Dir) → IsInside m c → is_marked m marks c ≡ true → is_flagged m table c d ≡ true →
         far_of m c d ≡ Some e → Waiting c (dir_number d) ⊎ (is_marked m marks e ≡ true)
 
-  -- the links that wait while the chip at next is looked at, from link number i on
-  abbrev pub WaitsFrom : List Chip → ℕ → Chip → ℕ → Chip → ℕ → Type 0
-  WaitsFrom queue next at i c j = Waits queue (next + 1) c ⊎ ((c ≡ at) × (i ≤ j))
+  -- the links that wait while a chip is looked at, from link number i on
+  abbrev pub WaitsFrom : List Chip → Chip → ℕ → Chip → ℕ → Type 0
+  WaitsFrom left at i c j = Contains left c ⊎ ((c ≡ at) × (i ≤ j))
 
-  -- what holds while the links of the chip at next are looked at, from link number i on
-  pub record Looking (marks : List Bool) (queue : List Chip) (next : ℕ) (at : Chip) (i : ℕ) : Type 0 where
-    pub within : next < length queue
-    pub is_at : get_or queue next at ≡ at
+  -- what holds while the links of a chip are looked at, from link number i on
+  pub record Looking (marks : List Bool) (left : List Chip) (at : Chip) (i : ℕ) : Type 0 where
     pub at_inside : IsInside m at
     pub at_marked : is_marked m marks at ≡ true
-    pub ongoing : Ongoing marks queue (WaitsFrom queue next at i)
+    pub ongoing : Ongoing marks left (WaitsFrom left at i)
 
   -- the marks after one chip more is marked
   marked_here : (marks : List Bool) (e c : Chip) → length marks ≡ m.width * m.height → IsInside m e → c ≡ e →
@@ -54,168 +48,125 @@ module _ (m : Description) (table : List Bool) (seeds : List Chip) where
       is_marked m (set marks (index_of m e) true) c ≡ true
   still_marked marks e c long inside marked = grind (arith, cases_eq (index_of m c) (index_of m e), index_below m e inside, get_or, get_or-set_same, get_or-set_other)
 
-  -- other links wait: each that waited does, or leads to a marked chip
-  others_wait : (marks : List Bool) (queue : List Chip) (Was Now : Chip → ℕ → Type 0) →
-      ((c e : Chip) (d : Dir) → is_flagged m table c d ≡ true → far_of m c d ≡ Some e → Was c (dir_number d) →
-      Now c (dir_number d) ⊎ (is_marked m marks e ≡ true)) → Ongoing marks queue Was → Ongoing marks queue Now
-  others_wait marks queue Was Now to now = grind arith
+  -- the marks before the search: those of the seeds
+  pub start : (marks : List Bool) → length marks ≡ m.width * m.height → All (IsInside m) seeds →
+      ((c : Chip) → IsInside m c → (is_marked m marks c ≡ true) ↔ Contains seeds c) → Ongoing marks seeds (λ c j. Contains seeds c)
+  start marks long inside told = record {
+    long = long;
+    known = λ c has. let within = All-contains (IsInside m) seeds c inside has in (within, (told c within).1 has);
+    at_seeds = λ a has. (told a (All-contains (IsInside m) seeds a inside has)).1 has;
+    walks = λ c within marked. (0, (c, (told c within).0 marked, refl));
+    near = λ c e d within marked flagged leads. inl ((told c within).0 marked);
+  }
 
-  -- the first link of the chip at next
-  start_links : (marks : List Bool) (queue : List Chip) (next : ℕ) (at : Chip) → next < length queue → get_or queue next at ≡ at →
-      Ongoing marks queue (λ c j. Waits queue next c) → Ongoing marks queue (WaitsFrom queue next at 0)
-  start_links marks queue next at within is = grind (arith, others_wait, cases_eq, get_or, get_or_default)
+  -- the last of the chips that are left is taken, and its links are still to be looked at
+  pub start_looking : (marks : List Bool) (before left : List Chip) (at : Chip) → before ≡ left ++ at ∷ [] → Ongoing marks before (λ c j. Contains before c) → Looking marks left at 0
+  start_looking marks before left at is now = record {
+    at_inside = (now.known at mine).0;
+    at_marked = (now.known at mine).1;
+    ongoing = record {
+      long = now.long;
+      known = λ c has. now.known c (subst (λ cs. Contains cs c) (sym is) (Contains-append_left left (at ∷ []) c has));
+      at_seeds = now.at_seeds;
+      walks = now.walks;
+      near = λ c e d inside marked flagged leads. elim (now.near c e d inside marked flagged leads) [
+        | inl waits ↦ inl (elim (Contains-push_cases left at c (subst (λ cs. Contains cs c) is waits)) [ inl still ↦ inl still | inr here ↦ inr (sym here, omega arith) ])
+        | inr done ↦ inr done
+      ];
+    };
+  }
+    where
+      mine : Contains before at
+      mine = subst (λ cs. Contains cs at) (sym is) (Contains-push left at)
 
-  -- all six links of the chip at next were looked at
-  pub end_links : (marks : List Bool) (queue : List Chip) (next : ℕ) (at : Chip) (i : ℕ) → 6 ≤ i → ((d : Dir) → dir_number d < 6) →
-      Ongoing marks queue (WaitsFrom queue next at i) → Ongoing marks queue (λ c j. Waits queue (next + 1) c)
-  end_links marks queue next at i past six = grind (arith, others_wait)
+  -- a link that leads nowhere, or to a marked chip
+  pub look_past : (marks : List Bool) (left : List Chip) (at : Chip) (i : ℕ) (d : Dir) → dir_number d ≡ i →
+      ((e : Chip) → is_flagged m table at d ≡ true → far_of m at d ≡ Some e → is_marked m marks e ≡ true) → Looking marks left at i → Looking marks left at (i + 1)
+  look_past marks left at i d link fine now = record {
+    at_inside = now.at_inside;
+    at_marked = now.at_marked;
+    ongoing = record {
+      long = now.ongoing.long;
+      known = now.ongoing.known;
+      at_seeds = now.ongoing.at_seeds;
+      walks = now.ongoing.walks;
+      near = λ c e g inside marked flagged leads. grind (arith, now.ongoing.near c e g inside marked flagged leads, cases_eq (dir_number g) i, same_dir g d);
+    };
+  }
 
-  -- a link that leads to no chip but a marked one
-  pass_link : (marks : List Bool) (queue : List Chip) (next : ℕ) (at : Chip) (d : Dir) →
-      ((e : Chip) → is_flagged m table at d ≡ true → far_of m at d ≡ Some e → is_marked m marks e ≡ true) →
-      Ongoing marks queue (WaitsFrom queue next at (dir_number d)) → Ongoing marks queue (WaitsFrom queue next at (dir_number d + 1))
-  pass_link marks queue next at d fine = grind (arith, others_wait, cases_eq, same_dir)
-
-  -- a link that leads to an unmarked chip: it is marked, and waits
-  mark_end : (marks : List Bool) (queue : List Chip) (next : ℕ) (at e : Chip) (d : Dir) → IsInside m at →
-      is_flagged m table at d ≡ true → far_of m at d ≡ Some e → next < length queue → is_marked m marks at ≡ true →
-      Ongoing marks queue (WaitsFrom queue next at (dir_number d)) →
-      Ongoing (set marks (index_of m e) true) (queue ++ e ∷ []) (WaitsFrom (queue ++ e ∷ []) next at (dir_number d + 1))
-  mark_end marks queue next at e d at_inside flag leads within at_marked now = record {
-    long = length-set marks (index_of m e) true ∙ now.long;
-    inside = All-push (IsInside m) queue e now.inside e_inside;
-    known = All-push (λ c. is_marked m (set marks (index_of m e) true) c ≡ true) queue e (λ k x h. still (get_or queue k x) (now.known k x h))
-        (marked_here marks e e now.long e_inside refl);
-    at_seeds = λ a has. still a (now.at_seeds a has);
-    walks = λ c inside marked. elim (cases_chip c e) [
-      | inl same ↦
-          let walk = now.walks at at_inside at_marked in
-          (suc walk.0, (walk.1.0, walk.1.1, (at, walk.1.2, (at_inside, (d, flag, leads ∙ ap Some (sym same))))))
-      | inr other ↦ now.walks c inside (sym (marked_other marks e c e_inside inside other) ∙ marked)
-    ];
-    near = λ c f g inside marked flagged goes. elim (cases_chip c e) [
-      | inl same ↦ inl (inl (
-        length queue,
-        (let lt : next < length queue = within in omega arith),
-        (let longer : length (queue ++ e ∷ []) ≡ length queue + 1 = length-append queue (e ∷ []) in omega arith),
-        get_or_at queue e [] c (length queue) refl ∙ sym same,
-      ))
-      | inr other ↦ near_after c f g flagged goes
-          (now.near c f g inside (sym (marked_other marks e c e_inside inside other) ∙ marked) flagged goes)
-    ];
+  -- a link that leads to an unmarked chip: it is marked, and left to be looked at
+  pub look_at_end : (marks : List Bool) (left : List Chip) (at e : Chip) (i : ℕ) (d : Dir) → dir_number d ≡ i → is_flagged m table at d ≡ true → far_of m at d ≡ Some e →
+      Looking marks left at i → Looking (set marks (index_of m e) true) (left ++ e ∷ []) at (i + 1)
+  look_at_end marks left at e i d link flagged leads now = record {
+    at_inside = now.at_inside;
+    at_marked = still at now.at_marked;
+    ongoing = record {
+      long = length-set marks (index_of m e) true ∙ now.ongoing.long;
+      known = λ c has. elim (Contains-push_cases left e c has) [
+        | inl before ↦ let was = now.ongoing.known c before in (was.0, still c was.1)
+        | inr here ↦ subst (λ (x : Chip). IsInside m x × (is_marked m (set marks (index_of m e) true) x ≡ true)) here (e_inside, marked_here marks e e now.ongoing.long e_inside refl)
+      ];
+      at_seeds = λ a has. still a (now.ongoing.at_seeds a has);
+      walks = λ c inside marked. elim (cases_chip c e) [
+        | inl same ↦
+            let walk = now.ongoing.walks at now.at_inside now.at_marked in
+            (suc walk.0, (walk.1.0, walk.1.1, (at, walk.1.2, (now.at_inside, (d, flagged, leads ∙ ap Some (sym same))))))
+        | inr other ↦ now.ongoing.walks c inside (sym (marked_other marks e c e_inside inside other) ∙ marked)
+      ];
+      near = λ c f g inside marked flag goes. elim (cases_chip c e) [
+        | inl same ↦ inl (inl (subst (Contains (left ++ e ∷ [])) (sym same) (Contains-push left e)))
+        | inr other ↦ near_after c f g goes (now.ongoing.near c f g inside (sym (marked_other marks e c e_inside inside other) ∙ marked) flag goes)
+      ];
+    };
   }
     where
       e_inside : IsInside m e
-      e_inside = far_inside m at e d at_inside leads
+      e_inside = far_inside m at e d now.at_inside leads
 
       still : (c : Chip) → is_marked m marks c ≡ true → is_marked m (set marks (index_of m e) true) c ≡ true
-      still c marked = still_marked marks e c now.long (far_inside m at e d at_inside leads) marked
+      still c marked = still_marked marks e c now.ongoing.long (far_inside m at e d now.at_inside leads) marked
 
-      further : (c : Chip) → Waits queue (next + 1) c → Waits (queue ++ e ∷ []) (next + 1) c
-      further c waits = (
-        waits.0,
-        waits.1,
-        (let longer : length (queue ++ e ∷ []) ≡ length queue + 1 = length-append queue (e ∷ []) in
-            let before : waits.0 < length queue = waits.2 in omega arith),
-        get_or_append_left queue (e ∷ []) c waits.0 waits.2 ∙ waits.3,
-      )
-
-      near_after : (c f : Chip) (g : Dir) → is_flagged m table c g ≡ true → far_of m c g ≡ Some f →
-          WaitsFrom queue next at (dir_number d) c (dir_number g) ⊎ (is_marked m marks f ≡ true) →
-          WaitsFrom (queue ++ e ∷ []) next at (dir_number d + 1) c (dir_number g) ⊎ (is_marked m (set marks (index_of m e) true) f ≡ true)
-      near_after c f g flagged goes (inl (inl waits)) = inl (inl (further c waits))
-      near_after c f g flagged goes (inl (inr here)) = elim (cases_eq (dir_number g) (dir_number d)) [
-        | inr other ↦ inl (inr (here.0, (let from : dir_number d ≤ dir_number g = here.1 in omega arith)))
+      near_after : (c f : Chip) (g : Dir) → far_of m c g ≡ Some f → WaitsFrom left at i c (dir_number g) ⊎ (is_marked m marks f ≡ true) →
+          WaitsFrom (left ++ e ∷ []) at (i + 1) c (dir_number g) ⊎ (is_marked m (set marks (index_of m e) true) f ≡ true)
+      near_after c f g goes (inl (inl waits)) = inl (inl (Contains-append_left left (e ∷ []) c waits))
+      near_after c f g goes (inl (inr here)) = elim (cases_eq (dir_number g) i) [
+        | inr other ↦ inl (inr (here.0, (let from : i ≤ dir_number g = here.1 in omega arith)))
         | inl same ↦
-            let leads_here : far_of m at d ≡ Some f =
-            ap (λ (o : Dir). far_of m at o) (sym (same_dir g d same)) ∙ (ap (λ (x : Chip). far_of m x g) (sym here.0) ∙ goes) in
-            let is_e : Some f ≡ Some e = sym leads_here ∙ leads in
-            let f_is : f ≡ e = cc in
-            inr (marked_here marks e f now.long (far_inside m at e d at_inside leads) f_is)
+            let leads_here : far_of m at d ≡ Some f = ap (λ (o : Dir). far_of m at o) (sym (same_dir g d (same ∙ sym link))) ∙ (ap (λ (x : Chip). far_of m x g) (sym here.0) ∙ goes) in
+            inr (marked_here marks e f now.ongoing.long (far_inside m at e d now.at_inside leads) (same_Some f e (sym leads_here ∙ leads)))
       ]
-      near_after c f g flagged goes (inr done) = inr (still_marked marks e f now.long (far_inside m at e d at_inside leads) done)
+      near_after c f g goes (inr done) = inr (still_marked marks e f now.ongoing.long (far_inside m at e d now.at_inside leads) done)
 
-  -- the marks before the search: those of the seeds
-  pub start : (marks : List Bool) → length marks ≡ m.width * m.height → All (IsInside m) seeds →
-      ((c : Chip) → IsInside m c → (is_marked m marks c ≡ true) ↔ Contains seeds c) → Ongoing marks seeds (λ c j. Waits seeds 0 c)
-  start marks long inside told = grind (arith, get_or, Contains-get_or, All-contains)
+  -- all six links of a chip were looked at
+  pub end_links : (marks : List Bool) (left : List Chip) (at : Chip) (i : ℕ) → 6 ≤ i → Ongoing marks left (WaitsFrom left at i) → Ongoing marks left (λ c j. Contains left c)
+  end_links marks left at i past now = record {
+    long = now.long;
+    known = now.known;
+    at_seeds = now.at_seeds;
+    walks = now.walks;
+    near = λ c e d inside marked flagged leads. grind (arith, now.near c e d inside marked flagged leads, below_six d);
+  }
 
-  -- when no link waits, each chip that a walk reaches is marked
-  reached_marked : (marks : List Bool) (queue : List Chip) (next : ℕ) → length queue ≤ next → All (IsInside m) seeds →
-      Ongoing marks queue (λ c j. Waits queue next c) → (k : ℕ) (a c : Chip) → Contains seeds a → Steps (FlaggedStep m table) k a c →
-      IsInside m c × (is_marked m marks c ≡ true)
-  reached_marked marks queue next done seeds_inside now zero a c has walk = grind (arith, All-contains (IsInside m) seeds a seeds_inside has)
-  reached_marked marks queue next done seeds_inside now (suc k) a c has walk =
-      let before = reached_marked marks queue next done seeds_inside now k a walk.0 has walk.1 in
-      let link = walk.2.1 in (
-        far_inside m walk.0 c link.0 before.0 link.2,
-        elim (now.near walk.0 c link.0 before.0 before.1 link.1 link.2) [
-          | inl waits ↦ absurd (let from : next ≤ waits.0 = waits.1 in let to : waits.0 < length queue = waits.2 in omega arith)
-          | inr marked ↦ marked
-        ],
-      )
-
-  -- then the marked chips are those that walks reach
-  pub marked_reached : (marks : List Bool) (queue : List Chip) (next : ℕ) → length queue ≤ next → All (IsInside m) seeds →
-      Ongoing marks queue (λ c j. Waits queue next c) → (c : Chip) → IsInside m c →
+  -- when no chip is left, the marked chips are those that walks reach
+  pub marked_reached : (marks : List Bool) (left : List Chip) → left ≡ [] → All (IsInside m) seeds → Ongoing marks left (λ c j. Contains left c) → (c : Chip) → IsInside m c →
       (is_marked m marks c ≡ true) ↔ ((n : ℕ) × IsReachedBy (FlaggedStep m table) (Contains seeds) n c)
-  marked_reached marks queue next done seeds_inside now c inside = (
-    λ marked. now.walks c inside marked,
-    λ way. (reached_marked marks queue next done seeds_inside now way.0 way.1.0 c way.1.1 way.1.2).1,
+  marked_reached marks left none inside now c c_inside = (
+    λ marked. now.walks c c_inside marked,
+    λ way. (reached_has (FlaggedStep m table) (Contains seeds) (λ (x : Chip). IsInside m x × (is_marked m marks x ≡ true))
+        (λ a has. (All-contains (IsInside m) seeds a inside has, now.at_seeds a has))
+        (λ a b known step. (
+          far_inside m a b step.1.0 known.0 step.1.2,
+          elim (now.near a b step.1.0 known.0 known.1 step.1.1 step.1.2) [
+            | inl waits ↦ absurd (Contains-none a (subst (λ cs. Contains cs a) none waits))
+            | inr marked ↦ marked
+          ],
+        )) way.0 c way.1).1,
   )
 
-  -- the chip at next is taken, and its links are still to be looked at
-  pub start_looking : (marks : List Bool) (queue : List Chip) (next : ℕ) (at : Chip) → next < length queue →
-      at ≡ get_or queue next at → Ongoing marks queue (λ c j. Waits queue next c) → Looking marks queue next at 0
-  start_looking marks queue next at within at_is now = grind (arith, start_links marks queue next at within (sym at_is) now)
-
-  -- a link that leads nowhere, or to a marked chip
-  pub look_past : (marks : List Bool) (queue : List Chip) (next : ℕ) (at : Chip) (i : ℕ) (d : Dir) → dir_number d ≡ i →
-      ((e : Chip) → is_flagged m table at d ≡ true → far_of m at d ≡ Some e → is_marked m marks e ≡ true) →
-      Looking marks queue next at i → Looking marks queue next at (i + 1)
-  look_past marks queue next at i d link fine now = grind (arith, pass_link)
-
-  -- the mark read of the chip to which a link leads
-  pub mark_read : (marks : List Bool) (e : Chip) (place : ℕ) (marked : Bool) → length marks ≡ m.width * m.height → IsInside m e → place ≡ index_of m e →
-      marked ≡ get_or marks place marked → marked ≡ is_marked m marks e
-  mark_read marks e place marked long inside place_is marked_is = grind (arith, index_below m e inside, get_or_default, get_or)
-
-  -- a link that leads to an unmarked chip
-  pub look_at_end : (marks : List Bool) (queue : List Chip) (next : ℕ) (at e : Chip) (i place : ℕ) (d : Dir) → dir_number d ≡ i →
-      is_flagged m table at d ≡ true → far_of m at d ≡ Some e → place ≡ index_of m e →
-      Looking marks queue next at i → Looking (set marks place true) (queue ++ e ∷ []) next at (i + 1)
-  look_at_end marks queue next at e i place d link flagged leads place_is now =
-      let inside : IsInside m e = far_inside m at e d now.at_inside leads in
-      let longer : length (queue ++ e ∷ []) ≡ length queue + 1 = length-append queue (e ∷ []) in
-      subst (λ p. Looking (set marks p true) (queue ++ e ∷ []) next at (i + 1)) (sym place_is) (record {
-        within = let before : next < length queue = now.within in omega arith;
-        is_at = get_or_append_left queue (e ∷ []) at next now.within ∙ now.is_at;
-        at_inside = now.at_inside;
-        at_marked = still_marked marks e at now.ongoing.long inside now.at_marked;
-        ongoing = subst (λ k. Ongoing (set marks (index_of m e) true) (queue ++ e ∷ []) (WaitsFrom (queue ++ e ∷ []) next at (k + 1))) link
-            (mark_end marks queue next at e d now.at_inside flagged leads now.within now.at_marked
-            (subst (λ k. Ongoing marks queue (WaitsFrom queue next at k)) (sym link) now.ongoing));
-      })
-
-  -- a mark more weighs as much less as two chips in the queue
-  pub weight_falls : (marks : List Bool) (queue : List Chip) (e : Chip) (place most : ℕ) → length marks ≡ m.width * m.height → IsInside m e →
-      place ≡ index_of m e → is_marked m marks e ≡ false → 2 * sum_by unmarked marks + length queue ≤ most →
-      2 * sum_by unmarked (set marks place true) + length (queue ++ e ∷ []) ≤ most
-  weight_falls marks queue e place most long inside place_is clear before = grind (arith, index_below m e inside, length-append queue (e ∷ []), get_or, sum_by-set)
-
--- the chip that a flagged link gives
-pub flagged_parts : (m : Description) (table : List Bool) (c e : Chip) (d : Dir) →
-    Some e ≡ cond (is_flagged m table c d) (far_of m c d) None → (is_flagged m table c d ≡ true) × (far_of m c d ≡ Some e)
-flagged_parts m table c e d h = grind (arith, cases_Bool (is_flagged m table c d), cond-true, cond-false)
-
--- and that is inside
-pub flagged_inside : (m : Description) (table : List Bool) (c e : Chip) (d : Dir) → IsInside m c → Some e ≡ cond (is_flagged m table c d) (far_of m c d) None → IsInside m e
-flagged_inside m table c e d inside h = far_inside m c e d inside (flagged_parts m table c e d h).1
-
--- a flagged link that leads somewhere gives a chip
-pub flagged_none : (m : Description) (table : List Bool) (c e : Chip) (d : Dir) →
-    None ≡ cond (is_flagged m table c d) (far_of m c d) None → is_flagged m table c d ≡ true → far_of m c d ≡ Some e → ⊥
-flagged_none m table c e d h flagged leads = grind (arith, cond-true (is_flagged m table c d) (far_of m c d) None flagged)
+  -- a mark more weighs as much less as two chips that are left
+  pub weight_falls : (marks : List Bool) (left : List Chip) (e : Chip) (most : ℕ) → length marks ≡ m.width * m.height → IsInside m e → is_marked m marks e ≡ false →
+      2 * sum_by unmarked marks + length left ≤ most → 2 * sum_by unmarked (set marks (index_of m e) true) + length (left ++ e ∷ []) ≤ most
+  weight_falls marks left e most long inside clear before = grind (arith, index_below m e inside, length-append left (e ∷ []), get_or, sum_by-set)
 
 pub dir_number_at : (i : ℕ) (d : Dir) → i < 6 → dir_number (get_or all_dirs i d) ≡ i
 dir_number_at i d h = ap dir_number (get_or_default all_dirs i d East h) ∙ dir_number-dir_at i h

@@ -1,29 +1,17 @@
 -- How a set of chips spreads over live links, link by link and column by column.
 use Rattle.link_detours.proofs.Common.{Chip, Description, Dir, IsLiveLink, IsSpread, LeadsInto, List, Some, ap, arith, bit_and, bit_at, bit_at-lt, bit_at_and, bit_at_or, bit_or, cases_eq, dir_number}
-use Rattle.link_detours.proofs.Common.{far_of, far_parts, get_or, inl, inr, le_or_l, live_ends, max, min, same_dir, stepped, subst, sym, x_step, y_step, ℕ, ◌+◌, ◌<◌, ◌↔◌, ◌∙◌, ◌≡◌, ◌≤◌, ◌⊎◌}
+use Rattle.link_detours.proofs.Common.{far_of, far_parts, get_or, inl, inr, le_or_l, live_ends, same_dir, stepped, subst, sym, x_step, y_step, ℕ, ◌+◌, ◌<◌, ◌↔◌, ◌∙◌, ◌≡◌, ◌≤◌}
 use Rattle.link_detours.proofs.RoadBits.{chip_of_column}
 
-both_set : (a b : ℕ) → a < 2 → b < 2 → min a b ≡ 1 → (a ≡ 1) × (b ≡ 1)
-both_set a b p q h = (omega (arith, p, q, h), omega (arith, p, q, h))
-
-set_both : (a b : ℕ) → a ≡ 1 → b ≡ 1 → min a b ≡ 1
-set_both a b p q = omega (arith, p, q)
-
-one_set : (a b : ℕ) → a < 2 → b < 2 → max a b ≡ 1 → (a ≡ 1) ⊎ (b ≡ 1)
-one_set a b p q h = elim (cases_eq a 1) [ inl is ↦ inl is | inr other ↦ inr (omega (arith, p, q, h, other)) ]
-
--- a bit of one of two words, or of both
-max_left : (a b : ℕ) → b < 2 → a ≡ 1 → max a b ≡ 1
-max_left a b p q = omega (arith, p, q)
-
-max_right : (a b : ℕ) → a < 2 → b ≡ 1 → max a b ≡ 1
-max_right a b p q = omega (arith, p, q)
-
+-- a bit of one of two words is one of both
 pub or_left : (a b y : ℕ) → bit_at a y ≡ 1 → bit_at (bit_or a b) y ≡ 1
-or_left a b y bit = bit_at_or a b y ∙ max_left (bit_at a y) (bit_at b y) (bit_at-lt b y) bit
+or_left a b y bit = omega (arith, bit_at_or a b y, bit_at-lt b y)
 
 pub or_right : (a b y : ℕ) → bit_at b y ≡ 1 → bit_at (bit_or a b) y ≡ 1
-or_right a b y bit = bit_at_or a b y ∙ max_right (bit_at a y) (bit_at b y) (bit_at-lt a y) bit
+or_right a b y bit = omega (arith, bit_at_or a b y, bit_at-lt a y)
+
+and_both : (a b y : ℕ) → bit_at (bit_and a b) y ≡ 1 → (bit_at a y ≡ 1) × (bit_at b y ≡ 1)
+and_both a b y bit = (omega (arith, bit_at_and a b y, bit_at-lt a y, bit_at-lt b y), omega (arith, bit_at_and a b y, bit_at-lt a y, bit_at-lt b y))
 
 -- the bits of the chips whose link leads, live, to a chip of the set
 pub leading_told : (m : Description) (set : List ℕ) (x y beyond column turned road : ℕ) (d : Dir) →
@@ -33,12 +21,13 @@ pub leading_told : (m : Description) (set : List ℕ) (x y beyond column turned 
     (bit_at (bit_and turned road) y ≡ 1) ↔ LeadsInto m set (chip_of_column x y) d
 leading_told m set x y beyond column turned road d told at_column is at_bit = (
   λ bit.
-      let both = both_set (bit_at turned y) (bit_at road y) (bit_at-lt turned y) (bit_at-lt road y) (sym (bit_at_and turned road y) ∙ bit) in
+      let both = and_both turned road y bit in
       let lives : IsLiveLink m (chip_of_column x y) d = told.0 both.1 in
       let ends = live_ends m (chip_of_column x y) d lives in
       (ends.0, lives, ends.1, sym (reads ends.0 ends.1) ∙ both.0),
-  λ leads. bit_at_and turned road y
-      ∙ set_both (bit_at turned y) (bit_at road y) (reads leads.0 leads.2 ∙ leads.3) (told.1 leads.1),
+  λ leads.
+      let there : bit_at turned y ≡ 1 = reads leads.0 leads.2 ∙ leads.3 in
+      let lives : bit_at road y ≡ 1 = told.1 leads.1 in omega (arith, bit_at_and turned road y),
 )
   where
     reads : (e : Chip) → far_of m (chip_of_column x y) d ≡ Some e → bit_at turned y ≡ bit_at (get_or set e.x 0) e.y
@@ -66,8 +55,8 @@ SpreadTo-more m set x word i leading d at told so_far = record {
     | inr other ↦ or_left word leading y (so_far.new y f inside (omega (arith, below, other)) leads)
   ];
   only = λ y inside bit.
-      elim (one_set (bit_at word y) (bit_at leading y) (bit_at-lt word y) (bit_at-lt leading y) (sym (bit_at_or word leading y) ∙ bit)) [
+      elim (cases_eq (bit_at word y) 1) [
         | inl before ↦ so_far.only y inside before
-        | inr here ↦ inr (d, (told y inside).0 here)
+        | inr other ↦ inr (d, (told y inside).0 (omega (arith, bit_at_or word leading y, bit_at-lt word y, bit_at-lt leading y, bit, other)))
       ];
 }

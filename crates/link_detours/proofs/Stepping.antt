@@ -31,3 +31,8 @@ IsLevel-same R S P Q on back at from c n level = record {
   reached = IsReachedBy-map R S P Q on at n c level.reached;
   least = λ k by. level.least k (IsReachedBy-map S R Q P back from k c by);
 }
+
+-- what holds of the starts, and at the end of a step where it holds at its beginning, holds of all that is reached
+pub reached_has : {K : Type 0} (R : K → K → Type 0) (P Q : K → Type 0) → ((a : K) → P a → Q a) → ((a b : K) → Q a → R a b → Q b) → (n : ℕ) (c : K) → IsReachedBy R P n c → Q c
+reached_has {K} R P Q start on zero c by = subst (λ (x : K). Q x) by.2 (start by.0 by.1)
+reached_has R P Q start on (suc n) c by = on by.2.0 c (reached_has R P Q start on n by.2.0 (by.0, by.1, by.2.1)) by.2.2

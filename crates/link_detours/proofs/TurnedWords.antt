@@ -1,20 +1,7 @@
 -- Words turned by one bit, and the coordinates to which links lead.
 use Rattle.link_detours.proofs.Common.{Ahead, Back, Bool, Some, Stay, add-mod_right, add-one, add-zero, ap, arith, bit_and, bit_at, bit_at-lt, bit_at-suc, bit_at-zero, bit_at_above, bit_at_and}
 use Rattle.link_detours.proofs.Common.{bit_at_cat_high, bit_at_cat_low, bit_at_lowest, bit_at_ones, bit_at_ones_above, bit_at_or, bit_or, cases_eq, cases_lt, cond-false, cond-true, div-add-mod'}
-use Rattle.link_detours.proofs.Common.{eq-eqb, false, le-ltb, lit<, lt-ltb, max, min, mod-eq_of_lt, mod_self, ne_eqb, pow_pos, refl, stepped, sym, true, ℕ, ◌%◌, ◌*◌, ◌+◌, ◌-◌, ◌/◌, ◌<◌, ◌^◌, ◌∙◌, ◌≡◌}
-use Rattle.link_detours.proofs.Common.{◌≤◌, ◌⊎◌}
-
-max_zero : (a b p : ℕ) → a ≡ p → b ≡ 0 → max a b ≡ p
-max_zero a b p h k = omega (arith, h, k)
-
-max_other : (a b p : ℕ) → a ≡ 0 → b ≡ p → max a b ≡ p
-max_other a b p h k = omega (arith, h, k)
-
-min_one : (a b : ℕ) → a < 2 → b ≡ 1 → min a b ≡ a
-min_one a b low k = omega (arith, low, k)
-
-min_zero : (a b : ℕ) → b ≡ 0 → min a b ≡ 0
-min_zero a b k = omega (arith, k)
+use Rattle.link_detours.proofs.Common.{eq-eqb, false, le-ltb, lit<, lt-ltb, mod-eq_of_lt, mod_self, ne_eqb, pow_pos, stepped, sym, true, ℕ, ◌%◌, ◌*◌, ◌+◌, ◌-◌, ◌/◌, ◌<◌, ◌^◌, ◌∙◌, ◌≡◌, ◌≤◌, ◌⊎◌}
 
 -- the low bits of a number are those of its remainder
 bit_at-mod : (n w i : ℕ) → i < w → bit_at (n % 2 ^ w) i ≡ bit_at n i
@@ -32,59 +19,34 @@ up_word top word rest = bit_or (bit_and (word / 2 ^ 1) (top - 1)) (bit_and word 
 
 pub up_inside : (top word rest y : ℕ) → rest < 64 → top ≡ 2 ^ rest → y < rest → bit_at (up_word top word rest) y ≡ bit_at word (y + 1)
 up_inside top word rest y few is below =
-    bit_at_or (bit_and (word / 2 ^ 1) (top - 1)) (bit_and word 1 * 2 ^ rest % 2 ^ 64) y
-    ∙ max_zero _ _ (bit_at word (y + 1)) first second
-  where
-    shifted : bit_at (word / 2 ^ 1) y ≡ bit_at word (y + 1)
-    shifted = sym (bit_at-suc word y) ∙ ap (λ k. bit_at word k) (sym (add-one y))
-
-    first : bit_at (bit_and (word / 2 ^ 1) (top - 1)) y ≡ bit_at word (y + 1)
-    first = bit_at_and (word / 2 ^ 1) (top - 1) y
-        ∙ (min_one (bit_at (word / 2 ^ 1) y) (bit_at (top - 1) y) (bit_at-lt (word / 2 ^ 1) y)
-        (ap (λ t. bit_at (t - 1) y) is ∙ bit_at_ones rest y below) ∙ shifted)
-
-    second : bit_at (bit_and word 1 * 2 ^ rest % 2 ^ 64) y ≡ 0
-    second = bit_at-mod (bit_and word 1 * 2 ^ rest) 64 y (omega (arith, few, below)) ∙ moved_low (bit_and word 1) rest y below
+    let moved : bit_at (word / 2 ^ 1) y ≡ bit_at word (y + 1) = sym (bit_at-suc word y) ∙ ap (λ k. bit_at word k) (sym (add-one y)) in
+    let kept : bit_at (top - 1) y ≡ 1 = ap (λ t. bit_at (t - 1) y) is ∙ bit_at_ones rest y below in
+    let clear : bit_at (bit_and word 1 * 2 ^ rest % 2 ^ 64) y ≡ 0 =
+    bit_at-mod (bit_and word 1 * 2 ^ rest) 64 y (omega (arith, few, below)) ∙ moved_low (bit_and word 1) rest y below in
+    omega (arith, bit_at_or (bit_and (word / 2 ^ 1) (top - 1)) (bit_and word 1 * 2 ^ rest % 2 ^ 64) y, bit_at_and (word / 2 ^ 1) (top - 1) y, bit_at-lt (word / 2 ^ 1) y)
 
 pub up_round : (top word rest y : ℕ) → rest < 64 → top ≡ 2 ^ rest → y ≡ rest → bit_at (up_word top word rest) y ≡ bit_at word 0
 up_round top word rest y few is at =
-    bit_at_or (bit_and (word / 2 ^ 1) (top - 1)) (bit_and word 1 * 2 ^ rest % 2 ^ 64) y
-    ∙ max_other _ _ (bit_at word 0) first second
-  where
-    first : bit_at (bit_and (word / 2 ^ 1) (top - 1)) y ≡ 0
-    first = bit_at_and (word / 2 ^ 1) (top - 1) y
-        ∙ min_zero (bit_at (word / 2 ^ 1) y) (bit_at (top - 1) y) (ap (λ t. bit_at (t - 1) y) is ∙ bit_at_ones_above rest y (omega (arith, at)))
-
-    second : bit_at (bit_and word 1 * 2 ^ rest % 2 ^ 64) y ≡ bit_at word 0
-    second = bit_at-mod (bit_and word 1 * 2 ^ rest) 64 y (omega (arith, few, at))
-        ∙ (moved_high (bit_and word 1) rest y (omega (arith, at))
-        ∙ (ap (λ k. bit_at (bit_and word 1) k) (let none : y - rest ≡ 0 = omega (arith, at) in none)
-        ∙ (bit_at_and word 1 0 ∙ min_one (bit_at word 0) (bit_at 1 0) (bit_at-lt word 0) refl)))
+    let clear : bit_at (top - 1) y ≡ 0 = ap (λ t. bit_at (t - 1) y) is ∙ bit_at_ones_above rest y (omega (arith, at)) in
+    let none : y - rest ≡ 0 = omega (arith, at) in
+    let moved : bit_at (bit_and word 1 * 2 ^ rest % 2 ^ 64) y ≡ bit_at (bit_and word 1) 0 =
+    bit_at-mod (bit_and word 1 * 2 ^ rest) 64 y (omega (arith, few, at)) ∙ (moved_high (bit_and word 1) rest y (omega (arith, at)) ∙ ap (λ k. bit_at (bit_and word 1) k) none) in
+    omega (arith, bit_at_or (bit_and (word / 2 ^ 1) (top - 1)) (bit_and word 1 * 2 ^ rest % 2 ^ 64) y, bit_at_and (word / 2 ^ 1) (top - 1) y, bit_at_and word 1 0, bit_at-lt word 0)
 
 abbrev pub down_word : ℕ → ℕ → ℕ
 down_word word rest = bit_or (word * 2 ^ 1 % 2 ^ 64) (bit_and (word / 2 ^ rest) 1)
 
 pub down_inside : (word rest y : ℕ) → 0 < y → y < 64 → bit_at (down_word word rest) y ≡ bit_at word (y - 1)
 down_inside word rest y some few =
-    bit_at_or (word * 2 ^ 1 % 2 ^ 64) (bit_and (word / 2 ^ rest) 1) y ∙ max_zero _ _ (bit_at word (y - 1)) first second
-  where
-    first : bit_at (word * 2 ^ 1 % 2 ^ 64) y ≡ bit_at word (y - 1)
-    first = bit_at-mod (word * 2 ^ 1) 64 y few ∙ moved_high word 1 y (omega (arith, some))
-
-    second : bit_at (bit_and (word / 2 ^ rest) 1) y ≡ 0
-    second = bit_at_and (word / 2 ^ rest) 1 y
-        ∙ min_zero (bit_at (word / 2 ^ rest) y) (bit_at 1 y) (bit_at_above 1 1 y (lit< tt) (omega (arith, some)))
+    let moved : bit_at (word * 2 ^ 1 % 2 ^ 64) y ≡ bit_at word (y - 1) = bit_at-mod (word * 2 ^ 1) 64 y few ∙ moved_high word 1 y (omega (arith, some)) in
+    let clear : bit_at 1 y ≡ 0 = bit_at_above 1 1 y (lit< tt) (omega (arith, some)) in
+    omega (arith, bit_at_or (word * 2 ^ 1 % 2 ^ 64) (bit_and (word / 2 ^ rest) 1) y, bit_at_and (word / 2 ^ rest) 1 y)
 
 pub down_round : (word rest : ℕ) → bit_at (down_word word rest) 0 ≡ bit_at word rest
 down_round word rest =
-    bit_at_or (word * 2 ^ 1 % 2 ^ 64) (bit_and (word / 2 ^ rest) 1) 0 ∙ max_other _ _ (bit_at word rest) first second
-  where
-    first : bit_at (word * 2 ^ 1 % 2 ^ 64) 0 ≡ 0
-    first = bit_at-mod (word * 2 ^ 1) 64 0 (lit< tt) ∙ moved_low word 1 0 (lit< tt)
-
-    second : bit_at (bit_and (word / 2 ^ rest) 1) 0 ≡ bit_at word rest
-    second = bit_at_and (word / 2 ^ rest) 1 0
-        ∙ (min_one (bit_at (word / 2 ^ rest) 0) (bit_at 1 0) (bit_at-lt (word / 2 ^ rest) 0) refl ∙ bit_at_lowest (word / 2 ^ rest))
+    let clear : bit_at (word * 2 ^ 1 % 2 ^ 64) 0 ≡ 0 = bit_at-mod (word * 2 ^ 1) 64 0 (lit< tt) ∙ moved_low word 1 0 (lit< tt) in
+    let low : bit_at (word / 2 ^ rest) 0 ≡ bit_at word rest = bit_at_lowest (word / 2 ^ rest) in
+    omega (arith, bit_at_or (word * 2 ^ 1 % 2 ^ 64) (bit_and (word / 2 ^ rest) 1) 0, bit_at_and (word / 2 ^ rest) 1 0, bit_at-lt (word / 2 ^ rest) 0)
 
 -- where a step ahead leads
 pub ahead_cases : (wrap : Bool) (places n k : ℕ) → n < places → stepped wrap places Ahead n ≡ Some k →

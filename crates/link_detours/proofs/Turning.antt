@@ -1,8 +1,8 @@
 -- Edges from their other ends, and which of them a search from the targets reaches.
 use Rattle.link_detours.proofs.Common.{All, All-contains, Bool, Chip, Contains, Contains-filter, Contains-filter_map, Contains-from_filter, Contains-from_filter_map, Contains-get_or, Description, Dir}
-use Rattle.link_detours.proofs.Common.{Edge, EdgeStep, FlaggedStep, IsInside, IsReachedBy, LeadsToTarget, List, None, Option, Some, ap, arith, end_of, far_back, far_inside, far_of, filter, filter_map}
-use Rattle.link_detours.proofs.Common.{get_or, is_flagged, is_marked, opposite_of, opposite_of-opposite, option_map, other_end_of, refl, same_edge, subst, sym, true, ℕ, ◌↔◌, ◌∙◌, ◌≡◌}
-use Rattle.link_detours.proofs.{Reaching.flagged_edges, Reaching.edges_flagged, Stepping.Steps-map, Stepping.Steps-turn}
+use Rattle.link_detours.proofs.Common.{Edge, EdgeStep, FlaggedStep, IsInside, IsReachedBy, LeadsToTarget, List, None, Option, Some, Steps, ap, arith, far_back, far_inside, far_of, filter, filter_map}
+use Rattle.link_detours.proofs.Common.{get_or, is_flagged, is_marked, opposite_of, opposite_of-opposite, option_map, other_end_of, refl, same_Some, same_edge, subst, sym, true, ℕ, ◌↔◌, ◌∙◌, ◌≡◌}
+use Rattle.link_detours.proofs.{Reaching.flagged_edges, Reaching.edges_flagged, Stepping.Steps-turn}
 
 -- a turned edge leads back
 turned_parts : (m : Description) (e f : Edge) (o : Option Chip) → far_of m e.chip e.dir ≡ o →
@@ -43,9 +43,7 @@ module _ (m : Description) (whole : List Edge) (inside : All (λ e. IsInside m e
       let from = Contains-from_filter_map (other_end_of m) whole f step.1 in
       let parts = turned_leads m from.0 f from.2 in
       let back = turned_leads m f from.0 (turned_back m from.0 f (edge_in from.0 from.1) from.2) in
-      let same : Some b ≡ Some from.0.chip = sym step.2 ∙ back.0 in
-      let one : b ≡ from.0.chip = cc in
-      subst (λ (x : Chip). EdgeStep m whole x a) (sym one) (from.0.dir, from.1, parts.0)
+      subst (λ (x : Chip). EdgeStep m whole x a) (same_Some from.0.chip b (sym back.0 ∙ step.2)) (from.0.dir, from.1, parts.0)
 
   turned_step : (a b : Chip) → EdgeStep m whole b a → EdgeStep m (filter_map (other_end_of m) whole) a b
   turned_step a b step =
@@ -56,40 +54,51 @@ module _ (m : Description) (whole : List Edge) (inside : All (λ e. IsInside m e
         far_back m b a step.0 here step.2,
       )
 
-  -- the turned edges that a search from the targets reaches, turned again, are the edges that lead to a target
-  pub left_leads : (table : List Bool) (targets : List Chip) (marks : List Bool) →
-      ((e : Edge) → IsInside m e.chip → (is_flagged m table e.chip e.dir ≡ true) ↔ Contains (filter_map (other_end_of m) whole) e) →
-      ((c : Chip) → IsInside m c → (is_marked m marks c ≡ true) ↔ ((n : ℕ) × IsReachedBy (FlaggedStep m table) (Contains targets) n c)) →
-      (e : Edge) → Contains (filter_map (other_end_of m) (filter (λ f. is_marked m marks f.chip) (filter_map (other_end_of m) whole))) e ↔
-      (Contains whole e × LeadsToTarget m whole targets e)
-  left_leads table targets marks flags reached e = (
-    λ has.
-        let f = Contains-from_filter_map (other_end_of m) (filter (λ g. is_marked m marks g.chip) (filter_map (other_end_of m) whole)) e has in
-        let kept = Contains-from_filter (λ g. is_marked m marks g.chip) (filter_map (other_end_of m) whole) f.0 f.1 in
-        let from = Contains-from_filter_map (other_end_of m) whole f.0 kept.0 in
-        let from_in = edge_in from.0 from.1 in
-        let same : Some from.0 ≡ Some e = sym (turned_back m from.0 f.0 from_in from.2) ∙ f.2 in
-        let one : from.0 ≡ e = cc in
-        let parts = turned_leads m from.0 f.0 from.2 in
-        let f_in = far_inside m from.0.chip f.0.chip from.0.dir from_in parts.0 in
-        let way = (reached f.0.chip f_in).0 kept.1 in
-        let by = way.1 in
-        let up = Steps-map (FlaggedStep m table) (EdgeStep m (filter_map (other_end_of m) whole)) (flagged_edges m table (filter_map (other_end_of m) whole) flags)
-        way.0 by.0 f.0.chip by.2 in
-        let down = Steps-turn (EdgeStep m (filter_map (other_end_of m) whole)) (EdgeStep m whole) step_turned way.0 by.0 f.0.chip up in (
-          subst (λ (g : Edge). Contains whole g) one from.1,
-          (f.0.chip, ap (λ (g : Edge). end_of m g) (sym one) ∙ parts.0, (by.0, by.1, (way.0, down))),
+  module _ (table : List Bool) (targets : List Chip) (marks : List Bool)
+      (flags : (e : Edge) → IsInside m e.chip → (is_flagged m table e.chip e.dir ≡ true) ↔ Contains (filter_map (other_end_of m) whole) e)
+      (reached : (c : Chip) → IsInside m c → (is_marked m marks c ≡ true) ↔ ((n : ℕ) × IsReachedBy (FlaggedStep m table) (Contains targets) n c)) where
+    -- a search from the targets marks the chips from which steps lead to one
+    marked_leads : (c : Chip) → IsInside m c → (is_marked m marks c ≡ true) ↔ ((t : Chip) × Contains targets t × ((n : ℕ) × Steps (EdgeStep m whole) n c t))
+    marked_leads c c_in = (
+      λ marked.
+          let way = (reached c c_in).0 marked in (
+            way.1.0,
+            way.1.1,
+            (
+              way.0,
+              Steps-turn (FlaggedStep m table) (EdgeStep m whole) (λ a b step.
+                  step_turned a b (flagged_edges m table (filter_map (other_end_of m) whole) flags a b step)) way.0 way.1.0 c way.1.2,
+            ),
+          ),
+      λ leads. (reached c c_in).1 (
+        leads.2.0,
+        (
+          leads.0,
+          leads.1,
+          Steps-turn (EdgeStep m whole) (FlaggedStep m table) (λ a b step.
+              edges_flagged m table (filter_map (other_end_of m) whole) flags turned_inside b a (turned_step b a step)) leads.2.0 c leads.0 leads.2.1,
         ),
-    λ known.
-        let lead = known.1 in
-        let f : Edge = record { chip = lead.0; dir = opposite_of e.dir } in
-        let e_in = edge_in e known.0 in
-        let is : other_end_of m e ≡ Some f = turned_is m e lead.0 lead.1 in
-        let f_has : Contains (filter_map (other_end_of m) whole) f = Contains-filter_map (other_end_of m) whole e f known.0 is in
-        let up = Steps-turn (EdgeStep m whole) (EdgeStep m (filter_map (other_end_of m) whole)) (λ a b step. turned_step b a step) lead.2.2.0 lead.0 lead.2.0 lead.2.2.1 in
-        let flagged = Steps-map (EdgeStep m (filter_map (other_end_of m) whole)) (FlaggedStep m table)
-        (edges_flagged m table (filter_map (other_end_of m) whole) flags turned_inside) lead.2.2.0 lead.2.0 lead.0 up in
-        let marked = (reached lead.0 (far_inside m e.chip lead.0 e.dir e_in lead.1)).1 (lead.2.2.0, (lead.2.0, lead.2.1, flagged)) in
-        let kept = Contains-filter (λ g. is_marked m marks g.chip) (filter_map (other_end_of m) whole) f f_has marked in
-        Contains-filter_map (other_end_of m) (filter (λ g. is_marked m marks g.chip) (filter_map (other_end_of m) whole)) f e kept (turned_back m e f e_in is),
-  )
+      ),
+    )
+
+    -- the turned edges that it reaches, turned again, are the edges that lead to a target
+    pub left_leads : (e : Edge) → Contains (filter_map (other_end_of m) (filter (λ f. is_marked m marks f.chip) (filter_map (other_end_of m) whole))) e ↔
+        (Contains whole e × LeadsToTarget m whole targets e)
+    left_leads e = (
+      λ has.
+          let f = Contains-from_filter_map (other_end_of m) (filter (λ g. is_marked m marks g.chip) (filter_map (other_end_of m) whole)) e has in
+          let kept = Contains-from_filter (λ g. is_marked m marks g.chip) (filter_map (other_end_of m) whole) f.0 f.1 in
+          let from = Contains-from_filter_map (other_end_of m) whole f.0 kept.0 in
+          let from_in = edge_in from.0 from.1 in
+          let parts = turned_leads m from.0 f.0 from.2 in
+          subst (λ (g : Edge). Contains whole g × LeadsToTarget m whole targets g) (same_Some from.0 e (sym (turned_back m from.0 f.0 from_in from.2) ∙ f.2))
+          (from.1, (f.0.chip, parts.0, (marked_leads f.0.chip (far_inside m from.0.chip f.0.chip from.0.dir from_in parts.0)).0 kept.1)),
+      λ known.
+          let (has, (c, leads, on)) = known in
+          let f : Edge = record { chip = c; dir = opposite_of e.dir } in
+          let is : other_end_of m e ≡ Some f = turned_is m e c leads in
+          let marked = (marked_leads c (far_inside m e.chip c e.dir (edge_in e has) leads)).1 on in
+          Contains-filter_map (other_end_of m) (filter (λ g. is_marked m marks g.chip) (filter_map (other_end_of m) whole)) f e
+          (Contains-filter (λ g. is_marked m marks g.chip) (filter_map (other_end_of m) whole) f (Contains-filter_map (other_end_of m) whole e f has is) marked)
+          (turned_back m e f (edge_in e has) is),
+    )

@@ -1,8 +1,7 @@
 -- A tree over live parts alone is repaired by itself.
-use Rattle.link_detours.proofs.Common.{All, All-contains, AreInPlaceOrder, Chip, Contains, Contains-later, Core, CutOff, Description, Dir, Edge, EdgeStep, Exit, GoesOn, IsLiveLink, IsPath}
-use Rattle.link_detours.proofs.Common.{IsRepairCause, IsRepaired, IsTreeChip, IsTreeTo, IsWay, Joins, LeadsTo, LeadsToTarget, Link, List, LiveEdgeStep, Memory, Out, RepairErr, Some, Spot, Steps, []}
-use Rattle.link_detours.proofs.Common.{ap, append-nil, arith, edge_on_branch, end_of, exit_of, far_of, get_or_from_slice_get, inl, inr, length, link_place, out_of, refl, same_in_order}
-use Rattle.link_detours.proofs.Common.{slice_get_within, subst, suc, sym, tree_cases, tree_end, zero, ℕ, ◌<◌, ◌↔◌, ◌∙◌, ◌∷◌, ◌≡◌, ◌≤◌}
+use Rattle.link_detours.proofs.Common.{All, All-contains, AreInPlaceOrder, Chip, Contains, Contains-later, CutOff, Description, Edge, EdgeStep, IsKeptEdge, IsLiveLink, IsPath, IsRepairCause}
+use Rattle.link_detours.proofs.Common.{IsRepaired, IsTreeChip, IsTreeTo, Joins, LeadsTo, LeadsToTarget, List, LiveEdgeStep, Memory, RepairErr, Steps, [], append-nil, arith, chip_in, edge_down}
+use Rattle.link_detours.proofs.Common.{get_or_from_slice_get, link_place, refl, same_in_order, slice_get_within, subst, suc, sym, ℕ, ◌↔◌, ◌∷◌, ◌≡◌, ◌≤◌}
 use Rattle.link_detours.proofs.{Stepping.Steps-map, Stepping.Steps-cons, Walks.steps_walk}
 
 -- a path over live edges is as many steps
@@ -14,47 +13,6 @@ path_steps m edges live from to (e ∷ path) along =
     let step : LiveEdgeStep m edges e.chip along.2.0 =
     (e.dir, along.0, All-contains (λ f. IsLiveLink m f.chip f.dir) edges e live along.0, along.2.1) in
     (suc rest.0, Steps-cons (LiveEdgeStep m edges) rest.0 from along.2.0 to (subst (λ (c : Chip). LiveEdgeStep m edges c along.2.0) along.1 step) rest.1)
-
--- a way down a tree to a target is as many steps by edges
-way_steps : (m : Description) (edges : List Edge) (s : Spot) (from : Chip) (xs : List Exit) → IsWay m edges s from xs →
-    (n : ℕ) × Steps (EdgeStep m edges) n from s.chip
-way_steps m edges s from [] way = absurd way
-way_steps m edges s from (x ∷ xs) way = by_output (λ c later. way_steps m edges s c xs later) x.out way.1
-  where
-    by_output : ((c : Chip) → IsWay m edges s c xs → (n : ℕ) × Steps (EdgeStep m edges) n c s.chip) → (o : Out) →
-        GoesOn m edges s from o xs (λ c. IsWay m edges s c xs) → (n : ℕ) × Steps (EdgeStep m edges) n from s.chip
-    by_output on o (inl goes) =
-        let after = on goes.3.0 goes.3.2 in
-        (suc after.0, Steps-cons (EdgeStep m edges) after.0 from goes.3.0 s.chip (goes.0, goes.2, goes.3.1) after.1)
-    by_output on o (inr ends) = (0, sym ends.0)
-
-same_link : (a b : Dir) → Link a ≡ Link b → b ≡ a
-same_link a b same = cc
-
--- so is what is left of it after an edge, where the target is a core
-way_after : (m : Description) (edges : List Edge) (s : Spot) (from : Chip) (xs : List Exit) (e : Edge) → ((d : Dir) → out_of s.core ≡ Link d → ⊥) → IsWay m edges s from xs →
-    Contains xs (exit_of e) → (c : Chip) × (end_of m e ≡ Some c) × ((n : ℕ) × Steps (EdgeStep m edges) n c s.chip)
-way_after m edges s from [] e core way has = absurd way
-way_after m edges s from (x ∷ xs) e core way (zero, within, same) =
-    let at : e.chip ≡ from = ap (λ (y : Exit). y.chip) (sym same) ∙ way.0 in
-    by_end at (subst (λ (y : Exit). GoesOn m edges s from y.out xs (λ c. IsWay m edges s c xs)) same way.1)
-  where
-    by_end : e.chip ≡ from → GoesOn m edges s from (Link e.dir) xs (λ c. IsWay m edges s c xs) → (c : Chip) × (end_of m e ≡ Some c) × ((n : ℕ) × Steps (EdgeStep m edges) n c s.chip)
-    by_end at (inl goes) = (
-      goes.3.0,
-      subst (λ (c : Chip). far_of m c e.dir ≡ Some goes.3.0) (sym at) (subst (λ (d : Dir). far_of m from d ≡ Some goes.3.0) (same_link e.dir goes.0 goes.1) goes.3.1),
-      way_steps m edges s goes.3.0 xs goes.3.2,
-    )
-    by_end at (inr ends) = absurd (core e.dir (sym ends.1))
-way_after m edges s from (x ∷ xs) e core way (suc k, longer, same) =
-    let within : k < length xs = omega arith in
-    by_output within (λ c later. way_after m edges s c xs e core later (k, within, same)) x.out way.1
-  where
-    by_output : k < length xs → ((c : Chip) → IsWay m edges s c xs → (b : Chip) × (end_of m e ≡ Some b) × ((n : ℕ) × Steps (EdgeStep m edges) n b s.chip)) →
-        (o : Out) → GoesOn m edges s from o xs (λ c. IsWay m edges s c xs) →
-        (c : Chip) × (end_of m e ≡ Some c) × ((n : ℕ) × Steps (EdgeStep m edges) n c s.chip)
-    by_output within on o (inl goes) = on goes.3.0 goes.3.2
-    by_output within on o (inr ends) = absurd (let none : k < 0 = subst (λ zs. k < length zs) ends.2 within in omega arith)
 
 -- a tree that has all targets gets no detour
 none_joined : (m : Description) (root : Chip) (tree : List Edge) (targets : List Chip) (whole : List Edge) →
@@ -69,14 +27,9 @@ none_joined m root tree (t ∷ targets) whole on (e ∷ walk, detour, rest) =
 pub tree_leads : (m : Description) (root : Chip) (edges : List Edge) (targets : List Chip) → IsTreeTo m root edges targets →
     (e : Edge) → Contains edges e → LeadsToTarget m edges targets e
 tree_leads m root edges targets tree e has =
-    let below = edge_on_branch m root edges targets tree e has in
-    let s : Spot = record { chip = below.0; core = 0 } in
-    let branch = below.2 s refl in
-    let down = way_after m edges s root branch.0 e core_is_no_link branch.1 branch.2 in
-    (down.0, down.1, (below.0, below.1, down.2))
-  where
-    core_is_no_link : (d : Dir) → out_of 0 ≡ Link d → ⊥
-    core_is_no_link d same = let wrong : Core 0 ≡ Link d = same in cc
+    let (c, leads, (to, wanted, (down, along))) = edge_down m root edges targets tree e has in
+    let steps = path_steps m edges tree.edges_live c to down along in
+    (c, leads, (to, wanted, (steps.0, Steps-map (LiveEdgeStep m edges) (EdgeStep m edges) (λ a b step. (step.0, step.1, step.3)) steps.0 c to steps.1)))
 
 -- a tree that has all targets is joined to them as it is
 joins_none : (m : Description) (root : Chip) (tree : List Edge) (targets : List Chip) → ((t : Chip) → Contains targets t → IsTreeChip m root tree t) →
@@ -88,18 +41,18 @@ joins_none m root tree (t ∷ targets) on = (
   subst (λ es. Joins m root es targets tree) (sym (append-nil tree)) (joins_none m root tree targets (λ u has. on u (Contains-later t targets u has))),
 )
 
+-- all edges of a tree are kept
+edge_kept : (m : Description) (root : Chip) (edges : List Edge) (targets : List Chip) → IsTreeTo m root edges targets → (e : Edge) → Contains edges e → IsKeptEdge m root edges e
+edge_kept m root edges targets tree e has =
+    let path = tree.reached e.chip (All-contains (λ f. IsTreeChip m root edges f.chip) edges e tree.edges_begin has) in
+    (has, All-contains (λ f. IsLiveLink m f.chip f.dir) edges e tree.edges_live has, path_steps m edges tree.edges_live root e.chip path.0 path.1)
+
 -- So a tree over live parts alone, in order, is repaired by itself.
 pub whole_repaired : (m : Description) (root : Chip) (edges : List Edge) (targets : List Chip) → IsTreeTo m root edges targets → AreInPlaceOrder m edges →
     IsRepaired m root edges targets edges
 whole_repaired m root edges targets tree ordered = record {
   kept = edges;
-  kept_is = λ e. (
-    λ has.
-        let begins : IsTreeChip m root edges e.chip = All-contains (λ f. IsTreeChip m root edges f.chip) edges e tree.edges_begin has in
-        let path = tree.reached e.chip begins in
-        (has, All-contains (λ f. IsLiveLink m f.chip f.dir) edges e tree.edges_live has, path_steps m edges tree.edges_live root e.chip path.0 path.1),
-    λ is. is.0,
-  );
+  kept_is = λ e. (edge_kept m root edges targets tree e, λ is. is.0);
   whole = edges;
   joined = joins_none m root edges targets (λ t has. All-contains (IsTreeChip m root edges) targets t tree.has_targets has);
   result_is = λ e. (λ has. (has, tree_leads m root edges targets tree e has), λ is. is.0);
@@ -110,23 +63,13 @@ module _ (m : Description) (root : Chip) (edges : List Edge) (targets : List Chi
     (repaired : IsRepaired m root edges targets result) where
   -- all edges are kept
   all_kept : (e : Edge) → Contains edges e → Contains repaired.kept e
-  all_kept e has =
-      let begins : IsTreeChip m root edges e.chip = All-contains (λ f. IsTreeChip m root edges f.chip) edges e tree.edges_begin has in
-      let path = tree.reached e.chip begins in
-      (repaired.kept_is e).1 (
-        has,
-        All-contains (λ f. IsLiveLink m f.chip f.dir) edges e tree.edges_live has,
-        path_steps m edges tree.edges_live root e.chip path.0 path.1,
-      )
+  all_kept e has = (repaired.kept_is e).1 (edge_kept m root edges targets tree e has)
 
   -- and no other is joined
   whole_is : repaired.kept ≡ repaired.whole
   whole_is =
       none_joined m root repaired.kept targets repaired.whole
-      (λ t has. elim (tree_cases m root edges t (All-contains (IsTreeChip m root edges) targets t tree.has_targets has)) [
-        | inl at ↦ inl at
-        | inr into ↦ tree_end m root repaired.kept into.0 t (all_kept into.0 into.1) into.2
-      ])
+      (λ t has. chip_in m root edges repaired.kept all_kept t (All-contains (IsTreeChip m root edges) targets t tree.has_targets has))
       repaired.joined
 
   in_whole : (e : Edge) → Contains edges e → Contains repaired.whole e

@@ -3,7 +3,7 @@ use Rattle.link_detours.proofs.Common.{All, AreWaves, Chip, Description, Dir, Ed
 use Rattle.link_detours.proofs.Common.{IsTreeLevel, IsWave, IsWithinLinks, LeadsTo, List, [], ap, append-nil, append_assoc, arith, between, between_to_end, cases_eq, cases_lt, dir_number, drop}
 use Rattle.link_detours.proofs.Common.{drop_at, far_inside, get_or, inl, inr, length, length-append, opposite_of, refl, same_dir, subst, suc, sum_by, sum_by-cons, sum_by-le, sym, take, take_at, zero}
 use Rattle.link_detours.proofs.Common.{ℕ, ◌*◌, ◌++◌, ◌+◌, ◌-◌, ◌<◌, ◌^◌, ◌↔◌, ◌∙◌, ◌∷◌, ◌≡◌, ◌≤◌}
-use Rattle.link_detours.proofs.{Reaching.link_inside, Reaching.link_turned, Stepping.IsReachedBy-map}
+use Rattle.link_detours.proofs.{Reaching.link_inside, Reaching.link_turned, Stepping.IsReachedBy-map, Stepping.reached_has}
 
 module _ (m : Description) (IsStart : Chip → Type 0) where
   -- the wave of number 0 has the starts
@@ -51,15 +51,10 @@ module _ (m : Description) (IsStart : Chip → Type 0) where
   -- a set that has the starts and spreads no more has all chips that are reached
   pub dry : (set more : List ℕ) → ((c : Chip) → IsInside m c → IsStart c → IsIn set c) → more ≡ set →
       ((c : Chip) → IsInside m c → IsIn more c ↔ IsSpread m set c) → (n : ℕ) (c : Chip) → IsInside m c → IsReachedBy (LeadsTo m) IsStart n c → IsIn set c
-  dry set more starts same spread zero c inside by = starts c inside (subst (λ (x : Chip). IsStart x) by.2 by.1)
-  dry set more starts same spread (suc n) c inside by =
-      let b : Chip = by.2.0 in
-      let link = by.2.2 in
-      let b_inside : IsInside m b = link_inside m b link.0 link.1 in
-      let bit : IsIn set b = dry set more starts same spread n b b_inside (by.0, by.1, by.2.1) in
-      let back = link_turned m c b link.0 link.1 link.2 in
-      let came : IsIn more c = (spread c inside).1 (inr (opposite_of link.0, (b, back.0, back.1, bit))) in
-      subst (λ s. IsIn s c) same came
+  dry set more starts same spread n c inside by =
+      reached_has (LeadsTo m) IsStart (λ (x : Chip). IsInside m x → IsIn set x) (λ a start within. starts a within start) (λ b x has link within.
+      let back = link_turned m x b link.0 link.1 link.2 in
+      subst (λ s. IsIn s x) same ((spread x within).1 (inr (opposite_of link.0, (b, back.0, back.1, has (link_inside m b link.0 link.1)))))) n c by inside
 
   -- the first wave with a chip has its level as its number
   pub level_is : (n : ℕ) (set : List ℕ) (c : Chip) → IsInside m c → IsWave m IsStart n set → IsIn set c →

@@ -1,11 +1,8 @@
 -- Trees whose every chip is reached from the root, and what a detour adds to one.
-use Rattle.link_detours.proofs.Common.{Chip, Contains, Contains-append_cases, Contains-append_left, Contains-append_right, Description, Edge, EdgeStep, IsDetour, IsLiveLink, IsTreeChip, IsTreeLevel}
-use Rattle.link_detours.proofs.Common.{IsWholeTree, Joins, LeadsTo, List, Some, Steps, [], ap, arith, end_of, inl, inr, length, more_chips, refl, subst, suc, sym, tree_cases, tree_end, zero, ℕ, ◌++◌}
-use Rattle.link_detours.proofs.Common.{◌<◌, ◌∙◌, ◌∷◌, ◌≡◌, ◌≤◌}
+use Rattle.link_detours.proofs.Common.{Chip, Contains, Contains-append_cases, Contains-append_left, Contains-append_right, Contains-cases, Contains-first, Contains-later, Description, Edge, EdgeStep}
+use Rattle.link_detours.proofs.Common.{IsDetour, IsLastLink, IsLiveLink, IsTreeChip, IsTreeLevel, IsWholeTree, Joins, LeadsTo, List, Some, Steps, [], ap, append-nil, arith, chip_in, end_of, inl, inr}
+use Rattle.link_detours.proofs.Common.{refl, same_Some, subst, suc, sym, tree_cases, tree_end, zero, ℕ, ◌++◌, ◌∙◌, ◌∷◌, ◌≡◌, ◌≤◌, ◌⊎◌}
 use Rattle.link_detours.proofs.Stepping.{Steps-map}
-
-pub more_steps : (m : Description) (tree more : List Edge) (n : ℕ) (a c : Chip) → Steps (EdgeStep m tree) n a c → Steps (EdgeStep m (tree ++ more)) n a c
-more_steps m tree more = Steps-map _ _ (λ a b step. (step.0, Contains-append_left tree more (record { chip = a; dir = step.0 }) step.1, step.2))
 
 -- a step by an edge leads to a chip of the tree
 pub steps_on_tree : (m : Description) (root : Chip) (tree : List Edge) (n : ℕ) (c : Chip) → Steps (EdgeStep m tree) n root c → IsTreeChip m root tree c
@@ -20,125 +17,100 @@ edge_step m tree e c has leads = (e.dir, has, leads)
 pub live_steps : (m : Description) (root : Chip) (tree : List Edge) → IsWholeTree m root tree → (n : ℕ) (a c : Chip) → Steps (EdgeStep m tree) n a c → Steps (LeadsTo m) n a c
 live_steps m root tree is = Steps-map _ _ (λ a b step. (step.0, is.live (record { chip = a; dir = step.0 }) step.1, step.2))
 
-module _ (m : Description) (root : Chip) (tree : List Edge) (is : IsWholeTree m root tree) where
-  -- chips of the tree have level 0
-  level_on_tree : (c : Chip) (n : ℕ) → IsTreeChip m root tree c → IsTreeLevel m root tree c n → n ≡ 0
-  level_on_tree c n on level = let least : n ≤ 0 = level.least 0 (c, on, refl) in omega arith
+-- a list has the items that it has without one
+with_one : (tree walk : List Edge) (e f : Edge) → Contains (tree ++ walk) f → Contains (tree ++ e ∷ walk) f
+with_one tree walk e f has = elim (Contains-append_cases tree walk f has) [
+  | inl old ↦ Contains-append_left tree (e ∷ walk) f old
+  | inr later ↦ Contains-append_right tree (e ∷ walk) f (Contains-later e walk f later)
+]
 
-  level_same : (c : Chip) (n k : ℕ) → IsTreeLevel m root tree c n → IsTreeLevel m root tree c k → n ≡ k
-  level_same c n k one other =
-      let a : n ≤ k = one.least k other.reached in let b : k ≤ n = other.least n one.reached in omega arith
+-- What a tree with a detour is: whole, with the chip where the detour ends, and with no chip that is farther off than that one.
+pub record Detoured (m : Description) (root : Chip) (tree : List Edge) (c : Chip) (more : List Edge) : Type 0 where
+  pub whole : IsWholeTree m root more
+  pub there : IsTreeChip m root more c
+  pub near : (x : Chip) → IsTreeChip m root more x → (k : ℕ) × IsTreeLevel m root tree x k × ((n : ℕ) → IsTreeLevel m root tree c n → k ≤ n)
 
-  -- no link of a detour leads into a chip farther off than where the detour ends
-  detour_low : (c : Chip) (n : ℕ) (walk : List Edge) → IsTreeLevel m root tree c n → IsDetour m root tree c walk →
-      (f : Edge) (x : Chip) → Contains walk f → end_of m f ≡ Some x → (k : ℕ) × IsTreeLevel m root tree x (suc k) × (suc k ≤ n)
-  detour_low c n [] level detour f x has leads = absurd (let none : has.0 < 0 = has.1 in omega arith)
-  detour_low c n (e ∷ walk) level detour f x (zero, within, same) leads = grind (arith, level_same c (suc detour.0.level) n detour.0.here level)
-  detour_low c n (e ∷ walk) level detour f x (suc k, longer, same) leads =
-      grind (arith, detour_low e.chip detour.0.level walk detour.0.there detour.1 f x (k, (omega arith), same) leads, level_same c (suc detour.0.level) n detour.0.here level)
-
-  -- a detour's links are live
-  detour_lives : (c : Chip) (walk : List Edge) → IsDetour m root tree c walk → (f : Edge) → Contains walk f → IsLiveLink m f.chip f.dir
-  detour_lives c [] detour f has = absurd (let none : has.0 < 0 = has.1 in omega arith)
-  detour_lives c (e ∷ walk) detour f (zero, within, same) = subst (λ (g : Edge). IsLiveLink m g.chip g.dir) same detour.0.lives
-  detour_lives c (e ∷ walk) detour f (suc k, longer, same) = grind (arith, detour_lives e.chip walk detour.1 f (k, (omega arith), same))
-
-  -- and lead off the tree
-  detour_off : (c : Chip) (walk : List Edge) → IsDetour m root tree c walk → (f : Edge) (x : Chip) → Contains walk f → end_of m f ≡ Some x →
-      IsTreeChip m root tree x → ⊥
-  detour_off c [] detour f x has leads on = absurd (let none : has.0 < 0 = has.1 in omega arith)
-  detour_off c (e ∷ walk) detour f x has leads on =
-      let low = detour_low c (suc detour.0.level) (e ∷ walk) detour.0.here detour f x has leads in
-      let none : suc low.0 ≡ 0 = level_on_tree x (suc low.0) on low.1 in omega arith
-
-  -- into different chips
-  detour_apart : (c : Chip) (walk : List Edge) → IsDetour m root tree c walk → (f g : Edge) (x : Chip) → Contains walk f → Contains walk g →
-      end_of m f ≡ Some x → end_of m g ≡ Some x → f ≡ g
-  detour_apart c [] detour f g x has too leads also = absurd (let none : has.0 < 0 = has.1 in omega arith)
-  detour_apart c (e ∷ walk) detour f g x (zero, _, same) (zero, _, also_same) leads also = sym same ∙ also_same
-  detour_apart c (e ∷ walk) detour f g x (zero, _, same) (suc k, longer, also_same) leads also =
-      let within : k < length walk = omega arith in
-      let at : Some c ≡ Some x = sym detour.0.leads ∙ (ap (λ (h : Edge). end_of m h) same ∙ leads) in
-      let one : c ≡ x = cc in
-      let low = detour_low e.chip detour.0.level walk detour.0.there detour.1 g x (k, within, also_same) also in
-      let here : IsTreeLevel m root tree x (suc detour.0.level) = subst (λ (y : Chip). IsTreeLevel m root tree y (suc detour.0.level)) one detour.0.here in
-      let same_level : suc detour.0.level ≡ suc low.0 = level_same x (suc detour.0.level) (suc low.0) here low.1 in
-      absurd (let most : suc low.0 ≤ detour.0.level = low.2 in omega arith)
-  detour_apart c (e ∷ walk) detour f g x (suc k, longer, same) (zero, _, also_same) leads also =
-      let within : k < length walk = omega arith in
-      let at : Some c ≡ Some x = sym detour.0.leads ∙ (ap (λ (h : Edge). end_of m h) also_same ∙ also) in
-      let one : c ≡ x = cc in
-      let low = detour_low e.chip detour.0.level walk detour.0.there detour.1 f x (k, within, same) leads in
-      let here : IsTreeLevel m root tree x (suc detour.0.level) = subst (λ (y : Chip). IsTreeLevel m root tree y (suc detour.0.level)) one detour.0.here in
-      let same_level : suc detour.0.level ≡ suc low.0 = level_same x (suc detour.0.level) (suc low.0) here low.1 in
-      absurd (let most : suc low.0 ≤ detour.0.level = low.2 in omega arith)
-  detour_apart c (e ∷ walk) detour f g x (suc k, longer, same) (suc j, further, also_same) leads also =
-      grind (arith, detour_apart e.chip walk detour.1 f g x (k, (omega arith), same) (j, (omega arith), also_same) leads also)
-
-  -- and with them the chip where the detour ends is reached
-  pub detour_reached : (more : List Edge) (c : Chip) (walk : List Edge) → IsDetour m root tree c walk → ((f : Edge) → Contains walk f → Contains more f) →
-      (n : ℕ) × Steps (EdgeStep m (tree ++ more)) n root c
-  detour_reached more c [] detour sub = let way = is.reached c detour in (way.0, more_steps m tree more way.0 root c way.1)
-  detour_reached more c (e ∷ walk) detour sub =
-      let before = detour_reached more e.chip walk detour.1 (λ f has. sub f (suc has.0, (let within : has.0 < length walk = has.1 in omega arith), has.2)) in
-      let mine : Contains more e = sub e (0, omega arith, refl) in
-      (suc before.0, (e.chip, before.1, edge_step m (tree ++ more) e c (Contains-append_right tree more e mine) detour.0.leads))
-
-  -- its links begin at chips of the tree and of the detour
-  detour_begins : (more : List Edge) (c : Chip) (walk : List Edge) → IsDetour m root tree c walk → ((f : Edge) → Contains walk f → Contains more f) →
-      (f : Edge) → Contains walk f → IsTreeChip m root (tree ++ more) f.chip
-  detour_begins more c [] detour sub f has = absurd (let none : has.0 < 0 = has.1 in omega arith)
-  detour_begins more c (e ∷ []) detour sub f (zero, _, same) = grind (arith, more_chips m root tree more e.chip detour.1)
-  detour_begins more c (e ∷ (g ∷ walk)) detour sub f (zero, _, same) =
-      let mine : Contains more g = sub g (1, omega arith, refl) in
-      subst (λ (h : Edge). IsTreeChip m root (tree ++ more) h.chip) same
-      (tree_end m root (tree ++ more) g e.chip (Contains-append_right tree more g mine) detour.1.0.leads)
-  detour_begins more c (e ∷ walk) detour sub f (suc k, longer, same) =
-      let within : k < length walk = omega arith in
-      detour_begins more e.chip walk detour.1 (λ g has. sub g (suc has.0, (let inside : has.0 < length walk = has.1 in omega arith), has.2)) f (k, within, same)
-
-  -- so are the chips into which its links lead
-  detour_ends : (more : List Edge) (c : Chip) (walk : List Edge) → IsDetour m root tree c walk → ((f : Edge) → Contains walk f → Contains more f) →
-      (f : Edge) (x : Chip) → Contains walk f → end_of m f ≡ Some x → (n : ℕ) × Steps (EdgeStep m (tree ++ more)) n root x
-  detour_ends more c [] detour sub f x has leads = absurd (let none : has.0 < 0 = has.1 in omega arith)
-  detour_ends more c (e ∷ walk) detour sub f x (zero, _, same) leads = grind (arith, detour_reached more c (e ∷ walk) detour sub)
-  detour_ends more c (e ∷ walk) detour sub f x (suc k, longer, same) leads =
-      let within : k < length walk = omega arith in
-      detour_ends more e.chip walk detour.1 (λ g has. sub g (suc has.0, (let inside : has.0 < length walk = has.1 in omega arith), has.2)) f x (k, within, same) leads
-
-  -- a tree with a detour added is whole
-  pub whole_joined : (t : Chip) (walk : List Edge) → IsDetour m root tree t walk → IsWholeTree m root (tree ++ walk)
-  whole_joined t walk detour = record {
-    live = λ e has. elim (Contains-append_cases tree walk e has) [
-      | inl old ↦ is.live e old
-      | inr new ↦ detour_lives t walk detour e new
+-- one link more, from the chip where a detour ends into one that is farther off
+detour_more : (m : Description) (root : Chip) (tree walk : List Edge) (c : Chip) (e : Edge) → IsLastLink m root tree c e → Detoured m root tree e.chip (tree ++ walk) →
+    Detoured m root tree c (tree ++ e ∷ walk)
+detour_more m root tree walk c e last rest = record {
+  whole = record {
+    live = λ f has. elim (parts f has) [
+      | inl same ↦ subst (λ (g : Edge). IsLiveLink m g.chip g.dir) (sym same) last.lives
+      | inr old ↦ rest.whole.live f old
     ];
-    reached = λ c on. elim (tree_cases m root (tree ++ walk) c on) [
+    reached = λ x on. elim (tree_cases m root (tree ++ e ∷ walk) x on) [
       | inl at ↦ (0, sym at)
-      | inr into ↦ elim (Contains-append_cases tree walk into.0 into.1) [
-        | inl old ↦ let way = is.reached c (tree_end m root tree into.0 c old into.2) in (way.0, more_steps m tree walk way.0 root c way.1)
-        | inr new ↦ detour_ends walk t walk detour (λ f has'. has') into.0 c new into.2
+      | inr into ↦ elim (parts into.0 into.1) [
+        | inl same ↦
+            let way = rest.whole.reached e.chip rest.there in
+            (suc way.0, (e.chip, kept way.0 e.chip way.1, edge_step m (tree ++ e ∷ walk) e x mine (ap (end_of m) (sym same) ∙ into.2)))
+        | inr old ↦ let way = rest.whole.reached x (tree_end m root (tree ++ walk) into.0 x old into.2) in (way.0, kept way.0 x way.1)
       ]
     ];
-    begins = λ e has. elim (Contains-append_cases tree walk e has) [
-      | inl old ↦ more_chips m root tree walk e.chip (is.begins e old)
-      | inr new ↦ detour_begins walk t walk detour (λ f has'. has') e new
+    none_into_root = λ f has leads. elim (parts f has) [
+      | inl same ↦ off (inl (ends f root same leads))
+      | inr old ↦ rest.whole.none_into_root f old leads
     ];
-    none_into_root = λ e has leads. elim (Contains-append_cases tree walk e has) [
-      | inl old ↦ is.none_into_root e old leads
-      | inr new ↦ detour_off t walk detour e root new leads (inl refl)
+    begins = λ f has. elim (parts f has) [
+      | inl same ↦ chip_in m root (tree ++ walk) (tree ++ e ∷ walk) (with_one tree walk e) f.chip (subst (λ (g : Edge). IsTreeChip m root (tree ++ walk) g.chip) (sym same) rest.there)
+      | inr old ↦ chip_in m root (tree ++ walk) (tree ++ e ∷ walk) (with_one tree walk e) f.chip (rest.whole.begins f old)
     ];
-    one_into = λ e f c has too leads also. elim (Contains-append_cases tree walk e has) [
-      | inl old ↦ elim (Contains-append_cases tree walk f too) [
-        | inl old_too ↦ is.one_into e f c old old_too leads also
-        | inr new ↦ absurd (detour_off t walk detour f c new also (tree_end m root tree e c old leads))
+    one_into = λ f g x has too leads also. elim (parts f has) [
+      | inl same ↦ elim (parts g too) [
+        | inl same_too ↦ same ∙ sym same_too
+        | inr old ↦ absurd (off (tree_end m root (tree ++ walk) g c old (also ∙ ap Some (sym (ends f x same leads)))))
       ]
-      | inr new ↦ elim (Contains-append_cases tree walk f too) [
-        | inl old ↦ absurd (detour_off t walk detour e c new leads (tree_end m root tree f c old also))
-        | inr new_too ↦ detour_apart t walk detour e f c new new_too leads also
+      | inr old ↦ elim (parts g too) [
+        | inl same ↦ absurd (off (tree_end m root (tree ++ walk) f c old (leads ∙ ap Some (sym (ends g x same also)))))
+        | inr old_too ↦ rest.whole.one_into f g x old old_too leads also
       ]
     ];
-  }
+  };
+  there = tree_end m root (tree ++ e ∷ walk) e c mine last.leads;
+  near = λ x on. elim (tree_cases m root (tree ++ e ∷ walk) x on) [
+    | inl at ↦ nearer x (rest.near x (inl at))
+    | inr into ↦ elim (parts into.0 into.1) [
+      | inl same ↦ (suc last.level, subst (λ (y : Chip). IsTreeLevel m root tree y (suc last.level)) (ends into.0 x same into.2) last.here, λ n level. last.here.least n level.reached)
+      | inr old ↦ nearer x (rest.near x (tree_end m root (tree ++ walk) into.0 x old into.2))
+    ]
+  ];
+}
+  where
+    mine : Contains (tree ++ e ∷ walk) e
+    mine = Contains-append_right tree (e ∷ walk) e (Contains-first e walk)
+
+    parts : (f : Edge) → Contains (tree ++ e ∷ walk) f → (f ≡ e) ⊎ Contains (tree ++ walk) f
+    parts f has = elim (Contains-append_cases tree (e ∷ walk) f has) [
+      | inl old ↦ inr (Contains-append_left tree walk f old)
+      | inr new ↦ elim (Contains-cases e walk f new) [ inl here ↦ inl (sym here) | inr later ↦ inr (Contains-append_right tree walk f later) ]
+    ]
+
+    kept : (n : ℕ) (x : Chip) → Steps (EdgeStep m (tree ++ walk)) n root x → Steps (EdgeStep m (tree ++ e ∷ walk)) n root x
+    kept n x = Steps-map _ _ (λ a b step. (step.0, with_one tree walk e (record { chip = a; dir = step.0 }) step.1, step.2)) n root x
+
+    ends : (f : Edge) (x : Chip) → f ≡ e → end_of m f ≡ Some x → c ≡ x
+    ends f x same leads = same_Some c x (sym last.leads ∙ (ap (end_of m) (sym same) ∙ leads))
+
+    nearer : (x : Chip) → (k : ℕ) × IsTreeLevel m root tree x k × ((n : ℕ) → IsTreeLevel m root tree e.chip n → k ≤ n) →
+        (k : ℕ) × IsTreeLevel m root tree x k × ((n : ℕ) → IsTreeLevel m root tree c n → k ≤ n)
+    nearer x (k, level, low) = (k, level, λ n far. let below : k ≤ last.level = low last.level last.there in let above : suc last.level ≤ n = last.here.least n far.reached in omega arith)
+
+    off : IsTreeChip m root (tree ++ walk) c → ⊥
+    off on =
+        let (k, level, low) = rest.near c on in
+        let below : k ≤ last.level = low last.level last.there in
+        let above : suc last.level ≤ k = last.here.least k level.reached in omega arith
+
+-- A whole tree stays one with a detour, one link after the other.
+pub detoured : (m : Description) (root : Chip) (tree : List Edge) → IsWholeTree m root tree → (c : Chip) (walk : List Edge) → IsDetour m root tree c walk →
+    Detoured m root tree c (tree ++ walk)
+detoured m root tree is c [] detour = subst (Detoured m root tree c) (sym (append-nil tree)) (record {
+  whole = is;
+  there = detour;
+  near = λ x on. (0, record { reached = (x, on, refl); least = λ k by. omega arith }, λ n level. omega arith);
+})
+detoured m root tree is c (e ∷ walk) detour = detour_more m root tree walk c e detour.0 (detoured m root tree is e.chip walk detour.1)
 
 -- one target more is joined
 pub Joins-more : (m : Description) (root : Chip) (tree : List Edge) (targets : List Chip) (mid : List Edge) (t : Chip) (walk : List Edge) →

@@ -149,12 +149,14 @@ pub struct Flagged<'a> {
     pub ghost long: { length flags.now ≡ machine.now.width * machine.now.height * 6 },
 }
 
-// A chip of a machine whose links have flags.
+// A chip of a machine whose links have flags, and a mark for each chip.
 #[derive(Clone, Copy)]
 pub struct FlaggedChip<'a> {
     pub table: Flagged<'a>,
     pub chip: Chip,
+    pub marks: &'a [bool],
     pub ghost inside: { IsInside table.machine.now chip },
+    pub ghost long: { length marks.now ≡ table.machine.now.width * table.machine.now.height },
 }
 
 // A search over flagged links, from these chips on.

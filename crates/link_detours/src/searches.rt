@@ -1,5 +1,5 @@
 // The chips to which steps lead.
-ghost use Rattle.std.specs.Prelude.{◌≡◌, ◌*◌, ◌↔◌, length, IfOk, Contains, if◌then◌else◌, None, true, ℕ};
+ghost use Rattle.std.specs.Prelude.{◌≡◌, ◌*◌, ◌↔◌, length, IfOk, Contains, Some, IfSome, IfNone, true, false, ℕ};
 ghost use Rattle.machine_desc.specs.Live.{IsInside, far_of};
 ghost use Rattle.link_detours.specs.Steps.{IsReachedBy};
 ghost use Rattle.machine_desc.specs.Flags.{is_flagged};
@@ -11,16 +11,28 @@ use crate::tables::link_place;
 use spin_base::{Chip, Dir, Memory};
 use std::alloc::Global;
 
-// The chip to which the link leads, where the table flags the link.
-fn flagged_far(from: FlaggedChip, d: Dir) -> Option<Chip>
-    ensures { result ≡ (if is_flagged from.entry.table.machine.now from.entry.table.flags.now
-        from.entry.chip d then far_of from.entry.table.machine.now from.entry.chip d else None) }
+// The chip to which the link leads, where the table flags the link and that chip has no mark.
+#[tactic(auto, using(machine_desc::proofs::Far::far_inside))]
+fn unmarked_far(from: FlaggedChip, d: Dir) -> Option<Chip>
+    ensures inside { IfSome result (IsInside from.entry.table.machine.now) }
+    ensures found { IfSome result (λ e. (is_flagged from.entry.table.machine.now
+        from.entry.table.flags.now from.entry.chip d ≡ true)
+        × (far_of from.entry.table.machine.now from.entry.chip d ≡ Some e)
+        × (is_marked from.entry.table.machine.now from.entry.marks.now e ≡ false)) }
+    ensures none { IfNone result ((e : Chip) → is_flagged from.entry.table.machine.now
+        from.entry.table.flags.now from.entry.chip d ≡ true
+        → far_of from.entry.table.machine.now from.entry.chip d ≡ Some e
+        → is_marked from.entry.table.machine.now from.entry.marks.now e ≡ true) }
 {
-    let FlaggedChip { table, chip } = from;
-    if table.flags[link_place(table.machine, chip, d)] {
-        table.machine.far(chip, d)
-    } else {
+    let FlaggedChip { table, chip, marks } = from;
+    if !table.flags[link_place(table.machine, chip, d)] {
+        return None;
+    }
+    let far = table.machine.far(chip, d)?;
+    if marks[table.machine.index(far) as usize] {
         None
+    } else {
+        Some(far)
     }
 }
 
@@ -58,23 +70,19 @@ pub(crate) fn reached_chips(alloc: Global, search: Search) -> Result<Vec<bool>, 
         list: search.seeds,
     };
     let mut marks = seed_table(alloc, seeds)?;
-    let mut queue = Vec::from_slice(alloc, search.seeds)?;
-    let mut next = 0;
-    while next < queue.len() {
-        let from = queue[next];
+    let mut left = Vec::from_slice(alloc, search.seeds)?;
+    while let Some(from) = left.pop() {
         for link in Dir::ALL {
             let here = FlaggedChip {
                 table: search.table,
                 chip: from,
+                marks: &marks,
             };
-            if let Some(to) = flagged_far(here, link) {
-                if !marks[machine.index(to) as usize] {
-                    queue.push(to)?;
-                    marks[machine.index(to) as usize] = true;
-                }
+            if let Some(to) = unmarked_far(here, link) {
+                left.push(to)?;
+                marks[machine.index(to) as usize] = true;
             }
         }
-        next += 1;
     }
     Ok(marks)
 }

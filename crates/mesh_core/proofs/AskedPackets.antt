@@ -1,6 +1,6 @@
 -- The packets that a job asks for, each with its net.
 use Rattle.mesh_core.proofs.Common.{AreOfNets, Asked, Contains, IsKeyOf, List, NetPlan, None, Option, Packet, Some, ap, arith, asked_at, asked_by, asked_in, get_or_from_slice_get, label_in, none-some}
-use Rattle.mesh_core.proofs.Common.{refl, same_Some, slice_get, slice_get_within, subst, sym, ℕ, ◌+◌, ◌∙◌, ◌≡◌}
+use Rattle.mesh_core.proofs.Common.{refl, same_Some, slice_get, slice_get_within, sym, ℕ, ◌+◌, ◌∙◌, ◌≡◌}
 
 -- what a packet of a net asks for
 abbrev pub asks : NetPlan → Packet → Asked

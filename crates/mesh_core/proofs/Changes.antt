@@ -17,7 +17,7 @@ pub none_fits : (capacity : ℕ) → FitsQueue capacity []
 none_fits capacity = record { within = omega arith; hops = All-nil (λ (k : McCopy). k.hop < 2 ^ 32) }
 
 -- other lists of copies, hands and records, as long as they were and of the same kind
-IsMesh-lists : (s : State) → IsMesh s →
+pub IsMesh-lists : (s : State) → IsMesh s →
     (unsent : List (List McCopy)) → length unsent ≡ length s.setup.spots → All (λ q. All (λ k. k.hop ≡ 0) q) unsent →
     (hands : List (Option Hand)) → length hands ≡ s.setup.machine.width * s.setup.machine.height → All (λ hand. IfSome hand FitsHand) hands →
     ((c : Chip) → is_live_chip s.setup.machine c ≡ false → IsInside s.setup.machine c → slice_get hands (index_of s.setup.machine c) ≡ Some None) →

@@ -1,9 +1,7 @@
-use Rattle.std.proofs.Common.{arith}
 -- The names that the proofs of this crate cite from outside of them, passed on from one place. Declares nothing.
-pub use Rattle.machine_desc.proofs.Branches.{ComesBy, ExitLeads, branch_inside, branch_short, comes_by, end_on_branch, exit_leads, exit_of, last_exit, length_le_from_apart, link_on_branch, same_exit}
-pub use Rattle.machine_desc.proofs.{Branches.same_place, Branches.way_first, Far.far_inside, Far.index_below, Far.live_back, Far.live_ends, Far.live_inside, Far.same_index, Live.index_of-chip_of}
-pub use Rattle.machine_desc.proofs.{Same.same_spot, Sites.end_is_no_live_link, Sites.same_site, Sites.site_parts, TreeLemmas.one_edge_into, Wanted.edge_wanted, Wanted.end_wanted, Wanted.spot_of_out}
-pub use Rattle.machine_desc.proofs.Wanted.{wanted_cases}
+pub use Rattle.machine_desc.proofs.Branches.{ComesBy, ExitLeads, branch_inside, branch_short, comes_by, end_on_branch, exit_leads, exit_of, last_exit, link_on_branch, same_exit, same_place, way_first}
+pub use Rattle.machine_desc.proofs.{Far.far_inside, Far.index_below, Far.live_back, Far.live_ends, Far.live_inside, Far.same_index, Live.index_of-chip_of, Same.same_spot, Sites.end_is_no_live_link}
+pub use Rattle.machine_desc.proofs.{Sites.same_site, Sites.site_parts, TreeLemmas.one_edge_into, Wanted.edge_wanted, Wanted.end_wanted, Wanted.spot_of_out, Wanted.wanted_cases}
 pub use Rattle.machine_desc.specs.{Branch.Exit, Branch.IsBranch, Branch.arrival_at, Description.Description, Description.HasSize, Live.IsInside, Live.IsLiveChip, Live.IsLiveLink, Live.IsSite}
 pub use Rattle.machine_desc.specs.{Live.chip_of, Live.far_of, Live.index_of, Live.is_live_chip, Live.is_live_link, NetsOn.AreNetsOn, NetsOn.HaveDisjointBlocks, NetsOn.IsWayOn, NetsOn.vertex_at}
 pub use Rattle.machine_desc.specs.{Outputs.ComesIn, Outputs.is_wanted, Outputs.leads_to_spot, RightTables.AreRight, RightTables.IsKeyOf, RightTables.RoutesByTree, RightTables.table_at}
@@ -24,13 +22,13 @@ pub use Rattle.mesh_core.specs.declared.places.{Place.TheVariants.CoreQueue, Pla
 pub use Rattle.mesh_core.specs.declared.places.Where.{TheVariants.Dumped, TheVariants.Unsent, Where}
 pub use Rattle.spin_base.proofs.{Counts.count_by-agree, Counts.count_by-append, Counts.count_by-cons, Counts.count_by-map, Counts.count_by-none, Equality.chip_eq_same, Equality.chip_eq_true}
 pub use Rattle.spin_base.proofs.Equality.{out_eq_same, out_eq_true, port_eq_same, port_eq_true, port_number_injective, spot_eq_same, spot_eq_true}
-pub use Rattle.spin_base.proofs.Exchange.{PutIn, TakenOut, among_taken_out, count_put_in, count_taken_out, put_in_after, put_in_before, put_in_gathered, taken_out_after, taken_out_before}
-pub use Rattle.spin_base.proofs.{Exchange.taken_out_gathered, Gathering.among_chosen, Gathering.among_gathered, Gathering.among_gathered_from, Gathering.among_made, Gathering.chosen_among}
-pub use Rattle.spin_base.proofs.Gathering.{count_chosen_none, count_chosen_one, count_made_one, gathered_among, gathered_among_from, gathered_nothing, gathered_of_none, made_among}
-pub use Rattle.spin_base.proofs.Members.{Among, Contains-filter, among_any, among_contains, among_either, among_filter, among_left, among_map, among_only, among_right, any_among, contains_among}
-pub use Rattle.spin_base.proofs.{Members.map_among, Members.position_nowhere, Members.position_there, Once.outs_once, Outputs.dir_number_below, Outputs.no_high_bit, Pairs.AllPairs-apart}
-pub use Rattle.spin_base.proofs.{Pairs.AllPairs-head, Pairs.AllPairs-tail, Places.All-at, Places.All-each, Places.set-slice_get, Places.slice_get-set_other, Places.slice_get-set_same}
-pub use Rattle.spin_base.proofs.{Places.slice_get_there, Spots.dir_at-dir_number, Spots.out_of-core, Spots.out_of-device, Spots.out_of-has_bit, Spots.spot_of_core, Spots.spot_of_link}
+pub use Rattle.spin_base.proofs.Exchange.{PutIn, TakenOut, among_taken_out, count_put_in, count_taken_out, put_in_after, put_in_before, taken_out_after, taken_out_before}
+pub use Rattle.spin_base.proofs.Gathering.{among_chosen, among_gathered, among_gathered_from, among_made, chosen_among, count_chosen_none, count_chosen_one, count_made_one, gathered_among}
+pub use Rattle.spin_base.proofs.{Gathering.gathered_nothing, Gathering.gathered_of_none, Gathering.made_among, Members.Among, Members.Contains-filter, Members.Contains-unmap, Members.among_any}
+pub use Rattle.spin_base.proofs.Members.{among_contains, among_either, among_filter, among_left, among_map, among_only, among_right, any_among, contains_among, map_among, position_nowhere}
+pub use Rattle.spin_base.proofs.{Members.position_there, Once.outs_once, Outputs.dir_number_below, Outputs.no_high_bit, Pairs.AllPairs-apart, Pairs.AllPairs-head, Pairs.AllPairs-tail, Places.All-at}
+pub use Rattle.spin_base.proofs.{Places.All-each, Places.set-slice_get, Places.slice_get-set_other, Places.slice_get-set_same, Places.slice_get_there, Spots.dir_at-dir_number, Spots.out_of-core}
+pub use Rattle.spin_base.proofs.Spots.{out_of-device, out_of-has_bit, spot_of_core, spot_of_link}
 pub use Rattle.spin_base.specs.{Equality.chip_eq, Equality.out_eq, Equality.port_eq, Equality.spot_eq, Gathered.gathered, Hops.last_hop, Hops.onward, Links.dir_at, Links.dir_number, Links.opposite_of}
 pub use Rattle.spin_base.specs.{Links.port_number, Lookup.lookup, Outputs.IsOutput, Outputs.all_outs, Outputs.has, Outputs.out_of, Outputs.outs_of, declared.blocks.Entry.Entry}
 pub use Rattle.spin_base.specs.declared.chips.{Chip.Chip, Dir.Dir, Dir.TheVariants.East, Dir.TheVariants.North, Dir.TheVariants.NorthEast, Dir.TheVariants.South, Dir.TheVariants.SouthWest}
@@ -42,12 +40,12 @@ pub use Rattle.std.proofs.Common.{Bool, IsNone, IsTrue, List, None, Option, Some
 pub use Rattle.std.proofs.Common.{nat_lt, not, option_to_list, refl, set, subst, suc, sym, take, true, zero, zero-add, ℕ, ◌%◌, ◌&&◌, ◌*◌, ◌++◌, ◌+◌, ◌-◌, ◌/◌, ◌<◌, ◌==◌, ◌^◌, ◌||◌, ◌↔◌, ◌∙◌, ◌∷◌, ◌≡◌}
 pub use Rattle.std.proofs.Common.{◌≢◌, ◌≤◌, ◌⊎◌}
 pub use Rattle.std.proofs.{Math.Bool.and-false, Math.Nat.add-zero, Math.Nat.mul-le-mul_left, lemmas.Bool.and_from, lemmas.Bool.and_parts, lemmas.Bool.cases_eq, lemmas.Bool.cases_order}
-pub use Rattle.std.proofs.lemmas.{Bool.eq-eqb, Bool.eqb-false, Bool.eqb-true, Bool.false_from_ne_true, Bool.lt-ltb, Bool.ltb-false, Bool.ltb-true, Bool.ne_eqb, Iterator.Adapters.position_from-zero}
-pub use Rattle.std.proofs.lemmas.List.Elements.{All-contains, All-head, All-map, All-nil, All-push, All-replicate, All-set, All-tail, Contains-get_or}
-pub use Rattle.std.proofs.lemmas.List.{Folds.Any-from_list_any, FromFn.get_or-range_with_len, FromFn.length-map-range_with_len, FromFn.length-range_with_len, Quantifiers.position-Some}
-pub use Rattle.std.proofs.lemmas.List.{Sorted.Contains-permutation, Sorted.IsPermutation-sym, Sorted.sum_by-IsPermutation, Sums.count_by-le-length, Sums.length-filter, Sums.sum_by-cons, get_or-map}
-pub use Rattle.std.proofs.lemmas.List.{get_or-replicate, get_or-take, get_or_default, length-append, length-map, length-replicate, length-set, length-take-le, length_push, map-append, set-set}
-pub use Rattle.std.proofs.lemmas.{List.take_more, List.with_items_is, Option.get_or_from_slice_get, Option.none-some, Option.same_Some, Option.slice_get-get_or, Option.slice_get_within}
-pub use Rattle.std.specs.{Cmp.both_ways, Int.bit_at, List.All, List.Contains, List.Sorted.IsPermutation, List.filter, List.list_any, List.position_from, List.position_or_len, List.range_with_len}
-pub use Rattle.std.specs.{List.slice_get, List.slice_index_or, List.slice_set, List.sum_by, Option.option_map_or, Prelude.AllPairs, Prelude.Err, Prelude.IfOk, Prelude.IfSome, Prelude.Ok}
-pub use Rattle.std.specs.{Prelude.OnErr, Prelude.OnOk, Prelude.Result, Prelude.position, Prelude.remove, Prelude.replicate, Prelude.unwrap_or, Vec.with_item, Vec.with_items}
+pub use Rattle.std.proofs.lemmas.{Bool.eq-eqb, Bool.eqb-false, Bool.eqb-true, Bool.lt-ltb, Bool.ltb-false, Bool.ltb-true, Bool.ne_eqb, Iterator.Adapters.position_from-zero, List.Elements.All-contains}
+pub use Rattle.std.proofs.lemmas.List.Elements.{All-head, All-map, All-nil, All-push, All-replicate, All-set, All-tail, Contains-get_or}
+pub use Rattle.std.proofs.lemmas.List.{FromFn.get_or-range_with_len, FromFn.length-map-range_with_len, FromFn.length-range_with_len, Quantifiers.position-Some, Sorted.Contains-permutation}
+pub use Rattle.std.proofs.lemmas.List.{Sorted.IsPermutation-sym, Sorted.sum_by-IsPermutation, Sums.count_by-le-length, Sums.length-filter, Sums.sum_by-cons, get_or-replicate, get_or-take}
+pub use Rattle.std.proofs.lemmas.List.{get_or_default, length-append, length-map, length-replicate, length-set, length-take-le, length_push, map-append, same_lists, set-set, take_more, with_items_is}
+pub use Rattle.std.proofs.lemmas.Option.{get_or_from_slice_get, none-some, same_Some, slice_get-get_or, slice_get_within}
+pub use Rattle.std.specs.{Cmp.both_ways, Int.bit_at, List.All, List.Contains, List.Sorted.IsPermutation, List.filter, List.list_any, List.position_from, List.range_with_len, List.slice_get}
+pub use Rattle.std.specs.{List.slice_index_or, List.slice_set, List.sum_by, Option.option_map_or, Prelude.AllPairs, Prelude.Err, Prelude.IfOk, Prelude.IfSome, Prelude.Ok, Prelude.OnErr, Prelude.OnOk}
+pub use Rattle.std.specs.{Prelude.Result, Prelude.position, Prelude.remove, Prelude.replicate, Prelude.unwrap_or, Vec.with_item, Vec.with_items}

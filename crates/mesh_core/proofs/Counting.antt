@@ -1,6 +1,6 @@
 -- Counts of a list by tests of which each item passes one.
-use Rattle.mesh_core.proofs.Common.{All-each, Among, Bool, List, Some, [], ap, arith, cases_order, contains_among, count_by, count_by-agree, count_by-append, count_by-cons, eq-eqb, false, gathered}
-use Rattle.mesh_core.proofs.Common.{if◌then◌else◌, inl, inr, length, not, refl, slice_get, subst, suc, sym, true, zero, ℕ, ◌&&◌, ◌*◌, ◌+◌, ◌<◌, ◌==◌, ◌∙◌, ◌∷◌, ◌≡◌, ◌≢◌, ◌≤◌}
+use Rattle.mesh_core.proofs.Common.{All-each, Among, Bool, List, Some, [], and_parts, ap, arith, cases_order, contains_among, count_by, count_by-agree, count_by-append, count_by-cons, eq-eqb, false}
+use Rattle.mesh_core.proofs.Common.{gathered, if◌then◌else◌, inl, inr, length, not, refl, slice_get, subst, suc, sym, true, zero, ℕ, ◌&&◌, ◌*◌, ◌+◌, ◌<◌, ◌==◌, ◌∙◌, ◌∷◌, ◌≡◌, ◌≢◌, ◌≤◌}
 
 -- a test that all pass counts all
 pub count_all : {X : Type 0} (p : X → Bool) (xs : List X) → ((x : X) → Among x xs → p x ≡ true) → count_by p xs ≡ length xs
@@ -23,14 +23,8 @@ count_split p q (x ∷ xs) =
     let here = one_of_two (p x) (q x) in
     omega (arith, count_by-cons p x xs, count_by-cons q x xs, count_by-cons (λ y. p y && not (q y)) x xs)
 
-and_not_left : (p q : Bool) → (p && not q) ≡ true → p ≡ true
-and_not_left true q e = refl
-and_not_left false q e = e
-
 and_not_right : (p q : Bool) → (p && not q) ≡ true → q ≡ true → ⊥
-and_not_right true true e f = cc
-and_not_right true false e f = cc
-and_not_right false q e f = cc
+and_not_right p q e f = let left = (and_parts p (not q) e).1 in let none = ap not f in cc
 
 -- Where each item that is counted passes some test, and at most one item passes each, there are at most as many as tests.
 pub count_covered : {X W : Type 0} (test : W → X → Bool) (ws : List W) (p : X → Bool) (xs : List X) →
@@ -52,11 +46,18 @@ count_covered {X} {W} test (w ∷ ws) p xs covered once =
     omega arith
   where
     others : (x : X) → Among x xs → (p x && not (test w x)) ≡ true → (v : W) × Among v ws × (test v x ≡ true)
-    others x a passes = by_test (covered x a (and_not_left (p x) (test w x) passes))
+    others x a passes = by_test (covered x a ((and_parts (p x) (not (test w x)) passes).0))
       where
         by_test : (v : W) × Among v (w ∷ ws) × (test v x ≡ true) → (v : W) × Among v ws × (test v x ≡ true)
         by_test (v, inl same, yes') = absurd (and_not_right (p x) (test w x) passes (ap (λ (u : W). test u x) (sym same) ∙ yes'))
         by_test (v, inr later, yes') = (v, later, yes')
+
+-- So a list is no longer than the tests, where each of its items passes one, and at most one item passes each.
+pub length_covered : {X W : Type 0} (test : W → X → Bool) (ws : List W) (xs : List X) →
+    ((x : X) → Among x xs → (w : W) × Among w ws × (test w x ≡ true)) → ((w : W) → Among w ws → count_by (test w) xs ≤ 1) → length xs ≤ length ws
+length_covered test ws xs covered once =
+    let few : count_by (λ x. true) xs ≤ length ws = count_covered test ws (λ x. true) xs (λ x a passes. covered x a) once in
+    omega (arith, few, count_all (λ x. true) xs (λ x a. refl))
 
 -- Where each item that is counted has a number below n, and at most m have each number, there are at most n times m.
 pub count_numbered : {X : Type 0} (f : X → ℕ) (n m : ℕ) (p : X → Bool) (xs : List X) →
@@ -73,7 +74,7 @@ count_numbered {X} f (suc n) m p xs below each =
   where
     lower : (x : X) → Among x xs → (p x && not (f x == n)) ≡ true → f x < n
     lower x a passes =
-        let small : f x < suc n = below x a (and_not_left (p x) (f x == n) passes) in
+        let small : f x < suc n = below x a ((and_parts (p x) (not (f x == n)) passes).0) in
         elim (cases_order (f x) n) [
           | inl same ↦ absurd (and_not_right (p x) (f x == n) passes (eq-eqb (f x) n same))
           | inr (inl less) ↦ less

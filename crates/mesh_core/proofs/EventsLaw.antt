@@ -1,11 +1,11 @@
 -- The ledger of copies is kept by every event, by every list of events and by putting a copy back: for a list of nets, for
 -- asked packets and for a job.
-use Rattle.mesh_core.proofs.Common.{AreRight, Asked, Bool, Contains, DumpRec, Event, IsMesh, Label, List, Mark, MeetsJobLedger, MeetsLedger, MeetsLedgerFor, NetPlan, None, Option, Packet, Queue}
-use Rattle.mesh_core.proofs.Common.{Setup, Some, State, [], after_event, after_events, after_put_back, among_contains, among_taken_out, asked_by, behind, core, dumped, false, has_room_behind}
-use Rattle.mesh_core.proofs.Common.{if◌then◌else◌, input, label_of, marks_of, nowhere, onward, push_behind, put_back_of, refl, step_of, subst, sym, true, unwrap_or, ℕ, ◌∙◌, ◌∷◌, ◌≡◌}
-use Rattle.mesh_core.proofs.{Changes.IsMesh-dumped, Events.event_exchange, Events.arrives, Fixed.push_behind_leaves, Keeping.IsMesh-step_of, Keeping.IsMesh-push_behind, Keeping.onward_below}
-use Rattle.mesh_core.proofs.{Keeping.may_wait-behind, LedgerLaw.Bag, LedgerLaw.bag_of_event, LedgerLaw.bag_keeps_ledger, LedgerLaw.bag_adds_no_packet, LedgerLaw.bag_keeps_packets}
-use Rattle.mesh_core.proofs.{LedgerLaw.right_before, LedgerLaw.right_small, Moves.mark, Moves.Exchange, Moves.dumped_out}
+use Rattle.mesh_core.proofs.Common.{AreRight, Asked, Contains, DumpRec, Err, Event, IsMesh, Label, List, Mark, MeetsJobLedger, MeetsLedger, MeetsLedgerFor, NetPlan, Ok, OnErr, OnOk, Option, Packet}
+use Rattle.mesh_core.proofs.Common.{Queue, Result, Setup, Some, State, [], after_event, after_events, after_put_back, among_contains, among_taken_out, asked_by, behind, core, dumped, has_room_behind}
+use Rattle.mesh_core.proofs.Common.{input, label_of, marks_of, nowhere, onward, push_behind, put_back_of, refl, step_of, subst, sym, true, ℕ, ◌∙◌, ◌∷◌, ◌≡◌}
+use Rattle.mesh_core.proofs.{Enabled.after_answer, Enabled.if_some, Changes.IsMesh-dumped, Events.event_exchange, Events.arrives, Fixed.push_behind_leaves, Keeping.IsMesh-step_of}
+use Rattle.mesh_core.proofs.{Keeping.IsMesh-push_behind, Keeping.onward_below, Keeping.may_wait-behind, LedgerLaw.Bag, LedgerLaw.bag_of_event, LedgerLaw.bag_keeps_ledger, LedgerLaw.bag_adds_no_packet}
+use Rattle.mesh_core.proofs.{LedgerLaw.bag_keeps_packets, LedgerLaw.right_before, LedgerLaw.right_small, Moves.mark, Moves.Exchange, Moves.dumped_out}
 
 -- one move is a bag, in a mesh that meets the ledger
 move_bag : (s t : State) (nets : List NetPlan) (labels : ℕ → Label) → IsMesh s → AreRight s.setup.machine s.setup.tables nets → MeetsLedger s nets labels →
@@ -46,11 +46,9 @@ move_keeps s t nets labels mesh right ledger next x =
 
 pub event_keeps : (s : State) (nets : List NetPlan) (labels : ℕ → Label) → IsMesh s → AreRight s.setup.machine s.setup.tables nets → MeetsLedger s nets labels →
     (e : Event) → Keeps s (after_event s e) nets labels
-event_keeps s nets labels mesh right ledger e = by_answer (step_of s e) refl
-  where
-    by_answer : (t : Option State) → step_of s e ≡ t → Keeps s (unwrap_or t s) nets labels
-    by_answer None is = keeps_itself s nets labels mesh right ledger
-    by_answer (Some t) is = move_keeps s t nets labels mesh right ledger (IsMesh-step_of s t e mesh is) (event_exchange s mesh e t is).0
+event_keeps s nets labels mesh right ledger e =
+    after_answer (λ t. Keeps s t nets labels) s (keeps_itself s nets labels mesh right ledger) (step_of s e)
+    (λ t is. move_keeps s t nets labels mesh right ledger (IsMesh-step_of s t e mesh is) (event_exchange s mesh e t is).0)
 
 -- what each event leaves as it is, a list of events leaves as it is
 pub events_keep : (s : State) (nets : List NetPlan) (labels : ℕ → Label) → IsMesh s → AreRight s.setup.machine s.setup.tables nets → MeetsLedger s nets labels →
@@ -72,11 +70,8 @@ events_keep s nets labels mesh right ledger (e ∷ es) =
 -- a mesh stays one, whatever it holds
 pub IsMesh-after_events : (s : State) (es : List Event) → IsMesh s → IsMesh (after_events s es)
 IsMesh-after_events s [] mesh = mesh
-IsMesh-after_events s (e ∷ es) mesh = IsMesh-after_events (after_event s e) es (by_answer (step_of s e) refl)
-  where
-    by_answer : (t : Option State) → step_of s e ≡ t → IsMesh (unwrap_or t s)
-    by_answer None is = mesh
-    by_answer (Some t) is = IsMesh-step_of s t e mesh is
+IsMesh-after_events s (e ∷ es) mesh =
+    IsMesh-after_events (after_event s e) es (after_answer IsMesh s mesh (step_of s e) (λ t is. IsMesh-step_of s t e mesh is))
 
 -- ---- putting a copy back
 
@@ -91,18 +86,16 @@ pub record IsPutBack (s t : State) : Type 0 where
   pub move : Exchange s t
   pub mesh : IsMesh s → IsMesh t
 
-put_back_by_room : (s : State) (r : DumpRec) (rest : List DumpRec) → s.dumped ≡ r ∷ rest → (room : Bool) →
-    has_room_behind s (behind s.setup r.chip r.out) ≡ room → (t : State) →
-    (if room then Some (push_behind (record s { dumped = rest }) (behind s.setup r.chip r.out) (onward r.copy)) else None) ≡ Some t → IsPutBack s t
-put_back_by_room s r rest is false full t e = cc
-put_back_by_room s r rest is true room t e =
+pub put_back_is : (s : State) (records : List DumpRec) → s.dumped ≡ records → (t : State) → put_back_of s records ≡ Some t → IsPutBack s t
+put_back_is s [] is t e = cc
+put_back_is s (r ∷ rest) is t e =
     let between : State = record s { dumped = rest } in
     let to : Queue = behind s.setup r.chip r.out in
     let next : State = push_behind between to (onward r.copy) in
-    let same : next ≡ t = cc in
-    let still : has_room_behind between to ≡ true = same_room s rest to ∙ room in
-    let arrival = arrives between r.chip r.out r.copy still in
-    subst (λ (u : State). IsPutBack s u) same (record {
+    let parts = if_some (has_room_behind s to) next t e in
+    let room : has_room_behind between to ≡ true = same_room s rest to ∙ parts.0 in
+    let arrival = arrives between r.chip r.out r.copy room in
+    subst (λ (u : State). IsPutBack s u) parts.1 (record {
       move = record {
         leaves = mark r.copy (dumped r.chip r.out);
         come = arrival.0;
@@ -112,29 +105,17 @@ put_back_by_room s r rest is true room t e =
         move = arrival.2;
         setup = (push_behind_leaves between to (onward r.copy)).0;
       };
-      mesh = λ mesh. IsMesh-push_behind between to (onward r.copy) (IsMesh-dumped s rest mesh) (may_wait-behind s.setup r.chip r.out) still (onward_below r.copy);
+      mesh = λ mesh. IsMesh-push_behind between to (onward r.copy) (IsMesh-dumped s rest mesh) (may_wait-behind s.setup r.chip r.out) room (onward_below r.copy);
     })
 
-pub put_back_is : (s : State) (records : List DumpRec) → s.dumped ≡ records → (t : State) → put_back_of s records ≡ Some t → IsPutBack s t
-put_back_is s [] is t e = cc
-put_back_is s (r ∷ rest) is t e = put_back_by_room s r rest is (has_room_behind s (behind s.setup r.chip r.out)) refl t e
-
 pub IsMesh-after_put_back : (s : State) → IsMesh s → IsMesh (after_put_back s)
-IsMesh-after_put_back s mesh = by_answer (put_back_of s s.dumped) refl
-  where
-    by_answer : (t : Option State) → put_back_of s s.dumped ≡ t → IsMesh (unwrap_or t s)
-    by_answer None is = mesh
-    by_answer (Some t) is = (put_back_is s s.dumped refl t is).mesh mesh
+IsMesh-after_put_back s mesh = after_answer IsMesh s mesh (put_back_of s s.dumped) (λ t is. (put_back_is s s.dumped refl t is).mesh mesh)
 
 pub put_back_keeps : (s : State) (nets : List NetPlan) (labels : ℕ → Label) → IsMesh s → AreRight s.setup.machine s.setup.tables nets → MeetsLedger s nets labels →
     Keeps s (after_put_back s) nets labels
-put_back_keeps s nets labels mesh right ledger = by_answer (put_back_of s s.dumped) refl
-  where
-    by_answer : (t : Option State) → put_back_of s s.dumped ≡ t → Keeps s (unwrap_or t s) nets labels
-    by_answer None is = keeps_itself s nets labels mesh right ledger
-    by_answer (Some t) is =
-        let back = put_back_is s s.dumped refl t is in
-        move_keeps s t nets labels mesh right ledger (back.mesh mesh) back.move
+put_back_keeps s nets labels mesh right ledger =
+    after_answer (λ t. Keeps s t nets labels) s (keeps_itself s nets labels mesh right ledger) (put_back_of s s.dumped)
+    (λ t is. let back = put_back_is s s.dumped refl t is in move_keeps s t nets labels mesh right ledger (back.mesh mesh) back.move)
 
 -- ---- asked packets, and jobs
 
@@ -171,3 +152,12 @@ pub put_back_keeps_job : (s : State) (nets : List NetPlan) (packets : List Packe
     MeetsJobLedger (after_put_back s) nets packets
 put_back_keeps_job s nets packets mesh right job =
     record { of_nets = job.of_nets; ledger = put_back_keeps_for s nets (asked_by nets packets) mesh right job.ledger }
+
+-- ---- a step that may be refused
+
+-- the ledger of any nets for which the tables are right stays
+pub ledger-after_result : {T E : Type 0} (r : Result T E) (s t : State) (e : Event) → IsMesh s → OnOk r (t ≡ after_event s e) → OnErr r (t ≡ s) →
+    (nets : List NetPlan) (labels : ℕ → Label) → AreRight s.setup.machine s.setup.tables nets → MeetsLedger s nets labels → MeetsLedger t nets labels
+ledger-after_result (Ok x) s t e mesh moves stays nets labels right ledger =
+    subst (λ (u : State). MeetsLedger u nets labels) (sym moves) (event_keeps s nets labels mesh right ledger e).ledger
+ledger-after_result (Err x) s t e mesh moves stays nets labels right ledger = subst (λ (u : State). MeetsLedger u nets labels) (sym stays) ledger

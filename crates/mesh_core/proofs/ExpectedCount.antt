@@ -1,18 +1,12 @@
 -- The deliveries of a mesh that has delivered what its job asks for are as many as the targets of the packets' nets.
-use Rattle.mesh_core.proofs.Common.{All, All-contains, AllPairs, Among, AreAsExpected, AreNetsOn, Bool, Contains, Contains-filter, Delivery, IsMesh, List, NetPlan, None, Option, Packet, Some, Spot}
-use Rattle.mesh_core.proofs.Common.{State, [], among_any, among_contains, any_among, ap, arith, contains_among, count_by, count_by-cons, deliveries_of, delivery_at, expected_count}
-use Rattle.mesh_core.proofs.Common.{expected_deliveries, false, filter, gathered, if◌then◌else◌, inl, inr, length, length-append, length-filter, list_any, refl, slice_get, spot_eq, spot_eq_same}
-use Rattle.mesh_core.proofs.Common.{spot_eq_true, sum_by-cons, sym, targets_of_net, true, without_hop, ℕ, ◌+◌, ◌∙◌, ◌∷◌, ◌≡◌, ◌≢◌, ◌≤◌}
-use Rattle.mesh_core.proofs.{AskedPackets.net_in_list, Counting.count_all, Counting.count_covered, ExpectedList.ComesBefore, ExpectedList.is_of, ExpectedList.is_of_from, ExpectedList.is_of_parts}
-use Rattle.mesh_core.proofs.{ExpectedList.bare, ExpectedList.in_order, ExpectedList.is_listed, ExpectedList.listed_once, ExpectedList.listed_made, Ordered.ordered_from, Ordered.at_most_one}
+use Rattle.mesh_core.proofs.Common.{All, All-contains, All-each, AllPairs, Among, AreAsExpected, AreNetsOn, Bool, Contains, Contains-filter, Delivery, IsMesh, List, NetPlan, None, Option, Packet}
+use Rattle.mesh_core.proofs.Common.{Some, Spot, State, [], among_any, any_among, ap, arith, contains_among, count_by, count_by-cons, deliveries_of, delivery_at, expected_count, expected_deliveries}
+use Rattle.mesh_core.proofs.Common.{false, filter, gathered, if◌then◌else◌, inl, inr, length, length-append, length-filter, list_any, refl, slice_get, spot_eq, spot_eq_same, subst, sum_by-cons, sym}
+use Rattle.mesh_core.proofs.Common.{targets_of_net, true, without_hop, ℕ, ◌+◌, ◌∙◌, ◌∷◌, ◌≡◌, ◌≢◌, ◌≤◌}
+use Rattle.mesh_core.proofs.{Ordered.few_different, Ordered.one_spot, Ordered.at_most_one, Counting.length_covered, Counting.count_covered, AskedPackets.net_in_list, ExpectedList.ComesBefore}
+use Rattle.mesh_core.proofs.ExpectedList.{is_of, is_of_from, is_of_parts, bare, in_order, is_listed, listed_once, listed_made}
 
 -- ---- targets and spots
-
--- a spot is at most once among different spots
-one_spot : (xs : List Spot) → AllPairs (λ a b. a ≢ b) xs → (w : Spot) → count_by (λ x. spot_eq x w) xs ≤ 1
-one_spot xs different w =
-    at_most_one (λ a b. a ≢ b) (λ x. spot_eq x w) xs (ordered_from (λ a b. a ≢ b) xs different)
-    (λ x y apart px py. apart (spot_eq_true x w px ∙ sym (spot_eq_true y w py)))
 
 module _ (spots ts : List Spot) (different : AllPairs (λ a b. a ≢ b) spots) (apart : AllPairs (λ a b. a ≢ b) ts) (within : All (Contains spots) ts) where
   abbrev is_target : Spot → Bool
@@ -24,17 +18,9 @@ module _ (spots ts : List Spot) (different : AllPairs (λ a b. a ≢ b) spots) (
 
   at_least : length ts ≤ count_by is_target spots
   at_least =
-      let all : count_by (λ x. true) ts ≡ length ts = count_all (λ x. true) ts (λ x a. refl) in
-      let few : count_by (λ x. true) ts ≤ length (filter is_target spots) =
-      count_covered (λ w x. spot_eq x w) (filter is_target spots) (λ x. true) ts kept (λ w a. one_spot ts apart w) in
-      let long : length (filter is_target spots) ≡ count_by is_target spots = length-filter is_target spots in
-      omega (arith, all, few, long)
-    where
-      kept : (t : Spot) → Among t ts → true ≡ true → (w : Spot) × Among w (filter is_target spots) × (spot_eq t w ≡ true)
-      kept t a e =
-          let has : Contains spots t = All-contains (Contains spots) ts t within (among_contains t ts a) in
-          let passes : is_target t ≡ true = among_any (spot_eq t) t ts a (spot_eq_same t) in
-          (t, contains_among t (filter is_target spots) (Contains-filter is_target spots t has passes), spot_eq_same t)
+      subst (λ n. length ts ≤ n) (length-filter is_target spots) (few_different (filter is_target spots) ts apart
+      (All-each (Contains (filter is_target spots)) ts (λ t has.
+      Contains-filter is_target spots t (All-contains (Contains spots) ts t within has) (among_any (spot_eq t) t ts (contains_among t ts has) (spot_eq_same t)))))
 
   -- the spots that are targets are as many as the targets
   spots_of_targets : count_by is_target spots ≡ length ts
@@ -79,21 +65,15 @@ module _ (s : State) (nets : List NetPlan) (packets : List Packet) (mesh : IsMes
 
   no_more : length s.delivered ≤ length all_asked
   no_more =
-      let all : count_by (λ x. true) s.delivered ≡ length s.delivered = count_all (λ x. true) s.delivered (λ x a. refl) in
-      let few : count_by (λ x. true) s.delivered ≤ length all_asked =
-      count_covered alike all_asked (λ x. true) s.delivered
-      (λ d a e. (without_hop d, is_listed s nets packets mesh stand expected d a, is_of_from d.copy.packet d.vertex d refl refl))
-      (λ w a. let one = listed_once s nets packets mesh stand expected w a in omega (arith, one)) in
-      omega (arith, all, few)
+      length_covered alike all_asked s.delivered
+      (λ d a. (without_hop d, is_listed s nets packets mesh stand expected d a, is_of_from d.copy.packet d.vertex d refl refl))
+      (λ w a. let one = listed_once s nets packets mesh stand expected w a in omega (arith, one))
 
   no_fewer : length all_asked ≤ length s.delivered
-  no_fewer =
-      let all : count_by (λ x. true) all_asked ≡ length all_asked = count_all (λ x. true) all_asked (λ x a. refl) in
-      let few : count_by (λ x. true) all_asked ≤ length s.delivered = count_covered alike s.delivered (λ x. true) all_asked made (λ d a. once d.copy.packet d.vertex) in
-      omega (arith, all, few)
+  no_fewer = length_covered alike s.delivered all_asked made (λ d a. once d.copy.packet d.vertex)
     where
-      made : (y : Delivery) → Among y all_asked → true ≡ true → (d : Delivery) × Among d s.delivered × (alike d y ≡ true)
-      made y a e =
+      made : (y : Delivery) → Among y all_asked → (d : Delivery) × Among d s.delivered × (alike d y ≡ true)
+      made y a =
           let found = listed_made s nets packets mesh stand expected y a in (
             found.0,
             found.1,

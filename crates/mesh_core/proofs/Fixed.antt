@@ -1,7 +1,7 @@
 -- A step leaves what a mesh never changes, and so does a list of events.
 use Rattle.mesh_core.proofs.Common.{Bool, Chip, Collect, Delivery, DropsNone, Dump, DumpRec, Event, Hand, Inject, List, Local, McCopy, None, Option, Out, Port, Queue, Send, Some, Spot, State, Take}
-use Rattle.mesh_core.proofs.Common.{[], after_event, after_events, after_serving, arith, behind, collect_of, core, dump_of, false, has_room_behind, if◌then◌else◌, index_of, inject_of, input, nowhere}
-use Rattle.mesh_core.proofs.Common.{onward, push_behind, queue_at, refl, send_of, serves, slice_get, slice_set, take_of, true, unwrap_or, ℕ, ◌&&◌, ◌++◌, ◌∙◌, ◌∷◌, ◌≡◌}
+use Rattle.mesh_core.proofs.Common.{[], after_event, after_events, arith, collect_of, core, dump_of, false, if◌then◌else◌, index_of, inject_of, input, nowhere, push_behind, queue_at, refl, send_of}
+use Rattle.mesh_core.proofs.Common.{slice_get, slice_set, take_of, true, unwrap_or, ℕ, ◌++◌, ◌∙◌, ◌∷◌, ◌≡◌}
 
 -- a copy that comes into a queue leaves the setup, the unsent copies and the dump records
 pub push_behind_leaves : (s : State) (b : Queue) (k : McCopy) →

@@ -1,17 +1,13 @@
 -- Whatever happens, a mesh keeps what every mesh has.
 use Rattle.mesh_core.proofs.Common.{All, All-at, All-head, All-push, All-tail, Bool, ByLink, Chip, Collect, Core, Description, Dir, Dump, Event, FitsHand, FitsQueue, Hand, IfSome, Inject, IsInside}
-use Rattle.mesh_core.proofs.Common.{IsMesh, IsSite, Link, List, Local, McCopy, None, Option, Out, Port, Queue, Send, Setup, Some, Spot, State, Take, [], after_serving, and_parts, ap, arith, behind}
-use Rattle.mesh_core.proofs.Common.{behind_link, collect_of, core, core_queue_of, dump_of, eqb-false, false, far_of, has_room, has_room_behind, if◌then◌else◌, index_of, inject_of, input, is_live_chip}
-use Rattle.mesh_core.proofs.Common.{is_live_link, last_hop, length, length_push, list_any, live_back, live_ends, live_inside, lookup, ltb-true, not, nowhere, onward, opposite_of, out_eq, outputs}
-use Rattle.mesh_core.proofs.Common.{outs_of, outs_without, port_number, port_number_injective, push_at, push_behind, queue_at, refl, same_index, send_of, serves, set, site_parts, slice_get, step_of}
-use Rattle.mesh_core.proofs.Common.{subst, sym, table_at, take_of, true, vertex_behind, ℕ, ◌&&◌, ◌++◌, ◌+◌, ◌<◌, ◌==◌, ◌^◌, ◌∙◌, ◌∷◌, ◌≡◌, ◌≢◌, ◌≤◌}
+use Rattle.mesh_core.proofs.Common.{IsMesh, IsSite, Link, List, Local, McCopy, None, Option, Out, Port, Queue, Send, Setup, Some, State, Take, [], after_serving, and_parts, ap, arith, behind}
+use Rattle.mesh_core.proofs.Common.{behind_link, core, core_queue_of, eqb-false, false, far_of, has_room, has_room_behind, if◌then◌else◌, index_of, input, is_live_chip, is_live_link, last_hop, length}
+use Rattle.mesh_core.proofs.Common.{length_push, list_any, live_back, live_ends, live_inside, lookup, ltb-true, nowhere, onward, opposite_of, out_eq, outputs, outs_of, outs_without, port_number}
+use Rattle.mesh_core.proofs.Common.{port_number_injective, push_at, push_behind, queue_at, refl, same_index, serves, set, site_parts, slice_get, step_of, subst, sym, table_at, true, vertex_behind, ℕ}
+use Rattle.mesh_core.proofs.Common.{◌++◌, ◌+◌, ◌<◌, ◌==◌, ◌^◌, ◌∙◌, ◌∷◌, ◌≡◌, ◌≢◌, ◌≤◌}
 use Rattle.mesh_core.specs.Step.{in_hand}
-use Rattle.mesh_core.proofs.Changes.{port_below, IsMesh-unsent, IsMesh-cores, IsMesh-hands, IsMesh-delivered, IsMesh-dumped, IsMesh-inputs}
-
--- what was chosen is there
-pub if_some : {X : Type 0} (b : Bool) (u t : X) → (if b then Some u else None) ≡ Some t → (b ≡ true) × (u ≡ t)
-if_some true u t e = (refl, cc)
-if_some false u t e = cc
+use Rattle.mesh_core.proofs.{Enabled.FoundBy, Enabled.event_found, Changes.port_below, Changes.IsMesh-unsent, Changes.IsMesh-cores, Changes.IsMesh-hands, Changes.IsMesh-delivered}
+use Rattle.mesh_core.proofs.Changes.{IsMesh-dumped, IsMesh-inputs}
 
 -- ---- names of queues are told apart
 
@@ -137,47 +133,9 @@ not_last u c port k low some = by_test (k.hop == last_hop) refl some
     by_test true is none = absurd (none refl)
     by_test false is some' = let other = eqb-false k.hop last_hop is in omega (arith, low, other)
 
-keeps_injected : (s t : State) (v : ℕ) (spot : Option Spot) (unsent : Option (List McCopy)) → IsMesh s → slice_get s.setup.spots v ≡ spot →
-    slice_get s.unsent v ≡ unsent → inject_of s v spot unsent ≡ Some t → IsMesh t
-keeps_injected s t v (Some spot) (Some (k ∷ rest)) h at_spot at_unsent moves =
-    let queue : Queue = input (queue_at s.setup.machine spot.chip Local) in
-    let now : State = record s { unsent = set s.unsent v rest } in
-    let parts : (has_room_behind s queue ≡ true) × (push_behind now queue k ≡ t) = if_some (has_room_behind s queue) (push_behind now queue k) t moves in
-    let at_start : All (λ x. x.hop ≡ 0) (k ∷ rest) = All-at (λ (l : List McCopy). All (λ x. x.hop ≡ 0) l) s.unsent v (k ∷ rest) h.unsent_at_start at_unsent in
-    let start : All (λ x. x.hop ≡ 0) rest = All-tail (λ (x : McCopy). x.hop ≡ 0) k rest at_start in
-    let none_passed : k.hop ≡ 0 = All-head (λ (x : McCopy). x.hop ≡ 0) k rest at_start in
-    let site : IsSite s.setup.machine spot = All-at (IsSite s.setup.machine) s.setup.spots v spot h.sites at_spot in
-    let live : is_live_chip s.setup.machine spot.chip ≡ true = (site_parts s.setup.machine spot site).0 in
-    subst IsMesh parts.1 (arrived_input now (queue_at s.setup.machine spot.chip Local) k (slice_get s.inputs (queue_at s.setup.machine spot.chip Local))
-    (IsMesh-unsent s v rest h start) refl (may_wait-local s.setup.machine spot.chip live) parts.0 (omega (arith, none_passed)))
-keeps_injected s t v (Some spot) (Some []) h at_spot at_unsent moves = cc
-keeps_injected s t v (Some spot) None h at_spot at_unsent moves = cc
-keeps_injected s t v None (Some (k ∷ rest)) h at_spot at_unsent moves = cc
-keeps_injected s t v None (Some []) h at_spot at_unsent moves = cc
-keeps_injected s t v None None h at_spot at_unsent moves = cc
-
 -- a queue without its front is empty where no copy may wait: there was none
 nothing_waited : {X : Type 0} (xs : List (List X)) (i j : ℕ) (x : X) (rest : List X) → slice_get xs i ≡ Some (x ∷ rest) → slice_get xs j ≡ Some [] → j ≡ i → rest ≡ []
 nothing_waited xs i j x rest here there same = let both : Some (x ∷ rest) ≡ Some [] = sym here ∙ (ap (slice_get xs) (sym same) ∙ there) in cc
-
-keeps_taken : (s t : State) (c : Chip) (port : Port) (hand : Option (Option Hand)) (queue : Option (List McCopy)) → IsMesh s →
-    slice_get s.inputs (queue_at s.setup.machine c port) ≡ queue → take_of s c port hand queue ≡ Some t → IsMesh t
-keeps_taken s t c port (Some None) (Some (k ∷ rest)) h at_queue moves =
-    let q : ℕ = queue_at s.setup.machine c port in
-    let now : State = record s { inputs = set s.inputs q rest } in
-    let hand : Option Hand = in_hand k port (outputs s.setup c port k) in
-    let next : State = record now { hands = set s.hands (index_of s.setup.machine c) hand } in
-    let parts : (is_live_chip s.setup.machine c ≡ true) × (next ≡ t) = if_some (is_live_chip s.setup.machine c) next t moves in
-    let fits : FitsQueue s.setup.capacity (k ∷ rest) = All-at (FitsQueue s.setup.capacity) s.inputs q (k ∷ rest) h.inputs_within at_queue in
-    let kept : IsMesh now = IsMesh-inputs s q rest h (rest_fits s.setup.capacity k rest fits)
-    (λ e d dead inside same. nothing_waited s.inputs q (queue_at s.setup.machine e (ByLink d)) k rest at_queue (h.none_at_dead_ports e d dead inside) same)
-    (λ e dead inside same. nothing_waited s.inputs q (queue_at s.setup.machine e Local) k rest at_queue (h.none_on_dead_chips e dead inside) same) in
-    subst IsMesh parts.1 (IsMesh-hands now c hand kept parts.0
-    (in_hand-fits k port (outputs s.setup c port k) (not_last s.setup c port k (All-head (λ (j : McCopy). j.hop < 2 ^ 32) k rest fits.hops))))
-keeps_taken s t c port (Some None) (Some []) h at_queue moves = cc
-keeps_taken s t c port (Some None) None h at_queue moves = cc
-keeps_taken s t c port (Some (Some held)) queue h at_queue moves = cc
-keeps_taken s t c port None queue h at_queue moves = cc
 
 -- behind a router a hop number is of 32 bits again
 pub onward_below : (k : McCopy) → (onward k).hop < 2 ^ 32
@@ -190,50 +148,42 @@ IsMesh-after_serving s c o held h at serving =
     let fits : FitsHand held = All-at (λ (x : Option Hand). IfSome x FitsHand) s.hands (index_of s.setup.machine c) (Some held) h.hands_fit at in
     IsMesh-hands s c (in_hand held.copy held.port (outs_without o held.outs)) h live (in_hand-fits held.copy held.port (outs_without o held.outs) (λ some. fits.hop))
 
-keeps_sent : (s t : State) (c : Chip) (o : Out) (hand : Option (Option Hand)) → IsMesh s → slice_get s.hands (index_of s.setup.machine c) ≡ hand → send_of s c o hand ≡ Some t → IsMesh t
-keeps_sent s t c o (Some (Some held)) h at moves =
+-- what a hand holds changes no room
+room_after : (s : State) (c : Chip) (o : Out) (held : Hand) (b : Queue) → has_room_behind s b ≡ true → has_room_behind (after_serving s c o held) b ≡ true
+room_after s c o held (input i) room = room
+room_after s c o held (core v) room = room
+room_after s c o held nowhere room = room
+
+IsMesh-found : (s t : State) (e : Event) → IsMesh s → FoundBy s e t → IsMesh t
+IsMesh-found s t (Inject v) h (spot, k, rest, at_spot, at_unsent, room, is) =
+    let now : State = record s { unsent = set s.unsent v rest } in
+    let at_start : All (λ x. x.hop ≡ 0) (k ∷ rest) = All-at (λ (l : List McCopy). All (λ x. x.hop ≡ 0) l) s.unsent v (k ∷ rest) h.unsent_at_start at_unsent in
+    let none_passed : k.hop ≡ 0 = All-head (λ (x : McCopy). x.hop ≡ 0) k rest at_start in
+    let live = (site_parts s.setup.machine spot (All-at (IsSite s.setup.machine) s.setup.spots v spot h.sites at_spot)).0 in
+    subst IsMesh is (arrived_input now (queue_at s.setup.machine spot.chip Local) k (slice_get s.inputs (queue_at s.setup.machine spot.chip Local))
+    (IsMesh-unsent s v rest h (All-tail (λ (x : McCopy). x.hop ≡ 0) k rest at_start)) refl (may_wait-local s.setup.machine spot.chip live) room (omega (arith, none_passed)))
+IsMesh-found s t (Take c port) h (k, rest, at_hand, at_queue, live, is) =
+    let q : ℕ = queue_at s.setup.machine c port in
+    let now : State = record s { inputs = set s.inputs q rest } in
+    let hand : Option Hand = in_hand k port (outputs s.setup c port k) in
+    let fits : FitsQueue s.setup.capacity (k ∷ rest) = All-at (FitsQueue s.setup.capacity) s.inputs q (k ∷ rest) h.inputs_within at_queue in
+    let kept : IsMesh now = IsMesh-inputs s q rest h (rest_fits s.setup.capacity k rest fits)
+    (λ e d dead inside same. nothing_waited s.inputs q (queue_at s.setup.machine e (ByLink d)) k rest at_queue (h.none_at_dead_ports e d dead inside) same)
+    (λ e dead inside same. nothing_waited s.inputs q (queue_at s.setup.machine e Local) k rest at_queue (h.none_on_dead_chips e dead inside) same) in
+    subst IsMesh is (IsMesh-hands now c hand kept live
+    (in_hand-fits k port (outputs s.setup c port k) (not_last s.setup c port k (All-head (λ (j : McCopy). j.hop < 2 ^ 32) k rest fits.hops))))
+IsMesh-found s t (Send c o) h (held, at, serving, room, is) =
     let to : Queue = behind s.setup c o in
-    let hands : Bool = serves s c o (Some (Some held)) in
-    let next : State = push_behind (after_serving s c o held) to (onward held.copy) in
-    let parts : ((hands && has_room_behind s to) ≡ true) × (next ≡ t) = if_some (hands && has_room_behind s to) next t moves in
-    let both : (hands ≡ true) × (has_room_behind s to ≡ true) = and_parts hands (has_room_behind s to) parts.0 in
-    subst IsMesh parts.1 (IsMesh-push_behind (after_serving s c o held) to (onward held.copy) (IsMesh-after_serving s c o held h at both.0)
-    (may_wait-behind s.setup c o) (room_after s c o held to both.1) (onward_below held.copy))
-  where
-    -- what a hand holds changes no room
-    room_after : (s : State) (c : Chip) (o : Out) (held : Hand) (b : Queue) → has_room_behind s b ≡ true → has_room_behind (after_serving s c o held) b ≡ true
-    room_after s c o held (input i) room = room
-    room_after s c o held (core v) room = room
-    room_after s c o held nowhere room = room
-keeps_sent s t c o (Some None) h at moves = cc
-keeps_sent s t c o None h at moves = cc
-
-keeps_dumped : (s t : State) (c : Chip) (o : Out) (hand : Option (Option Hand)) → IsMesh s → slice_get s.hands (index_of s.setup.machine c) ≡ hand → dump_of s c o hand ≡ Some t → IsMesh t
-keeps_dumped s t c o (Some (Some held)) h at moves =
+    subst IsMesh is (IsMesh-push_behind (after_serving s c o held) to (onward held.copy) (IsMesh-after_serving s c o held h at serving)
+    (may_wait-behind s.setup c o) (room_after s c o held to room) (onward_below held.copy))
+IsMesh-found s t (Dump c o) h (held, at, serving, is) =
     let next : State = after_serving s c o held in
-    let last : State = record next { dumped = next.dumped ++ record { chip = c; out = o; copy = held.copy } ∷ [] } in
-    let asked : Bool = serves s c o (Some (Some held)) && not (has_room_behind s (behind s.setup c o)) in
-    let parts : (asked ≡ true) × (last ≡ t) = if_some asked last t moves in
-    let serving = (and_parts (serves s c o (Some (Some held))) (not (has_room_behind s (behind s.setup c o))) parts.0).0 in
-    subst IsMesh parts.1 (IsMesh-dumped next last.dumped (IsMesh-after_serving s c o held h at serving))
-keeps_dumped s t c o (Some None) h at moves = cc
-keeps_dumped s t c o None h at moves = cc
-
-keeps_collected : (s t : State) (v : ℕ) (queue : Option (List McCopy)) → IsMesh s → slice_get s.cores v ≡ queue → collect_of s v queue ≡ Some t → IsMesh t
-keeps_collected s t v (Some (k ∷ rest)) h at_queue moves =
+    subst IsMesh is (IsMesh-dumped next (next.dumped ++ record { chip = c; out = o; copy = held.copy } ∷ []) (IsMesh-after_serving s c o held h at serving))
+IsMesh-found s t (Collect v) h (k, rest, at_queue, is) =
     let now : State = record s { cores = set s.cores v rest } in
-    let last : State = record now { delivered = s.delivered ++ record { vertex = v; copy = k } ∷ [] } in
-    let same : Some last ≡ Some t = moves in
-    let is : last ≡ t = cc in
     let fits : FitsQueue s.setup.capacity (k ∷ rest) = All-at (FitsQueue s.setup.capacity) s.cores v (k ∷ rest) h.cores_within at_queue in
-    subst IsMesh is (IsMesh-delivered now last.delivered (IsMesh-cores s v rest h (rest_fits s.setup.capacity k rest fits)))
-keeps_collected s t v (Some []) h at_queue moves = cc
-keeps_collected s t v None h at_queue moves = cc
+    subst IsMesh is (IsMesh-delivered now (now.delivered ++ record { vertex = v; copy = k } ∷ []) (IsMesh-cores s v rest h (rest_fits s.setup.capacity k rest fits)))
 
 -- The mesh after an event is one.
 pub IsMesh-step_of : (s t : State) (e : Event) → IsMesh s → step_of s e ≡ Some t → IsMesh t
-IsMesh-step_of s t (Inject v) h moves = keeps_injected s t v (slice_get s.setup.spots v) (slice_get s.unsent v) h refl refl moves
-IsMesh-step_of s t (Take c port) h moves = grind (arith, keeps_taken s t c port (slice_get s.hands (index_of s.setup.machine c)) (slice_get s.inputs (queue_at s.setup.machine c port)) h refl moves)
-IsMesh-step_of s t (Send c o) h moves = keeps_sent s t c o (slice_get s.hands (index_of s.setup.machine c)) h refl moves
-IsMesh-step_of s t (Dump c o) h moves = keeps_dumped s t c o (slice_get s.hands (index_of s.setup.machine c)) h refl moves
-IsMesh-step_of s t (Collect v) h moves = keeps_collected s t v (slice_get s.cores v) h refl moves
+IsMesh-step_of s t e h moves = IsMesh-found s t e h (event_found s t e moves)

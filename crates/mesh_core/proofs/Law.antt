@@ -1,14 +1,14 @@
 -- A move keeps what the ledger says of one net: what comes in the place of a mark stands on the same trails.
 use Rattle.mesh_core.proofs.Common.{All-contains, AllPairs-apart, Among, Bool, ByLink, Chip, ComesBy, ComesIn, Contains, Core, Dir, Edge, Exit, ExitLeads, IsBranch, IsKeyOf, IsLiveLink, IsOutput}
 use Rattle.mesh_core.proofs.Common.{IsSite, IsWayOn, Link, List, Local, Mark, McCopy, NetPlan, None, Option, Out, Port, Route, Some, Spot, State, Station, [], add-zero, all_outs, among_filter}
-use Rattle.mesh_core.proofs.Common.{among_only, and_from, and_parts, ap, arith, arrival_at, at_core, bit_at, both_ways, chip_eq, chip_eq_same, chip_eq_true, comes_by, comes_in_there, count_by}
-use Rattle.mesh_core.proofs.Common.{count_by-cons, count_by-map, count_by-none, delivered, dumped, end_is_no_live_link, eq-eqb, eqb-true, exit_leads, exit_of, false, far_of, get_or_from_slice_get}
-use Rattle.mesh_core.proofs.Common.{has, if◌then◌else◌, in_hand, in_queue, inl, inr, is_live_link, is_on_trail, is_wanted, last_hop, leaves_there, length, lookup, ltb-false, ltb-true, map, min}
-use Rattle.mesh_core.proofs.Common.{nat_lt, no_high_bit, on_trail, one_edge_into, onward, opposite_of, out_eq, out_eq_same, out_eq_true, out_of, outputs, outs_of, outs_once, port_eq, port_eq_same}
-use Rattle.mesh_core.proofs.Common.{port_eq_true, refl, same_exit, same_site, slice_get, slice_get_there, slice_get_within, subst, suc, sym, table_at, true, unsent, vertex_behind, ℕ, ◌&&◌, ◌+◌, ◌<◌}
-use Rattle.mesh_core.proofs.Common.{◌==◌, ◌∙◌, ◌∷◌, ◌≡◌, ◌≤◌}
-use Rattle.mesh_core.proofs.{Moves.mark, Moves.Crosses, Moves.IsMove, Moves.IsMoveOf, Ways.Stands, Ways.vertex_at_stands, Ways.vertex_there, Ways.vertex_behind_stands, Ways.target_site}
-use Rattle.mesh_core.proofs.Ways.{short_branch, onward_hop, one_place, branch_comes_in, exit_wanted, exit_is_output, wanted_on_branch}
+use Rattle.mesh_core.proofs.Common.{among_map, among_only, and_from, and_parts, ap, arith, arrival_at, at_core, bit_at, both_ways, chip_eq, chip_eq_same, chip_eq_true, comes_by, comes_in_there}
+use Rattle.mesh_core.proofs.Common.{count_by, count_by-cons, count_by-map, count_by-none, delivered, dumped, end_is_no_live_link, eq-eqb, eqb-true, exit_leads, exit_of, false, far_of}
+use Rattle.mesh_core.proofs.Common.{get_or_from_slice_get, has, if◌then◌else◌, in_hand, in_queue, inl, inr, is_live_link, is_on_trail, is_wanted, last_hop, leaves_there, length, lookup, ltb-false}
+use Rattle.mesh_core.proofs.Common.{ltb-true, map, min, nat_lt, no_high_bit, on_trail, one_edge_into, onward, opposite_of, out_eq, out_eq_same, out_eq_true, out_of, outputs, outs_of, outs_once}
+use Rattle.mesh_core.proofs.Common.{port_eq, port_eq_same, port_eq_true, refl, same_exit, same_site, slice_get, slice_get_there, slice_get_within, subst, suc, sym, table_at, true, unsent}
+use Rattle.mesh_core.proofs.Common.{vertex_behind, ℕ, ◌&&◌, ◌+◌, ◌<◌, ◌==◌, ◌∙◌, ◌∷◌, ◌≡◌, ◌≤◌}
+use Rattle.mesh_core.proofs.{Moves.alone_or_taken, Moves.mark, Moves.Crosses, Moves.IsMove, Moves.IsMoveOf, Counting.counted, Ways.OnSomeTrail, Ways.Stands, Ways.vertex_at_stands, Ways.vertex_there}
+use Rattle.mesh_core.proofs.Ways.{vertex_behind_stands, target_site, short_branch, onward_hop, one_place, branch_comes_in, exit_wanted, exit_is_output, wanted_on_branch}
 
 -- ---- what the tests on a trail say
 
@@ -102,6 +102,16 @@ module _ (s : State) (net : NetPlan) (stands : Stands s net) where
     where
       not_last : (n : ℕ) → n < 4096 → (n == last_hop) ≡ false
       not_last n few = grind arith
+
+  -- what lookup gives where a trail comes in is what the net wants there
+  routed : (t : Spot) (xs : List Exit) (from to : ℕ) → Way t xs from to → (c : Chip) (port : Port) (k : McCopy) → IsKeyOf net.block k.key →
+      ComesThere xs k.hop c port → (o : Out) → IsOutput o → has (lookup (table_at s.setup.machine s.setup.tables c) k.key port) o ≡ is_wanted net.tree.edges net.targets c o
+  routed t xs from to w c port k is_key there o valid =
+      let comes_in : ComesIn s.setup.machine net.tree.root net.tree.edges c port =
+      subst (λ (d : Chip). ComesIn s.setup.machine net.tree.root net.tree.edges d port) there.chip
+      (subst (λ (p : Port). ComesIn s.setup.machine net.tree.root net.tree.edges there.exit.chip p) there.port_is
+      (branch_comes_in s net t xs w.is_branch k.hop there.exit there.at)) in
+      stands.right c port k.key o comes_in is_key valid
 
   -- Inject: the first place of every branch is the injection queue of the source's chip.
   inject_on : (t u : Spot) (xs ys : List Exit) (from from' to to' : ℕ) → Way t xs from to → Way u ys from' to' →
@@ -273,12 +283,6 @@ module _ (s : State) (net : NetPlan) (stands : Stands s net) where
       there : ComesThere xs k.hop c port
       there = comes_parts xs k.hop c port on
 
-      comes_in : ComesIn s.setup.machine net.tree.root net.tree.edges c port
-      comes_in =
-          subst (λ (d : Chip). ComesIn s.setup.machine net.tree.root net.tree.edges d port) there.chip
-          (subst (λ (p : Port). ComesIn s.setup.machine net.tree.root net.tree.edges there.exit.chip p) there.port_is
-          (branch_comes_in s net t xs w.is_branch k.hop there.exit there.at))
-
       by_chip : (x : Exit) → slice_get ys k.hop ≡ Some x → (here : Bool) → chip_eq x.chip c ≡ here →
           count_by (λ o. here && out_eq x.out o) (outs_of route) ≡ (if here && port_eq (arrival_at ys k.hop) port then 1 else 0)
       by_chip x at false other = count_by-none (outs_of route)
@@ -287,8 +291,7 @@ module _ (s : State) (net : NetPlan) (stands : Stands s net) where
           let valid : IsOutput x.out = exit_is_output s net u ys w'.is_branch k.hop x at in
           let wanted : is_wanted net.tree.edges net.targets x.chip x.out ≡ true = exit_wanted s net u w'.is_target ys w'.is_branch k.hop x at in
           let given : has route x.out ≡ true =
-          stands.right c port k.key x.out comes_in is_key valid
-          ∙ (ap (λ (d : Chip). is_wanted net.tree.edges net.targets d x.out) (sym x_c) ∙ wanted) in
+          routed t xs from to w c port k is_key there x.out valid ∙ (ap (λ (d : Chip). is_wanted net.tree.edges net.targets d x.out) (sym x_c) ∙ wanted) in
           let one = one_place s net stands t u xs ys w.is_branch w'.is_branch k.hop k.hop there.exit x there.at at (there.chip ∙ sym x_c) in
           let arrives : port_eq (arrival_at ys k.hop) port ≡ true = ap (λ (p : Port). port_eq p port) (sym one.1 ∙ there.port_is) ∙ port_eq_same port in
           outs_once route x.out valid ∙ (ap (λ b. if b then 1 else 0) given ∙ ap (λ b. if b then 1 else 0) (sym arrives))
@@ -339,30 +342,17 @@ module _ (s : State) (net : NetPlan) (stands : Stands s net) where
       by_station k (delivered v) m key on' = absurd m
       by_station k (dumped c o) m key on' = crossing k c o m on'
 
-  -- a mark stands on some trail of the net
-  pub record OnSomeTrail (y : Mark) : Type 0 where
-    pub target : Spot
-    pub branch : List Exit
-    pub from : ℕ
-    pub to : ℕ
-    pub way : IsWayOn s.setup.machine s.setup.spots net target branch from to
-    pub on : is_on_trail from to branch y ≡ true
-
   -- an output that lookup gives at a chip where a branch comes in lies on some branch, at the same place
   gives_trail : (t : Spot) (xs : List Exit) (from to : ℕ) → Way t xs from to → (c : Chip) (port : Port) (k : McCopy) →
       IsKeyOf net.block k.key → on_trail from to xs k.hop (in_queue c port) ≡ true → (o : Out) → Among o (outputs s.setup c port k) →
-      OnSomeTrail (mark k (in_hand c o))
+      OnSomeTrail s net (mark k (in_hand c o))
   gives_trail t xs from to w c port k is_key on o given =
       let there : ComesThere xs k.hop c port = comes_parts xs k.hop c port on in
       let route : Route = lookup (table_at s.setup.machine s.setup.tables c) k.key port in
       let in_route : Among o (outs_of route) = subst (λ (l : List Out). Among o l) (outputs_are t xs from to w c port k on) given in
       let has_it : has route o ≡ true = (among_filter (has route) o all_outs in_route).1 in
-      let comes_in : ComesIn s.setup.machine net.tree.root net.tree.edges c port =
-      subst (λ (d : Chip). ComesIn s.setup.machine net.tree.root net.tree.edges d port) there.chip
-      (subst (λ (p : Port). ComesIn s.setup.machine net.tree.root net.tree.edges there.exit.chip p) there.port_is
-      (branch_comes_in s net t xs w.is_branch k.hop there.exit there.at)) in
       let wanted : is_wanted net.tree.edges net.targets c o ≡ true =
-      sym (stands.right c port k.key o comes_in is_key (has_is_output route o has_it)) ∙ has_it in
+      sym (routed t xs from to w c port k is_key there o (has_is_output route o has_it)) ∙ has_it in
       let other = wanted_on_branch s net stands (record { chip = c; out = o }) wanted in
       let one = one_place s net stands t other.target xs other.branch w.is_branch other.is_branch k.hop other.place there.exit
       (record { chip = c; out = o }) there.at other.at there.chip in
@@ -381,44 +371,30 @@ module _ (s : State) (net : NetPlan) (stands : Stands s net) where
     pub packet : y.copy.packet ≡ x.copy.packet
     pub key : y.copy.key ≡ x.copy.key
     pub payload : y.copy.payload ≡ x.copy.payload
-    pub trail : OnSomeTrail y
+    pub trail : OnSomeTrail s net y
 
   pub move_comes : (t : Spot) (xs : List Exit) (from to : ℕ) → Way t xs from to → (x : Mark) (come : List Mark) →
       IsMove s x come → IsKeyOf net.block x.copy.key → is_on_trail from to xs x ≡ true → (y : Mark) → Among y come → ComesRight x y
-  move_comes t xs from to w x come move is_key on y is_come = by_station x.copy x.station move is_key on
-    where
-      -- the one mark that comes is on the trail of the one that leaves
-      here : (z : Mark) → is_on_trail from to xs z ≡ true → OnSomeTrail z
-      here z on' = record { target = t; branch = xs; from = from; to = to; way = w; on = on' }
-
-      -- the one mark that comes is this one
-      one : (k : McCopy) (at : Station) (z : Mark) → come ≡ z ∷ [] → z.copy.packet ≡ k.packet → z.copy.key ≡ k.key → z.copy.payload ≡ k.payload →
-          is_on_trail from to xs z ≡ true → ComesRight (mark k at) y
-      one k at z e packet key payload on' = grind (arith, among_only z y come e is_come, mark k at)
-
-      crossing : (k : McCopy) (c : Chip) (o : Out) (at : Station) → Crosses s k c o come → on_trail from to xs k.hop (in_hand c o) ≡ true → ComesRight (mark k at) y
-      crossing k c o at (inl (d, e, is_link, live, far, comes)) on' =
-          let on_link : on_trail from to xs k.hop (in_hand c (Link d)) ≡ true = ap (λ (q : Out). on_trail from to xs k.hop (in_hand c q)) (sym is_link) ∙ on' in
-          one k at (mark (onward k) (in_queue e (ByLink (opposite_of d)))) comes refl refl refl
-          (link_on t t xs xs from from to to w w c e d k.hop live far on_link ∙ on_link)
-      crossing k c o at (inr (v, dead, vertex, comes)) on' =
-          one k at (mark (onward k) (at_core v)) comes refl refl refl
-          (end_on t t xs xs from from to to w w c o v k.hop dead vertex on' ∙ on')
-
-      taking : (k : McCopy) (c : Chip) (port : Port) → IsKeyOf net.block k.key → on_trail from to xs k.hop (in_queue c port) ≡ true →
-          (os : List Out) → Among y (map (λ o. mark k (in_hand c o)) os) → ((o : Out) → Among o os → Among o (outputs s.setup c port k)) →
-          ComesRight (mark k (in_queue c port)) y
-      taking k c port key on' [] a within = absurd a
-      taking k c port key on' (o ∷ os) (inl same) within = grind (arith, mark k (in_queue c port), gives_trail t xs from to w c port k key on' o (within o (inl refl)))
-      taking k c port key on' (o ∷ os) (inr later) within = taking k c port key on' os later (λ p a. within p (inr a))
-
-      by_station : (k : McCopy) (at : Station) → IsMoveOf s k at come → IsKeyOf net.block k.key → on_trail from to xs k.hop at ≡ true → ComesRight (mark k at) y
-      by_station k (unsent v) m key on' =
-          one k (unsent v) (mark k (in_queue m.0.chip Local)) m.2 refl refl refl
-          (inject_on t t xs xs from from to to w w v m.0 k.hop m.1 on' ∙ on')
-      by_station k (in_queue c port) m key on' = grind (arith, taking, Among)
-      by_station k (in_hand c o) (inl m) key on' = one k (in_hand c o) (mark k (dumped c o)) m refl refl refl on'
-      by_station k (in_hand c o) (inr m) key on' = crossing k c o (in_hand c o) m on'
-      by_station k (at_core v) m key on' = one k (at_core v) (mark k (delivered v)) m refl refl refl on'
-      by_station k (delivered v) m key on' = absurd m
-      by_station k (dumped c o) m key on' = crossing k c o (dumped c o) m on'
+  move_comes t xs from to w x come move is_key on y is_come = elim (alone_or_taken s x.copy x.station come move) [
+    | inl one ↦
+        -- it is on the trail of the one that leaves, since one is
+        let counts : count_by (is_on_trail from to xs) come ≡ 1 = move_counts t t xs xs from from to to w w x come move is_key on ∙ ap (λ b. if b then 1 else 0) on in
+        let found = counted (is_on_trail from to xs) come (omega (arith, counts)) in
+        let here : y ≡ one.comes = among_only one.comes y come one.alone is_come in
+        let same : found.0 ≡ y = among_only one.comes found.0 come one.alone found.1 ∙ sym here in
+        record {
+          packet = ap (λ (z : Mark). z.copy.packet) here ∙ one.packet;
+          key = ap (λ (z : Mark). z.copy.key) here ∙ one.key;
+          payload = ap (λ (z : Mark). z.copy.payload) here ∙ one.payload;
+          trail = record { target = t; branch = xs; from = from; to = to; way = w; on = ap (is_on_trail from to xs) (sym same) ∙ found.2 };
+        }
+    | inr (c, port, at, are) ↦
+        let taken = among_map (λ o. mark x.copy (in_hand c o)) y (outputs s.setup c port x.copy) (subst (λ (l : List Mark). Among y l) are is_come) in
+        let there : on_trail from to xs x.copy.hop (in_queue c port) ≡ true = ap (on_trail from to xs x.copy.hop) (sym at) ∙ on in
+        record {
+          packet = ap (λ (z : Mark). z.copy.packet) taken.2;
+          key = ap (λ (z : Mark). z.copy.key) taken.2;
+          payload = ap (λ (z : Mark). z.copy.payload) taken.2;
+          trail = subst (λ (z : Mark). OnSomeTrail s net z) (sym taken.2) (gives_trail t xs from to w c port x.copy is_key there taken.0 taken.1);
+        }
+  ]

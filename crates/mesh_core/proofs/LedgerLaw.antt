@@ -5,7 +5,7 @@ use Rattle.mesh_core.proofs.Common.{count_by-none, count_put_in, count_taken_out
 use Rattle.mesh_core.proofs.Common.{is_packet_on_trail, last_hop, length, marks_of, on_trail, refl, slice_get_within, slice_index_or, subst, suc, sym, true, unsent, zero, ℕ, ◌&&◌, ◌+◌, ◌<◌, ◌==◌, ◌∙◌}
 use Rattle.mesh_core.proofs.Common.{◌∷◌, ◌≡◌, ◌≤◌, ◌⊎◌}
 use Rattle.mesh_core.proofs.{Counting.counts_one, Counting.count_some, Counting.counted, Counting.count_agree, Moves.Exchange, Moves.IsMove, MarkTests.mark_eq, MarkTests.mark_eq_same}
-use Rattle.mesh_core.proofs.{MarkTests.mark_eq_true, MarkTests.rank, MarkTests.move_raises, Ways.Stands, Ways.short_branch, Law.OnSomeTrail, Law.move_comes, Law.move_counts, Law.comes_parts}
+use Rattle.mesh_core.proofs.{MarkTests.mark_eq_true, MarkTests.rank, MarkTests.move_raises, Ways.Stands, Ways.short_branch, Ways.OnSomeTrail, Law.move_comes, Law.move_counts, Law.comes_parts}
 use Rattle.mesh_core.proofs.Law.{leaves_parts}
 
 -- ---- the net of a key
@@ -15,19 +15,14 @@ pub one_net : (nets : List NetPlan) → HaveDisjointBlocks nets → (a b : NetPl
     IsKeyOf a.block key → IsKeyOf b.block key → a ≡ b
 one_net nets disjoint a b in_a in_b key key_a key_b = elim (cases_order in_a.0 in_b.0) [
   | inl same ↦ sym in_a.2 ∙ (ap (λ k. slice_index_or nets k a) same ∙ (get_or_default nets in_b.0 a b in_b.1 ∙ in_b.2))
-  | inr (inl before) ↦
-      let first : slice_index_or nets in_a.0 a ≡ a = in_a.2 in
-      let second : slice_index_or nets in_b.0 a ≡ b = get_or_default nets in_b.0 a b in_b.1 ∙ in_b.2 in
-      absurd (disjoint in_a.0 in_b.0 a before in_b.1 key
-      (subst (λ (n : NetPlan). IsKeyOf n.block key) (sym first) key_a)
-      (subst (λ (n : NetPlan). IsKeyOf n.block key) (sym second) key_b))
-  | inr (inr after) ↦
-      let first : slice_index_or nets in_b.0 b ≡ b = in_b.2 in
-      let second : slice_index_or nets in_a.0 b ≡ a = get_or_default nets in_a.0 b a in_a.1 ∙ in_a.2 in
-      absurd (disjoint in_b.0 in_a.0 b after in_a.1 key
-      (subst (λ (n : NetPlan). IsKeyOf n.block key) (sym first) key_b)
-      (subst (λ (n : NetPlan). IsKeyOf n.block key) (sym second) key_a))
+  | inr (inl before) ↦ absurd (never a b in_a in_b before key_a key_b)
+  | inr (inr after) ↦ absurd (never b a in_b in_a after key_b key_a)
 ]
+  where
+    never : (x y : NetPlan) (in_x : Contains nets x) (in_y : Contains nets y) → in_x.0 < in_y.0 → IsKeyOf x.block key → IsKeyOf y.block key → ⊥
+    never x y in_x in_y before key_x key_y =
+        disjoint in_x.0 in_y.0 x before in_y.1 key (subst (λ (n : NetPlan). IsKeyOf n.block key) (sym in_x.2) key_x)
+        (subst (λ (n : NetPlan). IsKeyOf n.block key) (sym (get_or_default nets in_y.0 x y in_y.1 ∙ in_y.2)) key_y)
 
 -- ---- counts of one packet
 
@@ -112,7 +107,7 @@ module _ (s t : State) (nets : List NetPlan) (labels : ℕ → Label)
     pub net : NetPlan
     pub in_nets : Contains nets net
     pub is_key : IsKeyOf net.block k.copy.key
-    pub trail : OnSomeTrail s net (stands net in_nets) k
+    pub trail : OnSomeTrail s net k
     pub origin : Mark
     pub was_there : Contains (marks_of s) origin
     pub same_packet : origin.copy.packet ≡ k.copy.packet

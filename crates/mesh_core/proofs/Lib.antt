@@ -3,6 +3,7 @@ pub mod AskedPackets
 pub mod Changes
 pub mod Counting
 pub mod DeliveredLaw
+mod Enabled
 pub mod Events
 pub mod EventsLaw
 mod ExpectedCount
@@ -17,6 +18,7 @@ pub mod Law
 pub mod LedgerLaw
 pub mod MarkTests
 pub mod Moves
+mod Named
 mod NoDump
 mod OneWay
 pub mod OpenedLaw
@@ -28,8 +30,8 @@ pub mod RoomyRuns
 mod Searching
 pub mod ServingLaws
 pub mod Standing
-mod StepLedger
 mod StepParts
+mod Tracked
 pub mod VertexTableLaws
 mod WalkingUp
 pub mod Ways

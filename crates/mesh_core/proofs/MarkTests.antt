@@ -1,8 +1,8 @@
 -- A test of equality on marks, and a number that each move raises.
-use Rattle.mesh_core.proofs.Common.{Among, Bool, ByLink, Chip, List, Local, Mark, McCopy, None, Option, Out, Port, Some, State, Station, [], among_only, and_from, and_parts, ap, arith, at_core}
+use Rattle.mesh_core.proofs.Common.{Among, Bool, ByLink, Chip, List, Local, Mark, McCopy, None, Option, Out, Some, State, Station, [], among_map, among_only, and_from, and_parts, ap, arith, at_core}
 use Rattle.mesh_core.proofs.Common.{chip_eq, chip_eq_same, chip_eq_true, delivered, dumped, eq-eqb, eqb-true, false, if◌then◌else◌, in_hand, in_queue, inl, inr, last_hop, lookup, map, min, onward}
-use Rattle.mesh_core.proofs.Common.{opposite_of, out_eq, out_eq_same, out_eq_true, outs_of, port_eq, port_eq_same, port_eq_true, refl, subst, sym, table_at, true, unsent, ℕ, ◌&&◌, ◌*◌, ◌+◌, ◌<◌, ◌==◌}
-use Rattle.mesh_core.proofs.Common.{◌∷◌, ◌≡◌, ◌≤◌}
+use Rattle.mesh_core.proofs.Common.{opposite_of, out_eq, out_eq_same, out_eq_true, outs_of, port_eq, port_eq_same, port_eq_true, refl, subst, sym, table_at, true, unsent, ℕ, ◌&&◌, ◌*◌, ◌+◌, ◌-◌, ◌<◌}
+use Rattle.mesh_core.proofs.Common.{◌==◌, ◌∷◌, ◌≡◌, ◌≤◌}
 use Rattle.mesh_core.proofs.Moves.{mark, IsMove, IsMoveOf, Crosses}
 
 payload_eq : Option ℕ → Option ℕ → Bool
@@ -41,7 +41,7 @@ station_same (at_core v) = eq-eqb v v refl
 station_same (delivered v) = eq-eqb v v refl
 station_same (dumped c o) = and_from (chip_eq c c) (out_eq o o) (chip_eq_same c) (out_eq_same o)
 
-two_alike : {A B C : Type 0} (f : A → B → C) (a a' : A) (b b' : B) → a ≡ a' → b ≡ b' → f a b ≡ f a' b'
+pub two_alike : {A B C : Type 0} (f : A → B → C) (a a' : A) (b b' : B) → a ≡ a' → b ≡ b' → f a b ≡ f a' b'
 two_alike f a a' b b' e e' = cc
 
 station_true : (a b : Station) → station_eq a b ≡ true → a ≡ b
@@ -57,7 +57,7 @@ station_true _ _ e = cc
 copy_eq : McCopy → McCopy → Bool
 copy_eq a b = (a.packet == b.packet) && ((a.key == b.key) && (payload_eq a.payload b.payload && (a.hop == b.hop)))
 
-copies_alike : (n n' k k' h h' : ℕ) (p p' : Option ℕ) → n ≡ n' → k ≡ k' → p ≡ p' → h ≡ h' →
+pub copies_alike : (n n' k k' h h' : ℕ) (p p' : Option ℕ) → n ≡ n' → k ≡ k' → p ≡ p' → h ≡ h' →
     (let a : McCopy = record { packet = n; key = k; payload = p; hop = h } in let b : McCopy = record { packet = n'; key = k'; payload = p'; hop = h' } in a ≡ b)
 copies_alike n n' k k' h h' p p' e f g i = cc
 
@@ -89,89 +89,48 @@ mark_eq_true a b e =
 
 -- ---- a number that each move raises
 
--- how far a station is on, at one hop number; at the greatest hop number hands and dump records come before the queues
-abbrev stage : Bool → Station → ℕ
-stage last (unsent v) = 0
-stage true (in_queue c p) = 3
-stage false (in_queue c p) = 1
-stage true (in_hand c o) = 1
-stage false (in_hand c o) = 2
-stage true (dumped c o) = 2
-stage false (dumped c o) = 3
-stage last (at_core v) = 3
-stage last (delivered v) = 4
+-- how far on a mark is. A hop makes the greatest hop number no greater; there hands and dump records come before the queues.
+abbrev rank_at : ℕ → Station → ℕ
+rank_at hop (unsent v) = 5 * hop
+rank_at hop (in_queue c p) = 5 * hop + 1
+rank_at hop (in_hand c o) = min (5 * hop + 2) (5 * last_hop - 1)
+rank_at hop (dumped c o) = min (5 * hop + 3) (5 * last_hop)
+rank_at hop (at_core v) = 5 * hop + 3
+rank_at hop (delivered v) = 5 * hop + 4
 
 pub rank : Mark → ℕ
-rank x = 5 * x.copy.hop + stage (x.copy.hop == last_hop) x.station
-
--- a station further on, of the same copy
-same_copy_raises : (k : McCopy) (at to : Station) → ((last : Bool) → stage last at < stage last to) → rank (mark k at) < rank (mark k to)
-unfolding rank
-same_copy_raises k at to further = let more = further (k.hop == last_hop) in omega arith
-
-queue_raises : (last : Bool) (v : ℕ) (c : Chip) (p : Port) → stage last (unsent v) < stage last (in_queue c p)
-queue_raises true v c p = omega arith
-queue_raises false v c p = omega arith
-
-dump_raises : (last : Bool) (c : Chip) (o : Out) → stage last (in_hand c o) < stage last (dumped c o)
-dump_raises true c o = omega arith
-dump_raises false c o = omega arith
+rank x = rank_at x.copy.hop x.station
 
 -- a hop number that is not the greatest is below it
 pub below_last : (n : ℕ) → n ≤ last_hop → (n == last_hop) ≡ false → n < last_hop
 below_last n within other = grind arith
-
--- a station behind a router, of the copy with one hop more
-onward_raises : (k : McCopy) (at to : Station) → ((last : Bool) → stage last at ≤ 3) → stage true at ≤ 2 → ((last : Bool) → 1 ≤ stage last to) → stage true to ≡ 3 → k.hop ≤ last_hop →
-    (last : Bool) → (k.hop == last_hop) ≡ last → 5 * k.hop + stage last at < 5 * min (k.hop + 1) last_hop + stage (min (k.hop + 1) last_hop == last_hop) to
-onward_raises k at to to_three to_two from_one three within true is = grind (arith, eqb-true, eq-eqb)
-onward_raises k at to to_three to_two from_one three within false is = grind (arith, below_last k.hop within is)
 
 -- each mark that comes is further on than the one that leaves
 pub move_raises : (s : State) (x : Mark) (come : List Mark) → x.copy.hop ≤ last_hop → IsMove s x come → (y : Mark) → Among y come → rank x < rank y
 unfolding rank
 move_raises s x come within move y is_come = by_station x.copy x.station within move
   where
-    one : (k : McCopy) (at to : Station) → come ≡ mark k to ∷ [] → ((last : Bool) → stage last at < stage last to) → rank (mark k at) < rank y
-    one k at to e further = subst (λ (z : Mark). rank (mark k at) < rank z) (sym (among_only (mark k to) y come e is_come)) (same_copy_raises k at to further)
+    one : (n : ℕ) (z : Mark) → come ≡ z ∷ [] → n < rank z → n < rank y
+    one n z e further = subst (λ (m : Mark). n < rank m) (sym (among_only z y come e is_come)) further
 
-    in_queue_stage : (last : Bool) (c : Chip) (p : Port) → 1 ≤ stage last (in_queue c p)
-    in_queue_stage true c p = omega arith
-    in_queue_stage false c p = omega arith
+    crossing : (k : McCopy) (c : Chip) (o : Out) (n : ℕ) → n ≤ 5 * min (k.hop + 1) last_hop → Crosses s k c o come → n < rank y
+    crossing k c o n below (inl (d, e, is_link, live, far, comes)) = one n (mark (onward k) (in_queue e (ByLink (opposite_of d)))) comes (omega (arith, below))
+    crossing k c o n below (inr (v, dead, vertex, comes)) = one n (mark (onward k) (at_core v)) comes (omega (arith, below))
 
-    crossing : (k : McCopy) (c : Chip) (o : Out) (at : Station) → ((last : Bool) → stage last at ≤ 3) → stage true at ≤ 2 → k.hop ≤ last_hop → Crosses s k c o come →
-        rank (mark k at) < rank y
-    crossing k c o at to_three to_two small (inl cross) =
-        let to : Station = in_queue cross.1 (ByLink (opposite_of cross.0)) in
-        subst (λ (z : Mark). rank (mark k at) < rank z) (sym (among_only (mark (onward k) to) y come cross.5 is_come))
-        (onward_raises k at to to_three to_two (λ last. in_queue_stage last cross.1 (ByLink (opposite_of cross.0))) refl small (k.hop == last_hop) refl)
-    crossing k c o at to_three to_two small (inr cross) =
-        subst (λ (z : Mark). rank (mark k at) < rank z) (sym (among_only (mark (onward k) (at_core cross.0)) y come cross.3 is_come))
-        (onward_raises k at (at_core cross.0) to_three to_two (λ last. omega arith) refl small (k.hop == last_hop) refl)
-
-    held_stage : (last : Bool) (c : Chip) (o : Out) → stage last (in_hand c o) ≤ 3
-    held_stage true c o = omega arith
-    held_stage false c o = omega arith
-
-    dumped_stage : (last : Bool) (c : Chip) (o : Out) → stage last (dumped c o) ≤ 3
-    dumped_stage true c o = omega arith
-    dumped_stage false c o = omega arith
-
-    taking : (k : McCopy) (c : Chip) (port : Port) → (last : Bool) → (k.hop == last_hop) ≡ last → (os : List Out) →
-        Among y (map (λ o. mark k (in_hand c o)) (if last then [] else os)) → rank (mark k (in_queue c port)) < rank y
-    taking k c port true is os a = absurd a
-    taking k c port false is [] a = absurd a
-    taking k c port false is (o ∷ os) (inl same) =
-        subst (λ (z : Mark). rank (mark k (in_queue c port)) < rank z) (sym same)
-        (rw is (omega arith))
-    taking k c port false is (o ∷ os) (inr later) = taking k c port false is os later
+    taking : (k : McCopy) (c : Chip) → k.hop ≤ last_hop → (last : Bool) → (k.hop == last_hop) ≡ last → (os : List Out) →
+        Among y (map (λ o. mark k (in_hand c o)) (if last then [] else os)) → 5 * k.hop + 1 < rank y
+    taking k c small true is os a = absurd a
+    taking k c small false is os a =
+        let m = among_map (λ o. mark k (in_hand c o)) y os a in
+        let low : k.hop < last_hop = below_last k.hop small is in
+        subst (λ (z : Mark). 5 * k.hop + 1 < rank z) (sym m.2) (omega (arith, low))
 
     by_station : (k : McCopy) (at : Station) → k.hop ≤ last_hop → IsMoveOf s k at come → rank (mark k at) < rank y
-    by_station k (unsent v) small m = one k (unsent v) (in_queue m.0.chip Local) m.2 (λ last. queue_raises last v m.0.chip Local)
+    by_station k (unsent v) small m = one (5 * k.hop) (mark k (in_queue m.0.chip Local)) m.2 (omega arith)
     by_station k (in_queue c port) small m =
-        taking k c port (k.hop == last_hop) refl (outs_of (lookup (table_at s.setup.machine s.setup.tables c) k.key port)) (subst (λ (l : List Mark). Among y l) m is_come)
-    by_station k (in_hand c o) small (inl m) = one k (in_hand c o) (dumped c o) m (λ last. dump_raises last c o)
-    by_station k (in_hand c o) small (inr m) = crossing k c o (in_hand c o) (λ last. held_stage last c o) (omega arith) small m
-    by_station k (at_core v) small m = one k (at_core v) (delivered v) m (λ last. omega arith)
+        taking k c small (k.hop == last_hop) refl (outs_of (lookup (table_at s.setup.machine s.setup.tables c) k.key port)) (subst (λ (l : List Mark). Among y l) m is_come)
+    by_station k (in_hand c o) small (inl m) = one (min (5 * k.hop + 2) (5 * last_hop - 1)) (mark k (dumped c o)) m (omega arith)
+    by_station k (in_hand c o) small (inr m) = crossing k c o (min (5 * k.hop + 2) (5 * last_hop - 1)) (omega arith) m
+    by_station k (at_core v) small m = one (5 * k.hop + 3) (mark k (delivered v)) m (omega arith)
     by_station k (delivered v) small m = absurd m
-    by_station k (dumped c o) small m = crossing k c o (dumped c o) (λ last. dumped_stage last c o) (omega arith) small m
+    by_station k (dumped c o) small m = crossing k c o (min (5 * k.hop + 3) (5 * last_hop)) (omega arith) m

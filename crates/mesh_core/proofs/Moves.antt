@@ -1,9 +1,9 @@
 -- What one event does to the marks of a mesh: one mark leaves, and others come in its place.
 use Rattle.mesh_core.proofs.Common.{ByLink, Chip, Delivery, Description, Dir, DumpRec, East, Hand, IsInside, IsLiveLink, Link, List, Local, Mark, McCopy, North, NorthEast, Option, Out, Port, PutIn}
 use Rattle.mesh_core.proofs.Common.{Some, South, SouthWest, Spot, State, Station, TakenOut, West, [], all_hand_marks, ap, append-nil, arith, at_core, chip_of, core_marks, delivered, delivered_marks}
-use Rattle.mesh_core.proofs.Common.{dumped, dumped_marks, false, far_of, hand_marks, held_for, in_hand, in_queue, index_of, input_marks, is_live_link, map, map-append, marks_at, marks_of, onward}
-use Rattle.mesh_core.proofs.Common.{opposite_of, outputs, port_number, port_of, put_in_after, put_in_before, put_in_gathered, queue_at, refl, slice_get, slice_set, subst, sym, taken_out_after}
-use Rattle.mesh_core.proofs.Common.{taken_out_before, taken_out_gathered, unsent, unsent_marks, vertex_behind, zero-add, ℕ, ◌%◌, ◌*◌, ◌++◌, ◌+◌, ◌/◌, ◌∙◌, ◌∷◌, ◌≡◌, ◌⊎◌}
+use Rattle.mesh_core.proofs.Common.{dumped, dumped_marks, false, far_of, gathered, hand_marks, held_for, in_hand, in_queue, index_of, inl, input_marks, inr, is_live_link, map, map-append, marks_at}
+use Rattle.mesh_core.proofs.Common.{marks_of, onward, opposite_of, outputs, port_number, port_of, put_in_after, put_in_before, queue_at, refl, slice_get, slice_set, subst, suc, sym, taken_out_after}
+use Rattle.mesh_core.proofs.Common.{taken_out_before, unsent, unsent_marks, vertex_behind, zero, zero-add, ℕ, ◌%◌, ◌*◌, ◌++◌, ◌+◌, ◌/◌, ◌∙◌, ◌∷◌, ◌≡◌, ◌⊎◌}
 pub use Rattle.machine_desc.proofs.Live.{chip_of-index_of}
 use Rattle.mesh_core.proofs.Changes.{port_below}
 
@@ -33,6 +33,30 @@ IsMoveOf s k (dumped c o) ys = Crosses s k c o ys
 abbrev pub IsMove : State → Mark → List Mark → Type 0
 IsMove s x ys = IsMoveOf s x.copy x.station ys
 
+-- what comes alone, of the same packet
+pub record ComesAlone (k : McCopy) (ys : List Mark) : Type 0 where
+  pub comes : Mark
+  pub alone : ys ≡ comes ∷ []
+  pub packet : comes.copy.packet ≡ k.packet
+  pub key : comes.copy.key ≡ k.key
+  pub payload : comes.copy.payload ≡ k.payload
+
+crossed : (s : State) (k : McCopy) (c : Chip) (o : Out) (ys : List Mark) → Crosses s k c o ys → ComesAlone k ys
+crossed s k c o ys (inl (d, e, out, live, far, is)) =
+    record { comes = mark (onward k) (in_queue e (ByLink (opposite_of d))); alone = is; packet = refl; key = refl; payload = refl }
+crossed s k c o ys (inr (v, dead, vertex, is)) = record { comes = mark (onward k) (at_core v); alone = is; packet = refl; key = refl; payload = refl }
+
+-- In the place of a mark comes one alone, or, of one in a queue, one for each output that lookup gives.
+pub alone_or_taken : (s : State) (k : McCopy) (at : Station) (ys : List Mark) → IsMoveOf s k at ys →
+    ComesAlone k ys ⊎ ((c : Chip) × (port : Port) × (at ≡ in_queue c port) × (ys ≡ map (λ o. mark k (in_hand c o)) (outputs s.setup c port k)))
+alone_or_taken s k (unsent v) ys m = inl (record { comes = mark k (in_queue m.0.chip Local); alone = m.2; packet = refl; key = refl; payload = refl })
+alone_or_taken s k (in_queue c port) ys m = inr (c, port, refl, m)
+alone_or_taken s k (in_hand c o) ys (inl m) = inl (record { comes = mark k (dumped c o); alone = m; packet = refl; key = refl; payload = refl })
+alone_or_taken s k (in_hand c o) ys (inr m) = inl (crossed s k c o ys m)
+alone_or_taken s k (at_core v) ys m = inl (record { comes = mark k (delivered v); alone = m; packet = refl; key = refl; payload = refl })
+alone_or_taken s k (delivered v) ys m = absurd m
+alone_or_taken s k (dumped c o) ys m = inl (crossed s k c o ys m)
+
 -- What an event that is enabled does, or putting a copy back: one move.
 pub record Exchange (s t : State) : Type 0 where
   pub leaves : Mark
@@ -60,11 +84,15 @@ station_of_queue m c port inside = grind (arith, port_below port, port_of-port_n
 
 -- ---- parts of the marks
 
-front_out : (at : Station) (k : McCopy) (q : List McCopy) → TakenOut (mark k at) (marks_at at (k ∷ q)) (marks_at at q)
+pub front_out : (at : Station) (k : McCopy) (q : List McCopy) → TakenOut (mark k at) (marks_at at (k ∷ q)) (marks_at at q)
 front_out at k q = record { front = []; back = marks_at at q; before_is = refl; after_is = refl }
 
-back_in : (at : Station) (k : McCopy) (q : List McCopy) → PutIn (mark k at ∷ []) (marks_at at q) (marks_at at (q ++ k ∷ []))
+pub back_in : (at : Station) (k : McCopy) (q : List McCopy) → PutIn (mark k at ∷ []) (marks_at at q) (marks_at at (q ++ k ∷ []))
 back_in at k q = grind (arith, append-nil (marks_at at q), map-append)
+
+-- what comes at the back of a list of made marks
+pub made_in : {X : Type 0} (f : X → Mark) (x : X) (xs : List X) → PutIn (f x ∷ []) (map f xs) (map f (xs ++ x ∷ []))
+made_in f x xs = record { front = map f xs; back = []; before_is = sym (append-nil (map f xs)); after_is = map-append f xs (x ∷ []) }
 
 pub hand_marks-held : (c : Chip) (k : McCopy) (port : Port) (os : List Out) → hand_marks c (held_for k port os) ≡ map (λ o. mark k (in_hand c o)) os
 hand_marks-held c k port [] = refl
@@ -82,134 +110,90 @@ behind_inputs s = all_hand_marks s ++ behind_hands s
 abbrev pub behind_unsent : State → List Mark
 behind_unsent s = input_marks s ++ behind_inputs s
 
-pub unsent_out : (s : State) (v : ℕ) (k : McCopy) (q : List McCopy) → slice_get s.unsent v ≡ Some (k ∷ q) →
-    TakenOut (mark k (unsent v)) (marks_of s) (marks_of (record s { unsent = slice_set s.unsent v q }))
-unsent_out s v k q at =
-    let n_is : v ≡ 0 + v = omega arith in
-    taken_out_before (mark k (unsent v)) (unsent_marks s) (unsent_marks (record s { unsent = slice_set s.unsent v q })) (behind_unsent s)
-    (taken_out_gathered (λ w copies. marks_at (unsent w) copies) (mark k (unsent v)) 0 s.unsent v (k ∷ q) q at
-    (subst (λ n. TakenOut (mark k (unsent v)) (marks_at (unsent n) (k ∷ q)) (marks_at (unsent n) q)) n_is (front_out (unsent v) k q)))
+-- a relation that holds of lists where it holds of a part of them
+pub record HoldsByParts (R : List Mark → List Mark → Type 0) : Type 0 where
+  pub later : (l before after : List Mark) → R before after → R (l ++ before) (l ++ after)
+  pub earlier : (before after r : List Mark) → R before after → R (before ++ r) (after ++ r)
 
-pub input_out : (s : State) (c : Chip) (port : Port) → IsInside s.setup.machine c → (k : McCopy) (q : List McCopy) →
-    slice_get s.inputs (queue_at s.setup.machine c port) ≡ Some (k ∷ q) →
-    TakenOut (mark k (in_queue c port)) (marks_of s) (marks_of (record s { inputs = slice_set s.inputs (queue_at s.setup.machine c port) q }))
-input_out s c port inside k q at =
-    let i = queue_at s.setup.machine c port in
-    let s' : State = record s { inputs = slice_set s.inputs i q } in
-    taken_out_after (mark k (in_queue c port)) (unsent_marks s) (behind_unsent s) (behind_unsent s')
-    (taken_out_before (mark k (in_queue c port)) (input_marks s) (input_marks s') (behind_inputs s)
-    (taken_out_gathered (λ n copies. marks_at (in_queue (chip_of s.setup.machine (n / 7)) (port_of (n % 7))) copies)
-    (mark k (in_queue c port)) 0 s.inputs i (k ∷ q) q at
-    (subst (λ st. TakenOut (mark k (in_queue c port)) (marks_at st (k ∷ q)) (marks_at st q))
-    (sym (station_of_queue s.setup.machine c port inside)) (front_out (in_queue c port) k q))))
+pub taken_by_parts : (x : Mark) → HoldsByParts (TakenOut x)
+taken_by_parts x = record { later = taken_out_after x; earlier = taken_out_before x }
 
-pub input_in : (s : State) (c : Chip) (port : Port) → IsInside s.setup.machine c → (k : McCopy) (q : List McCopy) →
-    slice_get s.inputs (queue_at s.setup.machine c port) ≡ Some q →
-    PutIn (mark k (in_queue c port) ∷ []) (marks_of s) (marks_of (record s { inputs = slice_set s.inputs (queue_at s.setup.machine c port) (q ++ k ∷ []) }))
-input_in s c port inside k q at =
-    let i = queue_at s.setup.machine c port in
-    let s' : State = record s { inputs = slice_set s.inputs i (q ++ k ∷ []) } in
-    put_in_after (mark k (in_queue c port) ∷ []) (unsent_marks s) (behind_unsent s) (behind_unsent s')
-    (put_in_before (mark k (in_queue c port) ∷ []) (input_marks s) (input_marks s') (behind_inputs s)
-    (put_in_gathered (λ n copies. marks_at (in_queue (chip_of s.setup.machine (n / 7)) (port_of (n % 7))) copies)
-    (mark k (in_queue c port) ∷ []) 0 s.inputs i q (q ++ k ∷ []) at
-    (subst (λ st. PutIn (mark k (in_queue c port) ∷ []) (marks_at st q) (marks_at st (q ++ k ∷ [])))
-    (sym (station_of_queue s.setup.machine c port inside)) (back_in (in_queue c port) k q))))
+pub put_by_parts : (xs : List Mark) → HoldsByParts (PutIn xs)
+put_by_parts xs = record { later = put_in_after xs; earlier = put_in_before xs }
 
--- the same for the hands: a hand's marks change as the hand does
-pub hand_out : (s : State) (c : Chip) → IsInside s.setup.machine c → (old new : Option Hand) (x : Mark) →
-    slice_get s.hands (index_of s.setup.machine c) ≡ Some old → TakenOut x (hand_marks c old) (hand_marks c new) →
-    TakenOut x (marks_of s) (marks_of (record s { hands = slice_set s.hands (index_of s.setup.machine c) new }))
-hand_out s c inside old new x at t =
-    let i = index_of s.setup.machine c in
-    let s' : State = record s { hands = slice_set s.hands i new } in
-    let n_is : chip_of s.setup.machine (0 + i) ≡ c = ap (chip_of s.setup.machine) (zero-add i) ∙ chip_of-index_of s.setup.machine c inside in
-    taken_out_after x (unsent_marks s) (behind_unsent s) (behind_unsent s')
-    (taken_out_after x (input_marks s) (behind_inputs s) (behind_inputs s')
-    (taken_out_before x (all_hand_marks s) (all_hand_marks s') (behind_hands s)
-    (taken_out_gathered (λ n h. hand_marks (chip_of s.setup.machine n) h) x 0 s.hands i old new at
-    (subst (λ d. TakenOut x (hand_marks d old) (hand_marks d new)) (sym n_is) t))))
+module _ (R : List Mark → List Mark → Type 0) (parts : HoldsByParts R) where
+  -- what is made of one item changes, so what is made of the list
+  made_changes : {X : Type 0} (f : ℕ → X → List Mark) (i : ℕ) (xs : List X) (j : ℕ) (old new : X) → slice_get xs j ≡ Some old →
+      R (f (i + j) old) (f (i + j) new) → R (gathered f i xs) (gathered f i (slice_set xs j new))
+  made_changes f i [] j old new at r = cc
+  made_changes {X} f i (x ∷ xs) zero old new at r =
+      let same : x ≡ old = cc in
+      let n_is : i + 0 ≡ i = omega arith in
+      parts.earlier (f i x) (f i new) (gathered f (i + 1) xs) (subst (λ (y : X). R (f i y) (f i new)) (sym same) (subst (λ n. R (f n old) (f n new)) n_is r))
+  made_changes f i (x ∷ xs) (suc j) old new at r =
+      let n_is : i + suc j ≡ (i + 1) + j = omega arith in
+      parts.later (f i x) (gathered f (i + 1) xs) (gathered f (i + 1) (slice_set xs j new))
+      (made_changes f (i + 1) xs j old new at (subst (λ n. R (f n old) (f n new)) n_is r))
 
-pub hand_in : (s : State) (c : Chip) → IsInside s.setup.machine c → (old new : Option Hand) (xs : List Mark) →
-    slice_get s.hands (index_of s.setup.machine c) ≡ Some old → PutIn xs (hand_marks c old) (hand_marks c new) →
-    PutIn xs (marks_of s) (marks_of (record s { hands = slice_set s.hands (index_of s.setup.machine c) new }))
-hand_in s c inside old new xs at t =
-    let i = index_of s.setup.machine c in
-    let s' : State = record s { hands = slice_set s.hands i new } in
-    let n_is : chip_of s.setup.machine (0 + i) ≡ c = ap (chip_of s.setup.machine) (zero-add i) ∙ chip_of-index_of s.setup.machine c inside in
-    put_in_after xs (unsent_marks s) (behind_unsent s) (behind_unsent s')
-    (put_in_after xs (input_marks s) (behind_inputs s) (behind_inputs s') (put_in_before xs (all_hand_marks s) (all_hand_marks s') (behind_hands s)
-    (put_in_gathered (λ n h. hand_marks (chip_of s.setup.machine n) h) xs 0 s.hands i old new at
-    (subst (λ d. PutIn xs (hand_marks d old) (hand_marks d new)) (sym n_is) t))))
+  third_later : (a b c before after : List Mark) → R before after → R (a ++ (b ++ (c ++ before))) (a ++ (b ++ (c ++ after)))
+  third_later a b c before after r =
+      parts.later a (b ++ (c ++ before)) (b ++ (c ++ after)) (parts.later b (c ++ before) (c ++ after) (parts.later c before after r))
 
-pub core_out : (s : State) (v : ℕ) (k : McCopy) (q : List McCopy) → slice_get s.cores v ≡ Some (k ∷ q) →
-    TakenOut (mark k (at_core v)) (marks_of s) (marks_of (record s { cores = slice_set s.cores v q }))
-core_out s v k q at =
-    let s' : State = record s { cores = slice_set s.cores v q } in
-    let x = mark k (at_core v) in
-    let n_is : v ≡ 0 + v = omega arith in
-    taken_out_after x (unsent_marks s) (behind_unsent s) (behind_unsent s')
-    (taken_out_after x (input_marks s) (behind_inputs s) (behind_inputs s') (taken_out_after x (all_hand_marks s) (behind_hands s) (behind_hands s')
-    (taken_out_before x (core_marks s) (core_marks s') (delivered_marks s ++ dumped_marks s)
-    (taken_out_gathered (λ w copies. marks_at (at_core w) copies) x 0 s.cores v (k ∷ q) q at
-    (subst (λ n. TakenOut x (marks_at (at_core n) (k ∷ q)) (marks_at (at_core n) q)) n_is (front_out (at_core v) k q))))))
+  pub unsent_changes : (s : State) (v : ℕ) (old new : List McCopy) → slice_get s.unsent v ≡ Some old →
+      R (marks_at (unsent v) old) (marks_at (unsent v) new) → R (marks_of s) (marks_of (record s { unsent = slice_set s.unsent v new }))
+  unsent_changes s v old new at r =
+      let n_is : v ≡ 0 + v = omega arith in
+      parts.earlier (unsent_marks s) (unsent_marks (record s { unsent = slice_set s.unsent v new })) (behind_unsent s)
+      (made_changes (λ w copies. marks_at (unsent w) copies) 0 s.unsent v old new at (subst (λ n. R (marks_at (unsent n) old) (marks_at (unsent n) new)) n_is r))
 
-pub core_in : (s : State) (v : ℕ) (k : McCopy) (q : List McCopy) → slice_get s.cores v ≡ Some q →
-    PutIn (mark k (at_core v) ∷ []) (marks_of s) (marks_of (record s { cores = slice_set s.cores v (q ++ k ∷ []) }))
-core_in s v k q at =
-    let s' : State = record s { cores = slice_set s.cores v (q ++ k ∷ []) } in
-    let xs = mark k (at_core v) ∷ [] in
-    let n_is : v ≡ 0 + v = omega arith in
-    put_in_after xs (unsent_marks s) (behind_unsent s) (behind_unsent s')
-    (put_in_after xs (input_marks s) (behind_inputs s) (behind_inputs s') (put_in_after xs (all_hand_marks s) (behind_hands s) (behind_hands s')
-    (put_in_before xs (core_marks s) (core_marks s') (delivered_marks s ++ dumped_marks s)
-    (put_in_gathered (λ w copies. marks_at (at_core w) copies) xs 0 s.cores v q (q ++ k ∷ []) at
-    (subst (λ n. PutIn xs (marks_at (at_core n) q) (marks_at (at_core n) (q ++ k ∷ []))) n_is (back_in (at_core v) k q))))))
+  pub inputs_change : (s : State) (c : Chip) (port : Port) → IsInside s.setup.machine c → (old new : List McCopy) →
+      slice_get s.inputs (queue_at s.setup.machine c port) ≡ Some old → R (marks_at (in_queue c port) old) (marks_at (in_queue c port) new) →
+      R (marks_of s) (marks_of (record s { inputs = slice_set s.inputs (queue_at s.setup.machine c port) new }))
+  inputs_change s c port inside old new at r =
+      let s' : State = record s { inputs = slice_set s.inputs (queue_at s.setup.machine c port) new } in
+      parts.later (unsent_marks s) (behind_unsent s) (behind_unsent s') (parts.earlier (input_marks s) (input_marks s') (behind_inputs s)
+      (made_changes (λ n copies. marks_at (in_queue (chip_of s.setup.machine (n / 7)) (port_of (n % 7))) copies) 0 s.inputs (queue_at s.setup.machine c port) old new at
+      (subst (λ st. R (marks_at st old) (marks_at st new)) (sym (station_of_queue s.setup.machine c port inside)) r)))
 
-pub delivered_in : (s : State) (v : ℕ) (k : McCopy) →
-    PutIn (mark k (delivered v) ∷ []) (marks_of s) (marks_of (record s { delivered = s.delivered ++ record { vertex = v; copy = k } ∷ [] }))
-delivered_in s v k =
-    let d : Delivery = record { vertex = v; copy = k } in
-    let s' : State = record s { delivered = s.delivered ++ d ∷ [] } in
-    let xs = mark k (delivered v) ∷ [] in
-    put_in_after xs (unsent_marks s) (behind_unsent s) (behind_unsent s')
-    (put_in_after xs (input_marks s) (behind_inputs s) (behind_inputs s') (put_in_after xs (all_hand_marks s) (behind_hands s) (behind_hands s')
-    (put_in_after xs (core_marks s) (delivered_marks s ++ dumped_marks s) (delivered_marks s' ++ dumped_marks s)
-    (put_in_before xs (delivered_marks s) (delivered_marks s') (dumped_marks s) (record {
-      front = delivered_marks s;
-      back = [];
-      before_is = sym (append-nil (delivered_marks s));
-      after_is = map-append (λ (e : Delivery). mark e.copy (delivered e.vertex)) s.delivered (d ∷ []);
-    })))))
+  pub hands_change : (s : State) (c : Chip) → IsInside s.setup.machine c → (old new : Option Hand) →
+      slice_get s.hands (index_of s.setup.machine c) ≡ Some old → R (hand_marks c old) (hand_marks c new) →
+      R (marks_of s) (marks_of (record s { hands = slice_set s.hands (index_of s.setup.machine c) new }))
+  hands_change s c inside old new at r =
+      let i = index_of s.setup.machine c in
+      let s' : State = record s { hands = slice_set s.hands i new } in
+      let is_chip : chip_of s.setup.machine (0 + i) ≡ c = ap (chip_of s.setup.machine) (zero-add i) ∙ chip_of-index_of s.setup.machine c inside in
+      parts.later (unsent_marks s) (behind_unsent s) (behind_unsent s') (parts.later (input_marks s) (behind_inputs s) (behind_inputs s')
+      (parts.earlier (all_hand_marks s) (all_hand_marks s') (behind_hands s)
+      (made_changes (λ n h. hand_marks (chip_of s.setup.machine n) h) 0 s.hands i old new at (subst (λ d. R (hand_marks d old) (hand_marks d new)) (sym is_chip) r))))
 
-pub dumped_in : (s : State) (c : Chip) (o : Out) (k : McCopy) →
-    PutIn (mark k (dumped c o) ∷ []) (marks_of s) (marks_of (record s { dumped = s.dumped ++ record { chip = c; out = o; copy = k } ∷ [] }))
-dumped_in s c o k =
-    let r : DumpRec = record { chip = c; out = o; copy = k } in
-    let s' : State = record s { dumped = s.dumped ++ r ∷ [] } in
-    let xs = mark k (dumped c o) ∷ [] in
-    put_in_after xs (unsent_marks s) (behind_unsent s) (behind_unsent s')
-    (put_in_after xs (input_marks s) (behind_inputs s) (behind_inputs s') (put_in_after xs (all_hand_marks s) (behind_hands s) (behind_hands s')
-    (put_in_after xs (core_marks s) (delivered_marks s ++ dumped_marks s) (delivered_marks s ++ dumped_marks s')
-    (put_in_after xs (delivered_marks s) (dumped_marks s) (dumped_marks s') (record {
-      front = dumped_marks s;
-      back = [];
-      before_is = sym (append-nil (dumped_marks s));
-      after_is = map-append (λ (e : DumpRec). mark e.copy (dumped e.chip e.out)) s.dumped (r ∷ []);
-    })))))
+  pub cores_change : (s : State) (v : ℕ) (old new : List McCopy) → slice_get s.cores v ≡ Some old →
+      R (marks_at (at_core v) old) (marks_at (at_core v) new) → R (marks_of s) (marks_of (record s { cores = slice_set s.cores v new }))
+  cores_change s v old new at r =
+      let s' : State = record s { cores = slice_set s.cores v new } in
+      let n_is : v ≡ 0 + v = omega arith in
+      third_later (unsent_marks s) (input_marks s) (all_hand_marks s) (behind_hands s) (behind_hands s')
+      (parts.earlier (core_marks s) (core_marks s') (delivered_marks s ++ dumped_marks s)
+      (made_changes (λ w copies. marks_at (at_core w) copies) 0 s.cores v old new at (subst (λ n. R (marks_at (at_core n) old) (marks_at (at_core n) new)) n_is r)))
+
+  pub delivered_changes : (s : State) (d : List Delivery) → R (delivered_marks s) (delivered_marks (record s { delivered = d })) →
+      R (marks_of s) (marks_of (record s { delivered = d }))
+  delivered_changes s d r =
+      let s' : State = record s { delivered = d } in
+      third_later (unsent_marks s) (input_marks s) (all_hand_marks s) (behind_hands s) (behind_hands s')
+      (parts.later (core_marks s) (delivered_marks s ++ dumped_marks s) (delivered_marks s' ++ dumped_marks s)
+      (parts.earlier (delivered_marks s) (delivered_marks s') (dumped_marks s) r))
+
+  pub dumped_changes : (s : State) (d : List DumpRec) → R (dumped_marks s) (dumped_marks (record s { dumped = d })) → R (marks_of s) (marks_of (record s { dumped = d }))
+  dumped_changes s d r =
+      let s' : State = record s { dumped = d } in
+      third_later (unsent_marks s) (input_marks s) (all_hand_marks s) (behind_hands s) (behind_hands s')
+      (parts.later (core_marks s) (delivered_marks s ++ dumped_marks s) (delivered_marks s ++ dumped_marks s')
+      (parts.later (delivered_marks s) (dumped_marks s) (dumped_marks s') r))
 
 -- the first dump record leaves
 pub dumped_out : (s : State) (r : DumpRec) (rest : List DumpRec) → s.dumped ≡ r ∷ rest →
     TakenOut (mark r.copy (dumped r.chip r.out)) (marks_of s) (marks_of (record s { dumped = rest }))
 dumped_out s r rest is =
-    let s' : State = record s { dumped = rest } in
     let x : Mark = mark r.copy (dumped r.chip r.out) in
-    taken_out_after x (unsent_marks s) (behind_unsent s) (behind_unsent s')
-    (taken_out_after x (input_marks s) (behind_inputs s) (behind_inputs s') (taken_out_after x (all_hand_marks s) (behind_hands s) (behind_hands s')
-    (taken_out_after x (core_marks s) (delivered_marks s ++ dumped_marks s) (delivered_marks s ++ dumped_marks s')
-    (taken_out_after x (delivered_marks s) (dumped_marks s) (dumped_marks s') (record {
-      front = [];
-      back = dumped_marks s';
-      before_is = ap (map (λ (e : DumpRec). mark e.copy (dumped e.chip e.out))) is;
-      after_is = refl;
-    })))))
+    let marks_are : dumped_marks s ≡ x ∷ dumped_marks (record s { dumped = rest }) = ap (map (λ (e : DumpRec). mark e.copy (dumped e.chip e.out))) is in
+    dumped_changes (TakenOut x) (taken_by_parts x) s rest (record { front = []; back = dumped_marks (record s { dumped = rest }); before_is = marks_are; after_is = refl })

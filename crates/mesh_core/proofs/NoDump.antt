@@ -1,11 +1,11 @@
 -- Where a queue has room for a copy of each packet that is under way, no copy is dumped.
-use Rattle.mesh_core.proofs.Common.{All-contains, Among, Any-from_list_any, Bool, Chip, Contains, Did, Dump, Err, Event, Hand, Idle, IfOk, IsInside, IsMesh, Label, List, Mark, McCopy, MeetsJobLedger}
-use Rattle.mesh_core.proofs.Common.{MeetsLedger, Moved, NetPlan, None, Ok, OnlyUnderWay, Option, Out, Packet, Queue, Result, Some, State, among_contains, and_parts, answer, ap, arith, asked_by}
-use Rattle.mesh_core.proofs.Common.{behind, contains_among, core, count_by, count_by-cons, count_by-none, dump_of, eq-eqb, eqb-true, false, has_room, has_room_behind, if◌then◌else◌, in_hand, index_of}
-use Rattle.mesh_core.proofs.Common.{inl, input, inr, is_live_chip, is_some, label_of, length, length-range_with_len, list_any, live_inside, lt-ltb, marks_of, not, nowhere, out_eq, out_eq_true}
-use Rattle.mesh_core.proofs.Common.{queue_of, range_with_len, refl, serves, slice_get, subst, sym, true, ℕ, ◌&&◌, ◌+◌, ◌<◌, ◌==◌, ◌∙◌, ◌∷◌, ◌≡◌, ◌≢◌, ◌≤◌}
-use Rattle.mesh_core.proofs.{Counting.count_all, Counting.count_covered, Counting.count_le, Moves.mark, OnlyUnderWay.of_job, Queued.FreeBehind, Queued.free_behind, Queued.once_in_queue}
-use Rattle.mesh_core.proofs.{Queued.waiting_mark, Standing.held_mark}
+use Rattle.mesh_core.proofs.Common.{All-contains, Among, Bool, Chip, Contains, Did, Dump, Err, Event, Hand, Idle, IfOk, IsMesh, Label, List, Mark, McCopy, MeetsJobLedger, MeetsLedger, Moved, NetPlan}
+use Rattle.mesh_core.proofs.Common.{None, Ok, OnlyUnderWay, Option, Out, Packet, Queue, Result, Some, State, among_contains, and_parts, answer, ap, arith, asked_by, behind, contains_among, core}
+use Rattle.mesh_core.proofs.Common.{count_by, count_by-cons, count_by-none, dump_of, eq-eqb, eqb-true, false, has_room, has_room_behind, if◌then◌else◌, in_hand, index_of, inl, input, inr}
+use Rattle.mesh_core.proofs.Common.{is_live_chip, is_some, label_of, length, length-range_with_len, list_any, live_inside, lt-ltb, marks_of, not, nowhere, out_eq, queue_of, range_with_len, refl}
+use Rattle.mesh_core.proofs.Common.{serves, slice_get, subst, sym, true, ℕ, ◌&&◌, ◌+◌, ◌<◌, ◌==◌, ◌∙◌, ◌∷◌, ◌≡◌, ◌≢◌, ◌≤◌}
+use Rattle.mesh_core.proofs.{Standing.among_outs, Standing.held_mark, Counting.length_covered, Counting.count_le, Moves.mark, OnlyUnderWay.of_job, Queued.FreeBehind, Queued.free_behind}
+use Rattle.mesh_core.proofs.Queued.{once_in_queue, waiting_mark}
 
 -- a queue that is shorter than the capacity has room
 room_of : (s : State) (b : Queue) (q : List McCopy) → queue_of s b ≡ Some q → length q < s.setup.capacity → has_room_behind s b ≡ true
@@ -32,12 +32,10 @@ module _ (s : State) (nets : List NetPlan) (labels : ℕ → Label) (numbers : L
     -- the packet in hand and those in the queue behind it are different ones of these
     short : length free.0 < length numbers
     short =
-        let q : List McCopy = free.0 in
-        let all : count_by (λ (j : McCopy). true) (k ∷ q) ≡ length (k ∷ q) = count_all (λ (j : McCopy). true) (k ∷ q) (λ j a. refl) in
-        let few : count_by (λ (j : McCopy). true) (k ∷ q) ≤ length numbers =
-        count_covered (λ n (j : McCopy). j.packet == n) numbers (λ j. true) (k ∷ q)
-        (λ j a yes'. (j.packet, contains_among j.packet numbers (listed j a), eq-eqb j.packet j.packet refl)) (λ n a. each n) in
-        omega (arith, all, few)
+        let few : length (k ∷ free.0) ≤ length numbers =
+        length_covered (λ n (j : McCopy). j.packet == n) numbers (k ∷ free.0)
+        (λ j a. (j.packet, contains_among j.packet numbers (listed j a), eq-eqb j.packet j.packet refl)) (λ n a. each n) in
+        omega (arith, few)
       where
         listed : (j : McCopy) → Among j (k ∷ free.0) → Contains numbers j.packet
         listed j (inl same) = subst (λ (i : McCopy). Contains numbers i.packet) (sym same) (only (mark k (in_hand c o)) has tt)
@@ -64,12 +62,10 @@ module _ (s : State) (nets : List NetPlan) (labels : ℕ → Label) (numbers : L
   idle_by c o h at false has idle room' t = refl
   idle_by c o h at true true serving room' t = refl
   idle_by c o h at true false serving full t =
-      let inside : IsInside s.setup.machine c = live_inside s.setup.machine c ((and_parts (is_live_chip s.setup.machine c) (list_any (out_eq o) h.outs) serving).0) in
-      let found = Any-from_list_any (out_eq o) h.outs ((and_parts (is_live_chip s.setup.machine c) (list_any (out_eq o) h.outs) serving).1) in
-      let is : o ≡ found.1 = out_eq_true o found.1 found.4 in
-      let in_outs : Contains h.outs o = subst (λ (p : Out). Contains h.outs p) (sym is) (found.0, found.2, found.3) in
+      let parts = and_parts (is_live_chip s.setup.machine c) (list_any (out_eq o) h.outs) serving in
       let m : Mark = mark h.copy (in_hand c o) in
-      let there : Contains (marks_of s) m = among_contains m (marks_of s) (held_mark s c o inside h at (contains_among o h.outs in_outs)) in
+      let there : Contains (marks_of s) m =
+      among_contains m (marks_of s) (held_mark s c o (live_inside s.setup.machine c parts.0) h at (among_outs o h.outs parts.1)) in
       let has_it = room c o h.copy there in
       cc
 
@@ -82,16 +78,12 @@ module _ (s : State) (nets : List NetPlan) (labels : ℕ → Label) (numbers : L
   pub no_dump : (c : Chip) (o : Out) → answer s (Dump c o) ≡ Idle
   no_dump c o = ap (λ (t : Option State). if is_some t then Moved else Idle) (dump_none c o (slice_get s.hands (index_of s.setup.machine c)) refl)
 
--- So an event that is a Dump is answered by Idle, whatever else the call may answer.
-pub idle_answer : (did : Did) (s : State) (e is_e : Event) → e ≡ is_e → IsMesh s → did ≡ answer s is_e →
-    (nets : List NetPlan) (packets : List Packet) (c : Chip) (o : Out) → MeetsJobLedger s nets packets → length packets ≤ s.setup.capacity → e ≡ Dump c o → did ≡ Idle
-idle_answer did s e is_e same mesh told nets packets c o job roomy is =
-    told ∙ (ap (answer s) (sym same ∙ is)
-    ∙ no_dump s nets (λ i. label_of (asked_by nets packets i)) (range_with_len 0 (length packets)) mesh job.ledger.ledger (of_job s nets packets job)
-    (omega (arith, length-range_with_len 0 (length packets), roomy)) c o)
-
-pub idle_result : {E : Type 0} (r : Result Did E) (s : State) (e is_e : Event) → e ≡ is_e → IsMesh s → IfOk r (λ did. did ≡ answer s is_e) →
+-- So an event that is a Dump is answered by Idle, where it is answered.
+pub idle_result : {E : Type 0} (r : Result Did E) (s : State) (e : Event) → IsMesh s → IfOk r (λ did. did ≡ answer s e) →
     (nets : List NetPlan) (packets : List Packet) (c : Chip) (o : Out) → MeetsJobLedger s nets packets → length packets ≤ s.setup.capacity → e ≡ Dump c o →
     IfOk r (λ did. did ≡ Idle)
-idle_result (Ok did) s e is_e same mesh told = idle_answer did s e is_e same mesh told
-idle_result (Err x) s e is_e same mesh told = λ nets packets c o job roomy is. tt
+idle_result (Ok did) s e mesh told nets packets c o job roomy is =
+    told ∙ (ap (answer s) is
+    ∙ no_dump s nets (λ i. label_of (asked_by nets packets i)) (range_with_len 0 (length packets)) mesh job.ledger.ledger (of_job s nets packets job)
+    (omega (arith, length-range_with_len 0 (length packets), roomy)) c o)
+idle_result (Err x) s e mesh told nets packets c o job roomy is = tt

@@ -1,17 +1,8 @@
 -- A net that stands on a machine has one way to each target.
 use Rattle.mesh_core.proofs.Common.{All-contains, AreNetsOn, ComesBy, Contains, Description, Edge, Exit, ExitLeads, IsBranch, IsRoutingTree, IsWayOn, List, Local, NetPlan, Some, Spot, [], ap, arith}
-use Rattle.mesh_core.proofs.Common.{comes_by, exit_leads, exit_of, inl, inr, last_exit, length, map, one_edge_into, refl, same_exit, same_place, slice_get, slice_get_there, slice_get_within, suc, sym}
-use Rattle.mesh_core.proofs.Common.{zero, ℕ, ◌+◌, ◌<◌, ◌∙◌, ◌∷◌, ◌≡◌}
-
-same_items : {X : Type 0} (xs ys : List X) → length xs ≡ length ys → ((i : ℕ) → i < length xs → slice_get xs i ≡ slice_get ys i) → xs ≡ ys
-same_items [] [] long same = refl
-same_items [] (y ∷ ys) long same = absurd (omega (arith, long))
-same_items (x ∷ xs) [] long same = absurd (omega (arith, long))
-same_items (x ∷ xs) (y ∷ ys) long same =
-    let first : Some x ≡ Some y = same 0 (omega arith) in
-    let here : x ≡ y = cc in
-    let rest : xs ≡ ys = same_items xs ys (let n : suc (length xs) ≡ suc (length ys) = long in omega (arith, n)) (λ i within. same (suc i) (omega arith)) in
-    ap (λ z. z ∷ xs) here ∙ ap (λ zs. y ∷ zs) rest
+use Rattle.mesh_core.proofs.Common.{comes_by, exit_leads, exit_of, get_or, inl, inr, last_exit, length, map, one_edge_into, refl, same_Some, same_exit, same_lists, same_place, slice_get}
+use Rattle.mesh_core.proofs.Common.{slice_get-get_or, slice_get_there, slice_get_within, subst, suc, sym, zero, ℕ, ◌+◌, ◌-◌, ◌<◌, ◌∙◌, ◌∷◌, ◌≡◌}
+use Rattle.mesh_core.proofs.Ways.{vertex_at_stands}
 
 module _ (m : Description) (net : NetPlan) (tree : IsRoutingTree m net.tree.root net.tree.edges net.targets) where
   -- the last exit of a branch is by the output that leads to its target
@@ -50,15 +41,10 @@ module _ (m : Description) (net : NetPlan) (tree : IsRoutingTree m net.tree.root
 
     -- Two branches to one target are one.
     pub one_branch : xs ≡ ys
-    one_branch = same_items xs ys one_length (λ i within. at_distance (length xs) i within)
-      where
-        at_distance : (long i : ℕ) → i < length xs → slice_get xs i ≡ slice_get ys i
-        at_distance long i within = let n = distance (length xs) i within in same_from_end n.0 i n.1
-          where
-            distance : (l i : ℕ) → i < l → (n : ℕ) × (i + 1 + n ≡ l)
-            distance zero i low = absurd (omega arith)
-            distance (suc l) zero low = (l, omega arith)
-            distance (suc l) (suc i) low = let rest = distance l i (omega arith) in (rest.0, let e = rest.1 in omega (arith, e))
+    one_branch = same_lists xs ys one_length (λ i d within.
+        let n_is : i + 1 + (length xs - (i + 1)) ≡ length xs = omega (arith, within) in
+        same_Some (get_or xs i d) (get_or ys i d) (sym (slice_get-get_or xs i d within)
+        ∙ (same_from_end (length xs - (i + 1)) i n_is ∙ slice_get-get_or ys i d (omega (arith, within, one_length)))))
 
 -- a way of a net to a target
 pub record AWay (m : Description) (spots : List Spot) (net : NetPlan) : Type 0 where
@@ -68,14 +54,18 @@ pub record AWay (m : Description) (spots : List Spot) (net : NetPlan) : Type 0 w
   pub to : ℕ
   pub way : IsWayOn m spots net target branch from to
 
+-- ways to one vertex have one branch
+pub same_branch : (m : Description) (spots : List Spot) (nets : List NetPlan) → AreNetsOn m spots nets → (net : NetPlan) → Contains nets net →
+    (t u : Spot) (xs ys : List Exit) (from from' to : ℕ) → IsWayOn m spots net t xs from to → IsWayOn m spots net u ys from' to → xs ≡ ys
+same_branch m spots nets stand net has t u xs ys from from' to w w' =
+    let tree = All-contains (λ n. IsRoutingTree m n.tree.root n.tree.edges n.targets) nets net stand.trees has in
+    let same : t ≡ u = same_Some t u (sym (vertex_at_stands spots t to w.ends) ∙ vertex_at_stands spots u to w'.ends) in
+    one_branch m net tree u xs ys (subst (λ (z : Spot). IsBranch m net.tree.root net.tree.edges z xs) same w.is_branch) w'.is_branch
+
 -- Two ways to one target are one.
 pub one_way : (m : Description) (spots : List Spot) (nets : List NetPlan) → AreNetsOn m spots nets → (net : NetPlan) → Contains nets net →
     (t : Spot) (xs ys : List Exit) (from from' to to' : ℕ) → IsWayOn m spots net t xs from to → IsWayOn m spots net t ys from' to' →
     (xs ≡ ys) × (from ≡ from') × (to ≡ to')
 one_way m spots nets stand net has t xs ys from from' to to' w w' =
     let tree = All-contains (λ n. IsRoutingTree m n.tree.root n.tree.edges n.targets) nets net stand.trees has in
-    let begins : Some from ≡ Some from' = sym w.begins ∙ w'.begins in
-    let ends : Some to ≡ Some to' = sym w.ends ∙ w'.ends in
-    let same_from : from ≡ from' = cc in
-    let same_to : to ≡ to' = cc in
-    (one_branch m net tree t xs ys w.is_branch w'.is_branch, same_from, same_to)
+    (one_branch m net tree t xs ys w.is_branch w'.is_branch, same_Some from from' (sym w.begins ∙ w'.begins), same_Some to to' (sym w.ends ∙ w'.ends))

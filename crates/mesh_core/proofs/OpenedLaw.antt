@@ -1,13 +1,13 @@
 -- The opened mesh of a job meets the ledger of the job.
-use Rattle.mesh_core.proofs.Common.{All, All-contains, All-each, All-map, Among, AreNetsOn, AreOfNets, Bool, Contains, Description, Exit, IsBranch, IsKeyOf, IsMesh, IsRoutingTree, IsTrue, IsWayOn}
-use Rattle.mesh_core.proofs.Common.{Label, List, Mark, McCopy, MeetsJobLedger, NetPlan, None, Option, Packet, Setup, Some, Spot, State, [], among_chosen, among_contains, among_made, among_map}
-use Rattle.mesh_core.proofs.Common.{and-false, and_from, ap, append-nil, arith, asked_by, chosen_among, contains_among, copy_from, count_by, count_by-map, count_chosen_none, count_chosen_one}
-use Rattle.mesh_core.proofs.Common.{count_made_one, empty_mesh, end_on_branch, eq-eqb, eqb-true, false, first_copy, gathered_nothing, if◌then◌else◌, inl, inr, is_on_trail, is_packet_on_trail}
-use Rattle.mesh_core.proofs.Common.{label_in, label_of, length, length-map, length-map-range_with_len, link_on_branch, made_among, map_among, marks_at, marks_of, ne_eqb, on_trail, opened_mesh}
-use Rattle.mesh_core.proofs.Common.{option_map_or, range_with_len, refl, slice_get, slice_get_within, slice_index_or, subst, sym, true, unsent, unsent_marks, unsent_of, vertex_at, ℕ, ◌&&◌, ◌+◌, ◌<◌}
-use Rattle.mesh_core.proofs.Common.{◌==◌, ◌∙◌, ◌∷◌, ◌≡◌, ◌≢◌}
-use Rattle.mesh_core.proofs.{AskedPackets.asked_parts, AskedPackets.asked_from, AskedPackets.asked_of_net, AskedPackets.net_in_list, AskedPackets.key_of_net, Moves.mark, LedgerLaw.one_net}
-use Rattle.mesh_core.proofs.Ways.{vertex_at_stands, vertex_there}
+use Rattle.mesh_core.proofs.Common.{All, All-contains, All-each, All-map, Among, AreNetsOn, AreOfNets, Bool, Contains, Contains-unmap, Description, Exit, IsKeyOf, IsMesh, IsRoutingTree, IsTrue}
+use Rattle.mesh_core.proofs.Common.{IsWayOn, Label, List, Mark, McCopy, MeetsJobLedger, NetPlan, None, Option, Packet, Setup, Some, Spot, State, [], among_chosen, among_contains, among_made}
+use Rattle.mesh_core.proofs.Common.{among_map, and-false, and_from, ap, append-nil, arith, asked_by, chosen_among, contains_among, copy_from, count_by, count_by-map, count_chosen_none}
+use Rattle.mesh_core.proofs.Common.{count_chosen_one, count_made_one, empty_mesh, eq-eqb, eqb-true, false, first_copy, gathered_nothing, if◌then◌else◌, inl, inr, is_on_trail, is_packet_on_trail}
+use Rattle.mesh_core.proofs.Common.{label_in, label_of, length, length-map-range_with_len, link_on_branch, made_among, map, map_among, marks_at, marks_of, ne_eqb, on_trail, opened_mesh, option_map_or}
+use Rattle.mesh_core.proofs.Common.{range_with_len, refl, same_Some, slice_get, slice_get_within, slice_index_or, subst, sym, true, unsent, unsent_marks, unsent_of, vertex_at, ℕ, ◌&&◌, ◌+◌, ◌<◌, ◌==◌}
+use Rattle.mesh_core.proofs.Common.{◌∙◌, ◌≡◌, ◌≢◌}
+use Rattle.mesh_core.proofs.{Changes.IsMesh-lists, Ways.some_way, Ways.vertex_at_stands, Ways.vertex_there, AskedPackets.asked_parts, AskedPackets.asked_from, AskedPackets.asked_of_net}
+use Rattle.mesh_core.proofs.{AskedPackets.net_in_list, AskedPackets.key_of_net, Moves.mark, LedgerLaw.one_net}
 
 -- a copy that a vertex sends, and of what packet it is
 record IsSent (spots : List Spot) (nets : List NetPlan) (p : Packet) (i v : ℕ) (k : McCopy) : Type 0 where
@@ -108,42 +108,18 @@ module _ (setup : Setup) (nets : List NetPlan) (packets : List Packet) where
 
   -- The opened mesh of a job is a mesh.
   pub IsMesh-opened : IsMesh (empty_mesh setup) → IsMesh opened
-  IsMesh-opened h = record {
-    size = h.size;
-    different = h.different;
-    sites = h.sites;
-    room = h.room;
-    unsent_lists = length-map-range_with_len copies 0 number;
-    input_lists = h.input_lists;
-    hand_list = h.hand_list;
-    core_lists = h.core_lists;
-    table_list = h.table_list;
-    inputs_within = h.inputs_within;
-    cores_within = h.cores_within;
-    unsent_at_start =
-        All-map (λ (q : List McCopy). All (λ k. k.hop ≡ 0) q) copies (range_with_len 0 number) (λ j d below. copies_at_start (slice_index_or (range_with_len 0 number) j d));
-    hands_fit = h.hands_fit;
-    none_at_dead_ports = h.none_at_dead_ports;
-    none_on_dead_chips = h.none_on_dead_chips;
-    no_hand_on_dead_chips = h.no_hand_on_dead_chips;
-  }
+  IsMesh-opened h =
+      let e : State = empty_mesh setup in
+      IsMesh-lists e h (map copies (range_with_len 0 number)) (length-map-range_with_len copies 0 number)
+      (All-map (λ (q : List McCopy). All (λ k. k.hop ≡ 0) q) copies (range_with_len 0 number) (λ j d below. copies_at_start (slice_index_or (range_with_len 0 number) j d)))
+      e.hands h.hand_list h.hands_fit h.no_hand_on_dead_chips e.cores h.core_lists h.cores_within [] []
 
   -- a tree has a target: the root is one, or an edge leads on to one
-  some_branch : (net : NetPlan) → IsRoutingTree m net.tree.root net.tree.edges net.targets →
-      (t : Spot) × Contains net.targets t × ((branch : List Exit) × IsBranch m net.tree.root net.tree.edges t branch)
-  some_branch net tree = elim (tree.ends_are_targets net.tree.root (inl refl)) [
-    | inl out ↦
-        let way = link_on_branch m net.tree.root net.tree.edges net.targets tree out.1 (out.0, out.2, out.3) in
-        (way.0, way.1, (way.2.0, way.2.1))
-    | inr target ↦
-        let there = target_of net.targets target.0 (subst (λ n. target.0 < n) (length-map net.targets (λ s. s.chip)) target.1) in
-        let way = end_on_branch m net.tree.root net.tree.edges net.targets tree there.0 there.1 in
-        (there.0, there.1, (way.0, way.1))
+  some_target : (net : NetPlan) → IsRoutingTree m net.tree.root net.tree.edges net.targets → (t : Spot) × Contains net.targets t
+  some_target net tree = elim (tree.ends_are_targets net.tree.root (inl refl)) [
+    | inl out ↦ let way = link_on_branch m net.tree.root net.tree.edges net.targets tree out.1 (out.0, out.2, out.3) in (way.0, way.1)
+    | inr target ↦ let there = Contains-unmap (λ (s : Spot). s.chip) net.targets net.tree.root target in (there.0, there.1)
   ]
-    where
-      target_of : (ts : List Spot) (k : ℕ) → k < length ts → (t : Spot) × Contains ts t
-      target_of [] k within = absurd (omega arith)
-      target_of (t ∷ ts) k within = (t, (0, omega arith, refl))
 
   module _ (stand : AreNetsOn m spots nets) (of_nets : AreOfNets nets packets) where
     label_is : (i : ℕ) (p : Packet) (net : NetPlan) → slice_get packets i ≡ Some p → slice_get nets p.net ≡ Some net → label_of (asked_by nets packets i) ≡ label_in net p
@@ -178,19 +154,13 @@ module _ (setup : Setup) (nets : List NetPlan) (packets : List Packet) where
         let net : NetPlan = u.sent.net in
         let in_list = net_in_list nets u.packet net u.sent.is_net in
         let tree = All-contains (λ n. IsRoutingTree m n.tree.root n.tree.edges n.targets) nets net stand.trees in_list in
-        let way = some_branch net tree in
-        let on_spot = All-contains (Contains spots) net.targets way.0 (All-contains (λ n. All (Contains spots) n.targets) nets net stand.targets in_list) way.1 in
-        let end = vertex_there spots way.0 on_spot in
-        let hop : k.copy.hop ≡ 0 = ap (λ (c : McCopy). c.hop) u.sent.copy in
-        let on : is_on_trail u.vertex end.0 way.2.0 k ≡ true =
-        ap (λ at. on_trail u.vertex end.0 way.2.0 k.copy.hop at) u.station
-        ∙ and_from (u.vertex == u.vertex) (k.copy.hop == 0) (eq-eqb u.vertex u.vertex refl) (eq-eqb k.copy.hop 0 hop)
-        in (
-          net,
-          in_list,
-          unsent_is_key k u,
-          (way.0, way.2.0, u.vertex, end.0, record { is_target = way.1; is_branch = way.2.1; begins = u.sent.vertex; ends = end.1 }, on),
-        )
+        let target = some_target net tree in
+        let w = some_way m spots nets stand net in_list target.0 target.1 in
+        let start : u.vertex ≡ w.1 = same_Some u.vertex w.1 (sym u.sent.vertex ∙ w.3.begins) in
+        let on : is_on_trail w.1 w.2 w.0 k ≡ true =
+        ap (λ at. on_trail w.1 w.2 w.0 k.copy.hop at) u.station
+        ∙ and_from (u.vertex == w.1) (k.copy.hop == 0) (eq-eqb u.vertex w.1 start) (eq-eqb k.copy.hop 0 (ap (λ (c : McCopy). c.hop) u.sent.copy))
+        in (net, in_list, unsent_is_key k u, (target.0, w.0, w.1, w.2, w.3, on))
 
     -- the test on an unsent copy
     abbrev counts : ℕ → ℕ → ℕ → List Exit → ℕ → McCopy → Bool

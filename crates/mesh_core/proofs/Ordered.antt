@@ -1,7 +1,8 @@
 -- Lists in an order that is never both ways.
-use Rattle.mesh_core.proofs.Common.{All-contains, AllPairs, AllPairs-head, AllPairs-tail, Among, Bool, List, [], among_contains, among_either, among_gathered_from, ap, arith, cases_order, count_by}
-use Rattle.mesh_core.proofs.Common.{count_by-cons, false, gathered, if◌then◌else◌, inl, inr, refl, subst, sym, true, ℕ, ◌++◌, ◌+◌, ◌<◌, ◌∙◌, ◌∷◌, ◌≡◌, ◌≤◌}
-use Rattle.mesh_core.proofs.Counting.{counted}
+use Rattle.mesh_core.proofs.Common.{All, All-contains, AllPairs, AllPairs-head, AllPairs-tail, Among, Bool, Contains, List, Spot, [], among_contains, among_either, among_gathered_from, ap, arith}
+use Rattle.mesh_core.proofs.Common.{cases_order, contains_among, count_by, count_by-cons, false, gathered, if◌then◌else◌, inl, inr, length, refl, spot_eq, spot_eq_same, spot_eq_true, subst, sym, true}
+use Rattle.mesh_core.proofs.Common.{ℕ, ◌++◌, ◌+◌, ◌<◌, ◌∙◌, ◌∷◌, ◌≡◌, ◌≢◌, ◌≤◌}
+use Rattle.mesh_core.proofs.Counting.{length_covered, counted}
 
 module _ {X : Type 0} (R : X → X → Type 0) where
   -- each item is before all later ones
@@ -68,3 +69,17 @@ module _ {X : Type 0} (R : X → X → Type 0) where
         ] in
         let tails : xs ≡ ys = same_ordered xs ys up.1 also.1 (later_still x y xs ys heads up.0 into) (later_still y x ys xs (sym heads) also.0 onto) in
         ap (λ z. z ∷ xs) heads ∙ ap (λ zs. y ∷ zs) tails
+
+-- ---- different spots
+
+-- a spot is at most once among different spots
+pub one_spot : (xs : List Spot) → AllPairs (λ a b. a ≢ b) xs → (w : Spot) → count_by (λ x. spot_eq x w) xs ≤ 1
+one_spot xs different w =
+    at_most_one (λ a b. a ≢ b) (λ x. spot_eq x w) xs (ordered_from (λ a b. a ≢ b) xs different)
+    (λ x y apart px py. apart (spot_eq_true x w px ∙ sym (spot_eq_true y w py)))
+
+-- different spots of a list are at most as many as the list has
+pub few_different : (spots ts : List Spot) → AllPairs (λ a b. a ≢ b) ts → All (Contains spots) ts → length ts ≤ length spots
+few_different spots ts different within =
+    length_covered (λ w x. spot_eq x w) spots ts
+    (λ t a. (t, contains_among t spots (All-contains (Contains spots) ts t within (among_contains t ts a)), spot_eq_same t)) (λ w a. one_spot ts different w)

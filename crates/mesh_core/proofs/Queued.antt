@@ -1,15 +1,15 @@
 -- Where a packet waits, in a mesh that meets the ledger: behind each output that a hand still has to serve there is a queue
 -- without a copy of the hand's packet, and no queue has two copies of one packet.
-use Rattle.mesh_core.proofs.Common.{All, All-contains, All-each, AllPairs-apart, Among, Bool, ByLink, Chip, Contains, Core, Dir, Exit, ExitLeads, IsInside, IsKeyOf, IsLiveLink, IsMesh, IsRoutingTree}
-use Rattle.mesh_core.proofs.Common.{IsSite, IsTracked, IsWayOn, Label, Link, List, Mark, McCopy, MeetsLedger, NetPlan, Out, Port, Queue, Setup, Some, Spot, State, Station, all_hand_marks}
-use Rattle.mesh_core.proofs.Common.{among_contains, among_left, among_right, and_from, and_parts, ap, arith, at_core, behind, behind_link, cases_order, chip_of, contains_among, core, core_marks}
-use Rattle.mesh_core.proofs.Common.{core_queue_of, count_by, count_by-append, count_by-map, delivered_marks, dumped_marks, end_is_no_live_link, eq-eqb, eqb-true, exit_leads, false, far_inside, far_of}
-use Rattle.mesh_core.proofs.Common.{gathered_among, get_or_from_slice_get, in_hand, in_queue, inl, input, input_marks, inr, is_live_link, is_on_trail, is_packet_on_trail, length, live_ends}
-use Rattle.mesh_core.proofs.Common.{live_inside, map_among, marks_at, marks_of, nowhere, opposite_of, out_of, port_of, queue_at, queue_of, refl, same_site, slice_get, slice_get_there}
-use Rattle.mesh_core.proofs.Common.{slice_get_within, subst, suc, sym, true, unsent_marks, vertex_behind, ℕ, ◌%◌, ◌++◌, ◌+◌, ◌/◌, ◌<◌, ◌==◌, ◌∙◌, ◌≡◌, ◌≢◌, ◌≤◌}
-use Rattle.mesh_core.proofs.{Changes.queue_at-below, Counting.count_two, Counting.count_le, Counting.counted, Counting.count_gathered_part, Law.leaves_parts, Law.comes_parts, Moves.behind_inputs}
-use Rattle.mesh_core.proofs.{Moves.behind_unsent, Moves.mark, Standing.queued_mark, Standing.core_mark, WalkingUp.comes_on, WalkingUp.ends_on, Ways.vertex_at_stands, Ways.vertex_behind_there}
-use Rattle.mesh_core.proofs.Ways.{vertex_behind_stands, leads_to}
+use Rattle.mesh_core.proofs.Common.{All, All-contains, All-each, AllPairs-apart, Among, Bool, ByLink, Chip, Contains, Core, Dir, Exit, ExitLeads, IsInside, IsLiveLink, IsMesh, IsRoutingTree, IsSite}
+use Rattle.mesh_core.proofs.Common.{IsTracked, Label, Link, List, Mark, McCopy, MeetsLedger, NetPlan, Out, Port, Queue, Setup, Some, State, Station, all_hand_marks, among_contains, and_from}
+use Rattle.mesh_core.proofs.Common.{and_parts, ap, arith, at_core, behind, behind_link, cases_order, chip_of, contains_among, core, core_marks, core_queue_of, count_by, count_by-append, count_by-map}
+use Rattle.mesh_core.proofs.Common.{delivered_marks, dumped_marks, end_is_no_live_link, eq-eqb, eqb-true, exit_leads, false, far_inside, far_of, get_or_from_slice_get, in_hand, in_queue, inl, input}
+use Rattle.mesh_core.proofs.Common.{input_marks, inr, is_live_link, is_on_trail, is_packet_on_trail, length, live_ends, live_inside, marks_at, marks_of, nowhere, opposite_of, out_of, port_of}
+use Rattle.mesh_core.proofs.Common.{queue_at, queue_of, refl, same_site, slice_get, slice_get_there, slice_get_within, subst, suc, sym, true, unsent_marks, vertex_behind, ℕ, ◌%◌, ◌++◌, ◌+◌, ◌/◌, ◌<◌}
+use Rattle.mesh_core.proofs.Common.{◌==◌, ◌∙◌, ◌≡◌, ◌≢◌, ◌≤◌}
+use Rattle.mesh_core.proofs.{Ways.OnSomeTrail, Ways.vertex_at_stands, Ways.vertex_behind_there, Ways.vertex_behind_stands, Ways.leads_to, Tracked.on_net, Tracked.once_on_way, Standing.input_mark}
+use Rattle.mesh_core.proofs.{Standing.queued_mark, Standing.core_mark, Changes.queue_at-below, Counting.count_two, Counting.count_le, Counting.counted, Counting.count_gathered_part, Law.leaves_parts}
+use Rattle.mesh_core.proofs.{Law.comes_parts, Moves.behind_inputs, Moves.mark, WalkingUp.comes_on, WalkingUp.ends_on}
 
 -- the queue behind an output, which has no copy of this packet
 abbrev pub FreeBehind : State → Chip → Out → ℕ → Type 0
@@ -20,42 +20,25 @@ module _ (s : State) (nets : List NetPlan) (labels : ℕ → Label) (ledger : Me
   record OnTrail (x : Mark) : Type 0 where
     net : NetPlan
     in_nets : Contains nets net
-    is_key : IsKeyOf net.block x.copy.key
-    target : Spot
-    branch : List Exit
-    from : ℕ
-    to : ℕ
-    way : IsWayOn s.setup.machine s.setup.spots net target branch from to
-    on : is_on_trail from to branch x ≡ true
     tracked : IsTracked s net x.copy.packet
-    once : count_by (is_packet_on_trail x.copy.packet from to branch) (marks_of s) ≡ 1
+    trail : OnSomeTrail s net x
 
   trail_of : (x : Mark) → Contains (marks_of s) x → OnTrail x
   trail_of x has =
       let on = ledger.on_a_trail x has in
-      record {
-        net = on.0;
-        in_nets = on.1;
-        is_key = on.2;
-        target = on.3.0;
-        branch = on.3.1;
-        from = on.3.2;
-        to = on.3.3;
-        way = on.3.4;
-        on = on.3.5;
-        tracked = record { nets = nets; labels = labels; ledger = ledger; in_nets = on.1; mark = x; is_mark = has; is_packet = refl; is_key = on.2 };
-        once = ledger.once_on_each x has on.0 on.1 on.2 on.3.0 on.3.1 on.3.2 on.3.3 on.3.4;
-      }
+      let tracked : IsTracked s on.0 x.copy.packet =
+      record { nets = nets; labels = labels; ledger = ledger; in_nets = on.1; mark = x; is_mark = has; is_packet = refl; is_key = on.2 } in
+      record { net = on.0; in_nets = on.1; tracked = tracked; trail = on_net s on.0 x.copy.packet tracked x has refl }
 
   -- another mark of the packet is not on the trail
   not_twice : (x : Mark) → Contains (marks_of s) x → (t : OnTrail x) → (y : Mark) → Contains (marks_of s) y → y.copy.packet ≡ x.copy.packet →
-      is_on_trail t.from t.to t.branch y ≡ true → x ≢ y → ⊥
+      is_on_trail t.trail.from t.trail.to t.trail.branch y ≡ true → x ≢ y → ⊥
   not_twice x has t y there same on apart =
-      let p : Mark → Bool = is_packet_on_trail x.copy.packet t.from t.to t.branch in
-      let px : p x ≡ true = and_from (x.copy.packet == x.copy.packet) (is_on_trail t.from t.to t.branch x) (eq-eqb x.copy.packet x.copy.packet refl) t.on in
-      let py : p y ≡ true = and_from (y.copy.packet == x.copy.packet) (is_on_trail t.from t.to t.branch y) (eq-eqb y.copy.packet x.copy.packet same) on in
+      let p : Mark → Bool = is_packet_on_trail x.copy.packet t.trail.from t.trail.to t.trail.branch in
+      let px : p x ≡ true = and_from (x.copy.packet == x.copy.packet) (is_on_trail t.trail.from t.trail.to t.trail.branch x) (eq-eqb x.copy.packet x.copy.packet refl) t.trail.on in
+      let py : p y ≡ true = and_from (y.copy.packet == x.copy.packet) (is_on_trail t.trail.from t.trail.to t.trail.branch y) (eq-eqb y.copy.packet x.copy.packet same) on in
       let two = count_two p x y (marks_of s) apart px py (contains_among x (marks_of s) has) (contains_among y (marks_of s) there) in
-      absurd (omega (arith, two, t.once))
+      absurd (omega (arith, two, once_on_way s t.net x.copy.packet t.tracked t.trail.target t.trail.branch t.trail.from t.trail.to t.trail.way))
 
   -- ---- behind a hand
 
@@ -67,7 +50,7 @@ module _ (s : State) (nets : List NetPlan) (labels : ℕ → Label) (ledger : Me
     t = trail_of (mark k (in_hand c o)) has
 
     -- where the branch goes on there is an input queue at the far end
-    behind_edge : (d : Dir) → o ≡ Link d → IsLiveLink s.setup.machine c d → (y : Exit) → far_of s.setup.machine c d ≡ Some y.chip → slice_get t.branch (suc k.hop) ≡ Some y →
+    behind_edge : (d : Dir) → o ≡ Link d → IsLiveLink s.setup.machine c d → (y : Exit) → far_of s.setup.machine c d ≡ Some y.chip → slice_get t.trail.branch (suc k.hop) ≡ Some y →
         FreeBehind s c o k.packet
     behind_edge d out live y far next =
         let u : Setup = s.setup in
@@ -86,24 +69,24 @@ module _ (s : State) (nets : List NetPlan) (labels : ℕ → Label) (ledger : Me
               let m : Mark = mark j (in_queue y.chip port) in
               let there : Contains (marks_of s) m = among_contains m (marks_of s) (queued_mark s y.chip port inside j q.0 q.1 (contains_among j q.0 in_q)) in
               not_twice x has t m there same
-              (comes_on s t.net k.packet t.tracked t.target t.way.is_target t.branch t.from t.to t.way m there same (suc k.hop) y.chip y.out port next refl)
+              (comes_on s t.net k.packet t.tracked t.trail.target t.trail.way.is_target t.trail.branch t.trail.from t.trail.to t.trail.way m there same (suc k.hop) y.chip y.out port next refl)
               (λ e'. let stations : in_hand c o ≡ in_queue y.chip port = ap (λ (z : Mark). z.station) e' in cc)),
         )
 
     -- where the branch ends there is the queue of the target's vertex
-    behind_end : t.target.chip ≡ c → o ≡ out_of t.target.core → FreeBehind s c o k.packet
+    behind_end : t.trail.target.chip ≡ c → o ≡ out_of t.trail.target.core → FreeBehind s c o k.packet
     behind_end chip out =
         let u : Setup = s.setup in
-        let on_spot : Contains u.spots t.target =
-        All-contains (Contains u.spots) t.net.targets t.target (All-contains (λ n. All (Contains u.spots) n.targets) nets t.net ledger.nets_stand.targets t.in_nets) t.way.is_target in
-        let site : IsSite u.machine t.target = All-contains (IsSite u.machine) u.spots t.target mesh.sites on_spot in
-        let vertex = vertex_behind_there u.spots c o t.target on_spot (leads_to c o t.target chip out) in
+        let on_spot : Contains u.spots t.trail.target =
+        All-contains (Contains u.spots) t.net.targets t.trail.target (All-contains (λ n. All (Contains u.spots) n.targets) nets t.net ledger.nets_stand.targets t.in_nets) t.trail.way.is_target in
+        let site : IsSite u.machine t.trail.target = All-contains (IsSite u.machine) u.spots t.trail.target mesh.sites on_spot in
+        let vertex = vertex_behind_there u.spots c o t.trail.target on_spot (leads_to c o t.trail.target chip out) in
         let spot = vertex_behind_stands u.spots c o vertex.0 vertex.1 in
         let its_site : IsSite u.machine spot.0 =
         subst (IsSite u.machine) (get_or_from_slice_get u.spots vertex.0 spot.0 spot.0 spot.1) (mesh.sites vertex.0 spot.0 (slice_get_within u.spots vertex.0 spot.0 spot.1)) in
-        let same_spot : spot.0 ≡ t.target = same_site u.machine spot.0 t.target its_site site (spot.2 ∙ sym chip) (spot.3 ∙ out) in
-        let goal : slice_get u.spots t.to ≡ Some t.target = vertex_at_stands u.spots t.target t.to t.way.ends in
-        let is_to : vertex.0 ≡ t.to = AllPairs-apart u.spots t.target mesh.different vertex.0 t.to (spot.1 ∙ ap Some same_spot) goal in
+        let same_spot : spot.0 ≡ t.trail.target = same_site u.machine spot.0 t.trail.target its_site site (spot.2 ∙ sym chip) (spot.3 ∙ out) in
+        let goal : slice_get u.spots t.trail.to ≡ Some t.trail.target = vertex_at_stands u.spots t.trail.target t.trail.to t.trail.way.ends in
+        let is_to : vertex.0 ≡ t.trail.to = AllPairs-apart u.spots t.trail.target mesh.different vertex.0 t.trail.to (spot.1 ∙ ap Some same_spot) goal in
         let low : vertex.0 < length s.cores = let below = slice_get_within u.spots vertex.0 spot.0 spot.1 in let long = mesh.core_lists in omega (arith, below, long) in
         let q = slice_get_there s.cores vertex.0 low in
         let is_behind : behind u c o ≡ core vertex.0 = to_vertex o out vertex.0 vertex.1 site in (
@@ -113,19 +96,19 @@ module _ (s : State) (nets : List NetPlan) (labels : ℕ → Label) (ledger : Me
               let m : Mark = mark j (at_core vertex.0) in
               let there : Contains (marks_of s) m = among_contains m (marks_of s) (core_mark s vertex.0 j q.0 q.1 (contains_among j q.0 in_q)) in
               not_twice x has t m there same
-              (ends_on s t.net k.packet t.tracked t.target t.way.is_target t.branch t.from t.to t.way m there same
-              (vertex.0, t.way.ends ∙ ap Some (sym is_to), inl refl))
+              (ends_on s t.net k.packet t.tracked t.trail.target t.trail.way.is_target t.trail.branch t.trail.from t.trail.to t.trail.way m there same
+              (vertex.0, t.trail.way.ends ∙ ap Some (sym is_to), inl refl))
               (λ e'. let stations : in_hand c o ≡ at_core vertex.0 = ap (λ (z : Mark). z.station) e' in cc)),
         )
       where
-        to_vertex : (p : Out) → p ≡ out_of t.target.core → (v : ℕ) → vertex_behind s.setup.spots c p ≡ Some v → IsSite s.setup.machine t.target → behind s.setup c p ≡ core v
+        to_vertex : (p : Out) → p ≡ out_of t.trail.target.core → (v : ℕ) → vertex_behind s.setup.spots c p ≡ Some v → IsSite s.setup.machine t.trail.target → behind s.setup c p ≡ core v
         to_vertex (Link d) is v vertex site =
             let dead : is_live_link s.setup.machine c d ≡ false =
-            ap (λ (z : Chip). is_live_link s.setup.machine z d) (sym chip) ∙ end_is_no_live_link s.setup.machine t.target d site (sym is) in
+            ap (λ (z : Chip). is_live_link s.setup.machine z d) (sym chip) ∙ end_is_no_live_link s.setup.machine t.trail.target d site (sym is) in
             ap (λ b. behind_link s.setup c d b (far_of s.setup.machine c d)) dead ∙ ap core_queue_of vertex
         to_vertex (Core p) is v vertex site = ap core_queue_of vertex
 
-    by_end : ExitLeads s.setup.machine t.net.tree.edges t.target t.branch k.hop (record { chip = c; out = o }) → FreeBehind s c o k.packet
+    by_end : ExitLeads s.setup.machine t.net.tree.edges t.trail.target t.trail.branch k.hop (record { chip = c; out = o }) → FreeBehind s c o k.packet
     by_end (inl (d, out, in_tree, (y, far, next))) =
         let tree = All-contains (λ n. IsRoutingTree s.setup.machine n.tree.root n.tree.edges n.targets) nets t.net ledger.nets_stand.trees t.in_nets in
         let live : IsLiveLink s.setup.machine c d = All-contains (λ f. IsLiveLink s.setup.machine f.chip f.dir) t.net.tree.edges (record { chip = c; dir = d }) tree.edges_live in_tree in
@@ -135,7 +118,8 @@ module _ (s : State) (nets : List NetPlan) (labels : ℕ → Label) (ledger : Me
     -- Behind an output that a hand still has to serve there is a queue without a copy of the hand's packet.
     pub free_behind : FreeBehind s c o k.packet
     free_behind =
-        by_end (exit_leads s.setup.machine t.net.tree.edges t.target t.net.tree.root t.branch k.hop (record { chip = c; out = o }) t.way.is_branch (leaves_parts t.branch k.hop c o t.on))
+        by_end (exit_leads s.setup.machine t.net.tree.edges t.trail.target t.net.tree.root t.trail.branch k.hop (record { chip = c; out = o }) t.trail.way.is_branch
+        (leaves_parts t.trail.branch k.hop c o t.trail.on))
 
   -- ---- in a queue
 
@@ -157,7 +141,7 @@ module _ (s : State) (nets : List NetPlan) (labels : ℕ → Label) (ledger : Me
   -- a queue whose copies have this station, and whose marks of one packet are on one trail
   once_at : (at : Station) (q : List McCopy) → ((j : McCopy) → Among j q → Contains (marks_of s) (mark j at)) →
       ((p : Mark → Bool) → count_by p (marks_at at q) ≤ count_by p (marks_of s)) →
-      ((x : McCopy) (t : OnTrail (mark x at)) → (j : McCopy) → Among j q → j.packet ≡ x.packet → is_on_trail t.from t.to t.branch (mark j at) ≡ true) →
+      ((x : McCopy) (t : OnTrail (mark x at)) → (j : McCopy) → Among j q → j.packet ≡ x.packet → is_on_trail t.trail.from t.trail.to t.trail.branch (mark j at) ≡ true) →
       (n : ℕ) → count_by (λ j. j.packet == n) q ≤ 1
   once_at at q there part same_trail n = elim (cases_order (count_by (λ j. j.packet == n) q) 0) [
     | inl none ↦ omega arith
@@ -167,13 +151,13 @@ module _ (s : State) (nets : List NetPlan) (labels : ℕ → Label) (ledger : Me
         let a : McCopy = found.0 in
         let t : OnTrail (mark a at) = trail_of (mark a at) (there a found.1) in
         let number : a.packet ≡ n = eqb-true a.packet n found.2 in
-        let p : Mark → Bool = is_packet_on_trail a.packet t.from t.to t.branch in
+        let p : Mark → Bool = is_packet_on_trail a.packet t.trail.from t.trail.to t.trail.branch in
         let fewer : count_by (λ j. j.packet == n) q ≤ count_by (λ j. p (mark j at)) q =
         count_le (λ (j : McCopy). j.packet == n) (λ j. p (mark j at)) q (λ j among passes.
         let same : j.packet ≡ a.packet = eqb-true j.packet n passes ∙ sym number in
-        and_from (j.packet == a.packet) (is_on_trail t.from t.to t.branch (mark j at)) (eq-eqb j.packet a.packet same) (same_trail a t j among same)) in
+        and_from (j.packet == a.packet) (is_on_trail t.trail.from t.trail.to t.trail.branch (mark j at)) (eq-eqb j.packet a.packet same) (same_trail a t j among same)) in
         let mapped : count_by p (marks_at at q) ≡ count_by (λ j. p (mark j at)) q = count_by-map p (λ (j : McCopy). mark j at) q in
-        omega (arith, fewer, mapped, part p, t.once)
+        omega (arith, fewer, mapped, part p, once_on_way s t.net a.packet t.tracked t.trail.target t.trail.branch t.trail.from t.trail.to t.trail.way)
   ]
 
   -- the mark of a copy in a queue
@@ -183,16 +167,10 @@ module _ (s : State) (nets : List NetPlan) (labels : ℕ → Label) (ledger : Me
   queue_station nowhere = at_core 0
 
   pub waiting_mark : (b : Queue) (q : List McCopy) → queue_of s b ≡ Some q → (j : McCopy) → Among j q → Contains (marks_of s) (mark j (queue_station b))
-  waiting_mark (input i) q at j among =
-      let m : Mark = mark j (in_queue (chip_of s.setup.machine (i / 7)) (port_of (i % 7))) in
-      among_contains m (marks_of s)
-      (among_right m (unsent_marks s) (behind_unsent s) (among_left m (input_marks s) (behind_inputs s)
-      (gathered_among (λ l copies. marks_at (in_queue (chip_of s.setup.machine (l / 7)) (port_of (l % 7))) copies) m s.inputs i q at
-      (map_among (λ (d : McCopy). mark d (in_queue (chip_of s.setup.machine (i / 7)) (port_of (i % 7)))) j q among))))
-  waiting_mark (core v) q at j among = let m : Mark = mark j (at_core v) in among_contains m (marks_of s) (core_mark s v j q at among)
+  waiting_mark (input i) q at j among = among_contains (mark j (queue_station (input i))) (marks_of s) (input_mark s i j q at among)
+  waiting_mark (core v) q at j among = among_contains (mark j (at_core v)) (marks_of s) (core_mark s v j q at among)
   waiting_mark nowhere q at j among = cc
 
-  -- No queue has two copies of one packet.
   pub once_in_queue : (b : Queue) (q : List McCopy) → queue_of s b ≡ Some q → (n : ℕ) → count_by (λ j. j.packet == n) q ≤ 1
   once_in_queue (input i) q at n =
       let c : Chip = chip_of s.setup.machine (i / 7) in
@@ -205,10 +183,10 @@ module _ (s : State) (nets : List NetPlan) (labels : ℕ → Label) (ledger : Me
       (count_gathered_part (λ l copies. marks_at (in_queue (chip_of s.setup.machine (l / 7)) (port_of (l % 7))) copies) p 0 s.inputs i q at) in
       omega (arith, part, in_input_marks p))
       (λ x t j among same.
-      let there = comes_parts t.branch x.hop c port t.on in
-      let place : slice_get t.branch x.hop ≡ Some (record { chip = c; out = there.exit.out }) =
+      let there = comes_parts t.trail.branch x.hop c port t.trail.on in
+      let place : slice_get t.trail.branch x.hop ≡ Some (record { chip = c; out = there.exit.out }) =
       there.at ∙ ap (λ (d : Chip). let z : Exit = record { chip = d; out = there.exit.out } in Some z) there.chip in
-      comes_on s t.net x.packet t.tracked t.target t.way.is_target t.branch t.from t.to t.way (mark j (in_queue c port)) (waiting_mark (input i) q at j among) same
+      comes_on s t.net x.packet t.tracked t.trail.target t.trail.way.is_target t.trail.branch t.trail.from t.trail.to t.trail.way (mark j (in_queue c port)) (waiting_mark (input i) q at j among) same
       x.hop c there.exit.out port place refl)
       n
   once_in_queue (core v) q at n =
@@ -219,8 +197,8 @@ module _ (s : State) (nets : List NetPlan) (labels : ℕ → Label) (ledger : Me
       subst (λ l. count_by p (marks_at (at_core l) q) ≤ count_by p (core_marks s)) n_is (count_gathered_part (λ l copies. marks_at (at_core l) copies) p 0 s.cores v q at) in
       omega (arith, part, in_core_marks p))
       (λ x t j among same.
-      let is_to : v ≡ t.to = eqb-true v t.to ((and_parts (v == t.to) (x.hop == length t.branch) t.on).0) in
-      ends_on s t.net x.packet t.tracked t.target t.way.is_target t.branch t.from t.to t.way (mark j (at_core v)) (waiting_mark (core v) q at j among) same
-      (v, t.way.ends ∙ ap Some (sym is_to), inl refl))
+      let is_to : v ≡ t.trail.to = eqb-true v t.trail.to ((and_parts (v == t.trail.to) (x.hop == length t.trail.branch) t.trail.on).0) in
+      ends_on s t.net x.packet t.tracked t.trail.target t.trail.way.is_target t.trail.branch t.trail.from t.trail.to t.trail.way (mark j (at_core v)) (waiting_mark (core v) q at j among) same
+      (v, t.trail.way.ends ∙ ap Some (sym is_to), inl refl))
       n
   once_in_queue nowhere q at n = cc

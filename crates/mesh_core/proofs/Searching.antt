@@ -1,17 +1,28 @@
 -- What the searches of a port, an output and a core find.
 use Rattle.mesh_core.proofs.Common.{All, All-contains, Among, At, Bool, Chip, Contains, CoreQueue, Delivered, Delivery, Description, DumpRec, Dumped, Edge, Hand, HandAt, InQueue, IsFound, IsInside}
 use Rattle.mesh_core.proofs.Common.{IsMarkThere, IsMesh, IsOfCore, IsOfOutput, IsOfPort, IsRoutingTree, IsTracked, List, Mark, McCopy, NetPlan, None, Option, Out, Port, Some, Spot, State, Station}
-use Rattle.mesh_core.proofs.Common.{among_any, among_contains, and_from, and_parts, any_among, ap, arith, at_core, chip_eq, chip_eq_same, chip_eq_true, contains_among, delivered, dumped, eq-eqb}
-use Rattle.mesh_core.proofs.Common.{eqb-true, false, get_or, in_hand, in_queue, index_of, index_of-chip_of, inl, inr, is_held, length, list_any, live_ends, live_inside, marks_of, out_eq, out_eq_same}
-use Rattle.mesh_core.proofs.Common.{out_eq_true, position, position_nowhere, position_there, queue_at, refl, slice_get, slice_get-get_or, slice_get_within, slice_index_or, subst, sym, true, vertex_at}
-use Rattle.mesh_core.proofs.Common.{ℕ, ◌&&◌, ◌<◌, ◌==◌, ◌∙◌, ◌≡◌, ◌⊎◌}
-use Rattle.mesh_core.proofs.{Moves.mark, Ways.vertex_at_stands, Standing.StandsAt, Standing.mark_stands, Standing.queued_mark, Standing.held_mark, Standing.core_mark, Standing.delivered_mark}
-use Rattle.mesh_core.proofs.Standing.{dumped_mark, place_of_queue}
+use Rattle.mesh_core.proofs.Common.{TellsStation, Where, among_any, among_contains, and_from, and_parts, any_among, ap, arith, at_core, chip_eq, chip_eq_same, chip_eq_true, contains_among, delivered}
+use Rattle.mesh_core.proofs.Common.{dumped, eq-eqb, eqb-true, false, get_or, in_hand, in_queue, index_of, index_of-chip_of, inl, inr, is_held, length, list_any, live_ends, live_inside, marks_of}
+use Rattle.mesh_core.proofs.Common.{out_eq, out_eq_same, out_eq_true, position, position_nowhere, position_there, queue_at, refl, same_Some, slice_get, slice_get-get_or, slice_get_within}
+use Rattle.mesh_core.proofs.Common.{slice_index_or, subst, sym, true, vertex_at, ℕ, ◌&&◌, ◌<◌, ◌==◌, ◌∙◌, ◌≡◌, ◌⊎◌}
+use Rattle.mesh_core.proofs.Standing.{among_outs, StandsAt, mark_stands, queued_mark, held_mark, core_mark, delivered_mark, dumped_mark, place_of_queue}
+use Rattle.mesh_core.proofs.{MarkTests.two_alike, Moves.mark, Ways.vertex_at_stands}
 
 module _ (s : State) (packet : ℕ) where
   -- a mark of the mesh at a station stands there
   stands_there : (k : Mark) → Contains (marks_of s) k → (at : Station) → k.station ≡ at → StandsAt s k.copy at
   stands_there k has at there = subst (λ (p : Station). StandsAt s k.copy p) there (mark_stands s k (contains_among k (marks_of s) has))
+
+  -- a mark of a copy of the packet at such a station is found there
+  found_mark : (IsThere : Station → Type 0) (k : McCopy) (at : Station) (w : Where) → Among (mark k at) (marks_of s) → k.packet ≡ packet → IsThere at →
+      TellsStation s k at w → IsMarkThere s packet IsThere w
+  found_mark IsThere k at w a is there told =
+      let y : Mark = mark k at in record { mark = y; is_mark = among_contains y (marks_of s) a; is_packet = is; there = there; told = told }
+
+  -- a queue without a copy of the packet
+  none_among : (q : List McCopy) (k : McCopy) → list_any (λ d. d.packet == packet) q ≡ false → Among k q → k.packet ≡ packet → ⊥
+  none_among q k none a is =
+      let found : list_any (λ (d : McCopy). d.packet == packet) q ≡ true = among_any (λ (d : McCopy). d.packet == packet) k q a (eq-eqb k.packet packet is) in cc
 
   -- ---- an input queue
 
@@ -19,26 +30,15 @@ module _ (s : State) (packet : ℕ) where
       list_any (λ k. k.packet == packet) q ≡ true → IsMarkThere s packet (IsOfPort c port) (At (InQueue c port))
   queue_has c port inside q at yes' =
       let k = any_among (λ (k : McCopy). k.packet == packet) q yes' in
-      let y : Mark = mark k.0 (in_queue c port) in
-      record {
-        mark = y;
-        is_mark = among_contains y (marks_of s) (queued_mark s c port inside k.0 q at k.1);
-        is_packet = eqb-true k.0.packet packet k.2;
-        there = refl;
-        told = refl;
-      }
+      found_mark (IsOfPort c port) k.0 (in_queue c port) (At (InQueue c port)) (queued_mark s c port inside k.0 q at k.1) (eqb-true k.0.packet packet k.2) refl refl
 
   pub queue_lacks : (c : Chip) (port : Port) → IsInside s.setup.machine c → (q : List McCopy) → slice_get s.inputs (queue_at s.setup.machine c port) ≡ Some q →
       list_any (λ k. k.packet == packet) q ≡ false → IsFound s packet (IsOfPort c port) None
   queue_lacks c port inside q at none k has is_packet there =
       let stands : StandsAt s k.copy (in_queue c port) = stands_there k has (in_queue c port) there in
       let place : stands.0 ≡ queue_at s.setup.machine c port = place_of_queue s.setup.machine c port stands.0 inside stands.3 stands.4 in
-      let both : Some stands.1 ≡ Some q = sym stands.2 ∙ (ap (slice_get s.inputs) place ∙ at) in
-      let one : stands.1 ≡ q = cc in
-      let found : list_any (λ (d : McCopy). d.packet == packet) stands.1 ≡ true =
-      among_any (λ (d : McCopy). d.packet == packet) k.copy stands.1 stands.5 (eq-eqb k.copy.packet packet is_packet) in
-      let also : list_any (λ (d : McCopy). d.packet == packet) stands.1 ≡ false = ap (list_any (λ (d : McCopy). d.packet == packet)) one ∙ none in
-      cc
+      let one : stands.1 ≡ q = same_Some stands.1 q (sym stands.2 ∙ (ap (slice_get s.inputs) place ∙ at)) in
+      none_among q k.copy none (subst (λ (l : List McCopy). Among k.copy l) one stands.5) is_packet
 
   -- ---- an output
 
@@ -49,17 +49,8 @@ module _ (s : State) (packet : ℕ) where
       by_hand : (x : Option (Option Hand)) → slice_get s.hands (index_of s.setup.machine c) ≡ x → is_held packet o x ≡ true →
           IsMarkThere s packet (IsOfOutput c o) (At (HandAt c o))
       by_hand (Some (Some h)) at held =
-          let out = any_among (out_eq o) h.outs ((and_parts (h.copy.packet == packet) (list_any (out_eq o) h.outs) held).1) in
-          let same : o ≡ out.0 = out_eq_true o out.0 out.2 in
-          let has : Among o h.outs = subst (λ (p : Out). Among p h.outs) (sym same) out.1 in
-          let y : Mark = mark h.copy (in_hand c o) in
-          record {
-            mark = y;
-            is_mark = among_contains y (marks_of s) (held_mark s c o inside h at has);
-            is_packet = eqb-true h.copy.packet packet ((and_parts (h.copy.packet == packet) (list_any (out_eq o) h.outs) held).0);
-            there = inl refl;
-            told = refl;
-          }
+          let parts = and_parts (h.copy.packet == packet) (list_any (out_eq o) h.outs) held in
+          found_mark (IsOfOutput c o) h.copy (in_hand c o) (At (HandAt c o)) (held_mark s c o inside h at (among_outs o h.outs parts.1)) (eqb-true h.copy.packet packet parts.0) (inl refl) refl
       by_hand (Some None) at held = cc
       by_hand None at held = cc
 
@@ -67,24 +58,14 @@ module _ (s : State) (packet : ℕ) where
   abbrev is_dump : Chip → Out → DumpRec → Bool
   is_dump c o r = (chip_eq r.chip c && out_eq r.out o) && (r.copy.packet == packet)
 
-  same_dumped : (c d : Chip) (o p : Out) → c ≡ d → o ≡ p → dumped c o ≡ dumped d p
-  same_dumped c d o p e f = cc
-
   pub dump_has : (c : Chip) (o : Out) (i : ℕ) → position (is_dump c o) s.dumped ≡ Some i → IsMarkThere s packet (IsOfOutput c o) (Dumped i)
   dump_has c o i is =
       let nothing : DumpRec = record { chip = c; out = o; copy = record { packet = 0; key = 0; payload = None; hop = 0 } } in
       let r = position_there (is_dump c o) s.dumped i nothing is in
-      let place = (and_parts (chip_eq r.0.chip c && out_eq r.0.out o) (r.0.copy.packet == packet) r.3).0 in
-      let same_c : r.0.chip ≡ c = chip_eq_true r.0.chip c ((and_parts (chip_eq r.0.chip c) (out_eq r.0.out o) place).0) in
-      let same_o : r.0.out ≡ o = out_eq_true r.0.out o ((and_parts (chip_eq r.0.chip c) (out_eq r.0.out o) place).1) in
-      let y : Mark = mark r.0.copy (dumped r.0.chip r.0.out) in
-      record {
-        mark = y;
-        is_mark = among_contains y (marks_of s) (dumped_mark s r.0 r.2);
-        is_packet = eqb-true r.0.copy.packet packet ((and_parts (chip_eq r.0.chip c && out_eq r.0.out o) (r.0.copy.packet == packet) r.3).1);
-        there = inr (same_dumped r.0.chip c r.0.out o same_c same_o);
-        told = (i, r.1, refl);
-      }
+      let parts = and_parts (chip_eq r.0.chip c && out_eq r.0.out o) (r.0.copy.packet == packet) r.3 in
+      let place = and_parts (chip_eq r.0.chip c) (out_eq r.0.out o) parts.0 in
+      found_mark (IsOfOutput c o) r.0.copy (dumped r.0.chip r.0.out) (Dumped i) (dumped_mark s r.0 r.2) (eqb-true r.0.copy.packet packet parts.1)
+      (inr (two_alike dumped r.0.chip c r.0.out o (chip_eq_true r.0.chip c place.0) (out_eq_true r.0.out o place.1))) (i, r.1, refl)
 
   pub output_lacks : (c : Chip) (o : Out) → IsInside s.setup.machine c → is_held packet o (slice_get s.hands (index_of s.setup.machine c)) ≡ false →
       position (is_dump c o) s.dumped ≡ None → IsFound s packet (IsOfOutput c o) None
@@ -116,28 +97,16 @@ module _ (s : State) (packet : ℕ) where
   delivery_has spot v i is_vertex is =
       let nothing : Delivery = record { vertex = 0; copy = record { packet = 0; key = 0; payload = None; hop = 0 } } in
       let d = position_there (is_delivery v) s.delivered i nothing is in
-      let same : d.0.vertex ≡ v = eqb-true d.0.vertex v ((and_parts (d.0.vertex == v) (d.0.copy.packet == packet) d.3).0) in
-      let y : Mark = mark d.0.copy (delivered d.0.vertex) in
-      record {
-        mark = y;
-        is_mark = among_contains y (marks_of s) (delivered_mark s d.0 d.2);
-        is_packet = eqb-true d.0.copy.packet packet ((and_parts (d.0.vertex == v) (d.0.copy.packet == packet) d.3).1);
-        there = (v, is_vertex, inr (ap delivered same));
-        told = (i, d.1, refl);
-      }
+      let parts = and_parts (d.0.vertex == v) (d.0.copy.packet == packet) d.3 in
+      found_mark (IsOfCore s spot) d.0.copy (delivered d.0.vertex) (Delivered i) (delivered_mark s d.0 d.2) (eqb-true d.0.copy.packet packet parts.1)
+      (v, is_vertex, inr (ap delivered (eqb-true d.0.vertex v parts.0))) (i, d.1, refl)
 
   pub core_has : (spot : Spot) (v : ℕ) (q : List McCopy) → vertex_at s.setup.spots spot ≡ Some v → slice_get s.cores v ≡ Some q →
       list_any (λ k. k.packet == packet) q ≡ true → IsMarkThere s packet (IsOfCore s spot) (At (CoreQueue spot.chip spot.core))
   core_has spot v q is_vertex at yes' =
       let k = any_among (λ (k : McCopy). k.packet == packet) q yes' in
-      let y : Mark = mark k.0 (at_core v) in
-      record {
-        mark = y;
-        is_mark = among_contains y (marks_of s) (core_mark s v k.0 q at k.1);
-        is_packet = eqb-true k.0.packet packet k.2;
-        there = (v, is_vertex, inl refl);
-        told = (spot, vertex_at_stands s.setup.spots spot v is_vertex, refl);
-      }
+      found_mark (IsOfCore s spot) k.0 (at_core v) (At (CoreQueue spot.chip spot.core)) (core_mark s v k.0 q at k.1) (eqb-true k.0.packet packet k.2)
+      (v, is_vertex, inl refl) (spot, vertex_at_stands s.setup.spots spot v is_vertex, refl)
 
   pub core_lacks : (spot : Spot) (v : ℕ) (q : List McCopy) → vertex_at s.setup.spots spot ≡ Some v → position (is_delivery v) s.delivered ≡ None →
       slice_get s.cores v ≡ Some q → list_any (λ k. k.packet == packet) q ≡ false → IsFound s packet (IsOfCore s spot) None
@@ -146,30 +115,16 @@ module _ (s : State) (packet : ℕ) where
       by_station : (w : ℕ) → vertex_at s.setup.spots spot ≡ Some w → (k.station ≡ at_core w) ⊎ (k.station ≡ delivered w) → ⊥
       by_station w is (inl here) =
           let stands : StandsAt s k.copy (at_core w) = stands_there k has (at_core w) here in
-          let both : Some w ≡ Some v = sym is ∙ is_vertex in
-          let same : w ≡ v = cc in
-          let queues : Some stands.0 ≡ Some q = sym stands.1 ∙ (ap (slice_get s.cores) same ∙ at) in
-          let one : stands.0 ≡ q = cc in
-          let found : list_any (λ (d : McCopy). d.packet == packet) stands.0 ≡ true =
-          among_any (λ (d : McCopy). d.packet == packet) k.copy stands.0 stands.2 (eq-eqb k.copy.packet packet is_packet) in
-          let also : list_any (λ (d : McCopy). d.packet == packet) stands.0 ≡ false = ap (list_any (λ (d : McCopy). d.packet == packet)) one ∙ none in
-          cc
+          let same : w ≡ v = same_Some w v (sym is ∙ is_vertex) in
+          let one : stands.0 ≡ q = same_Some stands.0 q (sym stands.1 ∙ (ap (slice_get s.cores) same ∙ at)) in
+          none_among q k.copy none (subst (λ (l : List McCopy). Among k.copy l) one stands.2) is_packet
       by_station w is (inr here) =
           let d : Delivery = record { vertex = w; copy = k.copy } in
           let stands : Among d s.delivered = stands_there k has (delivered w) here in
-          let both : Some w ≡ Some v = sym is ∙ is_vertex in
-          let same : w ≡ v = cc in
           position_nowhere (is_delivery v) s.delivered d nowhere stands
-          (and_from (w == v) (k.copy.packet == packet) (eq-eqb w v same) (eq-eqb k.copy.packet packet is_packet))
+          (and_from (w == v) (k.copy.packet == packet) (eq-eqb w v (same_Some w v (sym is ∙ is_vertex))) (eq-eqb k.copy.packet packet is_packet))
 
 -- ---- what the code of a search knows
-
-pub none_from : (r : Option ℕ) → ((i : ℕ) → r ≡ Some i → ⊥) → r ≡ None
-none_from r never = by_value r refl
-  where
-    by_value : (x : Option ℕ) → r ≡ x → r ≡ None
-    by_value (Some i) e = absurd (never i e)
-    by_value None e = e
 
 -- the queue of a vertex's core is in the list
 pub core_queue_there : (s : State) → IsMesh s → (spot : Spot) (v : ℕ) → vertex_at s.setup.spots spot ≡ Some v → (q d : List McCopy) →

@@ -1,11 +1,11 @@
 -- Serving an output: the hands after it, and the queue behind it.
 use Rattle.mesh_core.proofs.Common.{All, All-head, All-tail, Bool, Chip, Core, Description, Dir, Entry, Hand, IsSite, Link, List, McCopy, None, Option, Out, Port, Some, Spot, State, [], and_from}
-use Rattle.mesh_core.proofs.Common.{and_parts, ap, arith, both_ways, chip_eq_same, chip_eq_true, cond, dir_at, dir_at-dir_number, dir_number, false, false_from_ne_true, get_or, get_or_from_slice_get}
-use Rattle.mesh_core.proofs.Common.{hands_after, if◌then◌else◌, index_of, is_some, last_hop, leads_to_spot, length, lookup, out_eq_same, out_eq_true, out_of, out_of-core, out_of-device, outputs}
-use Rattle.mesh_core.proofs.Common.{outs_of, outs_without, position-Some, position_from, position_from-zero, refl, same_spot, set, set-set, set-slice_get, site_parts, slice_get, slice_get-get_or}
-use Rattle.mesh_core.proofs.Common.{spot_eq, spot_eq_same, spot_eq_true, spot_of_core, spot_of_link, subst, sym, true, vertex_at, vertex_behind, ℕ, ◌+◌, ◌-◌, ◌<◌, ◌==◌, ◌∙◌, ◌∷◌, ◌≡◌, ◌≤◌}
+use Rattle.mesh_core.proofs.Common.{and_parts, ap, arith, both_ways, chip_eq_same, chip_eq_true, cond, dir_at, dir_at-dir_number, dir_number, false, get_or, get_or_from_slice_get, hands_after}
+use Rattle.mesh_core.proofs.Common.{if◌then◌else◌, index_of, is_some, last_hop, leads_to_spot, length, lookup, out_eq_same, out_eq_true, out_of, out_of-core, out_of-device, outputs, outs_of}
+use Rattle.mesh_core.proofs.Common.{outs_without, position-Some, position_from, position_from-zero, refl, same_spot, set, set-set, set-slice_get, site_parts, slice_get, slice_get-get_or, spot_eq}
+use Rattle.mesh_core.proofs.Common.{spot_eq_same, spot_eq_true, spot_of_core, spot_of_link, subst, sym, true, vertex_at, vertex_behind, ℕ, ◌+◌, ◌-◌, ◌<◌, ◌==◌, ◌∙◌, ◌∷◌, ◌≡◌, ◌≤◌}
 use Rattle.mesh_core.specs.Step.{in_hand}
-use Rattle.mesh_core.proofs.VertexTableLaws.{vertex_at-from, no_place}
+use Rattle.mesh_core.proofs.{Ways.none_from, Ways.vertex_behind_stands, VertexTableLaws.vertex_at-from}
 
 -- a hand served an output
 pub hands_after-some : (hands : List (Option Hand)) (i : ℕ) (o : Out) (d x r : Option Hand) (h : Hand) → i < length hands → get_or hands i d ≡ Some h →
@@ -59,12 +59,10 @@ vertex_behind-link m spots t d is sites =
 
 -- no vertex is behind a core beyond 17
 pub vertex_behind-beyond : (spots : List Spot) (c : Chip) (p : ℕ) → 18 ≤ p → vertex_behind spots c (Core p) ≡ None
-vertex_behind-beyond spots c p beyond =
-    vertex_behind-from spots c (Core p)
-    ∙ no_place (leads_to_spot c (Core p)) spots 0 (λ k d below. false_from_ne_true _ (λ leads.
-    let parts = and_parts _ _ leads in
-    let same = spot_of_core (get_or spots k d).core p (out_eq_true (out_of (get_or spots k d).core) (Core p) parts.1) in
-    omega (arith, same.0, same.1)))
+vertex_behind-beyond spots c p beyond = none_from (vertex_behind spots c (Core p)) (λ v is.
+    let t = vertex_behind_stands spots c (Core p) v is in
+    let same = spot_of_core t.0.core p t.3 in
+    omega (arith, beyond, same.0, same.1))
 
 -- a vertex on a spot is one of those that there are
 pub vertex_at-below : (spots : List Spot) (s : Spot) (v : ℕ) → vertex_at spots s ≡ Some v → v < length spots

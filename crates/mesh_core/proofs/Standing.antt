@@ -1,8 +1,8 @@
 -- Which marks a mesh has, by their stations: those of the lists' items there.
 use Rattle.mesh_core.proofs.Common.{Among, Chip, Delivery, Description, DumpRec, Hand, IsInside, List, Mark, McCopy, None, Option, Out, Port, Some, State, Station, all_hand_marks, among_either}
-use Rattle.mesh_core.proofs.Common.{among_gathered, among_left, among_map, among_right, arith, at_core, chip_of, core_marks, delivered, delivered_marks, dumped, dumped_marks, gathered_among}
-use Rattle.mesh_core.proofs.Common.{gathered_among_from, hand_marks, in_hand, in_queue, index_of, index_of-chip_of, inl, input_marks, inr, map_among, marks_at, marks_of, port_number, port_of}
-use Rattle.mesh_core.proofs.Common.{queue_at, refl, slice_get, subst, suc, sym, unsent, unsent_marks, zero, ℕ, ◌%◌, ◌++◌, ◌+◌, ◌/◌, ◌<◌, ◌≡◌, ◌⊎◌}
+use Rattle.mesh_core.proofs.Common.{among_gathered, among_left, among_map, among_right, any_among, ap, arith, at_core, chip_of, core_marks, delivered, delivered_marks, dumped, dumped_marks, gathered}
+use Rattle.mesh_core.proofs.Common.{gathered_among, hand_marks, in_hand, in_queue, index_of, index_of-chip_of, inl, input_marks, inr, list_any, map_among, marks_at, marks_of, out_eq, out_eq_true}
+use Rattle.mesh_core.proofs.Common.{port_number, port_of, queue_at, refl, slice_get, subst, suc, sym, true, unsent, unsent_marks, zero, zero-add, ℕ, ◌%◌, ◌++◌, ◌+◌, ◌/◌, ◌<◌, ◌∙◌, ◌≡◌}
 use Rattle.mesh_core.proofs.Moves.{behind_hands, behind_inputs, behind_unsent, mark, chip_of-index_of, station_of_queue}
 
 -- ---- chips and ports by number
@@ -39,77 +39,70 @@ StandsAt s k (dumped c o) = Among (record { chip = c; out = o; copy = k }) s.dum
 as_mark : (s : State) (k : Mark) (c : McCopy) (at : Station) → k ≡ mark c at → StandsAt s c at → StandsAt s k.copy k.station
 as_mark s k c at is stands = subst (λ (m : Mark). StandsAt s m.copy m.station) (sym is) stands
 
+-- a mark of lists of queues is of a copy in one of them
+of_queues : (at : ℕ → Station) (lists : List (List McCopy)) (k : Mark) → Among k (gathered (λ v q. marks_at (at v) q) 0 lists) →
+    (v : ℕ) × (q : List McCopy) × (c : McCopy) × (slice_get lists v ≡ Some q) × Among c q × (k ≡ mark c (at v))
+of_queues at lists k a =
+    let there = among_gathered (λ v (q : List McCopy). marks_at (at v) q) k lists a in
+    let m = among_map (λ (c : McCopy). mark c (at there.0)) k there.1 there.3 in
+    (there.0, there.1, m.0, there.2, m.1, m.2)
+
 -- a mark of the mesh stands in its lists
 pub mark_stands : (s : State) (k : Mark) → Among k (marks_of s) → StandsAt s k.copy k.station
-mark_stands s k a = first (among_either k (unsent_marks s) later1 a)
+mark_stands s k a = elim (among_either k (unsent_marks s) (behind_unsent s) a) [
+  | inl b ↦ let m = of_queues unsent s.unsent k b in as_mark s k m.2 (unsent m.0) m.5 (m.1, m.3, m.4)
+  | inr a1 ↦ elim (among_either k (input_marks s) (behind_inputs s) a1) [
+    | inl b ↦
+        let at : ℕ → Station = λ i. in_queue (chip_of s.setup.machine (i / 7)) (port_of (i % 7)) in
+        let m = of_queues at s.inputs k b in
+        as_mark s k m.2 (at m.0) m.5 (m.0, m.1, m.3, refl, refl, m.4)
+    | inr a2 ↦ elim (among_either k (all_hand_marks s) (behind_hands s) a2) [
+      | inl b ↦
+          let at = among_gathered (λ i (h : Option Hand). hand_marks (chip_of s.setup.machine i) h) k s.hands b in
+          of_hand at.0 at.1 at.2 at.3
+      | inr a3 ↦ elim (among_either k (core_marks s) (delivered_marks s ++ dumped_marks s) a3) [
+        | inl b ↦ let m = of_queues at_core s.cores k b in as_mark s k m.2 (at_core m.0) m.5 (m.1, m.3, m.4)
+        | inr a4 ↦ elim (among_either k (delivered_marks s) (dumped_marks s) a4) [
+          | inl b ↦
+              let m = among_map (λ (d : Delivery). mark d.copy (delivered d.vertex)) k s.delivered b in
+              as_mark s k m.0.copy (delivered m.0.vertex) m.2 m.1
+          | inr b ↦
+              let m = among_map (λ (r : DumpRec). mark r.copy (dumped r.chip r.out)) k s.dumped b in
+              as_mark s k m.0.copy (dumped m.0.chip m.0.out) m.2 m.1
+        ]
+      ]
+    ]
+  ]
+]
   where
-    later5 : List Mark
-    later5 = delivered_marks s ++ dumped_marks s
-
-    later4 : List Mark
-    later4 = core_marks s ++ later5
-
-    later3 : List Mark
-    later3 = all_hand_marks s ++ later4
-
-    later1 : List Mark
-    later1 = input_marks s ++ later3
-
     of_hand : (i : ℕ) (h : Option Hand) → slice_get s.hands i ≡ Some h → Among k (hand_marks (chip_of s.setup.machine i) h) → StandsAt s k.copy k.station
     of_hand i (Some h) at b =
         let m = among_map (λ o. mark h.copy (in_hand (chip_of s.setup.machine i) o)) k h.outs b in
         as_mark s k h.copy (in_hand (chip_of s.setup.machine i) m.0) m.2 (i, h, at, refl, refl, m.1)
     of_hand i None at b = absurd b
 
-    fifth : Among k (delivered_marks s) ⊎ Among k (dumped_marks s) → StandsAt s k.copy k.station
-    fifth (inl b) =
-        let m = among_map (λ (d : Delivery). mark d.copy (delivered d.vertex)) k s.delivered b in
-        as_mark s k m.0.copy (delivered m.0.vertex) m.2 m.1
-    fifth (inr b) =
-        let m = among_map (λ (r : DumpRec). mark r.copy (dumped r.chip r.out)) k s.dumped b in
-        as_mark s k m.0.copy (dumped m.0.chip m.0.out) m.2 m.1
-
-    fourth : Among k (core_marks s) ⊎ Among k later5 → StandsAt s k.copy k.station
-    fourth (inl b) =
-        let at = among_gathered (λ v (q : List McCopy). marks_at (at_core v) q) k s.cores b in
-        let m = among_map (λ (c : McCopy). mark c (at_core at.0)) k at.1 at.3 in
-        as_mark s k m.0 (at_core at.0) m.2 (at.1, at.2, m.1)
-    fourth (inr b) = fifth (among_either k (delivered_marks s) (dumped_marks s) b)
-
-    third : Among k (all_hand_marks s) ⊎ Among k later4 → StandsAt s k.copy k.station
-    third (inl b) =
-        let at = among_gathered (λ i (h : Option Hand). hand_marks (chip_of s.setup.machine i) h) k s.hands b in
-        of_hand at.0 at.1 at.2 at.3
-    third (inr b) = fourth (among_either k (core_marks s) later5 b)
-
-    second : Among k (input_marks s) ⊎ Among k later3 → StandsAt s k.copy k.station
-    second (inl b) =
-        let at = among_gathered (λ i (q : List McCopy). marks_at (in_queue (chip_of s.setup.machine (i / 7)) (port_of (i % 7))) q) k s.inputs b in
-        let place : Station = in_queue (chip_of s.setup.machine (at.0 / 7)) (port_of (at.0 % 7)) in
-        let m = among_map (λ (c : McCopy). mark c place) k at.1 at.3 in
-        as_mark s k m.0 place m.2 (at.0, at.1, at.2, refl, refl, m.1)
-    second (inr b) = third (among_either k (all_hand_marks s) later4 b)
-
-    first : Among k (unsent_marks s) ⊎ Among k later1 → StandsAt s k.copy k.station
-    first (inl b) =
-        let at = among_gathered (λ v (q : List McCopy). marks_at (unsent v) q) k s.unsent b in
-        let m = among_map (λ (c : McCopy). mark c (unsent at.0)) k at.1 at.3 in
-        as_mark s k m.0 (unsent at.0) m.2 (at.1, at.2, m.1)
-    first (inr b) = second (among_either k (input_marks s) later3 b)
-
 -- and what stands in the lists has a mark, here of the stations at which a copy is looked for
+
+-- a copy in the input queue at a place
+pub input_mark : (s : State) (i : ℕ) (k : McCopy) (q : List McCopy) → slice_get s.inputs i ≡ Some q → Among k q →
+    Among (mark k (in_queue (chip_of s.setup.machine (i / 7)) (port_of (i % 7)))) (marks_of s)
+input_mark s i k q at a =
+    let place : Station = in_queue (chip_of s.setup.machine (i / 7)) (port_of (i % 7)) in
+    among_right (mark k place) (unsent_marks s) (behind_unsent s) (among_left (mark k place) (input_marks s) (behind_inputs s)
+    (gathered_among (λ n (l : List McCopy). marks_at (in_queue (chip_of s.setup.machine (n / 7)) (port_of (n % 7))) l) (mark k place) s.inputs i q at
+    (map_among (λ (d : McCopy). mark d place) k q a)))
 
 pub queued_mark : (s : State) (c : Chip) (port : Port) → IsInside s.setup.machine c → (k : McCopy) (q : List McCopy) →
     slice_get s.inputs (queue_at s.setup.machine c port) ≡ Some q → Among k q → Among (mark k (in_queue c port)) (marks_of s)
 queued_mark s c port inside k q at a =
-    let i : ℕ = queue_at s.setup.machine c port in
-    let place : Station = in_queue (chip_of s.setup.machine ((0 + i) / 7)) (port_of ((0 + i) % 7)) in
-    let is : place ≡ in_queue c port = station_of_queue s.setup.machine c port inside in
-    let here : Among (mark k (in_queue c port)) (marks_at place q) =
-    subst (λ (p : Station). Among (mark k (in_queue c port)) (marks_at p q)) (sym is) (map_among (λ (d : McCopy). mark d (in_queue c port)) k q a) in
-    let y : Mark = mark k (in_queue c port) in
-    among_right y (unsent_marks s) (behind_unsent s) (among_left y (input_marks s) (behind_inputs s)
-    (gathered_among_from (λ n (l : List McCopy). marks_at (in_queue (chip_of s.setup.machine (n / 7)) (port_of (n % 7))) l) y 0 s.inputs i q at here))
+    let at_zero : (n : ℕ) → in_queue (chip_of s.setup.machine ((0 + n) / 7)) (port_of ((0 + n) % 7)) ≡ in_queue (chip_of s.setup.machine (n / 7)) (port_of (n % 7)) =
+    λ n. ap (λ i. in_queue (chip_of s.setup.machine (i / 7)) (port_of (i % 7))) (zero-add n) in
+    subst (λ p. Among (mark k p) (marks_of s)) (sym (at_zero (queue_at s.setup.machine c port)) ∙ station_of_queue s.setup.machine c port inside)
+    (input_mark s (queue_at s.setup.machine c port) k q at a)
+
+-- an output that is found among a hand's is one of them
+pub among_outs : (o : Out) (os : List Out) → list_any (out_eq o) os ≡ true → Among o os
+among_outs o os has = let out = any_among (out_eq o) os has in subst (λ (p : Out). Among p os) (sym (out_eq_true o out.0 out.2)) out.1
 
 pub held_mark : (s : State) (c : Chip) (o : Out) → IsInside s.setup.machine c → (h : Hand) →
     slice_get s.hands (index_of s.setup.machine c) ≡ Some (Some h) → Among o h.outs → Among (mark h.copy (in_hand c o)) (marks_of s)

@@ -1,10 +1,10 @@
 -- Where an event is enabled, and the mesh after it, by what the code looks at.
 use Rattle.mesh_core.proofs.Common.{Chip, Collect, Delivery, Dump, DumpRec, Event, Hand, Idle, Inject, List, Local, McCopy, Moved, None, Option, Out, Port, Queue, Send, Some, Spot, State, Take, []}
-use Rattle.mesh_core.proofs.Common.{after_event, after_serving, and_from, answer, ap, arith, behind, collect_of, copy_served, core, cores_after, drop_front, dump_of, false, front_of, hands_after}
-use Rattle.mesh_core.proofs.Common.{has_room, has_room_behind, if◌then◌else◌, index_of, inject_of, input, inputs_after, is_live_chip, is_some, not, nowhere, onward, outputs, push_at, push_behind}
-use Rattle.mesh_core.proofs.Common.{queue_at, refl, send_of, serves, set, slice_get, step_of, sym, take_of, true, unwrap_or, ℕ, ◌&&◌, ◌++◌, ◌∙◌, ◌∷◌, ◌≡◌}
+use Rattle.mesh_core.proofs.Common.{after_event, and_from, answer, ap, arith, behind, collect_of, copy_served, core, cores_after, drop_front, dump_of, false, front_of, hands_after, has_room}
+use Rattle.mesh_core.proofs.Common.{has_room_behind, if◌then◌else◌, index_of, inject_of, input, inputs_after, is_live_chip, is_some, not, nowhere, onward, outputs, push_at, push_behind, queue_at}
+use Rattle.mesh_core.proofs.Common.{refl, send_of, serves, set, slice_get, step_of, sym, take_of, true, unwrap_or, ℕ, ◌++◌, ◌∷◌, ◌≡◌}
 use Rattle.mesh_core.specs.Step.{in_hand}
-use Rattle.mesh_core.proofs.Keeping.{if_some}
+use Rattle.mesh_core.proofs.Enabled.{if_some}
 
 -- what a step answers and leaves where the event is enabled
 pub answer-moved : (s t : State) (e : Event) → step_of s e ≡ Some t → Moved ≡ answer s e

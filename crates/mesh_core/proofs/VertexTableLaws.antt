@@ -1,8 +1,10 @@
 -- The table of vertices, as it is made.
-use Rattle.mesh_core.proofs.Common.{All, All-head, All-tail, AllPairs, Bool, Description, IsInside, IsSite, IsSpotPlace, List, None, Option, Some, Spot, TellsVertices, [], ap, arith, cases_eq, cond}
-use Rattle.mesh_core.proofs.Common.{false, get_or, get_or-replicate, get_or-take, get_or_default, get_or_from_slice_get, index_below, inl, inr, length, length-replicate, length-set, length-take-le}
-use Rattle.mesh_core.proofs.Common.{live_inside, position_from, position_from-zero, refl, replicate, same_index, same_spot, set, site_parts, slice_get, slice_get-get_or, slice_get-set_other}
-use Rattle.mesh_core.proofs.Common.{slice_get-set_same, spot_eq, spot_eq_same, spot_eq_true, spot_place, subst, sym, take, take_more, true, vertex_at, ℕ, ◌*◌, ◌++◌, ◌+◌, ◌<◌, ◌∙◌, ◌∷◌, ◌≡◌, ◌≢◌}
+use Rattle.mesh_core.proofs.Common.{All, All-at, All-head, All-tail, AllPairs, Bool, Description, IsInside, IsSite, IsSpotPlace, List, None, Option, Some, Spot, TellsVertices, [], ap, arith, cases_eq}
+use Rattle.mesh_core.proofs.Common.{cond, false, get_or, get_or-replicate, get_or-take, get_or_default, get_or_from_slice_get, index_below, inl, inr, length, length-replicate, length-set}
+use Rattle.mesh_core.proofs.Common.{length-take-le, live_inside, position_from, position_from-zero, refl, replicate, same_index, same_spot, set, site_parts, slice_get, slice_get-get_or}
+use Rattle.mesh_core.proofs.Common.{slice_get-set_other, slice_get-set_same, spot_eq, spot_eq_same, spot_eq_true, spot_place, subst, sym, take, take_more, true, vertex_at, ℕ, ◌*◌, ◌++◌, ◌+◌, ◌<◌, ◌∙◌}
+use Rattle.mesh_core.proofs.Common.{◌∷◌, ◌≡◌, ◌≢◌}
+use Rattle.mesh_core.proofs.Ways.{none_from, vertex_at_stands}
 
 -- a site is one of the 24 spots of a chip of the grid
 pub site_inside : (m : Description) (s : Spot) → IsSite m s → IsInside m s.chip × (s.core < 24)
@@ -29,10 +31,6 @@ position-push_new t (x ∷ xs) y n same none =
 pub vertex_at-from : (spots : List Spot) (s : Spot) → vertex_at spots s ≡ position_from (spot_eq s) 0 spots
 vertex_at-from spots s = position_from-zero (spot_eq s) spots
 
-pub no_place : (t : Spot → Bool) (xs : List Spot) (n : ℕ) → All (λ x. t x ≡ false) xs → position_from t n xs ≡ None
-no_place t [] n none = refl
-no_place t (x ∷ xs) n none = rw (All-head (λ z. t z ≡ false) x xs none) (no_place t xs (n + 1) (All-tail (λ z. t z ≡ false) x xs none))
-
 other_spot : (a b : Spot) → a ≢ b → (t : Bool) → spot_eq a b ≡ t → t ≡ false
 other_spot a b other true e = absurd (other (spot_eq_true a b e))
 other_spot a b other false e = refl
@@ -45,7 +43,8 @@ same_eq a b e = subst (λ (s : Spot). spot_eq a s ≡ true) e (spot_eq_same a)
 
 -- a spot that no chip of the machine has is no vertex's
 pub vertex_at-nowhere : (m : Description) (spots : List Spot) (s : Spot) → All (IsSite m) spots → IsSpotPlace m s None → vertex_at spots s ≡ None
-vertex_at-nowhere m spots s sites nowhere = grind (arith, vertex_at-from, no_place, differs, get_or, site_inside)
+vertex_at-nowhere m spots s sites nowhere = none_from (vertex_at spots s) (λ v is.
+    let inside = site_inside m s (All-at (IsSite m) spots v s sites (vertex_at_stands spots s v is)) in nowhere inside.0 inside.1)
 
 -- the vertex on a spot, where one vertex more is known
 vertex_at-push_other : (spots : List Spot) (y s : Spot) → s ≢ y → vertex_at (spots ++ y ∷ []) s ≡ vertex_at spots s

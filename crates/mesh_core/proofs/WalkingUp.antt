@@ -1,12 +1,12 @@
 -- Walking up a branch from its target finds the target's copy of a packet.
-use Rattle.mesh_core.proofs.Common.{All, All-contains, AreNetsOn, ByLink, Chip, ComesBy, Contains, Edge, Exit, IsBranch, IsEdgeInto, IsFound, IsFoundThere, IsInside, IsKeyOf, IsLiveChip, IsMarkThere}
-use Rattle.mesh_core.proofs.Common.{IsMesh, IsOfCore, IsOfOutput, IsOfPort, IsRoutingTree, IsSite, IsTracked, IsWayOn, IsWhere, Link, List, Local, Mark, McCopy, NetPlan, None, Option, Out, Port, Some}
-use Rattle.mesh_core.proofs.Common.{Spot, State, Station, TellsStation, Unsent, Where, among_contains, and_from, and_parts, ap, arith, arrival_at, at_core, branch_inside, branch_short, cases_order}
-use Rattle.mesh_core.proofs.Common.{comes_by, count_by, delivered, dumped, end_of, eq-eqb, eqb-true, exit_of, in_hand, in_queue, inl, inr, is_on_trail, is_packet_on_trail, last_exit, length, map}
-use Rattle.mesh_core.proofs.Common.{marks_of, on_trail, one_edge_into, opposite_of, out_of, port_behind, refl, same_place, site_parts, slice_get, slice_get_within, subst, suc, sym, true, unsent}
-use Rattle.mesh_core.proofs.Common.{way_first, zero, ℕ, ◌&&◌, ◌*◌, ◌+◌, ◌<◌, ◌==◌, ◌∙◌, ◌≡◌, ◌≢◌, ◌≤◌, ◌⊎◌}
-use Rattle.mesh_core.proofs.{Counting.counted, LedgerLaw.one_net, Law.leaves_parts, Law.leaves_from, Law.ComesThere, Law.comes_parts, Law.comes_from, OneWay.last_place, Ways.vertex_at_stands}
-use Rattle.mesh_core.proofs.Ways.{some_way}
+use Rattle.mesh_core.proofs.Common.{All, All-contains, AreNetsOn, ByLink, Chip, ComesBy, Contains, Edge, Exit, IsBranch, IsEdgeInto, IsFound, IsFoundThere, IsInside, IsLiveChip, IsMarkThere, IsMesh}
+use Rattle.mesh_core.proofs.Common.{IsOfCore, IsOfOutput, IsOfPort, IsRoutingTree, IsSite, IsTracked, IsWayOn, IsWhere, Link, List, Local, Mark, McCopy, NetPlan, None, Option, Out, Port, Some, Spot}
+use Rattle.mesh_core.proofs.Common.{State, Station, TellsStation, Unsent, Where, among_contains, and_from, and_parts, ap, arith, arrival_at, at_core, branch_inside, branch_short, cases_order}
+use Rattle.mesh_core.proofs.Common.{comes_by, count_by, delivered, dumped, end_of, eq-eqb, eqb-true, exit_of, in_hand, in_queue, inl, inr, is_on_trail, is_packet_on_trail, length, map, marks_of}
+use Rattle.mesh_core.proofs.Common.{on_trail, one_edge_into, opposite_of, out_of, port_behind, refl, same_place, site_parts, slice_get, slice_get_within, subst, suc, sym, true, unsent, way_first}
+use Rattle.mesh_core.proofs.Common.{zero, ℕ, ◌&&◌, ◌*◌, ◌+◌, ◌<◌, ◌==◌, ◌∙◌, ◌≡◌, ◌≢◌, ◌≤◌, ◌⊎◌}
+use Rattle.mesh_core.proofs.{MarkTests.two_alike, Ways.OnSomeTrail, Ways.some_way, Tracked.on_net, Tracked.once_on_way, OneWay.same_branch, OneWay.last_place, Counting.counted, Law.leaves_parts}
+use Rattle.mesh_core.proofs.Law.{leaves_from, ComesThere, comes_parts, comes_from}
 
 -- ---- how far the walk has come
 
@@ -73,49 +73,7 @@ module _ (s : State) (net : NetPlan) (packet : ℕ) (tracked : IsTracked s net p
       (i j : ℕ) (x y : Exit) → slice_get xs i ≡ Some x → slice_get ys j ≡ Some y → x.chip ≡ y.chip → (i ≡ j) × (arrival_at xs i ≡ arrival_at ys j)
   one_place_of = same_place s.setup.machine net.tree.root net.tree.edges (map (λ x. x.chip) net.targets) tree
 
-  -- branches to one vertex are of one length
-  one_length : (t u : Spot) (xs ys : List Exit) (from from' to : ℕ) → IsWayOn s.setup.machine s.setup.spots net t xs from to →
-      IsWayOn s.setup.machine s.setup.spots net u ys from' to → length xs ≡ length ys
-  one_length t u xs ys from from' to w w' =
-      let on_t = vertex_at_stands s.setup.spots t to w.ends in
-      let on_u = vertex_at_stands s.setup.spots u to w'.ends in
-      let both : Some t ≡ Some u = sym on_t ∙ on_u in
-      let same : t ≡ u = cc in
-      let x = last_place s.setup.machine net tree t xs w.is_branch in
-      let y = last_place s.setup.machine net tree u ys w'.is_branch in
-      let place = one_place_of t u xs ys w.is_branch w'.is_branch x.0 y.0 (last_exit t) (last_exit u) x.1 y.1 (ap (λ (z : Spot). z.chip) same) in
-      sym x.2 ∙ (ap (λ n. n + 1) place.0 ∙ y.2)
-
   -- ---- a mark of the packet on the target's branch is on the target's trail
-
-  -- the mark is on the trail of some target of the net
-  record OnNet (k : Mark) : Type 0 where
-    goal : Spot
-    branch : List Exit
-    from : ℕ
-    to : ℕ
-    way : IsWayOn s.setup.machine s.setup.spots net goal branch from to
-    on : is_on_trail from to branch k ≡ true
-
-  its_key : (k : Mark) → Contains (marks_of s) k → k.copy.packet ≡ packet → IsKeyOf net.block k.copy.key
-  its_key k has is_packet =
-      let here = (tracked.ledger.labelled k has).0 in
-      let there = (tracked.ledger.labelled tracked.mark tracked.is_mark).0 in
-      let same : tracked.mark.copy.key ≡ k.copy.key = there ∙ (ap (λ n. (tracked.labels n).key) (tracked.is_packet ∙ sym is_packet) ∙ sym here) in
-      subst (λ n. IsKeyOf net.block n) same tracked.is_key
-
-  on_net : (k : Mark) → Contains (marks_of s) k → k.copy.packet ≡ packet → OnNet k
-  on_net k has is_packet =
-      let on = tracked.ledger.on_a_trail k has in
-      let one : on.0 ≡ net = one_net tracked.nets stand.disjoint on.0 net on.1 tracked.in_nets k.copy.key on.2 (its_key k has is_packet) in
-      record {
-        goal = on.3.0;
-        branch = on.3.1;
-        from = on.3.2;
-        to = on.3.3;
-        way = subst (λ (n : NetPlan). IsWayOn s.setup.machine s.setup.spots n on.3.0 on.3.1 on.3.2 on.3.3) one on.3.4;
-        on = on.3.5;
-      }
 
   module _ (xs : List Exit) (from to : ℕ) (way : IsWayOn s.setup.machine s.setup.spots net target xs from to) where
     -- a mark whose station is this is on the trail where the station is
@@ -126,12 +84,12 @@ module _ (s : State) (net : NetPlan) (packet : ℕ) (tracked : IsTracked s net p
         slice_get xs i ≡ Some (record { chip = c; out = o }) → IsOfOutput c o k.station → is_on_trail from to xs k ≡ true
     leaves_on k has is_packet i c o at there = by_station there
       where
-        u : OnNet k
-        u = on_net k has is_packet
+        u : OnSomeTrail s net k
+        u = on_net s net packet tracked k has is_packet
 
         leaves : slice_get u.branch k.copy.hop ≡ Some (record { chip = c; out = o }) → slice_get xs k.copy.hop ≡ Some (record { chip = c; out = o })
         leaves on =
-            let one = one_place_of target u.goal xs u.branch way.is_branch u.way.is_branch i k.copy.hop
+            let one = one_place_of target u.target xs u.branch way.is_branch u.way.is_branch i k.copy.hop
             (record { chip = c; out = o }) (record { chip = c; out = o }) at on refl in
             ap (slice_get xs) (sym one.0) ∙ at
 
@@ -146,10 +104,10 @@ module _ (s : State) (net : NetPlan) (packet : ℕ) (tracked : IsTracked s net p
     pub comes_on : (k : Mark) → Contains (marks_of s) k → k.copy.packet ≡ packet → (i : ℕ) (c : Chip) (o : Out) (port : Port) →
         slice_get xs i ≡ Some (record { chip = c; out = o }) → k.station ≡ in_queue c port → is_on_trail from to xs k ≡ true
     comes_on k has is_packet i c o port at is =
-        let u = on_net k has is_packet in
+        let u = on_net s net packet tracked k has is_packet in
         let on = sym (ap (on_trail u.from u.to u.branch k.copy.hop) is) ∙ u.on in
         let there : ComesThere u.branch k.copy.hop c port = comes_parts u.branch k.copy.hop c port on in
-        let one = one_place_of target u.goal xs u.branch way.is_branch u.way.is_branch i k.copy.hop
+        let one = one_place_of target u.target xs u.branch way.is_branch u.way.is_branch i k.copy.hop
         (record { chip = c; out = o }) there.exit at there.at (sym there.chip) in
         let here : ComesThere xs k.copy.hop c port =
         record {
@@ -164,8 +122,8 @@ module _ (s : State) (net : NetPlan) (packet : ℕ) (tracked : IsTracked s net p
     pub ends_on : (k : Mark) → Contains (marks_of s) k → k.copy.packet ≡ packet → IsOfCore s target k.station → is_on_trail from to xs k ≡ true
     ends_on k has is_packet there = by_station there.2
       where
-        u : OnNet k
-        u = on_net k has is_packet
+        u : OnSomeTrail s net k
+        u = on_net s net packet tracked k has is_packet
 
         v : ℕ
         v = there.0
@@ -177,10 +135,10 @@ module _ (s : State) (net : NetPlan) (packet : ℕ) (tracked : IsTracked s net p
         at_end on =
             let its_to : v ≡ u.to = eqb-true v u.to ((and_parts (v == u.to) (k.copy.hop == length u.branch) on).0) in
             let hop : k.copy.hop ≡ length u.branch = eqb-true k.copy.hop (length u.branch) ((and_parts (v == u.to) (k.copy.hop == length u.branch) on).1) in
-            let other : IsWayOn s.setup.machine s.setup.spots net u.goal u.branch u.from to =
-            subst (λ n. IsWayOn s.setup.machine s.setup.spots net u.goal u.branch u.from n) (sym its_to ∙ is_to) u.way in
-            let long = one_length u.goal target u.branch xs u.from from to other way in
-            and_from (v == to) (k.copy.hop == length xs) (eq-eqb v to is_to) (eq-eqb k.copy.hop (length xs) (hop ∙ long))
+            let other : IsWayOn s.setup.machine s.setup.spots net u.target u.branch u.from to =
+            subst (λ n. IsWayOn s.setup.machine s.setup.spots net u.target u.branch u.from n) (sym its_to ∙ is_to) u.way in
+            let one = same_branch s.setup.machine s.setup.spots tracked.nets stand net tracked.in_nets u.target target u.branch xs u.from from to other way in
+            and_from (v == to) (k.copy.hop == length xs) (eq-eqb v to is_to) (eq-eqb k.copy.hop (length xs) (hop ∙ ap length one))
 
         by_station : (k.station ≡ at_core v) ⊎ (k.station ≡ delivered v) → is_on_trail from to xs k ≡ true
         by_station (inl is) = on_by k (at_core v) is (at_end (sym (ap (on_trail u.from u.to u.branch k.copy.hop) is) ∙ u.on))
@@ -189,7 +147,7 @@ module _ (s : State) (net : NetPlan) (packet : ℕ) (tracked : IsTracked s net p
     -- ---- answers
 
     only_one : count_by (is_packet_on_trail packet from to xs) (marks_of s) ≡ 1
-    only_one = grind (arith, count_by)
+    only_one = once_on_way s net packet tracked target xs from to way
 
     told_by : (k : Mark) → Contains (marks_of s) k → k.copy.packet ≡ packet → is_on_trail from to xs k ≡ true → (w : Where) →
         TellsStation s k.copy k.station w → IsFoundThere s packet xs from to w
@@ -219,26 +177,24 @@ module _ (s : State) (net : NetPlan) (packet : ℕ) (tracked : IsTracked s net p
 
   -- what is found on the way is the target's copy
 
+  found_by : (IsThere : Station → Type 0) → ((xs : List Exit) (from to : ℕ) → IsWayOn s.setup.machine s.setup.spots net target xs from to →
+      (k : Mark) → Contains (marks_of s) k → k.copy.packet ≡ packet → IsThere k.station → is_on_trail from to xs k ≡ true) →
+      (w : Where) → IsMarkThere s packet IsThere w → IsWhere s net packet target w
+  found_by IsThere on w found xs from to way =
+      told_by xs from to way found.mark found.is_mark found.is_packet (on xs from to way found.mark found.is_mark found.is_packet found.there) w found.told
+
   pub found_at_core : (w : Where) → IsMarkThere s packet (IsOfCore s target) w → IsWhere s net packet target w
-  found_at_core w found xs from to way =
-      let k = found.mark in
-      told_by xs from to way k found.is_mark found.is_packet (ends_on xs from to way k found.is_mark found.is_packet found.there) w found.told
+  found_at_core = found_by (IsOfCore s target) ends_on
 
   pub found_at_output : (steps : ℕ) (chip : Chip) (out : Out) → Walked s net packet target steps chip out →
       (w : Where) → IsMarkThere s packet (IsOfOutput chip out) w → IsWhere s net packet target w
-  found_at_output steps chip out walked w found xs from to way =
-      let k = found.mark in
-      let on = walked xs from to way in
-      told_by xs from to way k found.is_mark found.is_packet
-      (leaves_on xs from to way k found.is_mark found.is_packet on.place chip out on.at found.there) w found.told
+  found_at_output steps chip out walked = found_by (IsOfOutput chip out) (λ xs from to way k has is_packet there.
+      let on = walked xs from to way in leaves_on xs from to way k has is_packet on.place chip out on.at there)
 
   pub found_at_port : (steps : ℕ) (chip : Chip) (out : Out) (port : Port) → Walked s net packet target steps chip out →
       (w : Where) → IsMarkThere s packet (IsOfPort chip port) w → IsWhere s net packet target w
-  found_at_port steps chip out port walked w found xs from to way =
-      let k = found.mark in
-      let on = walked xs from to way in
-      told_by xs from to way k found.is_mark found.is_packet
-      (comes_on xs from to way k found.is_mark found.is_packet on.place chip out port on.at found.there) w found.told
+  found_at_port steps chip out port walked = found_by (IsOfPort chip port) (λ xs from to way k has is_packet there.
+      let on = walked xs from to way in comes_on xs from to way k has is_packet on.place chip out port on.at there)
 
   -- the walk begins at the target's output, where nothing was found at its vertex
 
@@ -323,18 +279,9 @@ module _ (s : State) (net : NetPlan) (packet : ℕ) (tracked : IsTracked s net p
         | inr (inr more) ↦ absurd (omega arith)
       ]
 
-      two_alike : {A B : Type 0} (f : A → B → Station) (a a' : A) (b b' : B) → a ≡ a' → b ≡ b' → f a b ≡ f a' b'
-      two_alike f a a' b b' e e' = cc
-
       leaving : (d : Chip) (p : Out) → (let x : Exit = record { chip = d; out = p } in x ≡ record { chip = c; out = o }) →
           (k.station ≡ in_hand d p) ⊎ (k.station ≡ dumped d p) → ⊥
-      leaving d p same is =
-          let chips : d ≡ c = ap (λ (x : Exit). x.chip) same in
-          let outs : p ≡ o = ap (λ (x : Exit). x.out) same in
-          none k has is_packet (elim is [
-            | inl here ↦ inl (here ∙ two_alike in_hand d c p o chips outs)
-            | inr here ↦ inr (here ∙ two_alike dumped d c p o chips outs)
-          ])
+      leaving d p same is = none k has is_packet (subst (λ (x : Exit). IsOfOutput x.chip x.out k.station) same is)
 
       by_station : (st : Station) → k.station ≡ st → on_trail from to xs k.copy.hop st ≡ true → IsBefore (i + 1) k.copy.hop st → IsBefore i k.copy.hop st
       by_station (unsent v) is on' b = tt

@@ -1,7 +1,7 @@
 -- Facts on the ways of a net: their ends are vertices, their places are few, and each wanted output lies on one.
 use Rattle.mesh_core.proofs.Common.{All, All-contains, AreNetsOn, Bool, Chip, ComesIn, Contains, Description, Dir, Edge, Exit, ExitLeads, IsBranch, IsLiveChip, IsMesh, IsOutput, IsRoutingTree, IsSite}
-use Rattle.mesh_core.proofs.Common.{IsWayOn, Link, List, Local, NetPlan, None, Option, Out, RoutesByTree, Some, Spot, State, and_from, ap, arith, arrival_at, branch_short, chip_eq, chip_eq_same}
-use Rattle.mesh_core.proofs.Common.{comes_by, contains_among, edge_wanted, end_on_branch, end_wanted, exit_leads, exit_of, inl, inr, is_wanted, last_exit, last_hop, leads_to_spot, length}
+use Rattle.mesh_core.proofs.Common.{IsWayOn, Link, List, Local, Mark, NetPlan, None, Option, Out, RoutesByTree, Some, Spot, State, and_from, ap, arith, arrival_at, branch_short, chip_eq, chip_eq_same}
+use Rattle.mesh_core.proofs.Common.{comes_by, contains_among, edge_wanted, end_on_branch, end_wanted, exit_leads, exit_of, inl, inr, is_on_trail, is_wanted, last_exit, last_hop, leads_to_spot, length}
 use Rattle.mesh_core.proofs.Common.{link_on_branch, map, min, mul-le-mul_left, out_eq, out_eq_same, out_of, out_of-has_bit, position, position-Some, position_nowhere, refl, same_exit, same_place}
 use Rattle.mesh_core.proofs.Common.{site_parts, slice_get, slice_get-get_or, slice_index_or, spot_eq, spot_eq_same, spot_eq_true, spot_of_out, subst, suc, sym, true, vertex_at, vertex_behind}
 use Rattle.mesh_core.proofs.Common.{wanted_cases, way_first, zero, ℕ, ◌*◌, ◌+◌, ◌<◌, ◌∙◌, ◌≡◌, ◌≤◌, ◌⊎◌}
@@ -14,6 +14,11 @@ vertex_at_stands spots t v is =
     let found = position-Some (spot_eq t) spots v t is in
     let there : t ≡ slice_index_or spots v t = spot_eq_true t (slice_index_or spots v t) found.1 in
     slice_get-get_or spots v t found.0 ∙ ap Some (sym there)
+
+-- what is never a number is none
+pub none_from : (r : Option ℕ) → ((i : ℕ) → r ≡ Some i → ⊥) → r ≡ None
+none_from (Some i) never = absurd (never i refl)
+none_from None never = refl
 
 -- what passes a test in a list has a first place
 first_place : (p : Spot → Bool) (spots : List Spot) (t : Spot) → Contains spots t → p t ≡ true → (v : ℕ) × (position p spots ≡ Some v)
@@ -134,29 +139,19 @@ pub record OnBranch (s : State) (net : NetPlan) (x : Exit) : Type 0 where
 pub wanted_on_branch : (s : State) (net : NetPlan) → Stands s net → (x : Exit) → is_wanted net.tree.edges net.targets x.chip x.out ≡ true → OnBranch s net x
 wanted_on_branch s net stands x wanted = by_case (wanted_cases net.tree.edges net.targets x.chip x.out wanted)
   where
+    lies : (t : Spot) → Contains net.targets t → (z : Exit) → z ≡ x → (xs : List Exit) × IsBranch s.setup.machine net.tree.root net.tree.edges t xs × Contains xs z → OnBranch s net x
+    lies t has z same way =
+        let at : slice_get way.0 way.2.0 ≡ Some x = slice_get-get_or way.0 way.2.0 z way.2.1 ∙ ap Some (way.2.2 ∙ same) in
+        record { target = t; is_target = has; branch = way.0; is_branch = way.1; place = way.2.0; at = at }
+
     by_case : ((d : Dir) × (x.out ≡ Link d) × Contains net.tree.edges (record { chip = x.chip; dir = d }))
         ⊎ ((t : Spot) × Contains net.targets t × (t.chip ≡ x.chip) × (x.out ≡ out_of t.core)) → OnBranch s net x
     by_case (inl (d, out, has)) =
         let e : Edge = record { chip = x.chip; dir = d } in
         let way = link_on_branch s.setup.machine net.tree.root net.tree.edges net.targets stands.tree e has in
-        record {
-          target = way.0;
-          is_target = way.1;
-          branch = way.2.0;
-          is_branch = way.2.1;
-          place = way.2.2.0;
-          at = slice_get-get_or way.2.0 way.2.2.0 (exit_of e) way.2.2.1 ∙ ap Some (way.2.2.2 ∙ same_exit (exit_of e) x refl (sym out));
-        }
+        lies way.0 way.1 (exit_of e) (same_exit (exit_of e) x refl (sym out)) way.2
     by_case (inr (t, has, chip, out)) =
-        let way = end_on_branch s.setup.machine net.tree.root net.tree.edges net.targets stands.tree t has in
-        record {
-          target = t;
-          is_target = has;
-          branch = way.0;
-          is_branch = way.1;
-          place = way.2.0;
-          at = slice_get-get_or way.0 way.2.0 (last_exit t) way.2.1 ∙ ap Some (way.2.2 ∙ same_exit (last_exit t) x chip (sym out));
-        }
+        lies t has (last_exit t) (same_exit (last_exit t) x chip (sym out)) (end_on_branch s.setup.machine net.tree.root net.tree.edges net.targets stands.tree t has)
 
 -- each target of a net that stands has a way
 pub some_way : (m : Description) (spots : List Spot) (nets : List NetPlan) → AreNetsOn m spots nets → (net : NetPlan) → Contains nets net →
@@ -167,3 +162,12 @@ some_way m spots nets stand net has target is_target =
     let begin = vertex_there spots net.source (All-contains (λ n. Contains spots n.source) nets net stand.sources has) in
     let end = vertex_there spots target (All-contains (Contains spots) net.targets target (All-contains (λ n. All (Contains spots) n.targets) nets net stand.targets has) is_target) in
     (found.0, begin.0, end.0, record { is_target = is_target; is_branch = found.1; begins = begin.1; ends = end.1 })
+
+-- a mark stands on some trail of a net
+pub record OnSomeTrail (s : State) (net : NetPlan) (y : Mark) : Type 0 where
+  pub target : Spot
+  pub branch : List Exit
+  pub from : ℕ
+  pub to : ℕ
+  pub way : IsWayOn s.setup.machine s.setup.spots net target branch from to
+  pub on : is_on_trail from to branch y ≡ true

@@ -108,6 +108,7 @@ pub(crate) fn empty_hands(alloc: Global, count: usize) -> Result<Vec<Option<Hand
 }
 
 // The chip's router has served an output.
+#[tactic(auto, using(crate::proofs::Named::hands_served))]
 pub(crate) fn serve(hands: &mut [Option<Hand>], chip: usize, out: Out)
     ensures { hands.new ≡ hands_after hands.old chip out (slice_get hands.old chip) }
 {

@@ -47,6 +47,7 @@ pub fn every_mesh_is_one(mesh: &Mesh)
 }
 
 /// A mesh is one after every list of events, and after its first dumped copy was put back.
+#[tactic(auto, using(crate::proofs::Named::meshes_stay))]
 pub fn a_mesh_stays_a_mesh()
     ensures after_events { (s : State) (events : List Event) → IsMesh s
         → IsMesh (after_events s events) }
@@ -106,6 +107,7 @@ pub fn opened_mesh_meets_its_ledger()
 
 /// A mesh that meets the ledger of a job, where nothing waits, nothing is unsent and nothing was dumped, has delivered
 /// each packet at each target of its net once, and nothing else.
+#[tactic(auto, using(crate::proofs::DeliveredLaw::delivered_as_expected))]
 pub fn a_mesh_at_rest_has_delivered_all()
     ensures { (s : State) (nets : List NetPlan) (packets : List Packet) →
         MeetsJobLedger s nets packets → IsAtRest s → s.dumped ≡ [] → AreAsExpected s nets packets }
@@ -113,6 +115,7 @@ pub fn a_mesh_at_rest_has_delivered_all()
 
 /// The deliveries of such a mesh, put in the order of a report, are exactly the list of deliveries that the job asks for, but for
 /// hop numbers.
+#[tactic(auto, using(crate::proofs::DeliveredLaw::delivered_as_expected, crate::proofs::ExpectedList::in_order_is_list))]
 pub fn deliveries_in_order_are_the_expected_list()
     ensures { (s : State) (nets : List NetPlan) (packets : List Packet) (sorted : List Delivery) →
         IsMesh s → MeetsJobLedger s nets packets → IsAtRest s → s.dumped ≡ [] →
@@ -121,6 +124,7 @@ pub fn deliveries_in_order_are_the_expected_list()
 {}
 
 /// And they are as many as the targets of the packets' nets, over all packets.
+#[tactic(auto, using(crate::proofs::ExpectedCount::as_many, crate::proofs::DeliveredLaw::delivered_as_expected))]
 pub fn deliveries_are_as_many_as_expected()
     ensures { (s : State) (nets : List NetPlan) (packets : List Packet) →
         IsMesh s → MeetsJobLedger s nets packets → IsAtRest s → s.dumped ≡ []
@@ -172,6 +176,7 @@ pub fn a_roomy_mesh_drops_nothing()
 /// A mesh with room for a copy of each packet of a job has delivered all that the job asks for, and nothing else, after every list
 /// of events from the opened mesh of the job that leaves nothing waiting and nothing unsent: in whatever order routers, cores and
 /// vertices take their turns.
+#[tactic(auto, using(crate::proofs::RoomyRuns::run_delivers_all))]
 pub fn a_roomy_mesh_delivers_all()
     ensures { (setup : Setup) (nets : List NetPlan) (packets : List Packet) (events : List Event) →
         IsMesh (opened_mesh setup nets packets) → AreRight setup.machine setup.tables nets

@@ -48,6 +48,7 @@ impl Mesh {
     ghost use Rattle.mesh_core.specs.Queues.{drop_front};
 
     /// A mesh without a copy.
+    #[tactic(auto, using(crate::proofs::Named::made_meshes))]
     pub fn new(alloc: Global, setup: MeshSetup) -> Result<Mesh, Memory>
         requires { length setup.tables ≡ setup.machine.width * setup.machine.height }
         ensures { IfOk result (λ mesh. mesh ≡ empty_mesh setup) }

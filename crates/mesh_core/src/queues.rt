@@ -58,6 +58,7 @@ pub(crate) fn push_at(queues: &mut [Fifo<McCopy>], place: usize, copy: McCopy) -
 }
 
 // Takes the front copy off the queue, if there is one.
+#[tactic(auto, using(crate::proofs::Named::popped_fronts))]
 pub(crate) fn drop_front(queues: &mut [Fifo<McCopy>], place: usize)
     ensures { queues.new ≡ drop_front queues.old place (slice_get queues.old place) }
 {

@@ -106,6 +106,7 @@ impl MeshSetup {
     }
 
     /// The vertex on a spot, if there is one: on a core of 0 to 17 of a chip, or on its link at 18 and the link's number.
+    #[tactic(auto, using(crate::proofs::Named::told_vertices))]
     pub fn vertex_at(&self, spot: Spot) -> Option<usize>
         ensures { result ≡ vertex_at self.now.spots spot }
     {

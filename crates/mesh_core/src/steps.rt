@@ -53,6 +53,15 @@ impl Mesh {
             → IfOk result (λ did. did ≡ Idle) }
     {
         let _ = &self.setup; // Opens the mesh: what every mesh has is then known of the old one.
+        self.act(e)
+    }
+
+    // The event's router, vertex or core does its step.
+    fn act(&mut self, e: Event) -> Result<Did, Memory>
+        ensures answer { IfOk result (λ did. did ≡ answer self.old e) }
+        ensures moves { OnOk result (self.new ≡ after_event self.old e) }
+        ensures err { OnErr result (self.new ≡ self.old) }
+    {
         match e {
             Event::Inject(vertex) => self.inject(vertex),
             Event::Take(chip, port) => Ok(self.take(chip, port)),

@@ -61,6 +61,7 @@ impl Mesh {
     }
 
     // Where a copy of the packet is at an output of a chip: in the hand, or dumped.
+    #[tactic(auto, using(crate::proofs::Searching::dump_has, crate::proofs::Searching::hand_has))]
     fn at_output(&self, packet: u32, chip: Chip, out: Out) -> Option<Where>
         requires { IsInside self.now.setup.machine chip }
         ensures { IsFound self.now packet (IsOfOutput chip out) result }

@@ -262,27 +262,7 @@ module _ (s t : State) (v : ℕ) (k : McCopy) (rest : List McCopy) (may : MaySen
 
     -- after it was sent it stands where the first one stood
     begins : after_event r (Inject v) ≡ alike r.delivered (after_event s (Inject v))
-    begins =
-        let at : IsSameAtRest k.key x r s = same_at_rest k.key x r s may_r.kept.mesh may.kept.mesh may_r.quiet may.quiet same in
-        let i : ℕ = queue_at s.setup.machine spot.chip Local in
-        let made : Setup → List (List McCopy) → List (Option Hand) → List (List McCopy) → State =
-        λ u inputs hands cores. record {
-          setup = u;
-          unsent = unsent;
-          inputs = set inputs (queue_at u.machine spot.chip Local) (x ∷ []);
-          hands = hands;
-          cores = cores;
-          delivered = r.delivered;
-          dumped = r.dumped;
-        } in
-        let with_inputs : List (List McCopy) → State = λ inputs. record (alike r.delivered s) { inputs = inputs } in
-        begun_r
-        ∙ (ap (λ u. made u r.inputs r.hands r.cores) same
-        ∙ (ap (λ l. made s.setup l r.hands r.cores) at.inputs
-        ∙ (ap (λ l. made s.setup (queues k.key x s.inputs) l r.cores) at.hands
-        ∙ (ap (made s.setup (queues k.key x s.inputs) (map (held k.key x) s.hands)) at.cores
-        ∙ (ap with_inputs (ap (λ y. set (queues k.key x s.inputs) i (y ∷ [])) is_numbered ∙ sym (map-set (map (numbered k.key x)) s.inputs i (k ∷ [])))
-        ∙ ap (alike r.delivered) (sym begun))))))
+    begins = grind (arith, same_at_rest, begun_r, is_numbered, map-set, begun)
 
     -- at the end all is as before it was sent
     ends : (ds : List Delivery) → alike ds t ≡ record r { unsent = unsent; delivered = ds }

@@ -16,8 +16,8 @@ pub use Rattle.mesh_core.specs.Trail.{IsUnderWayAt, Mark, Station, at_core, deli
 pub use Rattle.mesh_core.specs.{VertexTable.spot_place, Waiting.queue_of, declared.places.Did.Did, declared.places.Did.TheVariants.Idle, declared.places.Did.TheVariants.Moved}
 pub use Rattle.mesh_drain.specs.Draining.{AreCollected, AreRoutedAlike, DropsAtNoVertex, HasBrought, IsAfter, IsMoved, IsOnward, IsReachedDropless, IsReachedOnward, IsSameBesidesCores}
 pub use Rattle.mesh_drain.specs.Draining.{LeadsToNoVertex, MaySend, MeetsSomeLedger, SendAlone, SendsNone, collected_from, of_packet}
-pub use Rattle.mesh_drain.specs.{Opening.AreListed, Opening.source_vertex_of, UnderWay.IsServing, UnderWay.WaitsAlone, UnderWay.far_port, UnderWay.next_place, UnderWay.outs_in, UnderWay.stage}
-pub use Rattle.mesh_drain.specs.{UnderWay.times, UnderWay.weight_in, UnderWay.work, Waiting.HasCopies, Waiting.IsNextOut, Waiting.IsWaiting, declared.draining.Waiting.Waiting}
+pub use Rattle.mesh_drain.specs.{Opening.source_vertex_of, UnderWay.IsServing, UnderWay.WaitsAlone, UnderWay.far_port, UnderWay.next_place, UnderWay.outs_in, UnderWay.stage, UnderWay.times}
+pub use Rattle.mesh_drain.specs.{UnderWay.weight_in, UnderWay.work, Waiting.HasCopies, Waiting.IsNextOut, Waiting.IsWaiting, declared.draining.Waiting.Waiting}
 pub use Rattle.mesh_drain.specs.declared.waiting.Waits.{TheVariants.AtPort, TheVariants.InCore, TheVariants.InHand, Waits}
 pub use Rattle.spin_base.proofs.{Counts.count_by-append, Counts.count_by-cons, Equality.nat_eq_same, Equality.out_eq_same, Exchange.PutIn, Exchange.TakenOut, Exchange.among_taken_out, Members.Among}
 pub use Rattle.spin_base.proofs.{Members.among_any, Members.among_contains, Members.among_only, Members.contains_among, Outputs.dir_number_below, Pairs.All-left, Pairs.All-right, Places.All-at}

@@ -1,5 +1,5 @@
 -- A copy that waits can be moved, and is lighter then.
-use Rattle.mesh_drain.proofs.Common.{All-append, All-at, All-nil, Among, AtPort, Bool, Chip, Did, DropsNone, Dump, Err, Event, Hand, HasCopies, Idle, InCore, InHand, IsAfter, IsInside, IsMesh}
+use Rattle.mesh_drain.proofs.Common.{All, All-append, All-at, All-nil, Among, AtPort, Bool, Chip, Did, DropsNone, Dump, Err, Event, Hand, HasCopies, Idle, InCore, InHand, IsAfter, IsInside, IsMesh}
 use Rattle.mesh_drain.proofs.Common.{IsMesh-after_events, IsMoved, IsNextOut, IsReachedDropless, IsWaiting, List, McCopy, MeetsSomeLedger, Memory, Moved, None, NothingWaits, Ok, OnOk, Option, Out}
 use Rattle.mesh_drain.proofs.Common.{Result, Send, Setup, Some, State, Waits, [], after_event, after_events, after_events-append, among_any, answer, ap, arith, behind, dump_of, false, has_room_behind}
 use Rattle.mesh_drain.proofs.Common.{if◌then◌else◌, index_of, is_live_chip, is_some, length, none-some, not, out_eq_same, queue_at, refl, send_of, slice_get, step_of, subst, sym, true, unwrap_or}
@@ -110,29 +110,23 @@ dump_enabled s c o mesh waits idle = by_hand (slice_get s.hands (index_of s.setu
     by_hand (Some None) at none on = absurd none
     by_hand None at none on = absurd none
 
+-- in an empty queue no copy waits
+none_waits : (lists : List (List McCopy)) (i : ℕ) → All (λ q. q ≡ []) lists → (q : Option (List McCopy)) → slice_get lists i ≡ q → HasCopies q → ⊥
+none_waits lists i empty (Some (k ∷ rest)) at has = cons_nil (All-at (λ (l : List McCopy). l ≡ []) lists i (k ∷ rest) empty at)
+  where
+    cons_nil : k ∷ rest ≡ [] → ⊥
+    cons_nil e = cc
+none_waits lists i empty (Some []) at none = none
+none_waits lists i empty None at none = none
+
 -- what waits, waits: not nothing does
 pub waits_somewhere : (s : State) (at : Waits) → IsWaiting s at → NothingWaits s → ⊥
-waits_somewhere s (InCore v) waits quiet = by_queue (slice_get s.cores v) refl waits
-  where
-    by_queue : (q : Option (List McCopy)) → slice_get s.cores v ≡ q → HasCopies q → ⊥
-    by_queue (Some (k ∷ rest)) at has = cons_nil (All-at (λ (l : List McCopy). l ≡ []) s.cores v (k ∷ rest) quiet.cores_empty at)
-      where
-        cons_nil : k ∷ rest ≡ [] → ⊥
-        cons_nil e = cc
-    by_queue (Some []) at none = none
-    by_queue None at none = none
+waits_somewhere s (InCore v) waits quiet = none_waits s.cores v quiet.cores_empty (slice_get s.cores v) refl waits
 waits_somewhere s (InHand c o) waits quiet = by_hand (slice_get s.hands (index_of s.setup.machine c)) refl waits.1
   where
     by_hand : (h : Option (Option Hand)) → slice_get s.hands (index_of s.setup.machine c) ≡ h → IsNextOut o h → ⊥
     by_hand (Some (Some h)) at next = none-some h (sym (All-at (λ (x : Option Hand). x ≡ None) s.hands (index_of s.setup.machine c) (Some h) quiet.hands_empty at))
     by_hand (Some None) at none = none
     by_hand None at none = none
-waits_somewhere s (AtPort c port) waits quiet = by_queue (slice_get s.inputs (queue_at s.setup.machine c port)) refl waits.1
-  where
-    by_queue : (q : Option (List McCopy)) → slice_get s.inputs (queue_at s.setup.machine c port) ≡ q → HasCopies q → ⊥
-    by_queue (Some (k ∷ rest)) at has = cons_nil (All-at (λ (l : List McCopy). l ≡ []) s.inputs (queue_at s.setup.machine c port) (k ∷ rest) quiet.inputs_empty at)
-      where
-        cons_nil : k ∷ rest ≡ [] → ⊥
-        cons_nil e = cc
-    by_queue (Some []) at none = none
-    by_queue None at none = none
+waits_somewhere s (AtPort c port) waits quiet =
+    none_waits s.inputs (queue_at s.setup.machine c port) quiet.inputs_empty (slice_get s.inputs (queue_at s.setup.machine c port)) refl waits.1

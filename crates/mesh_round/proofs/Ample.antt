@@ -1,69 +1,20 @@
 -- Where queues have room for a copy of each packet of a job, no round dumps a copy.
-use Rattle.mesh_round.proofs.Common.{All, All-contains, All-head, Among, AreNetsOn, AreRight, Bag, Bool, Chip, Contains, Contains-filter, Description, DumpRec, Exit, Flow, HasRounds, IsKeyOf}
-use Rattle.mesh_round.proofs.Common.{IsLiveChip, IsMesh, IsOutput, IsRound, IsWayOn, Label, List, Mark, McCopy, MeetsJobLedger, MeetsLedger, NetPlan, Out, Packet, Passes, Queue, Setup, Some, Spot}
-use Rattle.mesh_round.proofs.Common.{Stands, State, Station, WasFullAt, [], among_contains, among_either, among_left, among_right, and_from, and_parts, ap, append-nil, arith, asked_by, asked_parts}
-use Rattle.mesh_round.proofs.Common.{at_core, behind, capacity_of, cases_Bool, cases_lt, chip_eq, chip_eq_same, chip_of, comes_parts, contains_among, core, core_marks, count_by, count_by-append}
-use Rattle.mesh_round.proofs.Common.{counted, dumped, dumped_at, dumped_mark, eq-eqb, eqb-true, false, filter, gathered, get_or, get_or_from_slice_get, get_or_past, held_in, in_hand, in_queue, inl}
-use Rattle.mesh_round.proofs.Common.{input, input_marks, inr, is_on_trail, label_of, last_hop, length, length-append, lt-ltb, map, map_among, mark, marks_at, marks_of, more, move_counts, moves_left}
-use Rattle.mesh_round.proofs.Common.{mul-le-mul_left, nat_eq_same, nat_lt, no_rounds, nowhere, on_trail, one_net, one_place, onward, out_eq, out_eq_same, port_of, range_with_len, refl, slice_get}
-use Rattle.mesh_round.proofs.Common.{slice_get_there, slice_get_within, stands, subst, suc, sum_by, sum_by-cons, sym, true, vertex_at_stands, zero, ℕ, ◌%◌, ◌&&◌, ◌*◌, ◌++◌, ◌+◌, ◌-◌, ◌/◌, ◌<◌, ◌==◌}
-use Rattle.mesh_round.proofs.Common.{◌∙◌, ◌∷◌, ◌≡◌, ◌≢◌, ◌≤◌}
+use Rattle.mesh_round.proofs.Common.{All, All-contains, All-head, Among, AreRight, Bag, Bool, Chip, Contains, Contains-filter, Crosses, DumpRec, Flow, HasRounds, IsKeyOf, IsLiveChip, IsMesh, IsOutput}
+use Rattle.mesh_round.proofs.Common.{IsRound, IsWayOn, Label, List, Mark, McCopy, MeetsJobLedger, MeetsLedger, NetPlan, Out, Packet, Passes, Queue, Setup, Some, Spot, Stands, State, Station}
+use Rattle.mesh_round.proofs.Common.{WasFullAt, [], among_contains, among_left, among_right, and_from, and_parts, ap, append-nil, arith, asked_by, asked_parts, at_core, behind, capacity_of}
+use Rattle.mesh_round.proofs.Common.{cases_Bool, cases_lt, chip_eq, chip_eq_same, chip_of, comes_parts, contains_among, core, count_all, count_by, count_by-append, count_covered, counted, dumped}
+use Rattle.mesh_round.proofs.Common.{dumped_at, dumped_mark, eq-eqb, eqb-true, false, filter, held_in, inl, input, inr, is_on_trail, label_of, last_hop, length, length-append, length-range_with_len}
+use Rattle.mesh_round.proofs.Common.{lt-ltb, map_among, mark, marks_at, marks_of, more, move_counts, moves_left, mul-le-mul_left, nat_eq_same, nat_lt, no_rounds, nowhere, on_trail, one_net, one_place}
+use Rattle.mesh_round.proofs.Common.{onward, out_eq, out_eq_same, port_of, range_with_len, refl, slice_get, slice_get_within, stands, subst, sum_by-cons, sym, true, vertex_at_stands, ℕ, ◌%◌, ◌&&◌}
+use Rattle.mesh_round.proofs.Common.{◌*◌, ◌++◌, ◌+◌, ◌-◌, ◌/◌, ◌<◌, ◌==◌, ◌∙◌, ◌∷◌, ◌≡◌, ◌≢◌, ◌≤◌}
 use Rattle.mesh_round.specs.Work.{to_go}
-use Rattle.mesh_round.proofs.{Arrivals.Right, Arrivals.held_right, Arrivals.arrived_right, Arrivals.crossing_right, Arrivals.on_behind, Arrivals.somewhere, CountSums.one_if, CountSums.sum_within}
-use Rattle.mesh_round.proofs.{CountSums.part_of_sum_at, CountSums.counts, Entered.station_of, Nearer.move_nears, PassedOnce.here, PassedOnce.before, PassedOnce.passed_once, RoundBag.bag_of_round}
-use Rattle.mesh_round.proofs.{RoundBag.in_parts, RoundBag.crossing_comes, FlowLaw.round_keeps, FlowLaw.rounds_stand, Sources.once_in_range, Sources.range_parts, Sums.sum_agree, Sums.sum_swap}
-use Rattle.mesh_round.proofs.{Sums.sum_gathered, Sums.sum_map, Weights.back_onward}
-
--- two ways of a net to one target are one
-abbrev pub HasOneWay : Type 0
-HasOneWay = (m : Description) (spots : List Spot) (nets : List NetPlan) (net : NetPlan) (target : Spot) (branch other : List Exit) (from begin to end : ℕ) →
-    AreNetsOn m spots nets → Contains nets net → IsWayOn m spots net target branch from to → IsWayOn m spots net target other begin end →
-    (branch ≡ other) × (from ≡ begin) × (to ≡ end)
-
--- ---- items with numbers
-
--- Where each number below a bound is of one item at most, there are at most as many items.
-few_numbers : {X : Type 0} (number : X → ℕ) (n : ℕ) (xs : List X) → ((x : X) → Among x xs → number x < n) → ((i : ℕ) → i < n → count_by (λ x. number x == i) xs ≤ 1) → length xs ≤ n
-few_numbers {X} number n xs below each =
-    let all = ones xs in
-    let spread = sum_agree one (λ x. sum_by (λ i. one_if (number x == i)) (range_with_len 0 n)) xs
-    (λ x a. sym (once_in_range (number x) 0 n (omega arith) (let low = below x a in omega (arith, low)))) in
-    let swapped = sum_swap (λ x i. one_if (number x == i)) xs (range_with_len 0 n) in
-    let within = sum_within (λ i. sum_by (λ x. one_if (number x == i)) xs) (λ i. 1) (range_with_len 0 n) (λ i a. each i (let low = (range_parts 0 n i a).1 in omega (arith, low))) in
-    omega (arith, all, spread, swapped, within, many 0 n)
-  where
-    one : X → ℕ
-    one x = 1
-
-    ones : (ys : List X) → sum_by one ys ≡ length ys
-    ones [] = refl
-    ones (y ∷ ys) = let rest = ones ys in let first = sum_by-cons one y ys in omega (arith, rest, first)
-
-    many : (a l : ℕ) → sum_by (λ (i : ℕ). 1) (range_with_len a l) ≡ l
-    many a zero = refl
-    many a (suc l) = let rest = many (a + 1) l in let first = sum_by-cons (λ (i : ℕ). 1) a (range_with_len (a + 1) l) in omega (arith, rest, first)
+use Rattle.mesh_round.proofs.{Arrivals.Right, Arrivals.crosses, Arrivals.dumped_right, Arrivals.onward_right, Arrivals.queue_counts, Arrivals.queue_right, Arrivals.somewhere, Past.HasOneWay}
+use Rattle.mesh_round.proofs.{Past.Milestone, Past.before, Past.here, Past.on_from, Past.one_on_way, Past.passed_once, Past.milestone_of, CountSums.counts, CountSums.one_if, CountSums.sum_within}
+use Rattle.mesh_round.proofs.{Entered.station_of, FlowLaw.round_keeps, FlowLaw.rounds_stand, Nearer.move_nears, RoundBag.bag_of_round, RoundBag.crossing_comes, Sources.number_in_range, Sums.sum_map}
 
 to_go_same : (x y : McCopy) (at : Station) → y.hop ≡ x.hop → to_go (mark y at) ≡ to_go (mark x at)
 unfolding to_go
 to_go_same x y at same = ap (λ h. moves_left (last_hop - h) at) same
-
--- marks of the list at a place are among those of all lists
-one_of_lists : (p : Mark → Bool) (at : ℕ → Station) (lists : List (List McCopy)) (i : ℕ) →
-    count_by p (marks_at (at i) (get_or lists i [])) ≤ count_by p (gathered (λ l copies. marks_at (at l) copies) 0 lists)
-one_of_lists p at lists i = elim (cases_lt i (length lists)) [
-  | inl below ↦
-      let q = slice_get_there lists i below in
-      let list : get_or lists i [] ≡ q.0 = get_or_from_slice_get lists i q.0 [] q.1 in
-      let all = sum_gathered (λ x. one_if (p x)) (λ l copies. marks_at (at l) copies) 0 lists in
-      let part = part_of_sum_at (λ l copies. sum_by (λ x. one_if (p x)) (marks_at (at l) copies)) 0 lists i q.0 q.1 in
-      let place : 0 + i ≡ i = omega arith in
-      let here_it : sum_by (λ x. one_if (p x)) (marks_at (at (0 + i)) q.0) ≡ count_by p (marks_at (at i) (get_or lists i [])) =
-      ap (λ l. sum_by (λ x. one_if (p x)) (marks_at (at l) q.0)) place ∙ ap (λ copies. count_by p (marks_at (at i) copies)) (sym list) in
-      omega (arith, all, part, here_it)
-  | inr past ↦
-      let none : count_by p (marks_at (at i) (get_or lists i [])) ≡ 0 = ap (λ copies. count_by p (marks_at (at i) copies)) (get_or_past lists i [] past) in
-      omega (arith, none)
-]
 
 module _ (m : State) (f : Flow) (n : State) (nets : List NetPlan) (packets : List Packet) (mesh : IsMesh m) (after : IsMesh n) (passes : Passes m f n)
     (right : AreRight m.setup.machine m.setup.tables nets) (job : MeetsJobLedger m nets packets) (one_way : HasOneWay) where
@@ -80,7 +31,7 @@ module _ (m : State) (f : Flow) (n : State) (nets : List NetPlan) (packets : Lis
   bag = bag_of_round m f n mesh after passes
 
   abbrev IsRight : Mark → Type 0
-  IsRight k = Right m f n nets labels mesh passes right ledger k
+  IsRight k = Right m f n nets labels mesh after passes right ledger k
 
   stand : (net : NetPlan) → Contains nets net → Stands m net
   stand = stands m n nets labels mesh right ledger
@@ -120,19 +71,6 @@ module _ (m : State) (f : Flow) (n : State) (nets : List NetPlan) (packets : Lis
   same_hop (core v) x y r s same = vertex_hop v x y r s same
   same_hop nowhere x y r s same = vertex_hop 0 x y r s same
 
-  -- ---- the queue behind an output
-
-  -- marks of a queue are among all marks
-  queue_counts : (p : Mark → Bool) (q : Queue) → count_by p (marks_at (station_of u q) (held_in m q)) ≤ count_by p (marks_of m)
-  queue_counts p (input i) =
-      let part : count_by p (marks_at (station_of u (input i)) (held_in m (input i))) ≤ count_by p (input_marks m) =
-      one_of_lists p (λ l. in_queue (chip_of u.machine (l / 7)) (port_of (l % 7))) m.inputs i in
-      omega (arith, part, in_parts m f n mesh after passes p m)
-  queue_counts p (core v) =
-      let part : count_by p (marks_at (station_of u (core v)) (held_in m (core v))) ≤ count_by p (core_marks m) = one_of_lists p at_core m.cores v in
-      omega (arith, part, in_parts m f n mesh after passes p m)
-  queue_counts p nowhere = omega arith
-
   module _ (c : Chip) (o : Out) (live : IsLiveChip u.machine c) (is : IsOutput o) where
     abbrev q : Queue
     q = behind u c o
@@ -145,25 +83,24 @@ module _ (m : State) (f : Flow) (n : State) (nets : List NetPlan) (packets : Lis
     all_in = held_in m (behind u c o) ++ f.entered (behind u c o)
 
     right_in : (j : McCopy) → Among j all_in → IsRight (mark j at)
-    right_in j a = elim (among_either j (held_in m (behind u c o)) (f.entered (behind u c o)) a) [
-      | inl held ↦ held_right m f n nets labels mesh passes right ledger (behind u c o) j held
-      | inr came ↦ arrived_right m f n nets labels mesh passes right ledger c o live is j (among_left j (f.entered (behind u c o)) (map onward (dumped_at f c o)) came)
-    ]
+    right_in = queue_right m f n nets labels mesh after passes right ledger c o live is
 
     module _ (x : McCopy) (r : IsRight (mark x at)) where
+      abbrev place : Milestone m.setup nets
+      place = milestone_of m n nets labels mesh right ledger (mark x at) r
+
       abbrev is_here : Mark → Bool
-      is_here = here m n nets labels mesh right ledger (round_keeps m n f nets mesh after passes right labels ledger) bag (mark x at) r
+      is_here = here place
 
       abbrev is_before : Mark → Bool
-      is_before = before m n nets labels mesh right ledger (round_keeps m n f nets mesh after passes right labels ledger) bag (mark x at) r
+      is_before = before place
 
       stands_here : (j : McCopy) → IsRight (mark j at) → j.packet ≡ x.packet → is_here (mark j at) ≡ true
       stands_here j s same =
           let hop = same_hop (behind u c o) x j r s same in
           let on : on_trail r.trail.from r.trail.to r.trail.branch j.hop at ≡ true = ap (λ h. on_trail r.trail.from r.trail.to r.trail.branch h at) hop ∙ r.trail.on in
-          and_from (j.key == x.key) _ (eq-eqb j.key x.key ((same_net (mark x at) (mark j at) r s same).1))
-          (and_from _ (to_go (mark j at) == to_go (mark x at)) (and_from (j.packet == x.packet) (is_on_trail r.trail.from r.trail.to r.trail.branch (mark j at)) (eq-eqb j.packet x.packet same) on)
-          (eq-eqb (to_go (mark j at)) (to_go (mark x at)) (to_go_same x j at hop)))
+          let key : IsKeyOf r.net.block j.key = subst (λ (e : NetPlan). IsKeyOf e.block j.key) (same_net (mark x at) (mark j at) r s same).0 s.is_key in
+          and_from _ (to_go (mark j at) == to_go (mark x at)) (on_from place (mark j at) key same on) (eq-eqb (to_go (mark j at)) (to_go (mark x at)) (to_go_same x j at hop))
 
       fewer : (ks : List McCopy) → ((j : McCopy) → Among j ks → IsRight (mark j at)) → count_by (λ (j : McCopy). j.packet == x.packet) ks ≤ count_by is_here (marks_at at ks)
       fewer ks each =
@@ -181,21 +118,13 @@ module _ (m : State) (f : Flow) (n : State) (nets : List NetPlan) (packets : Lis
           let both = count_by-append (λ (j : McCopy). j.packet == x.packet) (held_in m (behind u c o)) (f.entered (behind u c o)) in
           let held = fewer (held_in m (behind u c o)) (λ j a. right_in j (among_left j (held_in m (behind u c o)) (f.entered (behind u c o)) a)) in
           let entered = fewer (f.entered (behind u c o)) (λ j a. right_in j (among_right j (held_in m (behind u c o)) (f.entered (behind u c o)) a)) in
-          let once = passed_once m n nets labels mesh right ledger (round_keeps m n f nets mesh after passes right labels ledger) bag (mark x at) r in
-          omega (arith, both, held, entered, queue_counts is_here (behind u c o), crossing_comes m f n mesh after passes is_here c o live is, once)
+          let one = one_on_way place n passes.setup labels (round_keeps m n f nets mesh after passes right labels ledger) in
+          let once = passed_once place m refl labels ledger (stand r.net r.in_nets) n bag one in
+          omega (arith, both, held, entered, queue_counts m f n nets labels mesh after passes right ledger is_here (behind u c o), crossing_comes m f n mesh after passes is_here c o live is, once)
 
     -- ---- a dump record of the output
 
-    module _ (k : McCopy) (record_of : (d : DumpRec) × Among d f.dumped × (d ≡ record { chip = c; out = o; copy = k })) (small : k.hop < last_hop) where
-      abbrev next : McCopy
-      next = onward k
-
-      d : DumpRec
-      d = record { chip = c; out = o; copy = k }
-
-      in_flow : Among (record { chip = c; out = o; copy = k }) f.dumped
-      in_flow = subst (λ (e : DumpRec). Among e f.dumped) record_of.2 record_of.1
-
+    module _ (k : McCopy) (in_flow : Among (record { chip = c; out = o; copy = k }) f.dumped) (small : k.hop < last_hop) where
       dumped_here : Among k (dumped_at f c o)
       dumped_here =
           let r : DumpRec = record { chip = c; out = o; copy = k } in
@@ -204,45 +133,43 @@ module _ (m : State) (f : Flow) (n : State) (nets : List NetPlan) (packets : Lis
           map_among (λ (e : DumpRec). e.copy) r (filter (λ (e : DumpRec). chip_eq e.chip c && out_eq e.out o) f.dumped)
           (contains_among r (filter (λ (e : DumpRec). chip_eq e.chip c && out_eq e.out o) f.dumped) mine)
 
-      in_all : Among (onward k) (f.entered (behind u c o) ++ map onward (dumped_at f c o))
-      in_all = among_right (onward k) (f.entered (behind u c o)) (map onward (dumped_at f c o)) (map_among onward k (dumped_at f c o) dumped_here)
-
-      hand : IsRight (mark k (in_hand c o))
-      hand = subst (λ j. IsRight (mark j (in_hand c o))) (back_onward k small) (crossing_right m f n nets labels mesh passes right ledger c o live is (onward k) in_all).0
-
-      -- the copy as it would stand in the queue
-      ghost : IsRight (mark (onward k) at)
-      ghost = arrived_right m f n nets labels mesh passes right ledger c o live is (onward k) in_all
-
-      before_it : is_before (onward k) ghost (mark k (dumped c o)) ≡ true
-      before_it =
-          and_from (k.packet == k.packet && on (mark k (dumped c o))) (nat_lt (to_go (mark (onward k) at)) (to_go (mark k (dumped c o))))
-          (and_from (k.packet == k.packet) (on (mark k (dumped c o))) (nat_eq_same k.packet) on_it)
-          (lt-ltb (to_go (mark (onward k) at)) (to_go (mark k (dumped c o)))
-          (move_nears m (mark k (dumped c o)) (mark (onward k) at ∷ []) (omega (arith, small)) (on_behind m f n nets labels mesh passes right ledger c o live k hand) (mark (onward k) at) (inl refl)))
-        where
-          on : Mark → Bool
-          on = is_on_trail ghost.trail.from ghost.trail.to ghost.trail.branch
-
-          on_it : on (mark k (in_hand c o)) ≡ true
-          on_it =
-              let net = (same_net (mark k (in_hand c o)) (mark (onward k) at) hand ghost refl).0 in
-              let way = subst (λ (e : NetPlan). IsWayOn u.machine u.spots e ghost.trail.target ghost.trail.branch ghost.trail.from ghost.trail.to) net ghost.trail.way in
-              let kept = move_counts m hand.net (stand hand.net hand.in_nets) hand.trail.target ghost.trail.target hand.trail.branch ghost.trail.branch hand.trail.from ghost.trail.from
-              hand.trail.to ghost.trail.to hand.trail.way way
-              (mark k (in_hand c o)) (mark (onward k) at ∷ []) (inr (on_behind m f n nets labels mesh passes right ledger c o live k hand)) hand.is_key hand.trail.on in
-              let single = sum_by-cons (λ y. one_if (on y)) (mark (onward k) at) [] in
-              let there : one_if (on (mark (onward k) at)) ≡ 1 = ap one_if ghost.trail.on in
-              is_true (on (mark k (in_hand c o))) (omega (arith, kept, single, there))
-            where
-              is_true : (b : Bool) → 1 ≤ one_if b → b ≡ true
-              is_true true one = refl
-              is_true false one = absurd (omega (arith, one))
-
       still_there : Among (mark k (dumped c o)) (marks_of n)
       still_there =
           let r : DumpRec = record { chip = c; out = o; copy = k } in
           dumped_mark n r (subst (λ rs. Among r rs) (sym passes.dumped) (among_right r m.dumped f.dumped in_flow))
+
+      hand : IsRight (mark k (dumped c o))
+      hand = dumped_right m f n nets labels mesh after passes right ledger c o live k still_there
+
+      leads_to_queue : Crosses m k c o (mark (onward k) at ∷ [])
+      leads_to_queue = crosses m f n nets labels mesh after passes right ledger c o live k still_there
+
+      -- the copy as it would stand in the queue
+      ghost : IsRight (mark (onward k) at)
+      ghost = onward_right m f n nets labels mesh after passes right ledger c o live k still_there
+
+      before_it : is_before (onward k) ghost (mark k (dumped c o)) ≡ true
+      before_it =
+          and_from _ (nat_lt (to_go (mark (onward k) at)) (to_go (mark k (dumped c o)))) (on_from (place (onward k) ghost) (mark k (dumped c o)) ghost.is_key refl on_it)
+          (lt-ltb (to_go (mark (onward k) at)) (to_go (mark k (dumped c o)))
+          (move_nears m (mark k (dumped c o)) (mark (onward k) at ∷ []) (omega (arith, small)) leads_to_queue (mark (onward k) at) (inl refl)))
+        where
+          on : Mark → Bool
+          on = is_on_trail ghost.trail.from ghost.trail.to ghost.trail.branch
+
+          on_it : on (mark k (dumped c o)) ≡ true
+          on_it =
+              let net = (same_net (mark k (dumped c o)) (mark (onward k) at) hand ghost refl).0 in
+              let way = subst (λ (e : NetPlan). IsWayOn u.machine u.spots e ghost.trail.target ghost.trail.branch ghost.trail.from ghost.trail.to) net ghost.trail.way in
+              let kept = move_counts m hand.net (stand hand.net hand.in_nets) hand.trail.target ghost.trail.target hand.trail.branch ghost.trail.branch hand.trail.from ghost.trail.from
+              hand.trail.to ghost.trail.to hand.trail.way way (mark k (dumped c o)) (mark (onward k) at ∷ []) leads_to_queue hand.is_key hand.trail.on in
+              let single = sum_by-cons (λ y. one_if (on y)) (mark (onward k) at) [] in
+              let there : one_if (on (mark (onward k) at)) ≡ 1 = ap one_if ghost.trail.on in
+              is_true (on (mark k (dumped c o))) (omega (arith, kept, single, there))
+            where
+              is_true : (b : Bool) → 1 ≤ one_if b → b ≡ true
+              is_true true one = refl
+              is_true false one = absurd (omega (arith, one))
 
       number_below : (j : McCopy) → IsRight (mark j at) → j.packet < length packets
       number_below j r =
@@ -280,8 +207,9 @@ module _ (m : State) (f : Flow) (n : State) (nets : List NetPlan) (packets : Lis
       -- fewer copies were in the queue than there are packets
       few_in : length all_in < length packets
       few_in =
-          let few = few_numbers (λ (j : McCopy). j.packet) (length packets) (onward k ∷ all_in) below (λ i low. few_of i) in
-          omega (arith, few)
+          let few = count_covered (λ i (j : McCopy). j.packet == i) (range_with_len 0 (length packets)) (λ (j : McCopy). true) (onward k ∷ all_in)
+          (λ j a all. (j.packet, number_in_range j.packet (length packets) (below j a), nat_eq_same j.packet)) (λ i a. few_of i) in
+          omega (arith, few, count_all (λ (j : McCopy). true) (onward k ∷ all_in) (λ j a. refl), length-range_with_len 0 (length packets))
         where
           below : (j : McCopy) → Among j (onward k ∷ all_in) → j.packet < length packets
           below j (inl same) = subst (λ (e : McCopy). e.packet < length packets) (sym same) (number_below (onward k) ghost)
@@ -290,7 +218,7 @@ module _ (m : State) (f : Flow) (n : State) (nets : List NetPlan) (packets : Lis
       -- so the queue was never full, where it has room for them all
       never_full : length packets ≤ u.capacity → (e : ℕ × ℕ) → WasFullAt m f (behind u c o) e → ⊥
       never_full roomy e full =
-          let room = room_of (behind u c o) (somewhere m f n nets labels mesh passes right ledger c o k hand) in
+          let room = room_of (behind u c o) (somewhere m f n nets labels mesh after passes right ledger c o live k still_there) in
           omega (arith, few_in, length-append (held_in m (behind u c o)) (f.entered (behind u c o)), room, full.0, full.2, roomy)
         where
           room_of : (b : Queue) → b ≢ nowhere → capacity_of u b ≡ u.capacity
@@ -305,10 +233,10 @@ no_dump patience turns m n f nets packets one_way patient mesh after round right
     no_record : (d : DumpRec) → Among d f.dumped → ⊥
     no_record d a =
         let fits = All-contains (λ (r : DumpRec). IsLiveChip m.setup.machine r.chip × IsOutput r.out × (r.copy.hop < last_hop)) f.dumped d round.passes.at_outputs (among_contains d f.dumped a) in
-        let here_it = dumped_here m f n nets packets mesh after round.passes right job one_way d.chip d.out fits.0 fits.1 d.copy (d, a, refl) fits.2 in
+        let here_it = dumped_here m f n nets packets mesh after round.passes right job one_way d.chip d.out fits.0 fits.1 d.copy a fits.2 in
         by_fulls (f.fulls (behind m.setup d.chip d.out)) (round.full (behind m.setup d.chip d.out))
         (some_fulls (dumped_at f d.chip d.out) d.copy here_it (length (f.fulls (behind m.setup d.chip d.out))) (round.patient d.chip d.out fits.0 fits.1))
-        (never_full m f n nets packets mesh after round.passes right job one_way d.chip d.out fits.0 fits.1 d.copy (d, a, refl) fits.2 roomy)
+        (never_full m f n nets packets mesh after round.passes right job one_way d.chip d.out fits.0 fits.1 d.copy a fits.2 roomy)
       where
         some_fulls : (ks : List McCopy) (k : McCopy) → Among k ks → (many : ℕ) → patience * length ks ≤ many → 1 ≤ many
         some_fulls [] k none many enough = absurd none

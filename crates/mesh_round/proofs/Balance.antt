@@ -1,6 +1,6 @@
 -- What the queues of a list held, and what entered and left them, as marks.
 use Rattle.mesh_round.proofs.Common.{Bool, List, Mark, McCopy, Station, [], add-one, ap, arith, count_by, count_by-append, gathered, length, map-append, marks_at, range_with_len, refl, slice_index_or}
-use Rattle.mesh_round.proofs.Common.{subst, suc, sum_by, sum_by-cons, ℕ, ◌++◌, ◌+◌, ◌<◌, ◌∙◌, ◌∷◌, ◌≡◌}
+use Rattle.mesh_round.proofs.Common.{subst, suc, sum_by, sum_by-cons, sym, zero-add, ℕ, ◌++◌, ◌+◌, ◌<◌, ◌∙◌, ◌∷◌, ◌≡◌}
 
 module _ (p : Mark → Bool) (station : ℕ → Station) (entered left : ℕ → List McCopy) where
   -- how many marks of a list of copies at a queue's station pass
@@ -19,7 +19,7 @@ module _ (p : Mark → Bool) (station : ℕ → Station) (entered left : ℕ →
   one_queue i x y same = grind (arith, passing-append i x (entered i), passing-append i (left i) y, count_by)
 
   -- Where each queue holds before and gets what it gives and holds after, so do their marks.
-  pub queues_balance : (a : ℕ) (xs ys : List (List McCopy)) → length ys ≡ length xs →
+  queues_balance : (a : ℕ) (xs ys : List (List McCopy)) → length ys ≡ length xs →
       ((i : ℕ) → i < length xs → slice_index_or xs i [] ++ entered (a + i) ≡ left (a + i) ++ slice_index_or ys i []) →
       passing_in a xs + sum_by (passing entered) (range_with_len a (length xs)) ≡ sum_by (passing left) (range_with_len a (length xs)) + passing_in a ys
   queues_balance a [] [] long same = refl
@@ -40,3 +40,12 @@ module _ (p : Mark → Bool) (station : ℕ → Station) (entered left : ℕ →
       let left_sum : sum_by (passing left) (range_with_len a (length (x ∷ xs))) ≡ passing left a + sum_by (passing left) (range_with_len (a + 1) (length xs)) =
       ap (λ n. sum_by (passing left) (range_with_len a n)) long_x ∙ sum_by-cons (passing left) a (range_with_len (a + 1) (length xs)) in
       omega (arith, first, rest, in_x, in_y, entered_sum, left_sum)
+
+  -- The same of lists of so many queues.
+  pub balance_of_queues : (n : ℕ) (xs ys : List (List McCopy)) → length xs ≡ n → length ys ≡ n →
+      ((i : ℕ) → i < n → slice_index_or xs i [] ++ entered i ≡ left i ++ slice_index_or ys i []) →
+      passing_in 0 xs + sum_by (passing entered) (range_with_len 0 n) ≡ sum_by (passing left) (range_with_len 0 n) + passing_in 0 ys
+  balance_of_queues n xs ys long_x long_y same =
+      subst (λ k. passing_in 0 xs + sum_by (passing entered) (range_with_len 0 k) ≡ sum_by (passing left) (range_with_len 0 k) + passing_in 0 ys) long_x
+      (queues_balance 0 xs ys (long_y ∙ sym long_x) (λ i low.
+      subst (λ j. slice_index_or xs i [] ++ entered j ≡ left j ++ slice_index_or ys i []) (sym (zero-add i)) (same i (omega (arith, low, long_x)))))

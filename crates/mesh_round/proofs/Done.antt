@@ -1,29 +1,21 @@
 -- What one thing that was done tells of a chip's ports, its vertices and an output of it.
-use Rattle.mesh_round.proofs.Common.{Bool, ByLink, Chip, Delivery, Dir, DumpRec, Dumped, East, IsDoneOn, IsInside, IsLiveChip, IsLiveIndex, IsLiveLink, IsVertexOn, Item, List, Local, McCopy, None}
-use Rattle.mesh_round.proofs.Common.{North, NorthEast, Option, Out, Port, Sent, Served, Service, Setup, Some, South, SouthWest, West, [], all_ports, and_from, and_parts, answers_none, ap, append-nil}
-use Rattle.mesh_round.proofs.Common.{arith, brought, by_wire, cases_Bool, cases_eq, chip_eq, chip_eq_same, chip_eq_true, chip_of, chip_of-index_of, cond, cond-false, cond-true, delivered_of}
-use Rattle.mesh_round.proofs.Common.{dumped_of, elsewhere, entered_by, eq-eqb, false, false_from_ne_true, filter, flat_map, gathered, getting_of, got, here, index_of, index_of-chip_of}
-use Rattle.mesh_round.proofs.Common.{injection_place, inl, inr, left_by, live_inside, lost, lost_by, map, ne_eqb, no_injection, not_there, of_chip, one_output, out_eq, out_eq_same, out_eq_true}
-use Rattle.mesh_round.proofs.Common.{place_behind, port_below, port_is_no_vertex, port_number, port_place, queue_at, recorded, refl, same_Some, sending_of, sent, sent_in, served, service_of}
-use Rattle.mesh_round.proofs.Common.{slice_get, slice_get_within, subst, sym, taking_of, there, took, true, vertex_place, where_same, where_there, ℕ, ◌&&◌, ◌*◌, ◌++◌, ◌+◌, ◌==◌, ◌∙◌, ◌∷◌, ◌≡◌}
-use Rattle.mesh_round.proofs.{Ends.one_port, Entered.numbered_port, Joined.gathered_none, Joined.gathered_one, Serving.went_on, Serving.fell}
+use Rattle.mesh_round.proofs.Common.{Bool, ByLink, Chip, Delivery, Dir, DumpRec, Dumped, IsDoneOn, IsInside, IsLiveChip, IsLiveIndex, IsLiveLink, IsVertexOn, Item, List, Local, McCopy, None, Option}
+use Rattle.mesh_round.proofs.Common.{Out, Port, Sent, Served, Service, Setup, Some, [], all_ports, and_from, and_parts, answers_none, ap, append-nil, arith, behind, brought, by_wire, cases_Bool}
+use Rattle.mesh_round.proofs.Common.{cases_eq, chip_eq, chip_eq_same, chip_eq_true, chip_of, chip_of-index_of, cond, cond-false, cond-true, delivered_of, dumped_of, elsewhere, entered_by, eq-eqb}
+use Rattle.mesh_round.proofs.Common.{false, false_from_ne_true, filter, flat_map, gathered, get_or_from_slice_get, getting_of, got, here, index_of, index_of-chip_of, injection_place, inl, inr}
+use Rattle.mesh_round.proofs.Common.{left_by, live_inside, lost, lost_by, map, ne_eqb, no_injection, not, not_there, of_chip, one_output, out_eq, out_eq_same, out_eq_true, place_behind, port_below}
+use Rattle.mesh_round.proofs.Common.{port_is_no_vertex, port_number, port_number-port_of, port_of-port_number, port_place, queue_at, recorded, refl, sending_of, sent, sent_in, served, service_of}
+use Rattle.mesh_round.proofs.Common.{slice_get, slice_get-get_or, slice_get_within, stands, subst, sym, taking_of, there, took, true, vertex_place, where_same, where_there, ℕ, ◌&&◌, ◌*◌, ◌++◌, ◌+◌}
+use Rattle.mesh_round.proofs.Common.{◌==◌, ◌∙◌, ◌∷◌, ◌≡◌}
+use Rattle.mesh_round.proofs.{Ends.one_port, Joined.gathered_none, Joined.gathered_one, Serving.went_on, Serving.fell}
 
 -- ---- ports by their numbers
 
 port_at : (p : Port) → slice_get all_ports (port_number p) ≡ Some p
-port_at (ByLink East) = refl
-port_at (ByLink NorthEast) = refl
-port_at (ByLink North) = refl
-port_at (ByLink West) = refl
-port_at (ByLink SouthWest) = refl
-port_at (ByLink South) = refl
-port_at Local = refl
+port_at p = slice_get-get_or all_ports (port_number p) Local (port_below p) ∙ ap Some (port_of-port_number p)
 
 number_at : (i : ℕ) (p : Port) → slice_get all_ports i ≡ Some p → port_number p ≡ i
-number_at i p at =
-    let q = numbered_port i (slice_get_within all_ports i p at) in
-    let same : p ≡ q.0 = same_Some p q.0 (sym at ∙ (ap (slice_get all_ports) (sym q.1) ∙ port_at q.0)) in
-    ap port_number same ∙ q.1
+number_at i p at = ap port_number (sym (get_or_from_slice_get all_ports i p Local at)) ∙ port_number-port_of i (slice_get_within all_ports i p at)
 
 -- ---- copies of records and deliveries
 

@@ -1,5 +1,7 @@
 -- Which queue is behind which output: each queue has at most one output that leads to it. And whether two names are of one queue.
-use Rattle.mesh_round.proofs.Common.{Bool, Queue, ap, core, eqb-true, false, input, nat_eq_same, nowhere, refl, true, ◌==◌, ◌≡◌}
+use Rattle.mesh_round.proofs.Common.{All, All-contains, Bool, Chip, Contains, Exit, ExitLeads, IsBranch, IsLiveLink, List, NetPlan, None, Out, Queue, Setup, Spot, ap, behind, behind_link, core}
+use Rattle.mesh_round.proofs.Common.{core_is_somewhere, eqb-true, exit_leads, false, far_of, inl, input, input_is_somewhere, inr, leads_to, leaves_parts, leaves_there, nat_eq_same, none-some, nowhere}
+use Rattle.mesh_round.proofs.Common.{refl, slice_get, sym, true, vertex_behind, vertex_behind_there, ℕ, ◌==◌, ◌∙◌, ◌≡◌, ◌≢◌}
 pub use Rattle.mesh_run.proofs.Ends.{Leads, by_link, to_vertex, to_none, leads, one_end, one_link, one_port}
 
 -- whether two names are of one queue
@@ -29,3 +31,22 @@ behind_eq_true (core v) (input i) same = cc
 behind_eq_true (core v) nowhere same = cc
 behind_eq_true nowhere (input i) same = cc
 behind_eq_true nowhere (core v) same = cc
+
+-- An output on a branch of a net that stands leads somewhere.
+pub branch_leads_on : (u : Setup) (net : NetPlan) (target : Spot) (branch : List Exit) (hop : ℕ) (c : Chip) (o : Out) → All (λ e. IsLiveLink u.machine e.chip e.dir) net.tree.edges →
+    All (Contains u.spots) net.targets → Contains net.targets target →
+    IsBranch u.machine net.tree.root net.tree.edges target branch → leaves_there c o (slice_get branch hop) ≡ true → behind u c o ≢ nowhere
+branch_leads_on u net target branch hop c o live targets is_target is on gone = by_end (leads u c o)
+  where
+    by_exit : vertex_behind u.spots c o ≡ None → ExitLeads u.machine net.tree.edges target branch hop (record { chip = c; out = o }) → ⊥
+    by_exit without (inl (d, out, in_tree, (y, far, next))) =
+        let link : IsLiveLink u.machine c d = All-contains (λ e. IsLiveLink u.machine e.chip e.dir) net.tree.edges (record { chip = c; dir = d }) live in_tree in
+        input_is_somewhere (sym (ap (behind u c) out ∙ (ap (λ b. behind_link u c d b (far_of u.machine c d)) link ∙ ap (behind_link u c d true) far)) ∙ gone)
+    by_exit without (inr (chip, out, last)) =
+        let there = vertex_behind_there u.spots c o target (All-contains (Contains u.spots) net.targets target targets is_target) (leads_to c o target chip out) in
+        none-some there.0 (sym without ∙ there.1)
+
+    by_end : Leads u c o → ⊥
+    by_end (by_link d e out link far at) = input_is_somewhere (sym at ∙ gone)
+    by_end (to_vertex v dead at is_core) = core_is_somewhere (sym is_core ∙ gone)
+    by_end (to_none without at) = by_exit without (exit_leads u.machine net.tree.edges target net.tree.root branch hop (record { chip = c; out = o }) is (leaves_parts branch hop c o on))

@@ -1,19 +1,17 @@
 -- What entered all queues, counted as marks, is what came from all sources: each queue has one, or nothing entered it.
 use Rattle.mesh_round.proofs.Common.{All-at, AllPairs-apart, Among, Bool, ByLink, Chip, Crosses, Description, Dir, Flow, IsInside, IsLiveChip, IsLiveLink, IsMesh, IsOutput, IsSite, Link, List, Local}
 use Rattle.mesh_round.proofs.Common.{Mark, McCopy, None, Option, Out, Passes, Port, Queue, Setup, Some, Spot, State, Station, [], all_outs, among_at, among_contains, among_either, among_gathered}
-use Rattle.mesh_round.proofs.Common.{among_map, and_from, and_parts, answers_none, ap, ap₂, arith, at_core, at_port, behind, behind_link, both_ways, cases_Bool, chip_eq, chip_eq_same, chip_eq_true}
-use Rattle.mesh_round.proofs.Common.{chip_of, chip_of-inside, cond, core, count_by, dir_at, dir_number-dir_at, end_is_no_live_link, eq-eqb, eqb-true, far_back, far_inside, far_of, in_queue}
-use Rattle.mesh_round.proofs.Common.{index_of-chip_of, inl, input, input_is_no_core, input_is_somewhere, inr, is_live_chip, is_live_link, leads_to, length, link_is_not_local, live_back, live_ends}
-use Rattle.mesh_round.proofs.Common.{live_inside, map, mark, marks_at, nowhere, onward, opposite_of, opposite_of-opposite, out_of, out_of-has_bit, port_number, port_of, queue_at, queue_at-below}
-use Rattle.mesh_round.proofs.Common.{range_with_len, refl, same_input, same_site, site_parts, slice_get, slice_get_there, slice_get_within, station_of_queue, subst, sum_by, sum_by-append, sym, true}
-use Rattle.mesh_round.proofs.Common.{vertex_behind_stands, vertex_behind_there, zero-add, ℕ, ◌%◌, ◌*◌, ◌++◌, ◌/◌, ◌<◌, ◌==◌, ◌∙◌, ◌∷◌, ◌≡◌, ◌≢◌, ◌⊎◌}
+use Rattle.mesh_round.proofs.Common.{among_map, and_from, and_parts, answers_none, ap, ap₂, arith, at_core, at_port, behind, both_ways, cases_Bool, chip_eq, chip_eq_same, chip_eq_true, chip_of}
+use Rattle.mesh_round.proofs.Common.{chip_of-inside, cond, core, count_by, end_is_no_live_link, far_back, far_inside, far_of, in_queue, index_of-chip_of, inl, input, input_is_no_core}
+use Rattle.mesh_round.proofs.Common.{input_is_somewhere, inr, is_live_chip, is_live_link, leads_to, length, link_is_not_local, live_back, live_ends, live_inside, map, mark, marks_at, nowhere, onward}
+use Rattle.mesh_round.proofs.Common.{opposite_of, opposite_of-opposite, out_of, out_of-has_bit, port_number, port_number-port_of, port_of, queue_at, queue_at-below, range_with_len, refl, same_input}
+use Rattle.mesh_round.proofs.Common.{same_site, site_parts, slice_get, slice_get_there, slice_get_within, stands, station_of_queue, subst, sum_by, sum_by-append, sym, true, vertex_behind_stands}
+use Rattle.mesh_round.proofs.Common.{vertex_behind_there, zero-add, ℕ, ◌%◌, ◌*◌, ◌++◌, ◌/◌, ◌<◌, ◌∙◌, ◌∷◌, ◌≡◌, ◌≢◌, ◌⊎◌}
 use Rattle.mesh_round.proofs.Sums.{sum_agree, sum_none, sum_map, carried}
 use Rattle.mesh_round.proofs.Ends.{behind_eq, behind_eq_same, behind_eq_true, Leads, by_link, to_vertex, to_none, leads, one_port, one_link, one_end}
 pub use Rattle.mesh_run.proofs.OutputBits.{has_bit}
 use Rattle.mesh_round.proofs.Sources.{once_in_range, range_parts, live_of_live_chips, live_chips, choices, choice_eq, choice_eq_same, choice_eq_true, IsChoice, sources, source_eq, source_once}
-
-abbrev one_where : Bool → ℕ
-one_where b = cond b 1 0
+use Rattle.mesh_round.proofs.CountSums.{one_if}
 
 -- the queue into which a source's copies go
 abbrev pub from : Setup → Chip × Option Out → Queue
@@ -82,10 +80,7 @@ source_eq_true (a, x) (b, y) same =
 
 -- the port of a number below 7
 pub numbered_port : (k : ℕ) → k < 7 → (port : Port) × (port_number port ≡ k)
-numbered_port k below = elim (cases_Bool (k == 6)) [
-  | inl last ↦ (Local, sym (eqb-true k 6 last))
-  | inr other ↦ (ByLink (dir_at k), dir_number-dir_at k (omega (arith, below, (λ (same : k ≡ 6). answers_none (k == 6) (eq-eqb k 6 same) other))))
-]
+numbered_port k below = (port_of k, port_number-port_of k below)
 
 -- ---- what entered
 
@@ -124,7 +119,7 @@ module _ (p : Mark → Bool) (m : State) (f : Flow) (n : State) (mesh : IsMesh m
   only_source : (c : Chip) (x : Option Out) (q : Queue) → IsLiveChip u.machine c → IsChoice x → from u (c, x) ≡ q →
       ((s : Chip × Option Out) → IsLiveChip u.machine s.0 → from u s ≡ q → s ≡ (c, x)) → count_by (λ s. feeds s q) (sources u.machine) ≡ 1
   only_source c x q live is into only =
-      sum_agree (λ s. one_where (feeds s q)) (λ s. one_where (source_eq (c, x) s)) (sources u.machine) (λ s a. ap one_where (same s a))
+      sum_agree (λ s. one_if (feeds s q)) (λ s. one_if (source_eq (c, x) s)) (sources u.machine) (λ s a. ap one_if (same s a))
       ∙ source_once u.machine c x live is
     where
       same : (s : Chip × Option Out) → Among s (sources u.machine) → feeds s q ≡ source_eq (c, x) s

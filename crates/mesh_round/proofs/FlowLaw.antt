@@ -1,7 +1,7 @@
 -- Rounds keep the ledger of copies, since each is a bag of moves.
-use Rattle.mesh_round.proofs.Common.{AreRight, Asked, Flow, HasRounds, IsMesh, Label, List, MeetsJobLedger, MeetsLedger, MeetsLedgerFor, NetPlan, Option, Packet, Passes, Setup, State, ap, asked_by}
-use Rattle.mesh_round.proofs.Common.{bag_adds_no_packet, bag_keeps_ledger, bag_keeps_packets, label_of, more, none, refl, subst, sym, ℕ, ◌∙◌, ◌≡◌}
-use Rattle.mesh_round.proofs.RoundBag.{bag_of_round}
+use Rattle.mesh_round.proofs.Common.{AreRight, Asked, Flow, HasRounds, IsMesh, Label, List, MeetsJobLedger, MeetsLedger, MeetsLedgerFor, NetPlan, Option, Packet, Passes, State, ap, asked_by}
+use Rattle.mesh_round.proofs.Common.{bag_adds_no_packet, bag_keeps_ledger, bag_keeps_packets, has, label_of, put_back_keeps_job, sym, ℕ, ◌∙◌, ◌≡◌}
+use Rattle.mesh_round.proofs.{Passes.passes_keep, Passes.passes_keep_mesh, Passes.rounds_pass, RoundBag.bag_of_round}
 
 module _ (m n : State) (f : Flow) (nets : List NetPlan) (mesh : IsMesh m) (after : IsMesh n) (passes : Passes m f n)
     (right : AreRight m.setup.machine m.setup.tables nets) where
@@ -36,21 +36,12 @@ pub record Stands (m n : State) (nets : List NetPlan) (packets : List Packet) : 
 
 pub rounds_stand : (patience turns : ℕ) (m n : State) (nets : List NetPlan) (packets : List Packet) → IsMesh m → AreRight m.setup.machine m.setup.tables nets →
     MeetsJobLedger m nets packets → HasRounds patience turns m n → Stands m n nets packets
-rounds_stand patience turns m n nets packets mesh right job none = record { mesh = mesh; setup = refl; job = job }
-rounds_stand patience turns m n nets packets mesh right job (more f k n' before after round) =
-    let was = rounds_stand patience turns m k nets packets mesh right job before in
+rounds_stand patience turns m n nets packets mesh right job rounds =
+    let passes = rounds_pass patience turns m n rounds in
+    let kept = passes_keep_mesh patience turns m n mesh passes in
     record {
-      mesh = after;
-      setup = round.passes.setup ∙ was.setup;
-      job = round_keeps_job k n' f nets was.mesh after round.passes (subst (λ (s : Setup). AreRight s.machine s.tables nets) (sym was.setup) right) packets was.job;
+      mesh = kept.0;
+      setup = kept.1;
+      job = passes_keep nets (λ s. MeetsJobLedger s nets packets) (λ k l f mesh_k after is right_k. round_keeps_job k l f nets mesh_k after is right_k packets)
+          (λ k. put_back_keeps_job k nets packets) patience turns m n mesh right job passes;
     }
-
--- Rounds lead from a mesh to a mesh of the same machine, vertices, tables and capacity.
-pub rounds_keep_mesh : (patience turns : ℕ) (m n : State) → IsMesh m → HasRounds patience turns m n → IsMesh n × (n.setup ≡ m.setup)
-rounds_keep_mesh patience turns m n mesh none = (mesh, refl)
-rounds_keep_mesh patience turns m n mesh (more f k n' before after round) =
-    (after, round.passes.setup ∙ (rounds_keep_mesh patience turns m k mesh before).1)
-
-pub rounds_keep_job : (patience turns : ℕ) (m n : State) (nets : List NetPlan) (packets : List Packet) → IsMesh m → AreRight m.setup.machine m.setup.tables nets →
-    MeetsJobLedger m nets packets → HasRounds patience turns m n → MeetsJobLedger n nets packets
-rounds_keep_job patience turns m n nets packets mesh right job rounds = (rounds_stand patience turns m n nets packets mesh right job rounds).job

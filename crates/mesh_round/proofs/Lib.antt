@@ -19,7 +19,6 @@ mod FlowLaw
 mod CountSums
 mod Lighter
 mod Arrivals
-mod PassedOnce
 mod Ample
 mod Nearer
 mod Resting
@@ -28,7 +27,6 @@ mod Passes
 mod PutBackParts
 mod PutBackWork
 mod FirstBack
-mod Ahead
-mod AheadMoves
-mod NetWays
+mod Past
+mod Milestones
 mod FewRounds

@@ -1,10 +1,10 @@
 -- A round leaves less to be done: each of its moves makes the marks lighter.
-use Rattle.mesh_round.proofs.Common.{Among, Bag, Bool, Flow, HasMoved, IsMesh, IsMoveOf, List, Mark, McCopy, Moved, Passes, State, Station, [], ap, arith, at_core, count_by, count_by-append}
-use Rattle.mesh_round.proofs.Common.{count_come, count_left, delivered, dumped, few_come, heavy_grows, in_hand, in_queue, length, light, marks_of, moves_left, mul-le-mul_left, one_heavy, refl, suc}
-use Rattle.mesh_round.proofs.Common.{sum_by, sum_by-append, sum_by-cons, unsent, zero, ℕ, ◌*◌, ◌++◌, ◌+◌, ◌-◌, ◌<◌, ◌∷◌, ◌≡◌, ◌≤◌}
+use Rattle.mesh_round.proofs.Common.{Among, Bag, Flow, HasMoved, IsMesh, IsMoveOf, List, Mark, McCopy, Moved, Passes, State, Station, [], ap, arith, at_core, count_by-append, delivered, dumped}
+use Rattle.mesh_round.proofs.Common.{few_come, heavy_grows, in_hand, in_queue, length, light, marks_of, moves_left, mul-le-mul_left, one_heavy, refl, suc, sum_by, sum_by-append, sum_by-cons, unsent}
+use Rattle.mesh_round.proofs.Common.{zero, ℕ, ◌*◌, ◌++◌, ◌+◌, ◌-◌, ◌<◌, ◌∷◌, ◌≡◌, ◌≤◌}
 use Rattle.mesh_core.specs.Heavy.{heavy}
 use Rattle.mesh_round.specs.Work.{to_go, work_in, work_weight_of}
-use Rattle.mesh_round.proofs.{CountSums.one_if, CountSums.same_sums, Nearer.move_nears, RoundBag.bag_of_round, RoundBag.some_moves}
+use Rattle.mesh_round.proofs.{CountSums.same_sums, Nearer.move_nears, Parts.all_come, Parts.all_left, Parts.come_counts, Parts.left_counts, RoundBag.bag_of_round, RoundBag.some_moves}
 
 -- ---- one move
 
@@ -36,28 +36,6 @@ come_lighter {s} v = by_far (to_go v.leaves) refl (some_to_go v)
         omega (arith, mine, light work_weight_of v.come (heavy n) each, mul-le-mul_left (heavy n) (few_come s v.leaves v.come v.is_move), one_heavy n)
 
 -- ---- all moves of a bag
-
-abbrev pub all_left : {s : State} → List (Moved s) → List Mark
-all_left [] = []
-all_left (v ∷ vs) = v.leaves ∷ all_left vs
-
-abbrev pub all_come : {s : State} → List (Moved s) → List Mark
-all_come [] = []
-all_come (v ∷ vs) = v.come ++ all_come vs
-
-pub left_counts : {s : State} (p : Mark → Bool) (vs : List (Moved s)) → count_left p vs ≡ count_by p (all_left vs)
-left_counts p [] = refl
-left_counts p (v ∷ vs) =
-    let rest = left_counts p vs in
-    let all = sum_by-cons (λ x. one_if (p x)) v.leaves (all_left vs) in
-    omega arith
-
-pub come_counts : {s : State} (p : Mark → Bool) (vs : List (Moved s)) → count_come p vs ≡ count_by p (all_come vs)
-come_counts p [] = refl
-come_counts p (v ∷ vs) =
-    let rest = come_counts p vs in
-    let both = count_by-append p v.come (all_come vs) in
-    omega arith
 
 lighter : {s : State} (vs : List (Moved s)) → sum_by work_weight_of (all_come vs) + length vs ≤ sum_by work_weight_of (all_left vs)
 lighter [] = omega arith

@@ -1,7 +1,7 @@
 -- Bags of moves put together from parts, of which each says how many marks leave and come.
-use Rattle.mesh_round.proofs.Common.{Among, Bool, IsMoveOf, List, Mark, McCopy, Moved, Some, State, Station, [], ap, arith, cond, count_by, count_come, count_left, if◌then◌else◌, inl, inr, last_hop}
-use Rattle.mesh_round.proofs.Common.{mark, marks_at, refl, slice_get, subst, suc, sum_by, sum_by-cons, sym, ℕ, ◌++◌, ◌+◌, ◌∙◌, ◌∷◌, ◌≡◌, ◌≤◌}
-use Rattle.mesh_round.proofs.Sums.{sum_at}
+use Rattle.mesh_round.proofs.Common.{Among, Bool, IsMoveOf, List, Mark, McCopy, Moved, Some, State, Station, [], ap, arith, cond, count_by, count_by-append, count_come, count_left, if◌then◌else◌, inl}
+use Rattle.mesh_round.proofs.Common.{inr, last_hop, mark, marks_at, refl, slice_get, subst, suc, sum_by, sum_by-cons, sym, ℕ, ◌++◌, ◌+◌, ◌∙◌, ◌∷◌, ◌≡◌, ◌≤◌}
+use Rattle.mesh_round.proofs.{CountSums.one_if, Sums.sum_at, Sums.sum_single}
 
 -- how many marks of each kind
 abbrev pub Counts : Type 0
@@ -65,3 +65,43 @@ module _ {m : State} where
         leaving = λ p. ap (λ c. (if p (mark k at) then 1 else 0) + c) (rest.leaving p) ∙ sym (sum_by-cons (λ x. cond (p x) 1 0) (mark k at) (marks_at at ks));
         coming = λ p. ap (λ c. count_by p (put k) + c) (rest.coming p) ∙ sym (sum_by-cons (λ j. count_by p (put j)) k ks);
       }
+
+  -- copies of which each leaves one station for another
+  pub part_one : {X : Type 0} (copy : X → McCopy) (at to : X → Station) (xs : List X) →
+      ((x : X) → Among x xs → IsMoveOf m (copy x) (at x) (mark (copy x) (to x) ∷ []) × ((copy x).hop ≤ last_hop)) →
+      Part m (λ p. sum_by (λ x. count_by p (mark (copy x) (at x) ∷ [])) xs) (λ p. sum_by (λ x. count_by p (mark (copy x) (to x) ∷ [])) xs)
+  part_one copy at to [] each = no_part
+  part_one copy at to (x ∷ xs) each =
+      let rest = part_one copy at to xs (λ y a. each y (inr a)) in
+      let first = each x (inl refl) in
+      record {
+        moves = record { leaves = mark (copy x) (at x); come = mark (copy x) (to x) ∷ []; is_move = first.0; small = first.1 } ∷ rest.moves;
+        leaving = λ p.
+            let one = sum_single (λ k. one_if (p k)) (mark (copy x) (at x)) in
+            omega (arith, one, rest.leaving p, sum_by-cons (λ y. count_by p (mark (copy y) (at y) ∷ [])) x xs);
+        coming = λ p. omega (arith, rest.coming p, sum_by-cons (λ y. count_by p (mark (copy y) (to y) ∷ [])) x xs);
+      }
+
+-- ---- all marks that leave, and all that come
+
+abbrev pub all_left : {s : State} → List (Moved s) → List Mark
+all_left [] = []
+all_left (v ∷ vs) = v.leaves ∷ all_left vs
+
+abbrev pub all_come : {s : State} → List (Moved s) → List Mark
+all_come [] = []
+all_come (v ∷ vs) = v.come ++ all_come vs
+
+pub left_counts : {s : State} (p : Mark → Bool) (vs : List (Moved s)) → count_left p vs ≡ count_by p (all_left vs)
+left_counts p [] = refl
+left_counts p (v ∷ vs) =
+    let rest = left_counts p vs in
+    let all = sum_by-cons (λ x. one_if (p x)) v.leaves (all_left vs) in
+    omega arith
+
+pub come_counts : {s : State} (p : Mark → Bool) (vs : List (Moved s)) → count_come p vs ≡ count_by p (all_come vs)
+come_counts p [] = refl
+come_counts p (v ∷ vs) =
+    let rest = come_counts p vs in
+    let both = count_by-append p v.come (all_come vs) in
+    omega arith

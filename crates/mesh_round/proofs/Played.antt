@@ -1,14 +1,8 @@
 -- Rounds on threads that were played one after the other lead on.
-use Rattle.mesh_round.proofs.Common.{Bool, Err, HasMovingRounds, HasNoHand, IfErr, IfErr-weaker, IfOk, IfOk-weaker, IsAtRest, IsMesh, IsNoted, IsPlayedBy, IsRaisedFrom, IsRound, Item, LeadsByFlow}
-use Rattle.mesh_round.proofs.Common.{LeadsByRound, List, MayGoOn, Memory, Ok, Pace, PlaysTo, RaisedMesh, Result, State, [], arith, false, has_none, inl, inr, more, none, subst, sym, true, ℕ, ◌∙◌, ◌≡◌}
-use Rattle.mesh_round.proofs.Resting.{none_left, rests}
-
--- what the law of rounds on threads tells of one of them
-pub record IsLaw : Type 0 where
-  pub mesh : (patience turns : ℕ) (items : List Item) (m n : State) → IsMesh m → HasNoHand m → IsPlayedBy patience turns items m n → IsMesh n
-  pub hands : (patience turns : ℕ) (items : List Item) (m n : State) → HasNoHand m → IsPlayedBy patience turns items m n → HasNoHand n
-  pub round : (patience turns : ℕ) (items : List Item) (m n : State) → IsMesh m → HasNoHand m → IsPlayedBy patience turns items m n → LeadsByFlow patience turns items m n
-  pub still : (patience turns : ℕ) (items : List Item) (m n : State) → IsMesh m → IsPlayedBy patience turns items m n → items ≡ [] → n ≡ m
+use Rattle.mesh_round.proofs.Common.{All, Bool, Err, Hand, HasMovingRounds, IfErr, IfErr-weaker, IfOk, IfOk-weaker, IsAtRest, IsMesh, IsNoted, IsPlayedBy, IsRaisedFrom, IsRound, Item, LeadsByRound}
+use Rattle.mesh_round.proofs.Common.{List, MayGoOn, Memory, None, Ok, Option, Pace, PlaysTo, RaisedMesh, Result, State, [], arith, false, has, has_none, inl, inr, more, none, subst, sym, true, ℕ, ◌∙◌}
+use Rattle.mesh_round.proofs.Common.{◌≡◌}
+use Rattle.mesh_round.proofs.{Resting.none_left, Resting.rests, PlayedMesh.is_mesh, PlayedMesh.leads_by_flow, PlayedMesh.still, TheFlow.Round}
 
 -- A mesh that was reached by rounds in each of which a copy moved, that may go on, and is split.
 pub record IsReached (patience turns : ℕ) (m : State) (r : RaisedMesh) : Type 0 where
@@ -41,12 +35,15 @@ pub rests_where_none : (answer : Result State (State × Memory)) → IfOk answer
 rests_where_none (Ok n) ready is = rests n is ready.no_hand
 rests_where_none (Err b) ready is = is
 
-module _ (law : IsLaw) (patience turns : ℕ) where
+module _ (patience turns : ℕ) where
+  abbrev played_from : (m n : State) (items : List Item) → MayGoOn m → IsPlayedBy patience turns items m n → Round
+  played_from m n items ready played = record { patience = patience; turns = turns; items = items; m = m; n = n; mesh = ready.mesh; no_hand = ready.no_hand; played = played }
+
   -- a mesh after a round may go on
   pub ready_after : (m n : State) (items : List Item) → MayGoOn m → IsPlayedBy patience turns items m n → MayGoOn n
   ready_after m n items ready played = record {
-    mesh = law.mesh patience turns items m n ready.mesh ready.no_hand played;
-    no_hand = law.hands patience turns items m n ready.no_hand played;
+    mesh = is_mesh (played_from m n items ready played);
+    no_hand = subst (All (λ (h : Option Hand). h ≡ None)) (sym played.hands) ready.no_hand;
   }
 
   -- where a copy moved, something was done
@@ -58,7 +55,7 @@ module _ (law : IsLaw) (patience turns : ℕ) where
   pub moved_on : (m : State) (r s : RaisedMesh) (is : IsReached patience turns m r) → PlaysTo patience turns is.mesh true s → IsReached patience turns m s
   moved_on m r s is to =
       let ready = ready_after is.mesh to.mesh to.items is.ready to.played in
-      let lead = law.round patience turns to.items is.mesh to.mesh is.ready.mesh is.ready.no_hand to.played in
+      let lead = leads_by_flow (played_from is.mesh to.mesh to.items is.ready to.played) in
       record {
         mesh = to.mesh;
         rounds = record {
@@ -71,7 +68,7 @@ module _ (law : IsLaw) (patience turns : ℕ) where
 
   -- one that moved none leaves the mesh as it was
   pub stood_still : (m : State) (s : RaisedMesh) → IsMesh m → PlaysTo patience turns m false s → IsRaisedFrom m 0 s
-  stood_still m s mesh to = subst (λ (k : State). IsRaisedFrom k 0 s) (law.still patience turns to.items m to.mesh mesh to.played to.noted.1) to.raised
+  stood_still m s mesh to = subst (λ (k : State). IsRaisedFrom k 0 s) (still patience turns to.items m to.mesh mesh to.played to.noted.1) to.raised
 
   -- so a mesh that was reached is reached still
   pub stood_on : (m : State) (r s : RaisedMesh) (is : IsReached patience turns m r) → PlaysTo patience turns is.mesh false s → IsReached patience turns m s
@@ -80,17 +77,17 @@ module _ (law : IsLaw) (patience turns : ℕ) where
   -- A round by itself: a copy moved in it; or none did, and there was none.
   pub leads : (m n : State) (items : List Item) → MayGoOn m → IsPlayedBy patience turns items m n → IsNoted false items true → LeadsByRound patience turns m n
   leads m n items ready played noted =
-      let lead = law.round patience turns items m n ready.mesh ready.no_hand played in
+      let lead = leads_by_flow (played_from m n items ready played) in
       record { flow = lead.flow; round = lead.round; moved = λ some has. lead.moved (some_moved items noted) }
 
   -- A round in which no copy moved, of a mesh in which none is.
   leads_nowhere : (m n : State) (s : RaisedMesh) → MayGoOn m → PlaysTo patience turns m false s → n ≡ m → has_none n ≡ true → LeadsByRound patience turns m n
   leads_nowhere m n s ready to same is =
-      let lead = law.round patience turns to.items m to.mesh ready.mesh ready.no_hand to.played in
-      let still = law.still patience turns to.items m to.mesh ready.mesh to.played to.noted.1 in
+      let lead = leads_by_flow (played_from m to.mesh to.items ready to.played) in
+      let stays = still patience turns to.items m to.mesh ready.mesh to.played to.noted.1 in
       record {
         flow = lead.flow;
-        round = subst (λ (k : State). IsRound patience turns m lead.flow k) (still ∙ sym same) lead.round;
+        round = subst (λ (k : State). IsRound patience turns m lead.flow k) (stays ∙ sym same) lead.round;
         moved = λ some has. absurd (none_left m (subst (λ (k : State). has_none k ≡ true) same is) ready.no_hand has);
       }
 

@@ -32,19 +32,11 @@ sum_exchanged f x y before between after out put =
     let left : sum_by f between ≡ sum_by f (out.front ++ out.back) = ap (sum_by f) out.after_is in
     let still : sum_by f between ≡ sum_by f (put.front ++ put.back) = ap (sum_by f) put.before_is in
     let now : sum_by f after ≡ sum_by f (put.front ++ y ∷ put.back) = ap (sum_by f) put.after_is in
-    omega (
-      arith,
-      was,
-      left,
-      still,
-      now,
-      sum_by-append f out.front (x ∷ out.back),
-      sum_by-cons f x out.back,
-      sum_by-append f out.front out.back,
-      sum_by-append f put.front put.back,
-      sum_by-append f put.front (y ∷ put.back),
-      sum_by-cons f y put.back,
-    )
+    let a = sum_by-append f out.front (x ∷ out.back) in
+    let b = sum_by-append f out.front out.back in
+    let c = sum_by-append f put.front put.back in
+    let d = sum_by-append f put.front (y ∷ put.back) in
+    omega (arith, was, left, still, now, a, b, c, d, sum_by-cons f x out.back, sum_by-cons f y put.back)
 
 -- ---- putting back
 

@@ -1,17 +1,18 @@
 -- What passes the queues of a mesh in a round is a bag of moves.
 use Rattle.mesh_round.proofs.Common.{All, All-at, All-contains, Among, Bag, Bool, Chip, Contains-filter, Delivery, DumpRec, Flow, HasMoved, HasNoHand, IsLiveChip, IsMesh, IsMoveOf, IsOutput, IsSite}
 use Rattle.mesh_round.proofs.Common.{List, Local, Mark, McCopy, Moved, None, Out, Passes, Queue, Setup, Some, Spot, State, Station, [], all_hand_marks, all_once, all_outs, among_contains, among_left}
-use Rattle.mesh_round.proofs.Common.{among_map, ap, append-nil, ap₂, arith, at_core, at_port, behind, cases_Bool, chip_eq, chip_eq_true, chip_of, cond, contains_among, core, core_marks, count_by}
-use Rattle.mesh_round.proofs.Common.{count_by-append, count_by-le-length, count_come, count_left, counted, delivered, delivered_marks, delivered_to, dumped, dumped_marks, eqb-true, false, filter}
-use Rattle.mesh_round.proofs.Common.{gathered, gathered_of_none, hand_marks, if◌then◌else◌, in_hand, in_queue, inl, input, input_marks, inr, last_hop, length, length-filter, length-map, live_inside}
-use Rattle.mesh_round.proofs.Common.{map, map-append, map_among, mark, marks_at, marks_of, nat_eq_same, nowhere, of_chip, onward, out_eq, out_eq_true, outputs, port_of, range_with_len, refl, sent_on}
-use Rattle.mesh_round.proofs.Common.{site_parts, slice_get, slice_get_there, slice_get_within, slice_index_or, subst, suc, sum_by, sum_by-IsPermutation, sum_by-append, sum_by-cons, sym, true, unsent}
-use Rattle.mesh_round.proofs.Common.{unsent_marks, zero-add, ℕ, ◌%◌, ◌*◌, ◌++◌, ◌+◌, ◌/◌, ◌<◌, ◌==◌, ◌∙◌, ◌∷◌, ◌≡◌, ◌≢◌, ◌≤◌}
-use Rattle.mesh_round.proofs.{CountSums.part_of_sum, CountSums.part_of_sum_at, Sums.sum_agree, Sums.sum_none, Sums.sum_map, Sums.sum_filter, Sums.sum_swap, Sums.sum_plus, Sums.sum_gathered}
-use Rattle.mesh_round.proofs.{Sums.sum_at, Sums.sum_at-swap, Sums.one_passes, Balance.queues_balance, Balance.passing, Balance.passing_in, Sources.once_in_range, Sources.range_parts}
-use Rattle.mesh_round.proofs.{Sources.live_chips, Sources.live_of_live_chips, Sources.live_chip_once, Sources.choices, Sources.sum_sources, Entered.from, Entered.station_of, Entered.station_is}
-use Rattle.mesh_round.proofs.{Entered.crosses_behind, Entered.came, Entered.all_came, Entered.has_bit, Ahead.is_step, Ahead.is_step_at, Parts.Part, Parts.both_parts, Parts.part_each, Parts.part_at}
-use Rattle.mesh_round.proofs.{Parts.part_of, Parts.count_come-append, Parts.count_left-append, Weights.one_where, Weights.back, Weights.entered_is, Taken.weight, Taken.taken_from, Taken.hands_balance}
+use Rattle.mesh_round.proofs.Common.{among_map, ap, append-nil, ap₂, arith, at_core, at_port, behind, chip_eq, chip_eq_true, chip_of, cond, contains_among, core, core_marks, count_by, count_by-append}
+use Rattle.mesh_round.proofs.Common.{count_by-le-length, count_come, count_left, counted, delivered, delivered_marks, delivered_to, dumped, dumped_marks, eqb-true, false, filter, gathered}
+use Rattle.mesh_round.proofs.Common.{gathered_of_none, hand_marks, in_hand, in_queue, inl, input, input_marks, inr, last_hop, length, length-filter, length-map, live_inside, map, map-append}
+use Rattle.mesh_round.proofs.Common.{map_among, mark, marks_at, marks_of, nat_eq_same, nowhere, of_chip, onward, out_eq, out_eq_true, outputs, port_of, range_with_len, refl, sent_on, site_parts}
+use Rattle.mesh_round.proofs.Common.{slice_get, slice_get_there, slice_get_within, slice_index_or, subst, suc, sum_by, sum_by-IsPermutation, sum_by-append, sum_by-cons, sym, true, unsent}
+use Rattle.mesh_round.proofs.Common.{unsent_marks, ℕ, ◌%◌, ◌*◌, ◌++◌, ◌+◌, ◌/◌, ◌<◌, ◌==◌, ◌∙◌, ◌∷◌, ◌≡◌, ◌≢◌, ◌≤◌}
+use Rattle.mesh_round.proofs.{CountSums.one_if, CountSums.part_of_sum, CountSums.part_of_sum_at, Sums.sum_agree, Sums.sum_none, Sums.sum_map, Sums.sum_filter, Sums.sum_swap, Sums.sum_plus}
+use Rattle.mesh_round.proofs.{Sums.sum_single, Sums.sum_gathered, Sums.sum_at, Sums.sum_at-swap, Sums.one_item, Balance.balance_of_queues, Balance.passing, Balance.passing_in, Sources.number_in_range}
+use Rattle.mesh_round.proofs.{Sources.once_in_range, Sources.range_parts, Sources.live_chips, Sources.live_of_live_chips, Sources.live_chip_once, Sources.choices, Sources.sum_sources, Entered.from}
+use Rattle.mesh_round.proofs.{Entered.station_of, Entered.station_is, Entered.crosses_behind, Entered.came, Entered.all_came, Entered.has_bit, Past.is_step, Past.is_step_at, Past.left_move}
+use Rattle.mesh_round.proofs.{Parts.Part, Parts.both_parts, Parts.part_each, Parts.part_at, Parts.part_of, Parts.part_one, Weights.back, Weights.entered_is, Taken.weight, Taken.taken_from}
+use Rattle.mesh_round.proofs.Taken.{hands_balance}
 
 -- the sum over the places of a list
 sum_at-range : {X : Type 0} (g : ℕ → ℕ) (a : ℕ) (xs : List X) → sum_at (λ i x. g i) a xs ≡ sum_by g (range_with_len a (length xs))
@@ -30,11 +31,6 @@ sum_at-agree h k a (x ∷ xs) same =
     let next : a + suc i ≡ (a + 1) + i = omega arith in
     subst (λ j. h j y ≡ k j y) next (same (suc i) y at)) in
     omega (arith, first, rest)
-
-sum_single : {X : Type 0} (g : X → ℕ) (x : X) → sum_by g (x ∷ []) ≡ g x
-sum_single g x =
-    let none : sum_by g [] ≡ 0 = refl in
-    omega (arith, sum_by-cons g x [], none)
 
 module _ (m : State) (f : Flow) (n : State) (mesh : IsMesh m) (after : IsMesh n) (passes : Passes m f n) where
   abbrev u : Setup
@@ -104,20 +100,9 @@ module _ (m : State) (f : Flow) (n : State) (mesh : IsMesh m) (after : IsMesh n)
 
   dumped_part : Part m (λ p. sum_by (λ (r : DumpRec). count_by p (mark r.copy (in_hand r.chip r.out) ∷ [])) f.dumped)
       (λ p. sum_by (λ (r : DumpRec). count_by p (mark r.copy (dumped r.chip r.out) ∷ [])) f.dumped)
-  dumped_part =
-      part_each (λ (r : DumpRec) p. count_by p (mark r.copy (in_hand r.chip r.out) ∷ [])) (λ (r : DumpRec) p. count_by p (mark r.copy (dumped r.chip r.out) ∷ [])) f.dumped
-      (λ r a.
+  dumped_part = part_one (λ (r : DumpRec). r.copy) (λ (r : DumpRec). in_hand r.chip r.out) (λ (r : DumpRec). dumped r.chip r.out) f.dumped (λ r a.
       let fits = All-contains (λ (s : DumpRec). IsLiveChip u.machine s.chip × IsOutput s.out × (s.copy.hop < last_hop)) f.dumped r passes.at_outputs (among_contains r f.dumped a) in
-      let one = part_of (in_hand r.chip r.out) (λ k. mark k (dumped r.chip r.out) ∷ []) (r.copy ∷ []) (λ k b. dropped r k b (omega (arith, fits.2))) in
-      record {
-        moves = one.moves;
-        leaving = one.leaving;
-        coming = λ p. one.coming p ∙ sum_single (λ k. count_by p (mark k (dumped r.chip r.out) ∷ [])) r.copy;
-      })
-    where
-      dropped : (r : DumpRec) (k : McCopy) → Among k (r.copy ∷ []) → r.copy.hop ≤ last_hop → IsMoveOf m k (in_hand r.chip r.out) (mark k (dumped r.chip r.out) ∷ []) × (k.hop ≤ last_hop)
-      dropped r k (inl same) small = (inl refl, subst (λ (j : McCopy). j.hop ≤ last_hop) (sym same) small)
-      dropped r k (inr none) small = absurd none
+      (inl refl, omega (arith, fits.2)))
 
   delivered_small : (d : Delivery) → Among d f.delivered → d.copy.hop ≤ last_hop
   delivered_small d a =
@@ -130,18 +115,7 @@ module _ (m : State) (f : Flow) (n : State) (mesh : IsMesh m) (after : IsMesh n)
   delivered_part : Part m (λ p. sum_by (λ (d : Delivery). count_by p (mark d.copy (at_core d.vertex) ∷ [])) f.delivered)
       (λ p. sum_by (λ (d : Delivery). count_by p (mark d.copy (delivered d.vertex) ∷ [])) f.delivered)
   delivered_part =
-      part_each (λ (d : Delivery) p. count_by p (mark d.copy (at_core d.vertex) ∷ [])) (λ (d : Delivery) p. count_by p (mark d.copy (delivered d.vertex) ∷ [])) f.delivered
-      (λ d a.
-      let one = part_of (at_core d.vertex) (λ k. mark k (delivered d.vertex) ∷ []) (d.copy ∷ []) (λ k b. collects d k b (delivered_small d a)) in
-      record {
-        moves = one.moves;
-        leaving = one.leaving;
-        coming = λ p. one.coming p ∙ sum_single (λ k. count_by p (mark k (delivered d.vertex) ∷ [])) d.copy;
-      })
-    where
-      collects : (d : Delivery) (k : McCopy) → Among k (d.copy ∷ []) → d.copy.hop ≤ last_hop → IsMoveOf m k (at_core d.vertex) (mark k (delivered d.vertex) ∷ []) × (k.hop ≤ last_hop)
-      collects d k (inl same) small = (refl, subst (λ (j : McCopy). j.hop ≤ last_hop) (sym same) small)
-      collects d k (inr none) small = absurd none
+      part_one (λ (d : Delivery). d.copy) (λ (d : Delivery). at_core d.vertex) (λ (d : Delivery). delivered d.vertex) f.delivered (λ d a. (refl, delivered_small d a))
 
   module _ (p : Mark → Bool) where
     abbrev came_in : Queue → ℕ
@@ -150,8 +124,8 @@ module _ (m : State) (f : Flow) (n : State) (mesh : IsMesh m) (after : IsMesh n)
     abbrev vertices : List ℕ
     vertices = range_with_len 0 (length u.spots)
 
-    single : (k : Mark) → count_by p (k ∷ []) ≡ one_where (p k)
-    single k = sum_single (λ x. one_where (p x)) k
+    single : (k : Mark) → count_by p (k ∷ []) ≡ one_if (p k)
+    single k = sum_single (λ x. one_if (p x)) k
 
     -- ---- what came
 
@@ -181,7 +155,7 @@ module _ (m : State) (f : Flow) (n : State) (mesh : IsMesh m) (after : IsMesh n)
         (λ v spot at. of_vertex (0 + v) spot (site_parts u.machine spot (All-at (IsSite u.machine) u.spots v spot mesh.sites at)).0))
       where
         into : Chip → McCopy → ℕ
-        into c k = one_where (p (mark k (in_queue c Local)))
+        into c k = one_if (p (mark k (in_queue c Local)))
 
         share : Chip → ℕ → Spot → ℕ
         share c v spot = cond (chip_eq spot.chip c) (sum_by (into c) (f.sent v)) 0
@@ -197,7 +171,7 @@ module _ (m : State) (f : Flow) (n : State) (mesh : IsMesh m) (after : IsMesh n)
         at_chip c live =
             let station : station_of u (at_port u c Local) ≡ in_queue c Local = station_is u c Local (live_inside u.machine c live) in
             ap (λ st. count_by p (marks_at st (f.entered (at_port u c Local)))) station
-            ∙ (sum_map (λ k. mark k (in_queue c Local)) (λ x. one_where (p x)) (f.entered (at_port u c Local))
+            ∙ (sum_map (λ k. mark k (in_queue c Local)) (λ x. one_if (p x)) (f.entered (at_port u c Local))
             ∙ (sum_by-IsPermutation (into c) (sent_on u f c) (f.entered (at_port u c Local)) (passes.injected c live)
             ∙ (sum_gathered (into c) (λ v spot. of_chip c spot (f.sent v)) 0 u.spots
             ∙ sum_at-agree (λ v spot. sum_by (into c) (of_chip c spot (f.sent v))) (λ v (spot : Spot). share c v spot) 0 u.spots (λ v spot at. of_copies c spot (f.sent (0 + v))))))
@@ -205,15 +179,9 @@ module _ (m : State) (f : Flow) (n : State) (mesh : IsMesh m) (after : IsMesh n)
         of_vertex : (v : ℕ) (spot : Spot) → IsLiveChip u.machine spot.chip →
             sum_by (λ c. share c v spot) (live_chips u.machine) ≡ sum_by (λ k. count_by p (mark k (in_queue spot.chip Local) ∷ [])) (f.sent v)
         of_vertex v spot live =
-            sum_agree (λ c. share c v spot) (λ c. cond (chip_eq spot.chip c) (sum_by (into spot.chip) (f.sent v)) 0) (live_chips u.machine) (λ c a. same c)
-            ∙ (one_passes (chip_eq spot.chip) (sum_by (into spot.chip) (f.sent v)) (live_chips u.machine) (live_chip_once u.machine spot.chip live)
-            ∙ sum_agree (into spot.chip) (λ k. count_by p (mark k (in_queue spot.chip Local) ∷ [])) (f.sent v) (λ k a. sym (single (mark k (in_queue spot.chip Local)))))
-          where
-            same : (c : Chip) → share c v spot ≡ cond (chip_eq spot.chip c) (sum_by (into spot.chip) (f.sent v)) 0
-            same c = elim (cases_Bool (chip_eq spot.chip c)) [
-              | inl here ↦ ap (λ (e : Chip). cond (chip_eq spot.chip c) (sum_by (into e) (f.sent v)) 0) (sym (chip_eq_true spot.chip c here))
-              | inr other ↦ ap (λ b. cond b (sum_by (into c) (f.sent v)) 0) other ∙ sym (ap (λ b. cond b (sum_by (into spot.chip) (f.sent v)) 0) other)
-            ]
+            one_item (chip_eq spot.chip) (λ c. sum_by (into c) (f.sent v)) (sum_by (into spot.chip) (f.sent v)) (live_chips u.machine)
+            (λ c here. ap (λ (e : Chip). sum_by (into e) (f.sent v)) (sym (chip_eq_true spot.chip c here))) (live_chip_once u.machine spot.chip live)
+            ∙ sum_agree (into spot.chip) (λ k. count_by p (mark k (in_queue spot.chip Local) ∷ [])) (f.sent v) (λ k a. sym (single (mark k (in_queue spot.chip Local))))
 
     -- what came across outputs is what entered the queues behind them
     crossed_is : sum_by (λ c. sum_by (λ o. crossed_come p c o) all_outs) (live_chips u.machine)
@@ -227,9 +195,9 @@ module _ (m : State) (f : Flow) (n : State) (mesh : IsMesh m) (after : IsMesh n)
             let st = station_of u (behind u c o) in
             let entered = f.entered (behind u c o) in
             sum_map back (λ k. count_by p (mark (onward k) st ∷ [])) entered
-            ∙ (sum_agree (λ k. count_by p (mark (onward (back k)) st ∷ [])) (λ k. one_where (p (mark k st))) entered
-            (λ k a. single (mark (onward (back k)) st) ∙ ap (λ (j : McCopy). one_where (p (mark j st))) (entered_is m f n passes c o live is k a).0)
-            ∙ sym (sum_map (λ k. mark k st) (λ x. one_where (p x)) entered))
+            ∙ (sum_agree (λ k. count_by p (mark (onward (back k)) st ∷ [])) (λ k. one_if (p (mark k st))) entered
+            (λ k a. single (mark (onward (back k)) st) ∙ ap (λ (j : McCopy). one_if (p (mark j st))) (entered_is m f n passes c o live is k a).0)
+            ∙ sym (sum_map (λ k. mark k st) (λ x. one_if (p x)) entered))
 
     -- ---- hands
 
@@ -239,14 +207,14 @@ module _ (m : State) (f : Flow) (n : State) (mesh : IsMesh m) (after : IsMesh n)
         ap₂ (λ (a b : ℕ). a + b)
         (sum_agree (λ c. sum_by (λ o. crossed_left p c o) all_outs) (λ c. sum_by (λ o. sum_by (weight p m f n mesh passes c o) (crossing c o)) all_outs) (live_chips u.machine)
         (λ c a. sum_agree (λ o. crossed_left p c o) (λ o. sum_by (weight p m f n mesh passes c o) (crossing c o)) all_outs
-        (λ o b. sum_map (λ k. mark k (in_hand c o)) (λ x. one_where (p x)) (crossing c o))))
+        (λ o b. sum_map (λ k. mark k (in_hand c o)) (λ x. one_if (p x)) (crossing c o))))
         (sum_agree (λ (r : DumpRec). count_by p (mark r.copy (in_hand r.chip r.out) ∷ [])) (λ (r : DumpRec). weight p m f n mesh passes r.chip r.out r.copy) f.dumped
         (λ r a. single (mark r.copy (in_hand r.chip r.out))))
         ∙ (sym (hands_balance p m f n mesh passes)
         ∙ sum_agree (taken_from p m f n mesh passes) (λ i. taken_come p i) places
         (λ i a. sum_agree (λ k. sum_by (λ o. weight p m f n mesh passes (chip_of u.machine (i / 7)) o k) (outputs u (chip_of u.machine (i / 7)) (port_of (i % 7)) k))
         (λ k. count_by p (taken_marks i k)) (f.left (input i))
-        (λ k b. sym (sum_map (λ o. mark k (in_hand (chip_of u.machine (i / 7)) o)) (λ x. one_where (p x)) (outputs u (chip_of u.machine (i / 7)) (port_of (i % 7)) k)))))
+        (λ k b. sym (sum_map (λ o. mark k (in_hand (chip_of u.machine (i / 7)) o)) (λ x. one_if (p x)) (outputs u (chip_of u.machine (i / 7)) (port_of (i % 7)) k)))))
 
     -- ---- deliveries
 
@@ -258,7 +226,7 @@ module _ (m : State) (f : Flow) (n : State) (mesh : IsMesh m) (after : IsMesh n)
         ∙ sum_agree (λ v. sum_by (λ d. share d v) f.delivered) (λ v. count_by p (marks_at (at_core v) (f.left (core v)))) vertices (λ v a. of_vertex v (below v a)))
       where
         at : ℕ → Delivery → ℕ
-        at v d = one_where (p (mark d.copy (at_core v)))
+        at v d = one_if (p (mark d.copy (at_core v)))
 
         share : Delivery → ℕ → ℕ
         share d v = cond (d.vertex == v) (at v d) 0
@@ -268,88 +236,56 @@ module _ (m : State) (f : Flow) (n : State) (mesh : IsMesh m) (after : IsMesh n)
 
         of_delivery : (d : Delivery) → d.vertex < length u.spots → sum_by (λ v. share d v) vertices ≡ count_by p (mark d.copy (at_core d.vertex) ∷ [])
         of_delivery d low =
-            sum_agree (λ v. share d v) (λ v. cond (d.vertex == v) (at d.vertex d) 0) vertices (λ v a. same v)
-            ∙ (one_passes (λ v. d.vertex == v) (at d.vertex d) vertices (once_in_range d.vertex 0 (length u.spots) (omega arith) (omega (arith, low)))
-            ∙ sym (single (mark d.copy (at_core d.vertex))))
-          where
-            same : (v : ℕ) → share d v ≡ cond (d.vertex == v) (at d.vertex d) 0
-            same v = elim (cases_Bool (d.vertex == v)) [
-              | inl here ↦ ap (λ (w : ℕ). cond (d.vertex == v) (at w d) 0) (sym (eqb-true d.vertex v here))
-              | inr other ↦ ap (λ b. cond b (at v d) 0) other ∙ sym (ap (λ b. cond b (at d.vertex d) 0) other)
-            ]
+            one_item (λ v. d.vertex == v) (λ v. at v d) (at d.vertex d) vertices (λ v here. ap (λ w. at w d) (sym (eqb-true d.vertex v here)))
+            (once_in_range d.vertex 0 (length u.spots) (omega arith) (omega (arith, low)))
+            ∙ sym (single (mark d.copy (at_core d.vertex)))
 
         of_vertex : (v : ℕ) → v < length u.spots → sum_by (λ d. share d v) f.delivered ≡ count_by p (marks_at (at_core v) (f.left (core v)))
         of_vertex v low =
             sym (sum_filter (λ (d : Delivery). d.vertex == v) (at v) f.delivered)
-            ∙ (sym (sum_map (λ (d : Delivery). d.copy) (λ k. one_where (p (mark k (at_core v)))) (filter (λ (d : Delivery). d.vertex == v) f.delivered))
-            ∙ (ap (sum_by (λ k. one_where (p (mark k (at_core v))))) (passes.collected v low)
-            ∙ sym (sum_map (λ k. mark k (at_core v)) (λ x. one_where (p x)) (f.left (core v)))))
+            ∙ (sym (sum_map (λ (d : Delivery). d.copy) (λ k. one_if (p (mark k (at_core v)))) (filter (λ (d : Delivery). d.vertex == v) f.delivered))
+            ∙ (ap (sum_by (λ k. one_if (p (mark k (at_core v))))) (passes.collected v low)
+            ∙ sym (sum_map (λ k. mark k (at_core v)) (λ x. one_if (p x)) (f.left (core v)))))
 
     -- ---- lists before and after
 
     unsent_even : count_by p (unsent_marks m) ≡ sum_at (λ v spot. count_by p (marks_at (unsent v) (f.sent v))) 0 u.spots + count_by p (unsent_marks n)
     unsent_even =
-        let long : length n.unsent ≡ length m.unsent = length_is in
-        let same = queues_balance p (λ v. unsent v) (λ v. []) f.sent 0 m.unsent n.unsent long (λ v low.
-        subst (λ w. slice_index_or m.unsent v [] ++ [] ≡ f.sent w ++ slice_index_or n.unsent v []) (sym (zero-add v))
-        (append-nil (slice_index_or m.unsent v []) ∙ passes.unsent v (omega (arith, low, mesh.unsent_lists)))) in
-        let none = sum_none (passing p (λ v. unsent v) (λ v. []) f.sent (λ v. [])) (range_with_len 0 (length m.unsent)) (λ v a. refl) in
-        let sent_sum : sum_by (λ v. count_by p (marks_at (unsent v) (f.sent v))) (range_with_len 0 (length m.unsent)) ≡ sum_at (λ v spot. count_by p (marks_at (unsent v) (f.sent v))) 0 u.spots =
-        ap (λ k. sum_by (λ v. count_by p (marks_at (unsent v) (f.sent v))) (range_with_len 0 k)) mesh.unsent_lists ∙ sym (sum_at-range (λ v. count_by p (marks_at (unsent v) (f.sent v))) 0 u.spots) in
-        omega (arith, same, none, sent_sum)
-      where
-        length_is : length n.unsent ≡ length m.unsent
-        length_is = after.unsent_lists ∙ (ap (λ (s : Setup). length s.spots) passes.setup ∙ sym mesh.unsent_lists)
+        let same = balance_of_queues p (λ v. unsent v) (λ v. []) f.sent (length u.spots) m.unsent n.unsent mesh.unsent_lists (after.unsent_lists ∙ ap (λ (s : Setup). length s.spots) passes.setup)
+        (λ v low. append-nil (slice_index_or m.unsent v []) ∙ passes.unsent v low) in
+        let none = sum_none (passing p (λ v. unsent v) (λ v. []) f.sent (λ v. [])) vertices (λ v a. refl) in
+        omega (arith, same, none, sum_at-range (λ v. count_by p (marks_at (unsent v) (f.sent v))) 0 u.spots)
 
     inputs_even : count_by p (input_marks m) + sum_by (λ i. came_in (input i)) places
         ≡ sum_by (λ i. count_by p (marks_at (station_of u (input i)) (f.left (input i)))) places + count_by p (input_marks n)
     inputs_even =
-        let long : length n.inputs ≡ length m.inputs = after.input_lists ∙ (ap (λ (s : Setup). 7 * (s.machine.width * s.machine.height)) passes.setup ∙ sym mesh.input_lists) in
-        let same = queues_balance p (λ i. station_of u (input i)) (λ i. f.entered (input i)) (λ i. f.left (input i)) 0 m.inputs n.inputs long (λ i low.
-        subst (λ j. slice_index_or m.inputs i [] ++ f.entered (input j) ≡ f.left (input j) ++ slice_index_or n.inputs i []) (sym (zero-add i)) (passes.in_order (input i))) in
-        let came_sum : sum_by (λ i. came_in (input i)) (range_with_len 0 (length m.inputs)) ≡ sum_by (λ i. came_in (input i)) places =
-        ap (λ k. sum_by (λ i. came_in (input i)) (range_with_len 0 k)) mesh.input_lists in
-        let left_sum : sum_by (λ i. count_by p (marks_at (station_of u (input i)) (f.left (input i)))) (range_with_len 0 (length m.inputs))
-        ≡ sum_by (λ i. count_by p (marks_at (station_of u (input i)) (f.left (input i)))) places =
-        ap (λ k. sum_by (λ i. count_by p (marks_at (station_of u (input i)) (f.left (input i)))) (range_with_len 0 k)) mesh.input_lists in
+        let same = balance_of_queues p (λ i. station_of u (input i)) (λ i. f.entered (input i)) (λ i. f.left (input i)) (7 * (u.machine.width * u.machine.height)) m.inputs n.inputs mesh.input_lists
+        (after.input_lists ∙ ap (λ (s : Setup). 7 * (s.machine.width * s.machine.height)) passes.setup) (λ i low. passes.in_order (input i)) in
         let marks_n : count_by p (input_marks n) ≡ passing_in p (λ i. station_of u (input i)) (λ i. f.entered (input i)) (λ i. f.left (input i)) 0 n.inputs =
         ap (λ (s : Setup). count_by p (gathered (λ i copies. marks_at (in_queue (chip_of s.machine (i / 7)) (port_of (i % 7))) copies) 0 n.inputs)) passes.setup in
-        omega (arith, same, came_sum, left_sum, marks_n)
+        omega (arith, same, marks_n)
 
     cores_even : count_by p (core_marks m) + sum_by (λ v. came_in (core v)) vertices ≡ sum_by (λ v. count_by p (marks_at (at_core v) (f.left (core v)))) vertices + count_by p (core_marks n)
     cores_even =
-        let long : length n.cores ≡ length m.cores = after.core_lists ∙ (ap (λ (s : Setup). length s.spots) passes.setup ∙ sym mesh.core_lists) in
-        let same = queues_balance p (λ v. at_core v) (λ v. f.entered (core v)) (λ v. f.left (core v)) 0 m.cores n.cores long (λ v low.
-        subst (λ j. slice_index_or m.cores v [] ++ f.entered (core j) ≡ f.left (core j) ++ slice_index_or n.cores v []) (sym (zero-add v)) (passes.in_order (core v))) in
-        let came_sum : sum_by (λ v. came_in (core v)) (range_with_len 0 (length m.cores)) ≡ sum_by (λ v. came_in (core v)) vertices =
-        ap (λ k. sum_by (λ v. came_in (core v)) (range_with_len 0 k)) mesh.core_lists in
-        let left_sum : sum_by (λ v. count_by p (marks_at (at_core v) (f.left (core v)))) (range_with_len 0 (length m.cores))
-        ≡ sum_by (λ v. count_by p (marks_at (at_core v) (f.left (core v)))) vertices =
-        ap (λ k. sum_by (λ v. count_by p (marks_at (at_core v) (f.left (core v)))) (range_with_len 0 k)) mesh.core_lists in
-        omega (arith, same, came_sum, left_sum)
+        balance_of_queues p (λ v. at_core v) (λ v. f.entered (core v)) (λ v. f.left (core v)) (length u.spots) m.cores n.cores mesh.core_lists
+        (after.core_lists ∙ ap (λ (s : Setup). length s.spots) passes.setup) (λ v low. passes.in_order (core v))
 
     no_hands : (s : State) → HasNoHand s → count_by p (all_hand_marks s) ≡ 0
     no_hands s none = ap (count_by p) (gathered_of_none (λ i h. hand_marks (chip_of s.setup.machine i) h) None (λ j. refl) 0 s.hands none)
 
+    appended : {X : Type 0} (g : X → Mark) (old new all : List X) → all ≡ old ++ new → count_by p (map g all) ≡ count_by p (map g old) + sum_by (λ x. count_by p (g x ∷ [])) new
+    appended g old new all is =
+        ap (λ l. count_by p (map g l)) is
+        ∙ (ap (count_by p) (map-append g old new)
+        ∙ (count_by-append p (map g old) (map g new)
+        ∙ ap (λ k. count_by p (map g old) + k)
+        (sum_map g (λ x. one_if (p x)) new ∙ sum_agree (λ x. one_if (p (g x))) (λ x. count_by p (g x ∷ [])) new (λ x a. sym (single (g x))))))
+
     delivered_even : count_by p (delivered_marks n) ≡ count_by p (delivered_marks m) + sum_by (λ (d : Delivery). count_by p (mark d.copy (delivered d.vertex) ∷ [])) f.delivered
-    delivered_even =
-        ap (λ ds. count_by p (map (λ (d : Delivery). mark d.copy (delivered d.vertex)) ds)) passes.delivered
-        ∙ (ap (count_by p) (map-append (λ (d : Delivery). mark d.copy (delivered d.vertex)) m.delivered f.delivered)
-        ∙ (count_by-append p (delivered_marks m) (map (λ (d : Delivery). mark d.copy (delivered d.vertex)) f.delivered)
-        ∙ ap (λ k. count_by p (delivered_marks m) + k)
-        (sum_map (λ (d : Delivery). mark d.copy (delivered d.vertex)) (λ x. one_where (p x)) f.delivered
-        ∙ sum_agree (λ (d : Delivery). one_where (p (mark d.copy (delivered d.vertex)))) (λ (d : Delivery). count_by p (mark d.copy (delivered d.vertex) ∷ [])) f.delivered
-        (λ d a. sym (single (mark d.copy (delivered d.vertex)))))))
+    delivered_even = appended (λ (d : Delivery). mark d.copy (delivered d.vertex)) m.delivered f.delivered n.delivered passes.delivered
 
     dumped_even : count_by p (dumped_marks n) ≡ count_by p (dumped_marks m) + sum_by (λ (r : DumpRec). count_by p (mark r.copy (dumped r.chip r.out) ∷ [])) f.dumped
-    dumped_even =
-        ap (λ rs. count_by p (map (λ (r : DumpRec). mark r.copy (dumped r.chip r.out)) rs)) passes.dumped
-        ∙ (ap (count_by p) (map-append (λ (r : DumpRec). mark r.copy (dumped r.chip r.out)) m.dumped f.dumped)
-        ∙ (count_by-append p (dumped_marks m) (map (λ (r : DumpRec). mark r.copy (dumped r.chip r.out)) f.dumped)
-        ∙ ap (λ k. count_by p (dumped_marks m) + k)
-        (sum_map (λ (r : DumpRec). mark r.copy (dumped r.chip r.out)) (λ x. one_where (p x)) f.dumped
-        ∙ sum_agree (λ (r : DumpRec). one_where (p (mark r.copy (dumped r.chip r.out)))) (λ (r : DumpRec). count_by p (mark r.copy (dumped r.chip r.out) ∷ [])) f.dumped
-        (λ r a. sym (single (mark r.copy (dumped r.chip r.out)))))))
+    dumped_even = appended (λ (r : DumpRec). mark r.copy (dumped r.chip r.out)) m.dumped f.dumped n.dumped passes.dumped
 
     pub in_parts : (s : State) → count_by p (marks_of s)
         ≡ count_by p (unsent_marks s) + (count_by p (input_marks s) + (count_by p (all_hand_marks s) + (count_by p (core_marks s) + (count_by p (delivered_marks s) + count_by p (dumped_marks s)))))
@@ -387,8 +323,8 @@ module _ (m : State) (f : Flow) (n : State) (mesh : IsMesh m) (after : IsMesh n)
   all_copies : (at : Station) (ks : List McCopy) → is_step_at at ≡ true → count_by is_step (marks_at at ks) ≡ length ks
   all_copies at [] is = refl
   all_copies at (k ∷ ks) is =
-      let first = sum_by-cons (λ x. one_where (is_step x)) (mark k at) (marks_at at ks) in
-      let one : one_where (is_step_at at) ≡ 1 = ap one_where is in
+      let first = sum_by-cons (λ x. one_if (is_step x)) (mark k at) (marks_at at ks) in
+      let one : one_if (is_step_at at) ≡ 1 = ap one_if is in
       omega (arith, all_copies at ks is, first, one)
 
   some_items : {X : Type 0} (xs : List X) → xs ≢ [] → 1 ≤ length xs
@@ -396,31 +332,22 @@ module _ (m : State) (f : Flow) (n : State) (mesh : IsMesh m) (after : IsMesh n)
   some_items (x ∷ xs) some = omega arith
 
   steps : count_left is_step bag_of_round.moves
-      ≡ count_left is_step sent_part.moves
-      + (count_left is_step taken_part.moves + (count_left is_step crossed_part.moves + (count_left is_step dumped_part.moves + count_left is_step delivered_part.moves)))
-  unfolding bag_of_round both_parts
-  steps =
-      let a = count_left-append is_step sent_part.moves (taken_part.moves ++ (crossed_part.moves ++ (dumped_part.moves ++ delivered_part.moves))) in
-      let b = count_left-append is_step taken_part.moves (crossed_part.moves ++ (dumped_part.moves ++ delivered_part.moves)) in
-      let c = count_left-append is_step crossed_part.moves (dumped_part.moves ++ delivered_part.moves) in
-      let whole : count_left is_step bag_of_round.moves ≡ count_left is_step (sent_part.moves ++ (taken_part.moves ++ (crossed_part.moves ++ (dumped_part.moves ++ delivered_part.moves)))) = refl in
-      omega (arith, a, b, c, count_left-append is_step dumped_part.moves delivered_part.moves, whole)
-
-  by_part : (moves sum part : ℕ) → moves ≡ sum → part ≤ sum → 1 ≤ part → 1 ≤ moves
-  by_part moves sum part left within some = omega (arith, left, within, some)
+      ≡ sum_at (λ v spot. count_by is_step (marks_at (unsent v) (f.sent v))) 0 u.spots
+      + (sum_by (λ i. count_by is_step (marks_at (station_of u (input i)) (f.left (input i)))) places
+      + (sum_by (λ c. sum_by (λ o. crossed_left is_step c o) all_outs) (live_chips u.machine)
+      + (sum_by (λ (r : DumpRec). count_by is_step (mark r.copy (in_hand r.chip r.out) ∷ [])) f.dumped
+      + sum_by (λ (d : Delivery). count_by is_step (mark d.copy (at_core d.vertex) ∷ [])) f.delivered)))
+  unfolding bag_of_round
+  steps = (both_parts sent_part (both_parts taken_part (both_parts crossed_part (both_parts dumped_part delivered_part)))).leaving is_step
 
   -- where a copy moved, one was sent, taken or got
   pub some_steps : HasMoved m f → 1 ≤ count_left is_step bag_of_round.moves
   some_steps (inl (input i, is, left)) =
       let below : i < 7 * (u.machine.width * u.machine.height) = omega (arith, is, mesh.input_lists) in
-      let one = once_in_range i 0 (7 * (u.machine.width * u.machine.height)) (omega arith) (omega (arith, below)) in
-      let found = counted (λ j. i == j) places (omega (arith, one)) in
-      let there : Among i places = subst (λ j. Among j places) (sym (eqb-true i found.0 found.2)) found.1 in
+      let there : Among i places = number_in_range i (7 * (u.machine.width * u.machine.height)) below in
       let some = some_items (f.left (input i)) left in
       let all = all_copies (station_of u (input i)) (f.left (input i)) refl in
-      let part = by_part (count_left is_step taken_part.moves) _ (count_by is_step (marks_at (station_of u (input i)) (f.left (input i)))) (taken_part.leaving is_step)
-      (part_of_sum (λ j. count_by is_step (marks_at (station_of u (input j)) (f.left (input j)))) i places there) (omega (arith, all, some)) in
-      omega (arith, steps, part)
+      omega (arith, steps, all, some, part_of_sum (λ j. count_by is_step (marks_at (station_of u (input j)) (f.left (input j)))) i places there)
   some_steps (inl (core v, is, left)) =
       let below : v < length u.spots = omega (arith, is, mesh.core_lists) in
       let some = some_items (f.left (core v)) left in
@@ -429,8 +356,7 @@ module _ (m : State) (f : Flow) (n : State) (mesh : IsMesh m) (after : IsMesh n)
       let filtered = length-filter (λ (d : Delivery). d.vertex == v) f.delivered in
       let few = count_by-le-length (λ (d : Delivery). d.vertex == v) f.delivered in
       let all = sum_ones f.delivered in
-      let part = by_part (count_left is_step delivered_part.moves) _ (length f.delivered) (delivered_part.leaving is_step) (omega (arith, all)) (omega (arith, some, same, mapped, filtered, few)) in
-      omega (arith, steps, part)
+      omega (arith, steps, all, some, same, mapped, filtered, few)
     where
       sum_ones : (ds : List Delivery) → sum_by (λ (d : Delivery). count_by is_step (mark d.copy (at_core d.vertex) ∷ [])) ds ≡ length ds
       sum_ones [] = refl
@@ -440,24 +366,16 @@ module _ (m : State) (f : Flow) (n : State) (mesh : IsMesh m) (after : IsMesh n)
       let some = some_items (f.sent v) sent in
       let all = all_copies (unsent v) (f.sent v) refl in
       let spot = slice_get_there u.spots v below in
-      let part = by_part (count_left is_step sent_part.moves) _ (count_by is_step (marks_at (unsent (0 + v)) (f.sent (0 + v)))) (sent_part.leaving is_step)
-      (part_of_sum_at (λ w (spot : Spot). count_by is_step (marks_at (unsent w) (f.sent w))) 0 u.spots v spot.0 spot.1) (omega (arith, all, some, zero_plus v)) in
-      omega (arith, steps, part)
+      omega (arith, steps, all, some, zero_plus v, part_of_sum_at (λ w (spot : Spot). count_by is_step (marks_at (unsent w) (f.sent w))) 0 u.spots v spot.0 spot.1)
     where
       zero_plus : (w : ℕ) → count_by is_step (marks_at (unsent (0 + w)) (f.sent (0 + w))) ≡ count_by is_step (marks_at (unsent w) (f.sent w))
       zero_plus w = let same : 0 + w ≡ w = omega arith in ap (λ n. count_by is_step (marks_at (unsent n) (f.sent n))) same
 
-  left_within : (vs : List (Moved m)) → count_left is_step vs ≤ length vs
-  left_within [] = omega arith
-  left_within (v ∷ vs) = by_test (is_step v.leaves) (left_within vs)
-    where
-      by_test : (b : Bool) → count_left is_step vs ≤ length vs → (if b then 1 else 0) + count_left is_step vs ≤ suc (length vs)
-      by_test true rest = omega (arith, rest)
-      by_test false rest = omega (arith, rest)
-
   -- so there is a move
   pub some_moves : HasMoved m f → 1 ≤ length bag_of_round.moves
-  some_moves moved = let some = some_steps moved in let within = left_within bag_of_round.moves in omega (arith, some, within)
+  some_moves moved =
+      let of = left_move is_step bag_of_round.moves (some_steps moved) in
+      some_items bag_of_round.moves (λ none. subst (λ (vs : List (Moved m)). Among of.0 vs) none of.1)
 
   -- ---- what came behind an output
 
@@ -474,12 +392,13 @@ module _ (m : State) (f : Flow) (n : State) (mesh : IsMesh m) (after : IsMesh n)
   -- what entered the queue behind an output is among what came
   pub crossing_comes : (p : Mark → Bool) (c : Chip) (o : Out) → IsLiveChip u.machine c → IsOutput o →
       count_by p (marks_at (station_of u (behind u c o)) (f.entered (behind u c o))) ≤ count_come p bag_of_round.moves
-  unfolding bag_of_round both_parts
+  unfolding bag_of_round
   crossing_comes p c o live is =
-      let a = count_come-append p sent_part.moves (taken_part.moves ++ (crossed_part.moves ++ (dumped_part.moves ++ delivered_part.moves))) in
-      let b = count_come-append p taken_part.moves (crossed_part.moves ++ (dumped_part.moves ++ delivered_part.moves)) in
-      let d = count_come-append p crossed_part.moves (dumped_part.moves ++ delivered_part.moves) in
-      let whole : count_come p bag_of_round.moves ≡ count_come p (sent_part.moves ++ (taken_part.moves ++ (crossed_part.moves ++ (dumped_part.moves ++ delivered_part.moves)))) = refl in
+      let moves : sum_by (λ e. sum_by (λ q. crossed_come p e q) all_outs) (live_chips u.machine) ≤ count_come p bag_of_round.moves =
+      third _ _ _ _ _ ((both_parts sent_part (both_parts taken_part (both_parts crossed_part (both_parts dumped_part delivered_part)))).coming p) in
       let of_chip = part_of_sum (λ e. sum_by (λ q. came_in p (behind u e q)) all_outs) c (live_chips u.machine) (there c live) in
       let of_out = part_of_sum (λ q. came_in p (behind u c q)) o all_outs (among_outs o is) in
-      omega (arith, a, b, d, whole, crossed_part.coming p, crossed_is p, of_chip, of_out)
+      omega (arith, moves, crossed_is p, of_chip, of_out)
+    where
+      third : (n a b c rest : ℕ) → n ≡ a + (b + (c + rest)) → c ≤ n
+      third n a b c rest all = omega (arith, all)

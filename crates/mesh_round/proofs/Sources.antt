@@ -1,23 +1,21 @@
 -- Each queue into which copies come has one source: an output of a live chip, or the cores of one. So what entered the queues
 -- behind all sources is what entered all queues.
-use Rattle.mesh_round.proofs.Common.{Among, Bool, Chip, Description, IsLiveChip, IsOutput, List, None, Option, Out, Some, all_once, all_outs, among_filter, answers_none, ap, arith, cases_Bool}
-use Rattle.mesh_round.proofs.Common.{chip_eq, chip_eq_same, chip_eq_true, chip_of, chip_of-index_of, cond, count_by, eqb-true, false, filter, gathered, grid_chips, index_below, index_of}
-use Rattle.mesh_round.proofs.Common.{index_of-chip_of, inl, inr, is_live_chip, live_inside, map, nat_eq_same, out_eq, out_eq_same, out_eq_true, range_with_len, refl, suc, sum_by, sum_by-cons, sym}
-use Rattle.mesh_round.proofs.Common.{true, zero, ℕ, ◌&&◌, ◌*◌, ◌+◌, ◌<◌, ◌==◌, ◌∙◌, ◌∷◌, ◌≡◌, ◌≤◌}
+use Rattle.mesh_round.proofs.Common.{Among, Bool, Chip, Description, IsLiveChip, IsOutput, List, None, Option, Out, Some, all_once, all_outs, among_filter, ap, arith, both_ways, cases_Bool, chip_eq}
+use Rattle.mesh_round.proofs.Common.{chip_eq_same, chip_eq_true, chip_of, chip_of-index_of, cond, count_by, counted, eq-eqb, eqb-true, false, filter, gathered, grid_chips, index_below, index_of}
+use Rattle.mesh_round.proofs.Common.{index_of-chip_of, inl, inr, is_live_chip, live_inside, map, nat_eq_same, out_eq, out_eq_same, out_eq_true, range_with_len, refl, subst, suc, sum_by, sum_by-cons}
+use Rattle.mesh_round.proofs.Common.{sym, true, true≢false, zero, ℕ, ◌&&◌, ◌*◌, ◌+◌, ◌<◌, ◌==◌, ◌∙◌, ◌∷◌, ◌≡◌, ◌≤◌}
 use Rattle.mesh_round.proofs.Sums.{sum_agree, sum_none, sum_filter, sum_map, sum_gathered, sum_at-plain}
+use Rattle.mesh_round.proofs.CountSums.{one_if}
 pub use Rattle.mesh_run.proofs.OutputBits.{range_parts}
 
 -- ---- each number stands once in a range
 
 before_range : (i a n : ℕ) → i < a → count_by (λ j. i == j) (range_with_len a n) ≡ 0
-before_range i a n below = sum_none (λ j. cond (i == j) 1 0) (range_with_len a n) (λ j in_range. elim (cases_Bool (i == j)) [
-  | inl same ↦ absurd (later a n j in_range (omega (arith, below, eqb-true i j same)))
-  | inr other ↦ ap (λ (b : Bool). zero_or b) other
+before_range i a n below = sum_none (λ j. cond (i == j) 1 0) (range_with_len a n) (λ j there. elim (cases_Bool (i == j)) [
+  | inl same ↦ absurd (later a n j there (omega (arith, below, eqb-true i j same)))
+  | inr other ↦ ap one_if other
 ])
   where
-    zero_or : Bool → ℕ
-    zero_or b = cond b 1 0
-
     later : (a n j : ℕ) → Among j (range_with_len a n) → j < a → ⊥
     later a zero j none low = none
     later a (suc n) j (inl here) low = omega (arith, here, low)
@@ -26,23 +24,26 @@ before_range i a n below = sum_none (λ j. cond (i == j) 1 0) (range_with_len a 
 pub once_in_range : (i a n : ℕ) → a ≤ i → i < a + n → count_by (λ j. i == j) (range_with_len a n) ≡ 1
 once_in_range i a zero from below = absurd (omega (arith, from, below))
 once_in_range i a (suc n) from below =
-    let all = sum_by-cons (λ j. first (i == j)) a (range_with_len (a + 1) n) in
+    let all = sum_by-cons (λ j. one_if (i == j)) a (range_with_len (a + 1) n) in
     elim (cases_Bool (i == a)) [
       | inl same ↦
-          let one : first (i == a) ≡ 1 = ap first same in
+          let one : one_if (i == a) ≡ 1 = ap one_if same in
           let rest = before_range i (a + 1) n (omega (arith, eqb-true i a same)) in
           omega (arith, all, one, rest)
       | inr other ↦
-          let none : first (i == a) ≡ 0 = ap first other in
+          let none : one_if (i == a) ≡ 0 = ap one_if other in
           let rest = once_in_range i (a + 1) n (omega (arith, from, differ i a other)) (omega (arith, below)) in
           omega (arith, all, none, rest)
     ]
   where
-    first : Bool → ℕ
-    first b = cond b 1 0
-
     differ : (i a : ℕ) → (i == a) ≡ false → i ≡ a → ⊥
     differ i a other same = grind (arith, nat_eq_same i)
+
+-- a number below the end is in the range
+pub number_in_range : (i n : ℕ) → i < n → Among i (range_with_len 0 n)
+number_in_range i n below =
+    let found = counted (λ j. i == j) (range_with_len 0 n) (omega (arith, once_in_range i 0 n (omega arith) (omega (arith, below)))) in
+    subst (λ j. Among j (range_with_len 0 n)) (sym (eqb-true i found.0 found.2)) found.1
 
 -- ---- each live chip stands once among the live chips, and each output once among the outputs
 
@@ -52,41 +53,26 @@ live_chips m = filter (is_live_chip m) (grid_chips m)
 pub live_of_live_chips : (m : Description) (c : Chip) → Among c (live_chips m) → IsLiveChip m c
 live_of_live_chips m c a = (among_filter (is_live_chip m) c (grid_chips m) a).1
 
-abbrev one_where : Bool → ℕ
-one_where b = cond b 1 0
-
 pub live_chip_once : (m : Description) (c : Chip) → IsLiveChip m c → count_by (chip_eq c) (live_chips m) ≡ 1
 live_chip_once m c live =
-    sum_filter (is_live_chip m) (λ e. one_where (chip_eq c e)) (grid_chips m)
-    ∙ (sum_agree (λ e. cond (is_live_chip m e) (one_where (chip_eq c e)) 0) (λ e. one_where (chip_eq c e)) (grid_chips m) (λ e a. same e)
-    ∙ (sum_map (chip_of m) (λ e. one_where (chip_eq c e)) (range_with_len 0 (m.width * m.height))
-    ∙ (sum_agree (λ j. one_where (chip_eq c (chip_of m j))) (λ j. one_where (index_of m c == j)) (range_with_len 0 (m.width * m.height)) by_index
+    sum_filter (is_live_chip m) (λ e. one_if (chip_eq c e)) (grid_chips m)
+    ∙ (sum_agree (λ e. cond (is_live_chip m e) (one_if (chip_eq c e)) 0) (λ e. one_if (chip_eq c e)) (grid_chips m) (λ e a. same e)
+    ∙ (sum_map (chip_of m) (λ e. one_if (chip_eq c e)) (range_with_len 0 (m.width * m.height))
+    ∙ (sum_agree (λ j. one_if (chip_eq c (chip_of m j))) (λ j. one_if (index_of m c == j)) (range_with_len 0 (m.width * m.height)) by_index
     ∙ once_in_range (index_of m c) 0 (m.width * m.height) (omega arith) (omega (arith, index_below m c (live_inside m c live))))))
   where
-    same : (e : Chip) → cond (is_live_chip m e) (one_where (chip_eq c e)) 0 ≡ one_where (chip_eq c e)
-    same e = elim (cases_Bool (chip_eq c e)) [
-      | inl is ↦ ap (λ x. cond (is_live_chip m x) (one_where (chip_eq c e)) 0) (sym (chip_eq_true c e is)) ∙ ap (λ b. cond b (one_where (chip_eq c e)) 0) live
-      | inr other ↦ none (is_live_chip m e) (chip_eq c e) other
-    ]
-      where
-        none : (b t : Bool) → t ≡ false → cond b (one_where t) 0 ≡ one_where t
-        none true t is = refl
-        none false t is = sym (ap one_where is)
+    by_test : (b t : Bool) → (t ≡ true → b ≡ true) → cond b (one_if t) 0 ≡ one_if t
+    by_test true t lives = refl
+    by_test false false lives = refl
+    by_test false true lives = absurd (true≢false (sym (lives refl)))
 
-    by_index : (j : ℕ) → Among j (range_with_len 0 (m.width * m.height)) → one_where (chip_eq c (chip_of m j)) ≡ one_where (index_of m c == j)
-    by_index j a = elim (cases_Bool (chip_eq c (chip_of m j))) [
-      | inl is ↦
-          let index : index_of m c ≡ j = ap (index_of m) (chip_eq_true c (chip_of m j) is) ∙ index_of-chip_of m j in
-          let yes' : (index_of m c == j) ≡ true = ap (λ k. index_of m c == k) (sym index) ∙ nat_eq_same (index_of m c) in
-          ap one_where is ∙ sym (ap one_where yes')
-      | inr other ↦ elim (cases_Bool (index_of m c == j)) [
-        | inl index ↦
-            let at : chip_of m j ≡ c = ap (chip_of m) (sym (eqb-true (index_of m c) j index)) ∙ chip_of-index_of m c (live_inside m c live) in
-            let yes' : chip_eq c (chip_of m j) ≡ true = ap (chip_eq c) at ∙ chip_eq_same c in
-            absurd (answers_none (chip_eq c (chip_of m j)) yes' other)
-        | inr apart ↦ ap one_where other ∙ sym (ap one_where apart)
-      ]
-    ]
+    same : (e : Chip) → cond (is_live_chip m e) (one_if (chip_eq c e)) 0 ≡ one_if (chip_eq c e)
+    same e = by_test (is_live_chip m e) (chip_eq c e) (λ is. subst (λ (x : Chip). is_live_chip m x ≡ true) (chip_eq_true c e is) live)
+
+    by_index : (j : ℕ) → Among j (range_with_len 0 (m.width * m.height)) → one_if (chip_eq c (chip_of m j)) ≡ one_if (index_of m c == j)
+    by_index j a = ap one_if (both_ways (chip_eq c (chip_of m j)) (index_of m c == j)
+        (λ is. eq-eqb (index_of m c) j (ap (index_of m) (chip_eq_true c (chip_of m j) is) ∙ index_of-chip_of m j))
+        (λ is. ap (chip_eq c) (ap (chip_of m) (sym (eqb-true (index_of m c) j is)) ∙ chip_of-index_of m c (live_inside m c live)) ∙ chip_eq_same c))
 
 -- what a chip's copies come from: its cores, or an output of its router
 abbrev pub choices : List (Option Out)
@@ -114,9 +100,9 @@ IsChoice (Some o) = IsOutput o
 
 pub choice_once : (x : Option Out) → IsChoice x → count_by (choice_eq x) choices ≡ 1
 choice_once None is =
-    let all = sum_by-cons (λ y. one_where (choice_eq None y)) None (map Some all_outs) in
-    let rest = sum_map Some (λ y. one_where (choice_eq None y)) all_outs in
-    let none = sum_none (λ (o : Out). one_where (choice_eq None (Some o))) all_outs (λ o a. refl) in
+    let all = sum_by-cons (λ y. one_if (choice_eq None y)) None (map Some all_outs) in
+    let rest = sum_map Some (λ y. one_if (choice_eq None y)) all_outs in
+    let none = sum_none (λ (o : Out). one_if (choice_eq None (Some o))) all_outs (λ o a. refl) in
     omega (arith, all, rest, none)
 choice_once (Some o) is = grind (arith, all_once o is, sum_by-cons, sum_map)
 
@@ -136,10 +122,10 @@ source_eq s t = chip_eq s.0 t.0 && choice_eq s.1 t.1
 
 pub source_once : (m : Description) (c : Chip) (x : Option Out) → IsLiveChip m c → IsChoice x → count_by (source_eq (c, x)) (sources m) ≡ 1
 source_once m c x live is =
-    sum_sources m (λ t. one_where (source_eq (c, x) t))
-    ∙ (sum_agree (λ e. sum_by (λ y. one_where (chip_eq c e && choice_eq x y)) choices) (λ e. one_where (chip_eq c e)) (live_chips m) (λ e a. each (chip_eq c e))
+    sum_sources m (λ t. one_if (source_eq (c, x) t))
+    ∙ (sum_agree (λ e. sum_by (λ y. one_if (chip_eq c e && choice_eq x y)) choices) (λ e. one_if (chip_eq c e)) (live_chips m) (λ e a. each (chip_eq c e))
     ∙ live_chip_once m c live)
   where
-    each : (b : Bool) → sum_by (λ y. one_where (b && choice_eq x y)) choices ≡ one_where b
+    each : (b : Bool) → sum_by (λ y. one_if (b && choice_eq x y)) choices ≡ one_if b
     each true = choice_once x is
-    each false = sum_none (λ y. one_where (false && choice_eq x y)) choices (λ y a. refl)
+    each false = sum_none (λ y. one_if (false && choice_eq x y)) choices (λ y a. refl)

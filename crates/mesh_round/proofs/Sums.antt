@@ -1,6 +1,6 @@
 -- Sums over lists: exchanged, and carried from one list to another along a test that pairs their items.
-use Rattle.mesh_round.proofs.Common.{Among, Bool, List, [], ap, arith, cases_Bool, cond, count_by, filter, gathered, inl, inr, map, refl, sum_by, sum_by-append, sum_by-cons, sym, true, ℕ, ◌+◌, ◌∙◌}
-use Rattle.mesh_round.proofs.Common.{◌∷◌, ◌≡◌, ◌⊎◌}
+use Rattle.mesh_round.proofs.Common.{Among, Bool, List, [], ap, arith, cases_Bool, cond, count_by, false, filter, gathered, inl, inr, map, refl, sum_by, sum_by-append, sum_by-cons, sym, true, ℕ, ◌+◌}
+use Rattle.mesh_round.proofs.Common.{◌∙◌, ◌∷◌, ◌≡◌, ◌⊎◌}
 
 pub sum_agree : {X : Type 0} (f g : X → ℕ) (xs : List X) → ((x : X) → Among x xs → f x ≡ g x) → sum_by f xs ≡ sum_by g xs
 sum_agree f g [] same = refl
@@ -36,6 +36,11 @@ sum_swap h (x ∷ xs) ys =
     let both = sum_plus (h x) (λ y. sum_by (λ z. h z y) xs) ys in
     let each = sum_agree (λ y. sum_by (λ z. h z y) (x ∷ xs)) (λ y. h x y + sum_by (λ z. h z y) xs) ys (λ y a. sum_by-cons (λ z. h z y) x xs) in
     omega arith
+
+pub sum_single : {X : Type 0} (g : X → ℕ) (x : X) → sum_by g (x ∷ []) ≡ g x
+sum_single g x =
+    let none : sum_by g [] ≡ 0 = refl in
+    omega (arith, sum_by-cons g x [], none)
 
 -- a number where a test passes
 abbrev given : ℕ → Bool → ℕ
@@ -79,6 +84,14 @@ one_passes t c (x ∷ xs) one =
           let rest = one_passes t c xs (omega (arith, one, count, first)) in
           omega arith
     ]
+
+-- the same where each item that passes gives that number
+pub one_item : {X : Type 0} (t : X → Bool) (g : X → ℕ) (c : ℕ) (xs : List X) → ((x : X) → t x ≡ true → g x ≡ c) → count_by t xs ≡ 1 → sum_by (λ x. cond (t x) (g x) 0) xs ≡ c
+one_item {X} t g c xs same one = sum_agree (λ x. cond (t x) (g x) 0) (where_passes t c) xs (λ x a. by_test x (t x) refl) ∙ one_passes t c xs one
+  where
+    by_test : (x : X) (b : Bool) → t x ≡ b → cond b (g x) 0 ≡ cond b c 0
+    by_test x true is = same x is
+    by_test x false is = refl
 
 zero_where : {X : Type 0} (t : X → Bool) (xs : List X) → sum_by (where_passes t 0) xs ≡ 0
 zero_where t xs = grind (arith, sum_none, cases_Bool)

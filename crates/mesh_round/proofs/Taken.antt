@@ -8,7 +8,7 @@ use Rattle.mesh_round.proofs.Common.{port_number, port_of, port_of-port_number, 
 use Rattle.mesh_round.proofs.Common.{◌<◌, ◌==◌, ◌∙◌, ◌∷◌, ◌≡◌, ◌⊎◌}
 use Rattle.mesh_round.proofs.Sums.{sum_agree, sum_none, sum_map, sum_filter, sum_swap, sum_plus, sum_gathered, sum_at-plain, one_passes, carried}
 use Rattle.mesh_round.proofs.{Ends.one_port, Sources.once_in_range, Sources.range_parts, Sources.live_chips, Sources.live_of_live_chips, Sources.live_chip_once, Entered.numbered_port, Entered.has_bit}
-use Rattle.mesh_round.proofs.Weights.{one_where, back, sum_outputs, taken_is}
+use Rattle.mesh_round.proofs.{Weights.back, Weights.sum_outputs, Weights.taken_is, CountSums.one_if}
 
 port_once : (port : Port) → count_by (port_eq port) all_ports ≡ 1
 port_once (ByLink East) = refl
@@ -25,7 +25,7 @@ module _ (p : Mark → Bool) (m : State) (f : Flow) (n : State) (mesh : IsMesh m
 
   -- whether the mark of a copy in hand for an output passes, as a number
   abbrev pub weight : Chip → Out → McCopy → ℕ
-  weight c o k = one_where (p (mark k (in_hand c o)))
+  weight c o k = one_if (p (mark k (in_hand c o)))
 
   -- how many marks in hand pass of those that a copy makes
   abbrev pub in_hands : Chip → Port → McCopy → ℕ
@@ -114,14 +114,14 @@ module _ (p : Mark → Bool) (m : State) (f : Flow) (n : State) (mesh : IsMesh m
 
   port_there : (c : Chip) (port : Port) → IsLiveChip u.machine c → count_by (numbers (queue_at u.machine c port)) ports ≡ 1
   port_there c port live =
-      sum_agree (λ s. one_where (numbers (queue_at u.machine c port) s)) (λ s. one_where (chip_eq c s.0 && port_eq port s.1)) ports (λ s a. ap one_where (same s (port_lives s a)))
-      ∙ (sum_ports (λ s. one_where (chip_eq c s.0 && port_eq port s.1))
-      ∙ (sum_agree (λ e. sum_by (λ q. one_where (chip_eq c e && port_eq port q)) all_ports) (λ e. one_where (chip_eq c e)) (live_chips u.machine) (λ e a. each (chip_eq c e))
+      sum_agree (λ s. one_if (numbers (queue_at u.machine c port) s)) (λ s. one_if (chip_eq c s.0 && port_eq port s.1)) ports (λ s a. ap one_if (same s (port_lives s a)))
+      ∙ (sum_ports (λ s. one_if (chip_eq c s.0 && port_eq port s.1))
+      ∙ (sum_agree (λ e. sum_by (λ q. one_if (chip_eq c e && port_eq port q)) all_ports) (λ e. one_if (chip_eq c e)) (live_chips u.machine) (λ e a. each (chip_eq c e))
       ∙ live_chip_once u.machine c live))
     where
-      each : (b : Bool) → sum_by (λ q. one_where (b && port_eq port q)) all_ports ≡ one_where b
+      each : (b : Bool) → sum_by (λ q. one_if (b && port_eq port q)) all_ports ≡ one_if b
       each true = port_once port
-      each false = sum_none (λ q. one_where (false && port_eq port q)) all_ports (λ q a. refl)
+      each false = sum_none (λ q. one_if (false && port_eq port q)) all_ports (λ q a. refl)
 
       same : (s : Chip × Port) → IsLiveChip u.machine s.0 → (queue_at u.machine s.0 s.1 == queue_at u.machine c port) ≡ (chip_eq c s.0 && port_eq port s.1)
       same (e, q) lives =

@@ -5,9 +5,6 @@ use Rattle.mesh_round.proofs.Common.{contains_among, dumped_at, false, filter, h
 use Rattle.mesh_round.proofs.Common.{outs_of, refl, subst, sum_by, sum_by-IsPermutation, sum_by-append, sym, table_at, taken_for, true, ℕ, ◌++◌, ◌+◌, ◌-◌, ◌<◌, ◌==◌, ◌≡◌, ◌≤◌}
 use Rattle.mesh_round.proofs.Sums.{sum_agree, sum_none, sum_map, sum_filter}
 
-abbrev pub one_where : Bool → ℕ
-one_where b = cond b 1 0
-
 -- the copy before its last router
 abbrev pub back : McCopy → McCopy
 back k = record k { hop = k.hop - 1 }

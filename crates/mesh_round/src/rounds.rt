@@ -9,7 +9,6 @@ ghost use Rattle.mesh_round.specs.Bound.{HasMovingRounds, LeadsSoon};
 
 use crate::flow_laws::rounds_that_move_copies_are_few;
 use crate::laid::LaidMesh;
-use crate::laws::a_round_on_threads_is_a_round;
 use mesh_core::{Mesh, MeshParts};
 use mesh_run::{Layout, Pace, RaisedMesh, Round};
 use spin_base::{Fifo, Gate, McCopy, Memory};
@@ -65,7 +64,6 @@ fn play_on<R: Threads + Wait + Sync, G: Gate>(
     ensures ready { IfOk result MayGoOn }
     ensures back { IfErr result (λ b. b.0 ≡ laid.entry.mesh) }
 {
-    a_round_on_threads_is_a_round();
     let LaidMesh { parts, layout } = laid;
     let mut raised = RaisedMesh::raise(rt, alloc, parts, layout, pace)?;
     let round = Round {
@@ -148,7 +146,6 @@ pub(crate) fn run_on<R: Threads + Wait + Sync, G: Gate>(
     ensures refused { IfErr result (λ b. HasMovingRounds pace.patience pace.turns laid.entry.mesh b.0) }
     ensures ready_still { IfErr result (λ b. MayGoOn b.0) }
 {
-    a_round_on_threads_is_a_round();
     let LaidMesh { parts, layout } = laid;
     let mut raised = RaisedMesh::raise(rt, alloc, parts, layout, pace)?;
     let mut number: u32 = 0;

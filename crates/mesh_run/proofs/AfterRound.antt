@@ -1,18 +1,21 @@
 -- What a whole round logged is what its items tell, and the mesh to which it leads is split as it was.
-use Rattle.mesh_run.proofs.Common.{Bool, Goes, IsAnyMoved, IsRaisedFrom, Item, List, MeshLogs, PlaysTo, RaisedMesh, Share, Vec, [], ap, ap₂, arith, delivered_of, deliveries, dumped_of, flat_map}
-use Rattle.mesh_run.proofs.Common.{get_or, get_or_default, length, list_any, records, refl, slice_get-get_or, suc, sym, ℕ, ◌++◌, ◌<◌, ◌||◌, ◌∙◌, ◌∷◌, ◌≡◌}
-use Rattle.mesh_run.proofs.{AfterLinks.whole_no_logs, AfterLinks.whole_up, AfterLogs.flat_same, AfterMesh.mesh, AfterMesh.whole_played, AfterRuns.whole_shared, AfterSplit.whole_lanes}
-use Rattle.mesh_run.proofs.{AfterSplit.whole_unsent, Together.flat_map_joined, Together.joined, WholeRound.Whole, WholeRound.dealt_long, WholeRound.parts, WholeRound.played_parts}
-use Rattle.mesh_run.proofs.WholeRound.{whole_noted}
+use Rattle.mesh_run.proofs.Common.{Bool, Goes, IsNoted, IsRaisedFrom, Item, List, MeshLogs, PlaysTo, RaisedMesh, Share, Vec, [], ap, ap₂, arith, delivered_of, deliveries, dumped_of, false, flat_map}
+use Rattle.mesh_run.proofs.Common.{get_or, get_or_default, length, list_any, records, refl, slice_get-get_or, subst, sym, ℕ, ◌++◌, ◌<◌, ◌||◌, ◌∙◌, ◌≡◌}
+use Rattle.mesh_run.proofs.{AfterLinks.whole_no_logs, AfterLinks.whole_up, GatheringLaws.Gathered, Going.each_two, AfterMesh.mesh, AfterMesh.whole_played, AfterRuns.whole_shared}
+use Rattle.mesh_run.proofs.{AfterSplit.whole_lanes, AfterSplit.whole_unsent, Together.flat_map_joined, Together.joined, WholeRound.Whole, WholeRound.dealt_long, WholeRound.parts}
+use Rattle.mesh_run.proofs.WholeRound.{played_parts, whole_noted}
 
 -- a test that is the same at each place has the same answer
 any_same : {X Y : Type 0} (f : X → Bool) (g : Y → Bool) (xs : List X) (ys : List Y) → length xs ≡ length ys →
     ((i : ℕ) (x : X) (y : Y) → i < length xs → f (get_or xs i x) ≡ g (get_or ys i y)) → list_any f xs ≡ list_any g ys
-any_same f g [] [] long each = refl
-any_same f g [] (y ∷ ys) long each = absurd (omega (arith, long))
-any_same f g (x ∷ xs) [] long each = absurd (omega (arith, long))
-any_same f g (x ∷ xs) (y ∷ ys) long each =
-    ap₂ (λ a b. a || b) (each 0 x y (omega arith)) (any_same f g xs ys (omega (arith, long)) (λ i a b below. each (suc i) a b (omega (arith, below))))
+any_same f g xs ys long each =
+    each_two (λ x y. f x ≡ g y) (λ xs ys. list_any f xs ≡ list_any g ys) refl (λ x y xs ys first rest. ap₂ (λ a b. a || b) first rest) xs ys long each
+
+-- lists with the same at each place make the same list
+flat_same : {X Z Y : Type 0} (f : X → List Y) (g : Z → List Y) (xs : List X) (zs : List Z) → length xs ≡ length zs →
+    ((i : ℕ) (x : X) (z : Z) → i < length xs → f (get_or xs i x) ≡ g (get_or zs i z)) → flat_map f xs ≡ flat_map g zs
+flat_same f g xs zs long each =
+    each_two (λ x z. f x ≡ g z) (λ xs zs. flat_map f xs ≡ flat_map g zs) refl (λ x z xs zs first rest. ap₂ (λ a b. a ++ b) first rest) xs zs long each
 
 -- what one share logged
 share_logged : (cap patience : ℕ) (s d p c : Share) (items : List Item) → (d.hold.deliveries ≡ s.hold.deliveries) × (d.hold.dumps ≡ s.hold.dumps) →
@@ -64,12 +67,14 @@ module _ (w : Whole) where
     abbrev pub stands : RaisedMesh
     stands = record w.r { standing = w.standing; shares = shares; logs = logs }
 
-    pub record GathersLogs : Type 0 where
-      pub delivered : logs.delivered.items ≡ w.r.logs.delivered.items ++ flat_map (λ s. s.hold.deliveries.items) w.collected
-      pub dumped : logs.dumped.items ≡ w.r.logs.dumped.items ++ flat_map (λ s. s.hold.dumps.items) w.collected
+    whole_raised : (moved : Bool) → Gathered w.collected w.cleared w.r.logs logs moved → IsRaisedFrom (mesh w) 0 stands
+    whole_raised moved gathered = grind (arith, whole_played, whole_shared, mesh, whole_lanes, whole_unsent, whole_up, whole_no_logs, whole_delivered, whole_dumped)
 
-    whole_raised : GathersLogs → IsRaisedFrom (mesh w) 0 stands
-    whole_raised logged_are = grind (arith, whole_played, whole_shared, mesh, whole_lanes, whole_unsent, whole_up, whole_no_logs, whole_delivered, whole_dumped)
-
-    pub whole_plays : (moved : Bool) → GathersLogs → IsAnyMoved w.collected moved → PlaysTo w.patience w.turns w.m moved stands
-    whole_plays moved logged_are moved_are = grind (arith, mesh, joined, parts, whole_raised, whole_played, moved_same, whole_noted)
+    pub whole_plays : (moved : Bool) → Gathered w.collected w.cleared w.r.logs logs moved → PlaysTo w.patience w.turns w.m moved stands
+    whole_plays moved gathered = record {
+      mesh = mesh w;
+      items = joined (parts w);
+      raised = whole_raised moved gathered;
+      played = whole_played w;
+      noted = subst (λ (b : Bool). IsNoted false (joined (parts w)) b) (moved_same ∙ sym gathered.moved_are) (whole_noted w);
+    }

@@ -28,7 +28,7 @@ pub use Rattle.mesh_run.specs.{Queues.RestsAt, Queues.StayUp, Queues.UpAt, Queue
 pub use Rattle.mesh_run.specs.{Raised.IsRoomyFrom, Raised.PlaysTo, Rooms.AreSameCopies, Rooms.SameCopies, Rooms.SameEnd, Shares.ActsAt, Shares.AreOf, Shares.DoesAt, Shares.IsInRun, Shares.IsNoted}
 pub use Rattle.mesh_run.specs.Shares.{IsShareOf, MovesAt, PlaysAndStays, PlaysOne, PlaysRound, PlaysTurns, SharePlays, actor_of, bank_place, router_place}
 pub use Rattle.mesh_run.specs.Split.{AreShared, HaveNoLogs, HoldLanes, HoldUnsent, cut_queues, end_at, end_in, unsent_at, unsent_in}
-pub use Rattle.mesh_run.specs.Splitting.{AreInside, AreSameButUnsent, AreSameHolds, AreSameRuns, FitHomes, HoldNothing, HoldVertices, IsEmptyHand, MayPutLane, MayTakeLane, MovesIn, MovesOut}
+pub use Rattle.mesh_run.specs.Splitting.{AreInside, AreSameButUnsent, AreSameHolds, AreSameRuns, SameRun, FitHomes, HoldNothing, IsEmptyHand, MayPutLane, MayTakeLane, MovesIn, MovesOut}
 pub use Rattle.mesh_run.specs.{Splitting.PutsUnsent, Splitting.SameButCopies, Splitting.SameButUnsent, Splitting.SetsQueue, Splitting.SetsUnsent, Standing.HoldsAll, Standing.LacksEnds}
 pub use Rattle.mesh_run.specs.{Standing.RisenTo, declared.floors.Floor.Floor, declared.gathering.MeshLogs.MeshLogs, declared.homes.Cut.Cut, declared.homes.Home.Home, declared.layout.Layout.Layout}
 pub use Rattle.mesh_run.specs.declared.{queues.Rested.Rested, raised.RaisedMesh.RaisedMesh, shares.Share.Share, standing.Rising.Rising, standing.Standing.Standing}
@@ -45,10 +45,10 @@ pub use Rattle.std.proofs.Common.{Bool, Err, List, None, Ok, OnErr, Option, Resu
 pub use Rattle.std.proofs.Common.{length-append, map, min, nat_eq, refl, replicate, set, subst, suc, sym, take, true, zero, ℕ, ◌%◌, ◌&&◌, ◌*◌, ◌++◌, ◌+◌, ◌-◌, ◌/◌, ◌<◌, ◌==◌, ◌^◌, ◌||◌, ◌∙◌, ◌∷◌, ◌≡◌}
 pub use Rattle.std.proofs.Common.{◌≢◌, ◌≤◌, ◌⊎◌}
 pub use Rattle.std.proofs.{Math.Nat.mul-le-mul_left, lemmas.Bool.cases_Bool, lemmas.Bool.cases_eq, lemmas.Bool.cases_lt, lemmas.Bool.cond-false, lemmas.Bool.cond_both, lemmas.Bool.eqb-true}
-pub use Rattle.std.proofs.lemmas.{Grind.flat_map-append, List.Elements.All-append, List.Elements.All-cons, List.Elements.All-contains, List.Elements.All-filter, List.Elements.All-head}
+pub use Rattle.std.proofs.lemmas.{Grind.flat_map-append, List.Elements.All-append, List.Elements.All-cons, List.Elements.All-contains, List.Elements.All-filter, List.Elements.All-head, List.Elements.All-replicate}
 pub use Rattle.std.proofs.lemmas.List.{Elements.All-map, Elements.All-nil, Elements.All-push, Elements.All-tail, Elements.All-weaker, Folds.list_all_more, FromFn.get_or-range_with_len}
 pub use Rattle.std.proofs.lemmas.List.{FromFn.length-range_with_len, Sums.sum_by-cons, get_or-append_right, get_or-map, get_or-replicate, get_or-set_other, get_or-set_same, get_or_append_left}
 pub use Rattle.std.proofs.lemmas.List.{get_or_default, get_or_past, get_or_push, length-map, length-replicate, length-set, length_push, map-append, map-set, same_from_push, same_lists}
 pub use Rattle.std.proofs.lemmas.{List.set-append_left, List.set-append_right, List.set-set, List.take-set-le, List.take_all, List.take_more, List.with_items_is, Nat.div-add-mod', Nat.mod_below}
-pub use Rattle.std.proofs.lemmas.Option.{get_or_from_slice_get, none-some, same_Some, slice_get-get_or, slice_get_within}
+pub use Rattle.std.proofs.lemmas.Option.{get_or_from_slice_get, none-some, same_Some, slice_get-get_or, slice_get_past, slice_get_within}
 pub use Rattle.std.specs.{Global.Vec, List.All, List.AllPairs, List.flat_map, List.list_all, List.list_any, List.range_with_len, List.slice_get, List.slice_index_or, List.sum_by, Vec.with_items}

@@ -1,19 +1,16 @@
 -- What a whole round makes of each queue: a lane goes on in its share, and a link rests with what is left of its queue.
 use Rattle.mesh_run.proofs.Common.{All-append, Cut, End, FitsQueue, Home, InEnd, IsDown, IsUncut, IsUp, Link, LinkEnds, List, McCopy, Option, OutEnd, Own, QueueGoes, Sends, Share, Some, Takes}
-use Rattle.mesh_run.proofs.Common.{WithRoom, [], ap, arith, cap_of, cases_eq, cut_queues, end_at, end_in, get_or, get_or_from_slice_get, held_at, inl, inr, length, length-map, map, min, queue_of_link}
-use Rattle.mesh_run.proofs.Common.{refl, same_Some, slice_get, slice_get-mapped, slice_get_there, slice_get_within, subst, sym, ℕ, ◌++◌, ◌+◌, ◌<◌, ◌∙◌, ◌≡◌, ◌≢◌, ◌≤◌}
-use Rattle.mesh_run.proofs.{AfterDeal.homes_below, AfterDeal.no_end_of_cut, Filling.few_entered, Passing.lane_queue, Passing.link_queue, PlanLaws.fits_at, Together.joined, Together.lane_passes}
-use Rattle.mesh_run.proofs.{Together.sender_passes, Together.stood, Together.taker_passes, WholeRound.Whole, WholeRound.collected_same, WholeRound.dealt_long, WholeRound.dealt_same, WholeRound.parts}
-use Rattle.mesh_run.proofs.WholeRound.{played_parts, uncut, whole_turns}
+use Rattle.mesh_run.proofs.Common.{WithRoom, [], ap, arith, cap_of, cases_eq, end_at, end_in, get_or, held_at, inl, inr, length, map, min, queue_of_link, refl, same_Some, slice_get, slice_get-mapped}
+use Rattle.mesh_run.proofs.Common.{slice_get_there, slice_get_within, subst, sym, ℕ, ◌++◌, ◌+◌, ◌<◌, ◌∙◌, ◌≡◌, ◌≢◌, ◌≤◌}
+use Rattle.mesh_run.proofs.{AfterDeal.homes_below, AfterDeal.links_many, AfterDeal.no_end_of_cut, Slots.same_mapped, CrossingLaws.told_same, Filling.few_entered, Passing.lane_queue}
+use Rattle.mesh_run.proofs.{Passing.link_queue, PlanLaws.fits_at, Together.joined, Together.lane_passes, Together.sender_passes, Together.taker_passes, WholeRound.Whole, WholeRound.collected_same}
+use Rattle.mesh_run.proofs.WholeRound.{dealt_long, dealt_same, parts, played_parts, uncut, whole_turns}
 
 same_sends : (a b : OutEnd) → Some (Sends a) ≡ Some (Sends b) → a ≡ b
 same_sends a b same = cc
 
 same_takes : (a b : InEnd) → Some (Takes a) ≡ Some (Takes b) → a ≡ b
 same_takes a b same = cc
-
-same_end : (s t : Share) (q : ℕ) → t.hold.ends ≡ s.hold.ends → slice_get t.hold.ends.items q ≡ slice_get s.hold.ends.items q
-same_end s t q same = cc
 
 module _ (w : Whole) where
   -- what holds of the queue at a place after a round, with what it holds then
@@ -23,7 +20,7 @@ module _ (w : Whole) where
     pub link : (l : ℕ) (c : Cut) → slice_get w.r.layout.now.cuts.items l ≡ Some c → c.queue ≡ q → get_or (map queue_of_link w.rests.now) l [] ≡ after
 
   pub home_below : (q : ℕ) (h : Home) → slice_get w.r.layout.now.homes.items q ≡ Some h → (h.sender < length w.dealt) × (h.receiver < length w.dealt)
-  home_below q h at = grind (arith, homes_below w.m w.is_mesh (w.turns + 1) w.r w.roomy.raised q h at, dealt_long w)
+  home_below q h at = grind (arith, homes_below w.roomy.raised q h at, dealt_long w)
 
   held_fits : (q : ℕ) → length (held_at w.m q) ≤ w.m.setup.capacity
   held_fits q = fits_at w.m.setup.capacity (w.m.inputs ++ w.m.cores) q (All-append (FitsQueue w.m.setup.capacity) w.m.inputs w.m.cores w.is_mesh.inputs_within w.is_mesh.cores_within)
@@ -31,22 +28,19 @@ module _ (w : Whole) where
   -- clearing of logs leaves all ends
   pub cleared_end : (s q : ℕ) (b : End) → end_at w.collected s q ≡ Some b → end_at w.cleared s q ≡ Some b
   cleared_end s q b at =
-      let was = stood (slice_get w.collected s) q b at in
-      let is = slice_get_there w.cleared s (let long = w.clears.0 in omega (arith, slice_get_within w.collected s was.0 was.1, long)) in
-      ap (λ (x : Option Share). end_in x q) is.1 ∙ (same_end was.0 is.0 q (w.clears.1 s was.0 is.0 was.1 is.1).ends ∙ was.2)
+      told_same (λ (o : Option Share). end_in o q) w.collected w.cleared s w.clears.0 (λ x y before after. ap (λ e. slice_get e.items q) (w.clears.1 s x y before after).ends) ∙ at
 
   -- a queue that is a lane of one share
   lane_after : (q : ℕ) (h : Home) → slice_get w.r.layout.now.homes.items q ≡ Some h → h.sender ≡ h.receiver → (after : List McCopy) × AfterRound q after
   lane_after q h at same =
-      let cap = w.m.setup.capacity in
       let lanes = w.roomy.raised.lanes in
       let was = lanes.lanes q h at same in
       let dealt = dealt_same w q h at same h.sender ∙ was.1 in
-      let p = lane_passes cap w.patience w.dealt w.played (parts w) (played_parts w) h.sender q was.0 dealt in
+      let p = lane_passes (played_parts w) h.sender q was.0 dealt in
       let now : end_at w.cleared h.sender q ≡ Some (Own p.lane) = cleared_end h.sender q (Own p.lane) (collected_same w q h at same h.sender ∙ p.stays) in (
         p.lane.items,
         record {
-          goes = lane_queue cap w.patience w.dealt w.played (parts w) (played_parts w) q h.sender was.0 (held_at w.m q) (home_below q h at).0 was.2 (held_fits q)
+          goes = lane_queue (played_parts w) q h.sender was.0 (held_at w.m q) (home_below q h at).0 was.2 (held_fits q)
               (λ k below other. dealt_same w q h at same k ∙ lanes.away q h k at (omega (arith, below, dealt_long w)) (inl other)) p;
           lane = λ g stands one. (p.lane, subst (λ (x : Home). end_at w.cleared x.sender q ≡ Some (Own p.lane)) (same_Some h g (sym at ∙ stands)) now, refl);
           link = λ l c stands is. absurd (uncut w q h at same c.sender l c stands (sym is, inl refl));
@@ -65,40 +59,19 @@ module _ (w : Whole) where
     two = (w.roomy.raised.laid.cuts.cut l c stands).1
 
     pub elsewhere : (k : ℕ) → k ≢ c.sender → k ≢ c.receiver → IsUncut w.r.layout.now.cuts.items k c.queue
-    elsewhere = no_end_of_cut w.m w.is_mesh (w.turns + 1) w.r w.roomy.raised l c stands
-
-    queues : List (List McCopy)
-    queues = cut_queues (w.m.inputs ++ w.m.cores) w.r.layout.now.cuts.items
+    elsewhere = no_end_of_cut w.roomy.raised l c stands
 
     -- the link as it was dealt
     old : (e : LinkEnds) × (slice_get w.roomy.raised.ends l ≡ Some e) × IsUp w.m.setup.capacity (w.turns + 1) (held_at w.m c.queue) e
     old =
-        let up = w.roomy.raised.up in
-        let many = length-map w.r.layout.now.cuts.items (λ (d : Cut). held_at w.m d.queue) in
-        let below = slice_get_within w.r.layout.now.cuts.items l c stands in
-        let is = slice_get_there w.roomy.raised.ends l (omega (arith, many, below, up.long)) in
-        let queue : get_or (cut_queues (w.m.inputs ++ w.m.cores) w.r.layout.now.cuts.items) l [] ≡ held_at w.m c.queue =
-        get_or_from_slice_get (cut_queues (w.m.inputs ++ w.m.cores) w.r.layout.now.cuts.items) l (held_at w.m c.queue) []
-        (slice_get-mapped (λ (d : Cut). held_at w.m d.queue) w.r.layout.now.cuts.items l c stands) in (
-          is.0,
-          is.1,
-          subst (λ (x : List McCopy). IsUp w.m.setup.capacity (w.turns + 1) x is.0) queue
-              (subst (λ (x : LinkEnds). IsUp w.m.setup.capacity (w.turns + 1) (get_or (cut_queues (w.m.inputs ++ w.m.cores) w.r.layout.now.cuts.items) l []) x)
-              (get_or_from_slice_get w.roomy.raised.ends l is.0 is.0 is.1) (up.each l [] is.0 (omega (arith, many, below)))),
-        )
+        let is = slice_get_there w.roomy.raised.ends l (omega (arith, slice_get_within w.r.layout.now.cuts.items l c stands, links_many w.roomy.raised)) in
+        (is.0, is.1, w.roomy.raised.up.each l (held_at w.m c.queue) is.0 (slice_get-mapped (λ (d : Cut). held_at w.m d.queue) w.r.layout.now.cuts.items l c stands) is.1)
 
     -- the link as it was collected
     now : (e : LinkEnds) × (slice_get w.collects.ends l ≡ Some e) × (e.link ≡ old.0.link) × IsDown e (get_or (map queue_of_link w.rests.now) l [])
     now =
-        let below : l < length w.collects.ends = omega (arith, slice_get_within w.roomy.raised.ends l old.0 old.1, w.collects.long) in
-        let is = slice_get_there w.collects.ends l below in
-        let link = slice_get-mapped (λ (x : LinkEnds). x.link) w.collects.ends l is.0 is.1 in
-        let linked = slice_get-mapped (λ (x : LinkEnds). x.link) w.roomy.raised.ends l old.0 old.1 in (
-          is.0,
-          is.1,
-          same_Some is.0.link old.0.link (sym link ∙ (ap (λ (x : List Link). slice_get x l) w.collects.links ∙ linked)),
-          subst (λ (x : LinkEnds). IsDown x (get_or (map queue_of_link w.rests.now) l [])) (get_or_from_slice_get w.collects.ends l is.0 is.0 is.1) (w.rests.down l is.0 [] below),
-        )
+        let is = slice_get_there w.collects.ends l (omega (arith, slice_get_within w.roomy.raised.ends l old.0 old.1, w.collects.long)) in
+        (is.0, is.1, same_mapped (λ (x : LinkEnds). x.link) w.collects.ends w.roomy.raised.ends l is.0 old.0 w.collects.links is.1 old.1, w.rests.down l is.0 [] is.1)
 
     pub link_after : AfterRound c.queue (get_or (map queue_of_link w.rests.now) l [])
     link_after =
@@ -109,12 +82,12 @@ module _ (w : Whole) where
         let collected = w.collects.collects.dealt l c after stands now.1 in
         let a : OutEnd = record { link = l; tx = before.tx } in
         let b : InEnd = record { link = l; rx = before.rx } in
-        let sends = sender_passes cap w.patience w.dealt w.played (parts w) (played_parts w) c.sender c.queue a dealt.0 in
-        let takes = taker_passes cap w.patience w.dealt w.played (parts w) (played_parts w) c.receiver c.queue b dealt.1 in
+        let sends = sender_passes (played_parts w) c.sender c.queue a dealt.0 in
+        let takes = taker_passes (played_parts w) c.receiver c.queue b dealt.1 in
         let below = home_below c.queue (record { sender = c.sender; receiver = c.receiver }) between in
         let as_dealt = dealt_long w in
         record {
-          goes = link_queue cap w.patience w.dealt w.played (parts w) (played_parts w) c.queue c.sender c.receiver a b (held_at w.m c.queue) after
+          goes = link_queue (played_parts w) c.queue c.sender c.receiver a b (held_at w.m c.queue) after
               (get_or (map queue_of_link w.rests.now) l []) w.turns (record {
                 sender_in = below.0;
                 receiver_in = below.1;

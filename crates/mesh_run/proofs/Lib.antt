@@ -7,14 +7,12 @@ mod AfterSplit
 mod AfterLinks
 mod AfterRound
 mod AfterRuns
-mod AfterLogs
 pub mod Apart
 mod BringingUp
 mod CrossingLaws
 mod EachQueue
 mod EachVertex
 pub mod Ends
-pub mod Feeding
 mod Filling
 mod FloorLaws
 mod GatheringLaws

@@ -1,68 +1,41 @@
 -- A split mesh put together again.
-use Rattle.mesh_run.proofs.Common.{All, AreEnds, AreUp, Cut, DownTo, FitHomes, HoldVertices, Home, IsDown, IsMesh, IsRaisedFrom, IsUp, LinkEnds, List, McCopy, MovesOut, RaisedMesh, SameButCopies}
-use Rattle.mesh_run.proofs.Common.{SetsQueue, Some, State, [], ap, arith, cases_eq, cut_queues, get_or, get_or-map, get_or-set_other, get_or-set_same, get_or_from_slice_get, inl, inr, length}
-use Rattle.mesh_run.proofs.Common.{length-append, length-map, length-set, port_count, refl, same_Some, same_lists, set, slice_get, slice_get-get_or, slice_get_there, slice_get_within, subst, sym, ℕ}
-use Rattle.mesh_run.proofs.Common.{◌++◌, ◌+◌, ◌<◌, ◌∙◌, ◌∷◌, ◌≡◌, ◌≢◌, ◌≤◌}
-use Rattle.mesh_run.proofs.{Holding.both_same, Holding.first_same, Holding.rest_same, SplitLaws.default_at, SplitLaws.same_state, SplitLaws.state_on}
+use Rattle.mesh_run.proofs.Common.{All, AreEnds, AreUp, Cut, DownTo, FitHomes, HoldUnsent, Home, IsDown, IsMesh, IsRaisedFrom, IsUp, LinkEnds, List, McCopy, MovesOut, RaisedMesh, SameButCopies}
+use Rattle.mesh_run.proofs.Common.{SetsQueue, Some, State, [], ap, append-nil, arith, cases_eq, get_or, get_or-set_other, get_or-set_same, get_or_default, inl, inr, length, length-append, length-set}
+use Rattle.mesh_run.proofs.Common.{refl, same_Some, same_lists, set, slice_get, slice_get-get_or, slice_get-mapped, slice_get_there, slice_get_within, subst, sym, ℕ, ◌++◌, ◌+◌, ◌<◌, ◌∙◌, ◌≡◌, ◌≢◌}
+use Rattle.mesh_run.proofs.Common.{◌≤◌}
+use Rattle.std.proofs.Math.Seq.{drop-append_seam, take-append_seam}
+use Rattle.mesh_run.proofs.{AfterDeal.lane_uncut, AfterDeal.links_many, PlanLaws.homes_fit, SplitLaws.same_state, SplitLaws.state_on}
 
 -- ---- what the calls ask for
 
 -- each queue has its homes, and each share its places
 pub fits_raised : (m : State) (more : ℕ) (r : RaisedMesh) → IsMesh m → IsRaisedFrom m more r → FitHomes r.parts r.layout.now.homes.items r.shares.items
 fits_raised m more r mesh raised =
-    let shared = raised.shared in
-    let long = raised.laid.homes.long in
-    let cores = mesh.core_lists in
-    let unsent = mesh.unsent_lists in
-    let cores_long = raised.cores_long in
-    let unsent_long = raised.unsent_long in
-    record {
-      long = omega (arith, long, mesh.input_lists, cores, raised.inputs_long, cores_long);
-      vertices = omega (arith, cores, unsent, cores_long, unsent_long);
-      senders = λ i d below. (both i d below).0;
-      receivers = λ i d below. (both i d below).1;
-      ends_long = λ k d below. shared.ends_long k (get_or r.shares.items k d) (slice_get-get_or r.shares.items k d below) ∙ sym long;
-      unsent_long = λ k d below.
-          let here = shared.unsent_long k (get_or r.shares.items k d) (slice_get-get_or r.shares.items k d below) in
-          omega (arith, here, unsent, unsent_long);
-    }
-  where
-    both : (i : ℕ) (d : Home) → i < length r.layout.now.homes.items →
-        ((get_or r.layout.now.homes.items i d).sender < length r.shares.items) × ((get_or r.layout.now.homes.items i d).receiver < length r.shares.items)
-    both i d below =
-        raised.laid.homes.below i (get_or r.layout.now.homes.items i d) (length r.shares.items) (slice_get-get_or r.layout.now.homes.items i d below)
-        (λ a k at. subst (λ (n : ℕ). k < n) (sym raised.shared.long) (raised.laid.numbers.below a k at))
+    homes_fit m r.parts r.layout.now.runs.items raised.laid.table r.layout.now.homes.items r.shares.items mesh raised.inputs_long raised.cores_long raised.unsent_long
+    raised.laid.numbers raised.laid.homes raised.shared
 
 -- links that are up have their ends
 pub all_are_ends : (cap more : ℕ) (queues : List (List McCopy)) (ends : List LinkEnds) → AreUp cap more queues ends → All AreEnds ends
-all_are_ends cap more queues ends up = λ i e below. let long = up.long in (up.each i [] e (omega (arith, below, long))).ends
+all_are_ends cap more queues ends up = λ i e below.
+    let q = slice_get_there queues i (omega (arith, below, up.long)) in
+    (up.each i q.0 (get_or ends i e) q.1 (slice_get-get_or ends i e below)).ends
 
 pub no_more_links : (m : State) (more : ℕ) (r : RaisedMesh) → (raised : IsRaisedFrom m more r) → length raised.ends ≤ length r.crossing.items
-no_more_links m more r raised = grind (arith, length-map, get_or)
+no_more_links m more r raised = omega (arith, links_many raised, raised.crossing)
 
 -- ---- a link that is down
 
-none_behind : (copies : List McCopy) → copies ++ [] ≡ copies
-none_behind [] = refl
-none_behind (c ∷ copies) = ap (λ l. c ∷ l) (none_behind copies)
-
 -- a link that is up and then down gives its queue back
 pub same_queue : (cap more : ℕ) (queue after : List McCopy) (e : LinkEnds) → IsUp cap more queue e → IsDown e after → after ≡ queue
-same_queue cap more queue after e up down = grind (arith, none_behind queue)
+same_queue cap more queue after e up down = grind (arith, append-nil queue)
 
 pub down_at : (m : State) (more : ℕ) (r : RaisedMesh) (down : List (List McCopy)) → (raised : IsRaisedFrom m more r) → DownTo raised.ends down → (l : ℕ) (c : Cut) →
     slice_get r.layout.now.cuts.items l ≡ Some c → get_or down l [] ≡ get_or (m.inputs ++ m.cores) c.queue []
 down_at m more r down raised are l c at =
-    let queues : List (List McCopy) = cut_queues (m.inputs ++ m.cores) r.layout.now.cuts.items in
-    let below = slice_get_within r.layout.now.cuts.items l c at in
-    let mapped = length-map r.layout.now.cuts.items (λ (d : Cut). get_or (m.inputs ++ m.cores) d.queue []) in
-    let long = raised.up.long in
-    let e = slice_get_there raised.ends l (omega (arith, below, mapped, long)) in
-    let queue : get_or queues l [] ≡ get_or (m.inputs ++ m.cores) c.queue [] =
-    get_or-map (λ (d : Cut). get_or (m.inputs ++ m.cores) d.queue []) r.layout.now.cuts.items l c [] below
-    ∙ ap (λ (d : Cut). get_or (m.inputs ++ m.cores) d.queue []) (get_or_from_slice_get r.layout.now.cuts.items l c c at) in
-    same_queue m.setup.capacity more (get_or queues l []) (get_or down l []) (get_or raised.ends l e.0) (raised.up.each l [] e.0 (omega (arith, below, mapped)))
-    (are l e.0 [] (omega (arith, below, mapped, long))) ∙ queue
+    let held : List McCopy = get_or (m.inputs ++ m.cores) c.queue [] in
+    let e = slice_get_there raised.ends l (omega (arith, slice_get_within r.layout.now.cuts.items l c at, links_many raised)) in
+    same_queue m.setup.capacity more held (get_or down l []) e.0
+    (raised.up.each l held e.0 (slice_get-mapped (λ (d : Cut). get_or (m.inputs ++ m.cores) d.queue []) r.layout.now.cuts.items l c at) e.1) (are l e.0 [] e.1)
 
 -- ---- links' queues put back one after the other
 
@@ -105,12 +78,7 @@ cut_inside m more n r mid now down left c mesh raised same so_far at =
 
 -- two lists in a row, of which the first are as long
 two_lists : {X : Type 0} (a c b d : List X) → a ++ b ≡ c ++ d → length a ≡ length c → (a ≡ c) × (b ≡ d)
-two_lists [] [] b d e long = (refl, e)
-two_lists [] (y ∷ c) b d e long = absurd (omega (arith, long))
-two_lists (x ∷ a) [] b d e long = absurd (omega (arith, long))
-two_lists (x ∷ a) (y ∷ c) b d e long =
-    let rest = two_lists a c b d (rest_same x y (a ++ b) (c ++ d) e) (omega (arith, long)) in
-    (both_same x y a c (first_same x y (a ++ b) (c ++ d) e) rest.0, rest.1)
+two_lists a c b d e long = grind (arith, take-append_seam a b, take-append_seam c d, drop-append_seam a b, drop-append_seam c d)
 
 equal_states : (s t : State) → s.setup ≡ t.setup → s.unsent ≡ t.unsent → s.inputs ≡ t.inputs → s.hands ≡ t.hands → s.cores ≡ t.cores → s.delivered ≡ t.delivered → s.dumped ≡ t.dumped → s ≡ t
 equal_states s t setup unsent inputs hands cores delivered dumped = grind arith
@@ -136,18 +104,12 @@ lowered m more n r mid now back down left mesh raised moves are so_far past setu
     cores_long : length now.cores ≡ length m.cores
     cores_long = so_far.same.cores_long ∙ (moves.same.cores_long ∙ raised.cores_long)
 
-    vertices : HoldVertices (length r.parts.inputs) m.unsent r.layout.now.homes.items r.shares.items
-    vertices =
-        let held : HoldVertices (port_count m.setup) m.unsent r.layout.now.homes.items r.shares.items = record { here = raised.unsent.here; nowhere_else = raised.unsent.nowhere_else } in
-        subst (λ (k : ℕ). HoldVertices k m.unsent r.layout.now.homes.items r.shares.items) (sym (raised.inputs_long ∙ mesh.input_lists)) held
+    vertices : HoldUnsent (length r.parts.inputs) m.unsent r.layout.now.homes.items r.shares.items
+    vertices = subst (λ (k : ℕ). HoldUnsent k m.unsent r.layout.now.homes.items r.shares.items) (sym (raised.inputs_long ∙ mesh.input_lists)) raised.unsent
 
     -- a queue that is in one share is of no cut
     uncut : (q : ℕ) (h : Home) → slice_get r.layout.now.homes.items q ≡ Some h → h.sender ≡ h.receiver → (l : ℕ) (c : Cut) → slice_get r.layout.now.cuts.items l ≡ Some c → c.queue ≢ q
-    uncut q h at one l c stands here =
-        let cut = raised.laid.cuts.cut l c stands in
-        let is : h ≡ record { sender = c.sender; receiver = c.receiver } = same_Some h (record { sender = c.sender; receiver = c.receiver })
-        (sym at ∙ (ap (slice_get r.layout.now.homes.items) (sym here) ∙ cut.0)) in
-        cut.1 (subst (λ (x : Home). x.sender ≡ x.receiver) is one)
+    uncut q h at one l c stands here = lane_uncut raised q h at one c.sender l c stands (sym here, inl refl)
 
     each : (q : ℕ) (h : Home) → slice_get r.layout.now.homes.items q ≡ Some h → get_or (now.inputs ++ now.cores) q [] ≡ get_or (m.inputs ++ m.cores) q []
     each q h at = elim (cases_eq h.sender h.receiver) [
@@ -168,7 +130,7 @@ lowered m more n r mid now back down left mesh raised moves are so_far past setu
         let homes = raised.laid.homes.long in
         same_lists (now.inputs ++ now.cores) (m.inputs ++ m.cores) (omega (arith, long_now, long_m, a, b)) (λ q d below.
         let h = slice_get_there r.layout.now.homes.items q (omega (arith, below, long_now, a, b, homes, mesh.input_lists, mesh.core_lists)) in
-        default_at (now.inputs ++ now.cores) q d below ∙ (each q h.0 h.1 ∙ sym (default_at (m.inputs ++ m.cores) q d (omega (arith, below, long_now, long_m, a, b)))))
+        get_or_default (now.inputs ++ now.cores) q d [] below ∙ (each q h.0 h.1 ∙ sym (get_or_default (m.inputs ++ m.cores) q d [] (omega (arith, below, long_now, long_m, a, b)))))
 
     halves : (now.inputs ≡ m.inputs) × (now.cores ≡ m.cores)
     halves = two_lists now.inputs m.inputs now.cores m.cores joined inputs_long

@@ -1,9 +1,8 @@
 -- The steps of a round, each as far as what its call promises: ends dealt, turns played, ends collected, links at rest, logs gathered.
-use Rattle.mesh_run.proofs.Common.{All, AreCuts, AreEmptied, AreLaid, Bool, Cut, Deals, FitsLogs, HoldsAll, HoldsCollected, HoldsNoEnds, IsAnyMoved, IsMesh, IsRoomyFrom, IsShareOf, Link, LinkEnds}
-use Rattle.mesh_run.proofs.Common.{List, MeshLogs, PlaysAndStays, PlaysTo, RaisedMesh, RestAll, Rested, Setup, Share, Standing, State, Vec, WasUp, ap, arith, flat_map, get_or, length, refl, subst}
-use Rattle.mesh_run.proofs.Common.{sym, ℕ, ◌++◌, ◌+◌, ◌<◌, ◌∙◌, ◌≡◌}
+use Rattle.mesh_run.proofs.Common.{All, AreCuts, AreLaid, Bool, Cut, Deals, FitsLogs, HoldsAll, HoldsCollected, HoldsNoEnds, IsMesh, IsRoomyFrom, IsShareOf, Link, LinkEnds, List, MeshLogs}
+use Rattle.mesh_run.proofs.Common.{PlaysAndStays, PlaysTo, RaisedMesh, RestAll, Rested, Setup, Share, Standing, State, Vec, WasUp, ap, arith, get_or, length, refl, subst, sym, ℕ, ◌+◌, ◌<◌, ◌∙◌, ◌≡◌}
 use Rattle.mesh_run.proofs.{WholeRound.Whole, AfterDeal.cuts_apart, AfterDeal.dealt_shares, AfterDeal.links_many, AfterPlay.ends_laid, AfterPlay.links_were_up, AfterPlay.logs_fit}
-use Rattle.mesh_run.proofs.AfterRound.{whole_plays}
+use Rattle.mesh_run.proofs.{AfterRound.whole_plays, GatheringLaws.Gathered}
 
 -- ends were dealt to the shares of a mesh with room for a round
 pub record IsDealt (m : State) (r : RaisedMesh) (lent : Standing) (dealt : List Share) : Type 0 where
@@ -43,7 +42,7 @@ module _ {m : State} {r : RaisedMesh} {lent : Standing} {dealt : List Share} whe
 
   -- all are shares of the mesh
   pub shares_of_mesh : IsDealt m r lent dealt → All (IsShareOf r.parts.setup lent.links.items) dealt
-  shares_of_mesh d = grind (arith, dealt_shares m d.is_mesh (r.pace.turns + 1) r d.roomy.raised dealt d.deals lent.links.items d.none_left.links)
+  shares_of_mesh d = grind (arith, dealt_shares d.roomy.raised d.deals d.none_left.links)
 
   module _ {played : List Share} where
     -- what the turns of all shares promise
@@ -54,14 +53,13 @@ module _ {m : State} {r : RaisedMesh} {lent : Standing} {dealt : List Share} whe
     pub cuts_laid : IsTurned m r lent dealt played → AreLaid lent.links.items played r.layout.now.cuts.items
     cuts_laid t =
         let d = t.before in
-        ends_laid m d.is_mesh (r.pace.turns + 1) r d.roomy.raised dealt d.deals lent.links.items d.none_left.links
-        r.pace.patience r.pace.turns played t.long t.plays
+        ends_laid d.roomy.raised d.deals d.none_left.links played t.long t.plays
 
     -- so the cuts lie between the shares that played
     pub still_cuts : IsTurned m r lent dealt played → AreCuts r.layout.now.cuts.items played
     still_cuts t =
         let laid = cuts_laid t in
-        let apart = cuts_apart m t.before.is_mesh (r.pace.turns + 1) r t.before.roomy.raised in
+        let apart = cuts_apart t.before.roomy.raised in
         record {
           two = apart.two;
           senders = λ l c at. (_, (laid l c at).sends);
@@ -74,7 +72,7 @@ module _ {m : State} {r : RaisedMesh} {lent : Standing} {dealt : List Share} whe
     abbrev pub no_ends : IsTurned m r lent dealt played → (ends : List LinkEnds) × HoldsNoEnds ends lent × (length ends ≡ length r.layout.now.cuts.items)
     no_ends t =
         let d = t.before in
-        (d.roomy.raised.ends, d.none_left, links_many m d.is_mesh (r.pace.turns + 1) r d.roomy.raised)
+        (d.roomy.raised.ends, d.none_left, links_many d.roomy.raised)
 
     module _ {brought : Standing} {collected : List Share} where
       -- what collecting promises for any ends, for those of the mesh
@@ -94,8 +92,7 @@ module _ {m : State} {r : RaisedMesh} {lent : Standing} {dealt : List Share} whe
       can_rest h =
           let t = h.turned in
           let d = t.before in
-          let up = links_were_up m d.is_mesh (r.pace.turns + 1) r d.roomy.raised dealt d.deals lent.links.items d.none_left.links
-          r.pace.patience r.pace.turns played t.long t.plays brought collected h.collects in
+          let up = links_were_up d.roomy.raised d.deals d.none_left.links played t.long t.plays brought collected h.collects in
           (h.collects.ends, h.collects.holds, subst (λ (u : Setup). All (WasUp u.capacity) h.collects.ends) (sym d.roomy.raised.setup) up)
 
       -- there is room for what was logged
@@ -103,17 +100,14 @@ module _ {m : State} {r : RaisedMesh} {lent : Standing} {dealt : List Share} whe
       room_for_logs h =
           let t = h.turned in
           let d = t.before in
-          logs_fit m d.is_mesh (r.pace.turns + 1) r d.roomy.raised dealt d.deals lent.links.items d.none_left.links
-          r.pace.patience r.pace.turns played t.long t.plays brought collected r.logs h.collects d.roomy.room
+          logs_fit d.roomy.raised d.deals d.none_left.links played t.long t.plays brought collected r.logs h.collects d.roomy.room
 
       -- The whole round, with links at rest and logs gathered.
       pub round_plays : {rested : Rested} (standing : Standing) (shares : Vec Share) (logs : MeshLogs) (moved : Bool) →
           IsCollected m r lent dealt played brought collected →
-          ((ends : List LinkEnds) → HoldsAll ends brought → RestAll r.parts.setup.capacity ends standing rested) → AreEmptied collected shares.items →
-          logs.delivered.items ≡ r.logs.delivered.items ++ flat_map (λ s. s.hold.deliveries.items) collected →
-          logs.dumped.items ≡ r.logs.dumped.items ++ flat_map (λ s. s.hold.dumps.items) collected → IsAnyMoved collected moved →
+          ((ends : List LinkEnds) → HoldsAll ends brought → RestAll r.parts.setup.capacity ends standing rested) → Gathered collected shares.items r.logs logs moved →
           PlaysTo r.pace.patience r.pace.turns m moved (record r { standing = standing; shares = shares; logs = logs })
-      round_plays {rested} standing shares logs moved h rests clears delivered dumped moved_are =
+      round_plays {rested} standing shares logs moved h rests gathered =
           let t = h.turned in
           let d = t.before in
           let w : Whole = record {
@@ -135,6 +129,6 @@ module _ {m : State} {r : RaisedMesh} {lent : Standing} {dealt : List Share} whe
             rested = rested;
             rests = subst (λ (u : Setup). RestAll u.capacity h.collects.ends standing rested) d.roomy.raised.setup (rests h.collects.ends h.collects.holds);
             cleared = shares.items;
-            clears = clears;
+            clears = gathered.cleared;
           } in
-          whole_plays w shares logs refl moved (record { delivered = delivered; dumped = dumped }) moved_are
+          whole_plays w shares logs refl moved gathered

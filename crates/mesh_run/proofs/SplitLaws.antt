@@ -1,11 +1,12 @@
 -- Queues and unsent copies that move between a mesh and shares.
-use Rattle.mesh_run.proofs.Common.{All, All-at, All-nil, All-push, AreSameButEnds, AreSameButUnsent, AreSameHolds, Away, End, FitHomes, HoldNothing, Home, IsEmptyHand, List, MayPutLane, MayTakeLane}
-use Rattle.mesh_run.proofs.Common.{McCopy, MovesIn, MovesOut, None, Option, Own, PutsEnd, PutsUnsent, SameButCopies, SameButUnsent, SetsQueue, SetsUnsent, Share, Some, State, WithRoom, [], ap, arith}
-use Rattle.mesh_run.proofs.Common.{cases_eq, cases_lt, end_at, end_in, get_or, get_or-append_right, get_or-replicate, get_or-set_other, get_or-set_same, get_or_append_left, get_or_from_slice_get}
-use Rattle.mesh_run.proofs.Common.{get_or_past, inl, inr, length, length-append, length-replicate, length-set, length_push, none-some, refl, replicate, run_start, same_Some, same_lists, set}
-use Rattle.mesh_run.proofs.Common.{set-append_left, set-append_right, slice_get, slice_get-get_or, slice_get-push_cases, slice_get-set_other, slice_get-set_same, slice_get_there, slice_get_within}
-use Rattle.mesh_run.proofs.Common.{subst, sym, unsent_at, unsent_in, ℕ, ◌++◌, ◌+◌, ◌-◌, ◌<◌, ◌∙◌, ◌∷◌, ◌≡◌, ◌≢◌, ◌≤◌, ◌⊎◌}
-use Rattle.mesh_run.proofs.{CrossingLaws.each_on, CrossingLaws.each_self, CrossingLaws.each_set, CrossingLaws.same_on, CrossingLaws.same_self, HomeLaws.start_more}
+use Rattle.mesh_run.proofs.Common.{All, All-at, All-nil, All-push, All-replicate, AreSameButEnds, AreSameButUnsent, AreSameHolds, Away, End, FitHomes, HoldNothing, Home, IsEmptyHand, List, MayPutLane}
+use Rattle.mesh_run.proofs.Common.{MayTakeLane, McCopy, MovesIn, MovesOut, None, Option, Own, PutsEnd, PutsUnsent, SameButCopies, SameButEnds, SameButUnsent, SameRun, SetsQueue, SetsUnsent, Share}
+use Rattle.mesh_run.proofs.Common.{Some, State, WithRoom, [], ap, arith, cases_eq, cases_lt, end_at, end_in, get_or, get_or-append_right, get_or-replicate, get_or-set_other, get_or-set_same}
+use Rattle.mesh_run.proofs.Common.{get_or_append_left, get_or_default, get_or_past, inl, inr, length, length-append, length-replicate, length-set, length_push, none-some, refl, replicate, run_start}
+use Rattle.mesh_run.proofs.Common.{same_Some, same_lists, set, set-append_left, set-append_right, slice_get, slice_get-get_or, slice_get-set_other, slice_get-set_same, slice_get_there}
+use Rattle.mesh_run.proofs.Common.{slice_get_within, subst, sym, unsent_at, unsent_in, ℕ, ◌++◌, ◌+◌, ◌-◌, ◌<◌, ◌∙◌, ◌∷◌, ◌≡◌, ◌≢◌, ◌≤◌, ◌⊎◌}
+use Rattle.mesh_run.proofs.CrossingLaws.{AreEach, each_on, each_weaker, each_self, each_set, same_on, same_self, stood, told_same}
+use Rattle.mesh_run.proofs.{Going.pushed, HomeLaws.start_more}
 
 -- ---- one queue of a mesh
 
@@ -111,21 +112,13 @@ vertices_to_more ports m homes start n now next shares new home copies gone so_f
 
 -- ---- a share that holds nothing
 
-pub no_end : (runs : List ℕ) (queues vertices : ℕ) (shares : List Share) (s q : ℕ) → HoldNothing runs queues vertices shares → s < length shares → q < queues → end_at shares s q ≡ Some Away
-no_end runs queues vertices shares s q nothing below inside =
-    let x = slice_get_there shares s below in
-    let hand = All-at (λ (k : Share). IsEmptyHand queues vertices k.hold) shares s x.0 nothing.hands x.1 in
-    let long : length (replicate queues Away) ≡ queues = length-replicate queues Away in
-    ap (λ (o : Option Share). end_in o q) x.1
-    ∙ (ap (λ l. slice_get l q) hand.ends ∙ (slice_get-get_or (replicate queues Away) q Away (omega (arith, inside, long)) ∙ ap Some (get_or-replicate queues q Away Away inside)))
-
 pub no_unsent : (runs : List ℕ) (queues vertices : ℕ) (shares : List Share) (s v : ℕ) → HoldNothing runs queues vertices shares → unsent_at shares s v ≡ []
 no_unsent runs queues vertices shares s v nothing = by (slice_get shares s) refl
   where
     all_empty : (n v : ℕ) → get_or (replicate {A = List McCopy} n []) v [] ≡ []
     all_empty n v = elim (cases_lt v n) [
       | inl inside ↦ get_or-replicate n v [] [] inside
-      | inr past ↦ let long : length (replicate {A = List McCopy} n []) ≡ n = length-replicate n [] in get_or_past (replicate n []) v [] (omega (arith, past, long))
+      | inr past ↦ get_or_past (replicate n []) v [] (omega (arith, past, length-replicate {A = List McCopy} n []))
     ]
 
     by : (o : Option Share) → slice_get shares s ≡ o → unsent_at shares s v ≡ []
@@ -163,25 +156,9 @@ vertex_there m homes start second now ports v fits ends unsent is below =
     ∙ All-at (λ (y : Share). length y.hold.unsent.items ≡ length m.unsent) start k s.0 fits.unsent_long s.1) in
     (t.0, t.1, omega (arith, below, wide))
 
--- where the same is unsent in each share, it is at each place
-by_unsent : (a b : List Share) (s v : ℕ) → length b ≡ length a → ((k : ℕ) (x y : Share) → slice_get a k ≡ Some x → slice_get b k ≡ Some y → y.hold.unsent ≡ x.hold.unsent) →
-    unsent_at b s v ≡ unsent_at a s v
-by_unsent a b s v long each = by (slice_get b s) refl
-  where
-    by : (o : Option Share) → slice_get b s ≡ o → unsent_at b s v ≡ unsent_at a s v
-    by (Some y) at =
-        let x = slice_get_there a s (omega (arith, slice_get_within b s y at, long)) in
-        ap (λ (z : Option Share). unsent_in z v) at ∙ (ap (λ e. get_or e.items v []) (each s x.0 y x.1 at) ∙ ap (λ (z : Option Share). unsent_in z v) (sym x.1))
-    by None at = none_too (slice_get a s) refl
-      where
-        none_too : (o : Option Share) → slice_get a s ≡ o → unsent_at b s v ≡ unsent_at a s v
-        none_too None also = ap (λ (z : Option Share). unsent_in z v) (at ∙ sym also)
-        none_too (Some x) also =
-            let y = slice_get_there b s (omega (arith, slice_get_within a s x also, long)) in
-            absurd (none-some y.0 (sym at ∙ y.1))
-
-pub default_at : (xs : List (List McCopy)) (v : ℕ) (d : List McCopy) → v < length xs → get_or xs v d ≡ get_or xs v []
-default_at xs v d below = let x = slice_get_there xs v below in get_or_from_slice_get xs v x.0 d x.1 ∙ sym (get_or_from_slice_get xs v x.0 [] x.1)
+-- where all but ends is the same, the same is unsent
+ends_unsent : (a b : List Share) (s v : ℕ) → AreSameButEnds a b → unsent_at b s v ≡ unsent_at a s v
+ends_unsent a b s v same = told_same (λ (o : Option Share). unsent_in o v) a b s same.0 (λ x y at also. ap (λ l. get_or l.items v []) (same.1 s x y at also).unsent)
 
 -- a share with the same actors, logs and places
 record Parts (s t : Share) : Type 0 where
@@ -192,19 +169,25 @@ record Parts (s t : Share) : Type 0 where
   dumps : t.hold.dumps ≡ s.hold.dumps
   deliveries : t.hold.deliveries ≡ s.hold.deliveries
 
+parts_on : (x y z : Share) → Parts x y → Parts y z → Parts x z
+parts_on x y z p q = grind arith
+
+parts_of_ends : (s t : Share) → SameButEnds s t → Parts s t
+parts_of_ends s t p = grind arith
+
+parts_of_unsent : (s t : Share) → SameButUnsent s t → Parts s t
+parts_of_unsent s t p = grind arith
+
+parts_of_hold : (s t : Share) → SameHold s t → Parts s t
+parts_of_hold s t p = grind arith
+
 -- all that moved in
 pub moved_in : (m mid left : State) (homes : List Home) (runs : List ℕ) (queues vertices n k : ℕ) (start second third after : List Share) → HoldNothing runs queues vertices start →
     FitHomes m homes start → length homes ≤ n → length m.unsent ≤ k →
     LanesTo m homes start n mid second → VerticesTo (length m.inputs) m homes second k left third → AreSameHolds third after → MovesIn m homes start left after
 moved_in m mid left homes runs queues vertices n k start second third after nothing fits past past_k lanes unsent same = record {
   same = unsent.same;
-  runs = record {
-    long = same.0 ∙ (unsent.shares_same.0 ∙ lanes.shares_same.0);
-    from = λ j s t at also. let x = all j s t at also in x.from;
-    to = λ j s t at also. let x = all j s t at also in x.to;
-    ends_long = λ j s t at also. let x = all j s t at also in x.ends_long;
-    unsent_long = λ j s t at also. let x = all j s t at also in x.unsent_long;
-  };
+  runs = each_weaker Parts SameRun (λ s t p. record { from = p.from; to = p.to; ends_long = p.ends_long; unsent_long = p.unsent_long }) start after all;
   no_logs = λ j d below. no_logs j (get_or after j d) (slice_get-get_or after j d below);
   lanes = record {
     lanes = λ q h at one.
@@ -230,56 +213,27 @@ moved_in m mid left homes runs queues vertices n k start second third after noth
   };
 }
   where
-    all : (j : ℕ) (s t : Share) → slice_get start j ≡ Some s → slice_get after j ≡ Some t → Parts s t
-    all j s t at also =
-        let within = slice_get_within start j s at in
-        let long_c = lanes.shares_same.0 in
-        let x = slice_get_there second j (omega (arith, within, long_c)) in
-        let y = slice_get_there third j (omega (arith, within, long_c, unsent.shares_same.0)) in
-        let p = lanes.shares_same.1 j s x.0 at x.1 in
-        let q = unsent.shares_same.1 j x.0 y.0 x.1 y.1 in
-        let r = same.1 j y.0 t y.1 also in
-        record {
-          from = r.0 ∙ (q.from ∙ p.from);
-          to = r.1 ∙ (q.to ∙ p.to);
-          ends_long = ap (λ h. length h.ends.items) r.2 ∙ (ap (λ e. length e.items) q.ends ∙ p.ends_long);
-          unsent_long = ap (λ h. length h.unsent.items) r.2 ∙ (q.unsent_long ∙ ap (λ e. length e.items) p.unsent);
-          dumps = ap (λ h. h.dumps) r.2 ∙ (q.dumps ∙ p.dumps);
-          deliveries = ap (λ h. h.deliveries) r.2 ∙ (q.deliveries ∙ p.deliveries);
-        }
+    all : AreEach Parts start after
+    all = each_on Parts parts_on start second after (each_weaker SameButEnds Parts parts_of_ends start second lanes.shares_same) (each_on Parts parts_on second third after
+        (each_weaker SameButUnsent Parts parts_of_unsent second third unsent.shares_same) (each_weaker SameHold Parts parts_of_hold third after same))
 
     no_logs : (j : ℕ) (t : Share) → slice_get after j ≡ Some t → (t.hold.dumps.items ≡ []) × (t.hold.deliveries.items ≡ [])
     no_logs j t also =
         let s = slice_get_there start j (omega (arith, slice_get_within after j t also, same.0, unsent.shares_same.0, lanes.shares_same.0)) in
         let hand = All-at (λ (x : Share). IsEmptyHand queues vertices x.hold) start j s.0 nothing.hands s.1 in
-        let p = all j s.0 t s.1 also in
+        let p = all.1 j s.0 t s.1 also in
         (ap (λ l. l.items) p.dumps ∙ hand.dumps, ap (λ l. l.items) p.deliveries ∙ hand.deliveries)
-
-    by_ends : (a b : List Share) (s q : ℕ) → length b ≡ length a → ((k : ℕ) (x y : Share) → slice_get a k ≡ Some x → slice_get b k ≡ Some y → y.hold.ends ≡ x.hold.ends) → end_at b s q ≡ end_at a s q
-    by_ends a b s q long each = by (slice_get b s) refl
-      where
-        by : (o : Option Share) → slice_get b s ≡ o → end_at b s q ≡ end_at a s q
-        by (Some y) at =
-            let x = slice_get_there a s (omega (arith, slice_get_within b s y at, long)) in
-            ap (λ (z : Option Share). end_in z q) at ∙ (ap (λ e. slice_get e.items q) (each s x.0 y x.1 at) ∙ ap (λ (z : Option Share). end_in z q) (sym x.1))
-        by None at = none_too (slice_get a s) refl
-          where
-            none_too : (o : Option Share) → slice_get a s ≡ o → end_at b s q ≡ end_at a s q
-            none_too None also = ap (λ (z : Option Share). end_in z q) (at ∙ sym also)
-            none_too (Some x) also =
-                let y = slice_get_there b s (omega (arith, slice_get_within a s x also, long)) in
-                absurd (none-some y.0 (sym at ∙ y.1))
 
     ends_still : (s q : ℕ) → end_at after s q ≡ end_at second s q
     ends_still s q =
-        by_ends third after s q same.0 (λ k x y at also. ap (λ h. h.ends) (same.1 k x y at also).2)
-        ∙ by_ends second third s q unsent.shares_same.0 (λ k x y at also. (unsent.shares_same.1 k x y at also).ends)
+        told_same (λ (o : Option Share). end_in o q) third after s same.0 (λ x y at also. ap (λ h. slice_get h.ends.items q) (same.1 s x y at also).2)
+        ∙ told_same (λ (o : Option Share). end_in o q) second third s unsent.shares_same.0 (λ x y at also. ap (λ e. slice_get e.items q) (unsent.shares_same.1 s x y at also).ends)
 
     unsent_still : (s v : ℕ) → unsent_at after s v ≡ unsent_at third s v
-    unsent_still s v = by_unsent third after s v same.0 (λ k x y at also. ap (λ h. h.unsent) (same.1 k x y at also).2)
+    unsent_still s v = told_same (λ (o : Option Share). unsent_in o v) third after s same.0 (λ x y at also. ap (λ h. get_or h.unsent.items v []) (same.1 s x y at also).2)
 
     unsent_before : (s v : ℕ) → unsent_at second s v ≡ unsent_at start s v
-    unsent_before s v = by_unsent start second s v lanes.shares_same.0 (λ k x y at also. (lanes.shares_same.1 k x y at also).unsent)
+    unsent_before s v = ends_unsent start second s v lanes.shares_same
 
     not_there : (q : ℕ) (h g : Home) (s : ℕ) → slice_get homes q ≡ Some h → slice_get homes q ≡ Some g → g.sender ≡ g.receiver → s ≡ g.sender → (s ≢ h.sender) ⊎ (h.sender ≢ h.receiver) → ⊥
     not_there q h g s at at_g one here (inl differs) = differs (here ∙ ap (λ (x : Home). x.sender) (same_Some g h (sym at_g ∙ at)))
@@ -287,11 +241,11 @@ moved_in m mid left homes runs queues vertices n k start second third after noth
 
     nothing_there : (s q : ℕ) → s < length start → q < length homes → end_at start s q ≡ Some Away
     nothing_there s q below inside =
-        let x = slice_get_there start s below in
+        let e = place_there m homes start s q fits below inside in
+        let x = stood (slice_get start s) q e.0 e.1 in
         let hand = All-at (λ (k : Share). IsEmptyHand queues vertices k.hold) start s x.0 nothing.hands x.1 in
-        let long : length x.0.hold.ends.items ≡ length homes = All-at (λ (k : Share). length k.hold.ends.items ≡ length homes) start s x.0 fits.ends_long x.1 in
-        let many : length (replicate queues Away) ≡ queues = length-replicate queues Away in
-        no_end runs queues vertices start s q nothing below (omega (arith, inside, long, ap length hand.ends, many))
+        let none = subst (All (λ (y : End). y ≡ Away)) (sym hand.ends) (All-replicate (λ (y : End). y ≡ Away) queues Away refl) in
+        e.1 ∙ ap Some (All-at (λ (y : End). y ≡ Away) x.0.hold.ends.items q e.0 none x.2)
 
 -- ---- moving out
 
@@ -320,13 +274,13 @@ pub out_lane : (left : State) (homes : List Home) (start : List Share) (n : ℕ)
 out_lane left homes start n now next shares new home end copies so_far at together below stood put is sets = record {
   same = state_on left now next so_far.same sets.same;
   unsent = sets.unsent ∙ so_far.unsent;
-  lanes = λ q h a less at_q one stands. elim (cases_eq q n) [
+  lanes = λ q h a less at_q one stands. ap (λ l. get_or l q []) sets.queues ∙ elim (cases_eq q n) [
     | inl here ↦
         let is_h : home ≡ h = same_Some home h (sym at ∙ (ap (slice_get homes) (sym here) ∙ at_q)) in
         let own : end ≡ Own a = same_Some end (Own a)
         (sym stood ∙ (so_far.ends home.sender n (omega arith) ∙ (ap (λ (x : Home). end_at start x.sender n) is_h ∙ (ap (end_at start h.sender) (sym here) ∙ stands)))) in
-        ap (λ l. get_or l q []) sets.queues ∙ (ap (λ (j : ℕ). get_or (set (now.inputs ++ now.cores) n copies) j []) here ∙ (get_or-set_same (now.inputs ++ now.cores) n copies [] below ∙ is a own))
-    | inr other ↦ ap (λ l. get_or l q []) sets.queues ∙ (get_or-set_other (now.inputs ++ now.cores) n q copies [] other ∙ so_far.lanes q h a (omega (arith, less, other)) at_q one stands)
+        ap (λ (j : ℕ). get_or (set (now.inputs ++ now.cores) n copies) j []) here ∙ (get_or-set_same (now.inputs ++ now.cores) n copies [] below ∙ is a own)
+    | inr other ↦ get_or-set_other (now.inputs ++ now.cores) n q copies [] other ∙ so_far.lanes q h a (omega (arith, less, other)) at_q one stands
   ];
   others = λ q h at_q apart. elim (cases_eq q n) [
     | inl here ↦ absurd (apart (subst (λ (x : Home). x.sender ≡ x.receiver) (same_Some home h (sym at ∙ (ap (slice_get homes) (sym here) ∙ at_q))) together))
@@ -374,18 +328,15 @@ moved_out left mid m homes n k start second third fits past past_k lanes unsent 
       let m_long = unsent.same.unsent_long ∙ lanes.same.unsent_long in
       same_lists m.unsent sent (m_long ∙ sym long) (λ v d below.
       let h = slice_get_there homes (length left.inputs + v) (omega (arith, below, m_long, fits.long, fits.vertices)) in
-      default_at m.unsent v d below ∙ (unsent.done v h.0 (omega (arith, below, m_long, past_k)) h.1
-      ∙ (unsent_before h.0.receiver v ∙ (held.here v h.0 h.1 ∙ default_back sent v d (omega (arith, below, m_long, long))))));
+      get_or_default m.unsent v d [] below ∙ (unsent.done v h.0 (omega (arith, below, m_long, past_k)) h.1
+      ∙ (unsent_before h.0.receiver v ∙ (held.here v h.0 h.1 ∙ get_or_default sent v [] d (omega (arith, below, m_long, long))))));
 }
   where
-    default_back : (xs : List (List McCopy)) (v : ℕ) (d : List McCopy) → v < length xs → get_or xs v [] ≡ get_or xs v d
-    default_back xs v d below = sym (default_at xs v d below)
-
     queues_still : (q : ℕ) → get_or (m.inputs ++ m.cores) q [] ≡ get_or (mid.inputs ++ mid.cores) q []
     queues_still q = ap (λ l. get_or (l ++ m.cores) q []) unsent.inputs ∙ ap (λ l. get_or (mid.inputs ++ l) q []) unsent.cores
 
     unsent_before : (s v : ℕ) → unsent_at second s v ≡ unsent_at start s v
-    unsent_before s v = by_unsent start second s v lanes.shares_same.0 (λ k x y at also. (lanes.shares_same.1 k x y at also).unsent)
+    unsent_before s v = ends_unsent start second s v lanes.shares_same
 
 -- ---- shares of the runs so far
 
@@ -401,19 +352,13 @@ nothing_none runs queues vertices shares none = grind (arith, none-some, All-nil
 
 pub nothing_more : (runs : List ℕ) (queues vertices n from to : ℕ) (share : Share) (shares new : List Share) → NothingTo runs queues vertices n from shares → to ≡ get_or runs n 0 →
     share.from ≡ from → share.to ≡ to → IsEmptyHand queues vertices share.hold → new ≡ shares ++ share ∷ [] → NothingTo runs queues vertices (n + 1) to new
-nothing_more runs queues vertices n from to share shares new so_far at from_is to_is empty is = subst (NothingTo runs queues vertices (n + 1) to) (sym is) (record {
-  long = length_push shares share ∙ ap (λ k. k + 1) so_far.long;
+nothing_more runs queues vertices n from to share shares new so_far at from_is to_is empty is = record {
+  long = ap length is ∙ (length_push shares share ∙ ap (λ k. k + 1) so_far.long);
   next = at ∙ sym (start_more runs n);
-  from_are = λ k s there. elim (slice_get-push_cases shares share s k there) [
-    | inl before ↦ so_far.from_are k s before.1
-    | inr last ↦ ap (λ (x : Share). x.from) (sym last.1) ∙ (from_is ∙ (so_far.next ∙ ap (run_start runs) (sym (last.0 ∙ so_far.long))))
-  ];
-  to_are = λ k s there. elim (slice_get-push_cases shares share s k there) [
-    | inl before ↦ so_far.to_are k s before.1
-    | inr last ↦ ap (λ (x : Share). x.to) (sym last.1) ∙ (to_is ∙ (at ∙ ap (λ (j : ℕ). get_or runs j 0) (sym (last.0 ∙ so_far.long))))
-  ];
-  hands = All-push (λ s. IsEmptyHand queues vertices s.hold) shares share so_far.hands empty;
-})
+  from_are = pushed (λ k s. s.from ≡ run_start runs k) shares share new is so_far.from_are (from_is ∙ (so_far.next ∙ ap (run_start runs) (sym so_far.long)));
+  to_are = pushed (λ k s. s.to ≡ get_or runs k 0) shares share new is so_far.to_are (to_is ∙ (at ∙ ap (λ (j : ℕ). get_or runs j 0) (sym so_far.long)));
+  hands = subst (All (λ s. IsEmptyHand queues vertices s.hold)) (sym is) (All-push (λ s. IsEmptyHand queues vertices s.hold) shares share so_far.hands empty);
+}
 
 pub nothing_all : (runs : List ℕ) (queues vertices n from : ℕ) (shares : List Share) → NothingTo runs queues vertices n from shares → n ≡ length runs → HoldNothing runs queues vertices shares
 nothing_all runs queues vertices n from shares so_far all = record { long = so_far.long ∙ all; from = so_far.from_are; to = so_far.to_are; hands = so_far.hands }

@@ -3,8 +3,9 @@ use Rattle.net_tables.proofs.Common.{All, All-contains, All-each, All-head, All-
 use Rattle.net_tables.proofs.Common.{Contains-permutation, Contains-unmap, Core, Description, Edge, HasChip, Intersects, Intersects-sym, IsOriginalOf, IsOutput, IsPermutation, IsPermutation-sym}
 use Rattle.net_tables.proofs.Common.{IsPlainTable, IsRoutingTree, IsRowNotAfter, Link, List, NetPlan, Original, Out, Port, Route, Row, Spot, [], ap, arith, bit_and, bit_at, bit_at-lt, bit_at-zero}
 use Rattle.net_tables.proofs.Common.{cases_eq, cases_lt, dir_at, dir_number-dir_at, edge_wanted, end_wanted, eqb-true, eqb_tells, false≢true, generality, get_or, has, inl, inr, is_wanted, key_small}
-use Rattle.net_tables.proofs.Common.{length, map, one_edge_into, opposite_of, out_number, out_of, out_of-has_bit, row_of, same_from_bits_below, same_in_order, same_route, subst, sym, true, zero_of, ℕ}
-use Rattle.net_tables.proofs.Common.{◌*◌, ◌+◌, ◌-◌, ◌<◌, ◌==◌, ◌∙◌, ◌∷◌, ◌≡◌}
+use Rattle.net_tables.proofs.Common.{map, one_edge_into, opposite_of, out_number, out_of, out_of-has_bit, row_of, same_from_bits_below, same_in_order, same_route, subst, sym, true, zero_of, ℕ, ◌*◌}
+use Rattle.net_tables.proofs.Common.{◌+◌, ◌-◌, ◌<◌, ◌==◌, ◌∙◌, ◌∷◌, ◌≡◌}
+use Rattle.spin_base.proofs.Places.{slice_get_there}
 use Rattle.net_tables.proofs.{Trees.comes_in_tree, Whole.originals_apart, Whole.from_net}
 
 -- ---- routes
@@ -130,11 +131,5 @@ module _ (m : Description) (nets : List NetPlan) (routed : AreRoutedApart m nets
       let from = Contains-unmap row_of is.originals r back in
       let o : Original = from.0 in
       let net = from_net m c nets is.originals is.originals_are o from.1 in
-      subst (λ (x : Row). 0 < x.route.bits) from.2 (lead o net.0 net.1 net.2))
-    where
-      lead : (o : Original) (j : ℕ) → j < length nets → ((d : NetPlan) → IsOriginalOf m (get_or nets j d) c o) → 0 < o.route.bits
-      lead o j below is_its = by nets j below routed.trees is_its
-        where
-          by : (ns : List NetPlan) (k : ℕ) → k < length ns → All (Routing m) ns → ((d : NetPlan) → IsOriginalOf m (get_or ns k d) c o) → 0 < o.route.bits
-          by [] k under trees its = absurd (omega (arith, under))
-          by (n ∷ ns) k under trees its = some_output (get_or (n ∷ ns) k n) (trees k n under) o (its n)
+      let d : NetPlan = (slice_get_there nets net.0 net.1).0 in
+      subst (λ (x : Row). 0 < x.route.bits) from.2 (some_output (get_or nets net.0 d) (routed.trees net.0 d net.1) o (net.2 d)))

@@ -1,15 +1,8 @@
 -- Of original blocks those that do not go straight on, gathered some nets at a time.
 use Rattle.net_tables.proofs.Common.{AreBlocksOf, AreOriginals, Chip, Description, IsInside, List, Mark, NetPlan, Original, [], ap, append_assoc, arith, cases_lt, drop, drop_split, filter}
-use Rattle.net_tables.proofs.Common.{filter-append, get_or, get_or-replicate, get_or_past, index_below, index_of, inl, inr, length, length-replicate, map, map-append, original_of, refl, replicate}
-use Rattle.net_tables.proofs.Common.{subst, sym, take, turns, ℕ, ◌*◌, ◌++◌, ◌-◌, ◌<◌, ◌∙◌, ◌∷◌, ◌≡◌, ◌≤◌}
-
--- the original blocks of nets and of more nets
-originals_append : (m : Description) (c : Chip) (xs ys : List NetPlan) (os ps : List Original) → AreOriginals m c xs os → AreOriginals m c ys ps →
-    AreOriginals m c (xs ++ ys) (os ++ ps)
-originals_append m c [] ys os ps none more = subst (λ (l : List Original). AreOriginals m c ys (l ++ ps)) (sym none) more
-originals_append m c (n ∷ xs) ys os ps (inl on) more =
-    inl (on.0, on.1, on.2, on.3 ++ ps, ap (λ l. l ++ ps) on.4, originals_append m c xs ys on.3 ps on.5 more)
-originals_append m c (n ∷ xs) ys os ps (inr off) more = inr (off.0, originals_append m c xs ys os ps off.1 more)
+use Rattle.net_tables.proofs.Common.{filter-append, get_or, get_or-replicate, get_or_past, index_below, index_of, length, length-replicate, map, map-append, original_of, replicate, subst, sym, take}
+use Rattle.net_tables.proofs.Common.{turns, ℕ, ◌*◌, ◌++◌, ◌-◌, ◌<◌, ◌∙◌, ◌≡◌, ◌≤◌}
+use Rattle.net_tables.proofs.Marking.{originals_append}
 
 -- the lists have, of the original blocks of these nets, those that do not go straight on
 abbrev pub HaveTurning : Description → List NetPlan → List (List Mark) → Type 0

@@ -1,10 +1,11 @@
 -- What ports and routes tell, as a tree's edges and targets are read one by one.
-use Rattle.net_tables.proofs.Common.{Bool, ByLink, Chip, Contains-append_left, Contains-none, Contains-push, Contains-push_cases, Core, Description, Edge, HasChip, IsBlank, IsClearOff, IsInside}
-use Rattle.net_tables.proofs.Common.{IsOutput, Link, List, Local, NetPlan, None, Option, Out, Port, Route, Some, Spot, TellsPort, TellsPorts, TellsRoutes, WithOut, [], ap, arith, cases_Bool, cases_eq}
-use Rattle.net_tables.proofs.Common.{edge_eq, edge_eq-true, edge_eq_self, end_of, false, false_from_ne_true, false≢true, far_inside, get_or, get_or-set_other, get_or-set_same, get_or_default, has}
-use Rattle.net_tables.proofs.Common.{index_of, inl, inr, is_edge_out, is_wanted, leads_to_own, leads_to_spot, length, length-set, list_any, list_any_more, none-some, nothing, opposite_of, or-false}
-use Rattle.net_tables.proofs.Common.{or_assoc, or_right, out_of, refl, same_Some, same_index, set, spot_of_out, subst, sym, take, take_all, take_more, tree_cases, true, ℕ, ◌*◌, ◌++◌, ◌+◌, ◌<◌, ◌||◌}
-use Rattle.net_tables.proofs.Common.{◌∙◌, ◌∷◌, ◌≡◌, ◌≢◌, ◌≤◌}
+use Rattle.net_tables.proofs.Common.{Bool, ByLink, Chip, Contains-append_left, Contains-none, Contains-push, Core, Description, Edge, HasChip, IsBlank, IsClearOff, IsInside, IsOutput, Link, List}
+use Rattle.net_tables.proofs.Common.{Local, NetPlan, None, Option, Out, Port, Route, Some, Spot, TellsPort, TellsPorts, TellsRoutes, WithOut, [], ap, arith, cases_Bool, cases_eq, edge_eq}
+use Rattle.net_tables.proofs.Common.{edge_eq-true, edge_eq_self, end_of, false, false_from_ne_true, false≢true, far_inside, get_or, get_or-set_other, get_or-set_same, get_or_default, has, index_of}
+use Rattle.net_tables.proofs.Common.{inl, inr, is_edge_out, is_wanted, leads_to_own, leads_to_spot, length, length-set, list_any, list_any_more, none-some, nothing, opposite_of, or-false, or_assoc}
+use Rattle.net_tables.proofs.Common.{or_right, out_of, refl, same_Some, same_index, set, spot_of_out, subst, sym, take, take_all, take_more, tree_cases, true, ℕ, ◌*◌, ◌++◌, ◌+◌, ◌<◌, ◌||◌, ◌∙◌, ◌∷◌}
+use Rattle.net_tables.proofs.Common.{◌≡◌, ◌≢◌, ◌≤◌}
+use Rattle.net_tables.proofs.Trees.{tree_push_cases}
 
 -- ---- ports
 
@@ -22,12 +23,9 @@ ports_first m root edges p ports clear root_in at below =
 kept : (m : Description) (root : Chip) (es : List Edge) (e : Edge) (c : Chip) (o : Option Port) → (end_of m e ≢ Some c) →
     TellsPort m root es c o → TellsPort m root (es ++ e ∷ []) c o
 kept m root es e c (Some port) other told = grind (arith, Contains-append_left)
-kept m root es e c None other told = λ on. elim (tree_cases m root (es ++ e ∷ []) c on) [
-  | inl is ↦ told (inl is)
-  | inr into ↦ elim (Contains-push_cases es e into.0 into.1) [
-    | inl before ↦ told (inr (before.0, into.0, before.1, before.2, into.2))
-    | inr last ↦ other (subst (λ (x : Edge). end_of m x ≡ Some c) (sym last) into.2)
-  ]
+kept m root es e c None other told = λ on. elim (tree_push_cases m root es e c on) [
+  | inl before ↦ told before
+  | inr leads ↦ other leads
 ]
 
 ports_push : (m : Description) (root : Chip) (es : List Edge) (e : Edge) (far : Chip) (p : ℕ) (ports : List (Option Port)) →
@@ -44,10 +42,6 @@ ports_push m root es e far p ports leads far_in at below told c inside = elim (c
       (kept m root es e c (get_or ports (index_of m c) None) elsewhere (told c inside))
 ]
 
-ports_nowhere : (m : Description) (root : Chip) (es : List Edge) (e : Edge) (ports : List (Option Port)) → end_of m e ≡ None →
-    TellsPorts m root es ports → TellsPorts m root (es ++ e ∷ []) ports
-ports_nowhere m root es e ports none told c inside = grind (arith, get_or ports (index_of m c) None, kept, none-some)
-
 -- one more thing of a list is read, which is the same as another
 pub reads : {X : Type 0} (items xs : List X) (i : ℕ) (d : X) → items ≡ xs → i < length items → take (i + 1) xs ≡ take i xs ++ get_or items i d ∷ []
 reads items xs i d same within = sym (ap (take (i + 1)) same) ∙ (take_more items i d within ∙ ap (λ l. take i l ++ get_or items i d ∷ []) same)
@@ -63,7 +57,7 @@ ports_more m root items edges i d far p ports same within leads inside at below 
 pub ports_same : (m : Description) (root : Chip) (items edges : List Edge) (i : ℕ) (d : Edge) (ports : List (Option Port)) → items ≡ edges → i < length items →
     end_of m (get_or items i d) ≡ None → TellsPorts m root (take i edges) ports → TellsPorts m root (take (i + 1) edges) ports
 ports_same m root items edges i d ports same within none told =
-    subst (λ es. TellsPorts m root es ports) (sym (reads items edges i d same within)) (ports_nowhere m root (take i edges) (get_or items i d) ports none told)
+    subst (λ es. TellsPorts m root es ports) (sym (reads items edges i d same within)) (λ c inside. grind (arith, get_or ports (index_of m c) None, kept, none-some))
 
 -- the edges were read to the end
 pub ports_all : (m : Description) (root : Chip) (items edges : List Edge) (i : ℕ) (ports : List (Option Port)) → items ≡ edges → length items ≤ i →

@@ -9,6 +9,8 @@ use Rattle.net_tables.proofs.Common.{get_or_default, has, index_below, index_of,
 use Rattle.net_tables.proofs.Common.{matches, not, option_map_or, original_of, refl, row_of, row_of_mark, served, slice_get, subst, suc, sym, true, turns, zero, ℕ, ◌*◌, ◌++◌, ◌+◌, ◌<◌, ◌∙◌, ◌∷◌, ◌≡◌}
 use Rattle.net_tables.proofs.Common.{◌≤◌}
 use Rattle.net_tables.proofs.Trees.{chips_inside, comes_in_tree}
+use Rattle.spin_base.proofs.Places.{AllZip-at_second, slice_get-mapped, slice_get_there}
+use Rattle.std.proofs.lemmas.{List.Elements.All-map, Option.get_or_from_slice_get, Slice.Zip.AllZip-long}
 
 -- nets that are routed apart are each routed
 pub all_routed : (m : Description) (nets : List NetPlan) → AreRoutedApart m nets → All (IsRouted m) nets
@@ -27,22 +29,14 @@ entries_twice (k ∷ ks) = ap (λ l. entry_of (row_of_mark k) ∷ l) (entries_tw
 -- the list beside the table of a place
 table_of_list : (lists : List (List Mark)) (tables : List Table) → AllZip IsTableOf lists tables → (i : ℕ) (t : Table) → slice_get tables i ≡ Some t →
     IsTableOf (get_or lists i []) t
-table_of_list [] [] h i t e = cc
-table_of_list [] (z ∷ ts) h i t e = absurd h
-table_of_list (x ∷ ls) [] h i t e = absurd h
-table_of_list (x ∷ ls) (z ∷ ts) h zero t e = let same : z ≡ t = cc in subst (IsTableOf x) same h.0
-table_of_list (x ∷ ls) (z ∷ ts) h (suc i) t e = table_of_list ls ts h.1 i t e
-
-same_length : (lists : List (List Mark)) (tables : List Table) → AllZip IsTableOf lists tables → length tables ≡ length lists
-same_length [] [] h = refl
-same_length [] (z ∷ ts) h = absurd h
-same_length (x ∷ ls) [] h = absurd h
-same_length (x ∷ ls) (z ∷ ts) h = ap suc (same_length ls ts h.1)
+table_of_list lists tables h i t e =
+    let k = AllZip-at_second IsTableOf lists tables h i t e in
+    subst (λ (l : List Mark). IsTableOf l t) (sym (get_or_from_slice_get lists i k.0 [] k.1)) k.2
 
 at_map : (f : Table → List Entry) (ts : List Table) (i : ℕ) → i < length ts → (t : Table) × (slice_get ts i ≡ Some t) × (get_or (map f ts) i [] ≡ f t)
-at_map f [] i below = absurd (omega (arith, below))
-at_map f (t ∷ ts) zero below = (t, refl, refl)
-at_map f (t ∷ ts) (suc i) below = at_map f ts i (omega (arith, below))
+at_map f ts i below =
+    let there = slice_get_there ts i below in
+    (there.0, there.1, get_or_from_slice_get (map f ts) i (f there.0) [] (slice_get-mapped f ts i there.0 there.1))
 
 -- ---- original blocks
 
@@ -106,10 +100,6 @@ holds_own k = All-cons (λ (a : Alias). LiesIn a.block k.block) (record { block 
 misses_other : (k l : Mark) → ¬ (Intersects k.block l.block) → Misses k.block (row_of_mark l)
 misses_other k l apart = All-cons (λ (a : Alias). ¬ (Intersects k.block a.block)) (record { block = l.block; port = l.port }) [] apart (All-nil (λ (a : Alias). ¬ (Intersects k.block a.block)))
 
-each_holds : (ks : List Mark) → All HoldsItsAliases (map row_of_mark ks)
-each_holds [] = All-nil HoldsItsAliases
-each_holds (k ∷ ks) = All-cons HoldsItsAliases (row_of_mark k) (map row_of_mark ks) (holds_own k) (each_holds ks)
-
 pub few_originals : (m : Description) (c : Chip) (nets : List NetPlan) (os : List Original) → AreOriginals m c nets os → length os ≤ length nets
 few_originals m c [] os are = let none : length os ≡ 0 = ap length are in omega (arith, none)
 few_originals m c (n ∷ nets) os (inl on) = grind (arith, few_originals m c nets on.3 on.5)
@@ -135,7 +125,7 @@ module _ (marks : List Mark) (t : Table) (is : IsTableOf marks t) where
       AllPairs-permutation (λ (a b : Mark). ¬ (Intersects a.block b.block)) (λ a b none meet. none (Intersects-sym b.block a.block meet)) marks is.sorted is.same apart in
       record {
         ordered = λ i j d less below. not_after (get_or t.rows i d) (get_or t.rows j d) (is.in_order i j d less below);
-        inside = subst (All HoldsItsAliases) (sym is.rows_are) (each_holds is.sorted);
+        inside = subst (All HoldsItsAliases) (sym is.rows_are) (All-map HoldsItsAliases row_of_mark is.sorted (λ i d below. holds_own (get_or is.sorted i d)));
         unmet = subst (AllPairs (λ (r s : Row). Misses r.block s)) (sym is.rows_are)
             (AllPairs-map row_of_mark (λ (a b : Mark). ¬ (Intersects a.block b.block)) (λ (r s : Row). Misses r.block s) (λ a b none. misses_other a b none) is.sorted on_sorted);
       }
@@ -253,23 +243,11 @@ module _ (m : Description) (nets : List NetPlan) (lists : List (List Mark)) (rou
 module _ (m : Description) (nets : List NetPlan) (lists : List (List Mark)) (tables : List Table) (routed : AreRoutedApart m nets) (are : AreBlocksOf m nets lists)
     (each : AllZip IsTableOf lists tables) where
   all_long : length tables ≡ m.width * m.height
-  all_long = same_length lists tables each ∙ are.long
+  all_long = AllZip-long IsTableOf lists tables each ∙ are.long
 
-  all_plain : AtEach m tables (IsPlainTable m nets)
-  all_plain c t inside at =
-      is_plain m nets c (get_or lists (index_of m c) []) t (are.blocks c inside) (table_of_list lists tables each (index_of m c) t at)
-
-  all_serve : AtEach m tables (ServesOriginals m nets)
-  all_serve c t inside at =
-      serves_them m nets c (get_or lists (index_of m c) []) t (are.blocks c inside) (table_of_list lists tables each (index_of m c) t at)
-
-  all_few : AtEach m tables (λ c rows. length rows ≤ length nets)
-  all_few c t inside at =
-      few_rows m nets c (get_or lists (index_of m c) []) t (are.blocks c inside) (table_of_list lists tables each (index_of m c) t at)
-
-  all_sound : AtEach m tables (λ c rows. IsSound rows)
-  all_sound c t inside at =
-      is_sound m nets c (get_or lists (index_of m c) []) t (are.blocks c inside) (table_of_list lists tables each (index_of m c) t at) routed.apart
+  -- what holds of the table of a chip's original blocks holds at each chip
+  at_each : (P : Chip → List Row → Type 0) → ((c : Chip) (marks : List Mark) (t : Table) → AreOriginals m c nets (map original_of marks) → IsTableOf marks t → P c t.rows) → AtEach m tables P
+  at_each P from c t inside at = from c (get_or lists (index_of m c) []) t (are.blocks c inside) (table_of_list lists tables each (index_of m c) t at)
 
   all_followed : (rest : Table → List Entry) → AreRight m (map (λ (t : Table). entries t ++ rest t) tables) nets
   all_followed rest i d i_in c port key o comes k valid =
@@ -291,10 +269,10 @@ module _ (m : Description) (nets : List NetPlan) (lists : List (List Mark)) (tab
   pub all_plain_tables : ArePlainTables m nets tables
   all_plain_tables = record {
     long = all_long;
-    plain = all_plain;
-    few = all_few;
-    sound = all_sound;
-    serves = all_serve;
+    plain = at_each (IsPlainTable m nets) (is_plain m nets);
+    few = at_each (λ c rows. length rows ≤ length nets) (few_rows m nets);
+    sound = at_each (λ c rows. IsSound rows) (λ c marks t originals is. is_sound m nets c marks t originals is routed.apart);
+    serves = at_each (ServesOriginals m nets) (serves_them m nets);
     right = all_right;
     followed = all_followed;
   }

@@ -36,6 +36,7 @@ pub fn plain_table(alloc: Global, marks: &[Mark]) -> Result<Table, Memory>
 }
 
 /// Original blocks in the order of the rows of their plain table: by generality, then by key.
+#[tactic(auto, using(crate::proofs::Ordering::table_sorted))]
 pub fn in_row_order(marks: Seq<Mark>) -> Result<Seq<Mark>, Memory>
     ensures same { IfOk result (IsPermutation marks) }
     ensures table { IfOk result (λ sorted. IsTableOf marks (table_of_sorted sorted)) }

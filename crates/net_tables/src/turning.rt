@@ -16,6 +16,7 @@ const NETS_AT_A_TIME: usize = 64;
 
 /// Of the original blocks of each chip, by the chip's index, those that do not go straight on, in the order of the nets. No
 /// more are held at a time than these and the original blocks of a few nets.
+#[tactic(auto, using(crate::proofs::Whole::few_turning))]
 pub fn turning_blocks<'x>(
     alloc: Global,
     machine: &'x Machine,

@@ -1,3 +1,4 @@
+use Rattle.std.proofs.Common.{arith}
 -- The names that the proofs of this crate cite from outside of them, passed on from one place. Declares nothing.
 pub use Rattle.app_graph.specs.{ValidGraph.IsValidNet, declared.graphs.Graph.Graph, declared.graphs.Net.Net, declared.graphs.Vertex.Vertex}
 pub use Rattle.cover_merge.specs.{Covering.HasNoLegalPair, Merge.rows_at}

@@ -1,4 +1,5 @@
 -- The image of final tables is valid, has the entries of each chip, and loads them.
+use Rattle.std.proofs.Common.{rules}
 use Rattle.par_compile.proofs.Common.{All, All-append, All-cons, All-head, All-nil, All-tail, AllPairs, AllPairs-cons, AllPairs-nil, CanBeImaged, Chip, ChipTable, Description, Entry, FillTables}
 use Rattle.par_compile.proofs.Common.{Final, HasSize, Image, ImageErr, IsChipBefore, IsLoaded, IsRow, IsTable, IsValid, KeepsRows, List, MatchResult, NoMemory, Ok, Result, Some, Spells, [], ap}
 use Rattle.par_compile.proofs.Common.{append-nil, arith, cases_order, chip_of, chip_of-inside, cond-false, cond-true, eq-eqb, eqb-true, false, false_from_ne_true, gathered_more, get_or, image_in}
@@ -13,38 +14,20 @@ IsShort f = length f.entries ≤ 1024
 
 -- a chip's table is valid where it has rows
 listed_valid : (w h : ℕ) (c : Chip) (es : List Entry) → c.x < w → c.y < h → length es ≤ 1024 → All IsRow es → All (IsTable w h) (listed c es)
-listed_valid w h c [] across up few rows = All-nil (IsTable w h)
-listed_valid w h c (e ∷ es) across up few rows =
-    All-cons (IsTable w h) (record { chip = c; entries = e ∷ es }) [] (record { inside = (across, up); some_rows = (omega arith, few); rows = rows }) (All-nil (IsTable w h))
+listed_valid w h c es across up few rows = grind (arith, All-nil, All-cons)
 
 few_listed : (c : Chip) (es : List Entry) → length (listed c es) ≤ 1
-few_listed c [] = omega arith
-few_listed c (e ∷ es) = omega arith
+few_listed c es = grind arith
 
 -- what is listed is of that chip
 listed_of : (P : ChipTable → Type 0) (c : Chip) (es : List Entry) → ((t : ChipTable) → t.chip ≡ c → P t) → All P (listed c es)
-listed_of P c [] of = All-nil P
-listed_of P c (e ∷ es) of = All-cons P (record { chip = c; entries = e ∷ es }) [] (of (record { chip = c; entries = e ∷ es }) refl) (All-nil P)
+listed_of P c es of = grind (arith, All-nil, All-cons)
 
 -- ---- all tables
 
 -- chips of lesser indices come before
 before : (m : Description) (i j : ℕ) → 0 < m.height → i < j → IsChipBefore (chip_of m i) (chip_of m j)
-before m i j some less =
-    let first : i / m.height * m.height + i % m.height ≡ i = index_of-chip_of m i in
-    let second : j / m.height * m.height + j % m.height ≡ j = index_of-chip_of m j in
-    let low : i % m.height < m.height = mod_below i m.height some in
-    let high : j % m.height < m.height = mod_below j m.height some in
-    elim (cases_order (i / m.height) (j / m.height)) [
-      | inl same ↦
-          let products : i / m.height * m.height ≡ j / m.height * m.height = ap (λ n. n * m.height) same in
-          inr (same, omega (arith, first, second, products, less))
-      | inr (inl lower) ↦ inl lower
-      | inr (inr higher) ↦
-          let products : suc (j / m.height) * m.height ≤ i / m.height * m.height = mul-le (suc (j / m.height)) m.height (i / m.height) m.height (omega (arith, higher)) (omega arith) in
-          let grown : suc (j / m.height) * m.height ≡ j / m.height * m.height + m.height = omega arith in
-          absurd (omega (arith, first, second, products, grown, less, high))
-    ]
+before m i j some less = grind (arith, index_of-chip_of m i, index_of-chip_of m j, mod_below i m.height some, mod_below j m.height some, cases_order (i / m.height) (j / m.height), mul-le)
 
 module _ (m : Description) (some : 0 < m.height) where
   abbrev at_place : ℕ → Final → List ChipTable
@@ -52,11 +35,7 @@ module _ (m : Description) (some : 0 < m.height) where
 
   few_tables : (n : ℕ) (fs : List Final) → length (tables_from m n fs) ≤ length fs
   few_tables n [] = omega arith
-  few_tables n (f ∷ fs) =
-      let here : length (at_place n f) ≤ 1 = few_listed (chip_of m n) f.entries in
-      let rest : length (tables_from m (n + 1) fs) ≤ length fs = few_tables (n + 1) fs in
-      let whole : length (at_place n f ++ tables_from m (n + 1) fs) ≡ length (at_place n f) + length (tables_from m (n + 1) fs) = length-append (at_place n f) (tables_from m (n + 1) fs) in
-      omega (arith, here, rest, whole)
+  few_tables n (f ∷ fs) = grind (arith, few_listed (chip_of m n) f.entries, few_tables (n + 1) fs, length-append (at_place n f) (tables_from m (n + 1) fs))
 
   valid_tables : (n : ℕ) (fs : List Final) → n + length fs ≤ m.width * m.height → All KeepsRows fs → All IsShort fs → All (IsTable m.width m.height) (tables_from m n fs)
   valid_tables n [] below keep short = All-nil (IsTable m.width m.height)
@@ -70,10 +49,7 @@ module _ (m : Description) (some : 0 < m.height) where
   -- a chip of a lesser index comes before all tables
   before_all : (i n : ℕ) (fs : List Final) → i < n → All (λ (t : ChipTable). IsChipBefore (chip_of m i) t.chip) (tables_from m n fs)
   before_all i n [] less = All-nil (λ (t : ChipTable). IsChipBefore (chip_of m i) t.chip)
-  before_all i n (f ∷ fs) less =
-      All-append (λ (t : ChipTable). IsChipBefore (chip_of m i) t.chip) (at_place n f) (tables_from m (n + 1) fs)
-      (listed_of (λ (t : ChipTable). IsChipBefore (chip_of m i) t.chip) (chip_of m n) f.entries (λ t is. subst (IsChipBefore (chip_of m i)) (sym is) (before m i n some less)))
-      (before_all i (n + 1) fs (omega (arith, less)))
+  before_all i n (f ∷ fs) less = grind (arith, before_all i (n + 1) fs (omega (arith, less)), before m i n some less, All-append, listed_of)
 
   abbrev Ordered : ChipTable → ChipTable → Type 0
   Ordered s t = IsChipBefore s.chip t.chip
@@ -94,12 +70,7 @@ module _ (m : Description) (some : 0 < m.height) where
   none_before i n (f ∷ fs) less = by f.entries (none_before i (n + 1) fs (omega (arith, less)))
     where
       by : (es : List Entry) → rows_of_index m.height (tables_from m (n + 1) fs) i ≡ [] → rows_of_index m.height (listed (chip_of m n) es ++ tables_from m (n + 1) fs) i ≡ []
-      by [] rest = rest
-      by (e ∷ es) rest =
-          let at : index_of m (chip_of m n) ≡ n = index_of-chip_of m n in
-          let other : (index_of m (chip_of m n) == i) ≡ false =
-          false_from_ne_true (index_of m (chip_of m n) == i) (λ hit. let is : index_of m (chip_of m n) ≡ i = eqb-true (index_of m (chip_of m n)) i hit in omega (arith, at, is, less)) in
-          cond-false (index_of m (chip_of m n) == i) (e ∷ es) (rows_of_index m.height (tables_from m (n + 1) fs) i) other ∙ rest
+      by es rest = grind (arith, index_of-chip_of, false_from_ne_true, eqb-true, cond-false)
 
   -- the rows of a chip are the entries of its final table
   rows_there : (n k i : ℕ) (fs : List Final) (g : Final) → n + k ≡ i → slice_get fs k ≡ Some g → rows_of_index m.height (tables_from m n fs) i ≡ g.entries
@@ -117,12 +88,7 @@ module _ (m : Description) (some : 0 < m.height) where
   rows_there n (suc k) i (f ∷ fs) g at is = by f.entries (rows_there (n + 1) k i fs g (omega (arith, at)) is)
     where
       by : (es : List Entry) → rows_of_index m.height (tables_from m (n + 1) fs) i ≡ g.entries → rows_of_index m.height (listed (chip_of m n) es ++ tables_from m (n + 1) fs) i ≡ g.entries
-      by [] rest = rest
-      by (e ∷ es) rest =
-          let place : index_of m (chip_of m n) ≡ n = index_of-chip_of m n in
-          let other : (index_of m (chip_of m n) == i) ≡ false =
-          false_from_ne_true (index_of m (chip_of m n) == i) (λ hit. let is_i : index_of m (chip_of m n) ≡ i = eqb-true (index_of m (chip_of m n)) i hit in omega (arith, place, is_i, at)) in
-          cond-false (index_of m (chip_of m n) == i) (e ∷ es) (rows_of_index m.height (tables_from m (n + 1) fs) i) other ∙ rest
+      by es rest = grind (arith, index_of-chip_of, false_from_ne_true, eqb-true, cond-false)
 
 -- ---- the image
 
@@ -132,23 +98,10 @@ same_image v w width height wrap chips = λ i. record { width = width i; height 
 module _ (m : Description) (size : HasSize m) (finals : List Final) (many : length finals ≡ m.width * m.height) (v : Image)
     (width : v.width ≡ m.width) (height : v.height ≡ m.height) (tables : v.chips ≡ tables_from m 0 finals) where
   pub image_valid : All KeepsRows finals → All IsShort finals → IsValid v
-  image_valid keep short = record {
-    across = (let least = size.width_from_one in omega (arith, width, least), let most = size.width_to_64 in omega (arith, width, most));
-    down = (let least = size.height_from_one in omega (arith, height, least), let most = size.height_to_64 in omega (arith, height, most));
-    few =
-        let some : length (tables_from m 0 finals) ≤ m.width * m.height = subst (λ n. length (tables_from m 0 finals) ≤ n) many (few_tables m size.height_from_one 0 finals) in
-        subst (λ n. length v.chips ≤ n) (ap (λ w. w * m.height) (sym width) ∙ ap (λ h. v.width * h) (sym height)) (subst (λ (ts : List ChipTable). length ts ≤ m.width * m.height) (sym tables) some);
-    tables =
-        let all : All (IsTable m.width m.height) (tables_from m 0 finals) = valid_tables m size.height_from_one 0 finals (omega (arith, many)) keep short in
-        subst (λ w. All (IsTable w v.height) v.chips) (sym width) (subst (λ h. All (IsTable m.width h) v.chips) (sym height) (subst (All (IsTable m.width m.height)) (sym tables) all));
-    ordered = subst (AllPairs (λ (s t : ChipTable). IsChipBefore s.chip t.chip)) (sym tables) (in_order m size.height_from_one 0 finals);
-  }
+  image_valid keep short = search (rules, few_tables, valid_tables, in_order)
 
   pub image_rows : (i : ℕ) (f : Final) → slice_get finals i ≡ Some f → rows_of_index v.height v.chips i ≡ f.entries
-  image_rows i f at =
-      ap (λ h. rows_of_index h v.chips i) height
-      ∙ (ap (λ (ts : List ChipTable). rows_of_index m.height ts i) tables
-      ∙ rows_there m size.height_from_one 0 i i finals f (omega arith) at)
+  image_rows i f at = search (rules, rows_there)
 
 -- one more chip
 pub image_more : (m : Description) (finals : List Final) (i : ℕ) (f : Final) (c : Chip) (old new : List ChipTable) → slice_get finals i ≡ Some f → c ≡ chip_of m i →
@@ -173,13 +126,10 @@ same_lists {X} (x ∷ xs) (y ∷ ys) long each =
 
 pub all_loaded : (m : Description) (finals : List Final) (v : Image) (memories : List (List Entry)) → length finals ≡ m.width * m.height → v.width ≡ m.width → v.height ≡ m.height →
     ((i : ℕ) (f : Final) → slice_get finals i ≡ Some f → rows_of_index v.height v.chips i ≡ f.entries) → IsLoaded v memories → memories ≡ map loaded_of finals
-all_loaded m finals v memories many width height rows is = same_lists memories (map loaded_of finals) long each
+all_loaded m finals v memories many width height rows is = grind (arith, same_lists, each, size, length-map)
   where
     size : v.width * v.height ≡ length finals
     size = ap (λ w. w * v.height) width ∙ (ap (λ h. m.width * h) height ∙ sym many)
-
-    long : length memories ≡ length (map loaded_of finals)
-    long = is.count ∙ (size ∙ sym (length-map finals loaded_of))
 
     each : (i : ℕ) (y : List Entry) → slice_get (map loaded_of finals) i ≡ Some y → slice_get memories i ≡ Some y
     each i y at =
@@ -232,18 +182,14 @@ found_at finals items i f same below read = ap (λ (l : List Final). slice_get l
 -- all were read
 pub all_read : (m : Description) (finals items : List Final) (i : ℕ) (chips : List ChipTable) → items ≡ finals → length items ≤ i → chips ≡ tables_from m 0 (take i finals) →
     chips ≡ tables_from m 0 finals
-all_read m finals items i chips same past so_far =
-    so_far ∙ ap (tables_from m 0) (take_all i finals (subst (λ (l : List Final). length l ≤ i) same past))
+all_read m finals items i chips same past so_far = grind (arith, take_all)
 
 -- a place is a number of 32 bits
 pub small_place : (m : Description) (finals items : List Final) (i chips : ℕ) → chips ≤ 4096 → chips ≡ m.width * m.height → length finals ≡ m.width * m.height → items ≡ finals → i < length items →
     i < 4294967296
-small_place m finals items i chips few total many same below =
-    let long : length items ≡ chips = ap length same ∙ (many ∙ sym total) in
-    omega (arith, few, long, below)
+small_place m finals items i chips few total many same below = grind arith
 
 -- what is read of the bytes that spell an image is the image
 pub read_again : (v : Image) (bytes slice : List ℕ) (result : Result Image ImageErr) (read : Image) → Spells v bytes → slice ≡ bytes → result ≡ Ok read →
     ((w : Image) → Spells w slice → MatchResult result (λ x. x ≡ w) (λ e. e ≡ NoMemory)) → read ≡ v
-read_again v bytes slice result read spelled same is only =
-    subst (λ (r : Result Image ImageErr). MatchResult r (λ x. x ≡ v) (λ e. e ≡ NoMemory)) is (only v (subst (Spells v) (sym same) spelled))
+read_again v bytes slice result read spelled same is only = grind arith

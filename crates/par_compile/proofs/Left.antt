@@ -15,24 +15,10 @@ NotAfter a b = IsRowNotAfter (row_of_mark a) (row_of_mark b)
 
 -- of two original blocks one is not after the other
 either : (a b : Mark) → NotAfter a b ⊎ NotAfter b a
-either a b = elim (cases_lt (generality a.block) (generality b.block)) [
-  | inl less ↦ inl (inl less)
-  | inr more ↦ elim (cases_lt (generality b.block) (generality a.block)) [
-    | inl less ↦ inr (inl less)
-    | inr no_more ↦
-        let same : generality a.block ≡ generality b.block = omega (arith, more, no_more) in
-        elim (cases_lt a.block.key b.block.key) [
-          | inl low ↦ inl (inr (same, omega (arith, low)))
-          | inr high ↦ inr (inr (sym same, high))
-        ]
-  ]
-]
+either a b = grind (arith, cases_lt (generality a.block) (generality b.block), cases_lt (generality b.block) (generality a.block), cases_lt a.block.key b.block.key)
 
 after_both : (a b d : Mark) → NotAfter a b → NotAfter b d → NotAfter a d
-after_both a b d (inl x) (inl y) = inl (omega (arith, x, y))
-after_both a b d (inl x) (inr y) = inl (omega (arith, x, y.0))
-after_both a b d (inr x) (inl y) = inl (omega (arith, x.0, y))
-after_both a b d (inr x) (inr y) = inr (x.0 ∙ y.0, omega (arith, x.1, y.1))
+after_both a b d its_3 its_4 = grind arith
 
 -- one that goes straight on has no entry
 no_entry : (k : Mark) (xs : List Mark) → straight k ≡ true → kept_entries (k ∷ xs) ≡ kept_entries xs

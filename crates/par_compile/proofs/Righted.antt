@@ -1,4 +1,5 @@
 -- Final tables that are loaded route every net's packets by its tree.
+use Rattle.std.proofs.Common.{rules}
 use Rattle.par_compile.proofs.Common.{All, All-cons, All-contains, All-map, All-nil, AllZip, AllZip-at_second, AllZip-long, AreApart, AreBlocksFor, AreCoverable, AreFinals, AreOriginals, AreRight}
 use Rattle.par_compile.proofs.Common.{AreRoutedApart, Block, Bool, Chip, Contains, Contains-permutation, Description, Entry, Final, HasChip, HasSize, IsFinalFor, IsInside, KeepsRows, List, Mark}
 use Rattle.par_compile.proofs.Common.{Matches, MatchesNoKey, NetPlan, Original, Out, Port, Route, RoutesAlone, Row, Some, [], ap, arith, bit_and, chip_of, chip_of-inside, chips_inside, comes_in_tree}
@@ -30,15 +31,10 @@ taken_within (suc n) (x ∷ xs) = let rest = taken_within n xs in omega (arith, 
 -- the loaded entries give a key of an original block its route
 gives_route : (rows : List Row) (f : Final) (x : Original) → All (RoutesAlone f.entries) (served rows) → Contains (served rows) x → (key : ℕ) → key < 2 ^ 32 → Matches x.block key →
     lookup (loaded_of f) key x.port ≡ x.route
-gives_route rows f x serves there key small matching =
-    All-contains (RoutesAlone f.entries) (served rows) x serves there (replicate (1024 - length f.entries) unused) (all_unused (1024 - length f.entries)) key small matching
+gives_route rows f x serves there key small matching = grind (arith, All-contains, all_unused)
 
 same_output : (es fs : List Entry) (p q : Port) (key : ℕ) (r : Route) (o : Out) (wanted : Bool) → es ≡ fs → p ≡ q → lookup fs key q ≡ r → has r o ≡ wanted → has (lookup es key p) o ≡ wanted
-same_output es fs p q key r o wanted table ports routes is =
-    ap (λ (l : List Entry). has (lookup l key p) o) table
-    ∙ (ap (λ (x : Port). has (lookup fs key x) o) ports
-    ∙ (ap (λ (x : Route). has x o) routes
-    ∙ is))
+same_output es fs p q key r o wanted table ports routes is = grind arith
 
 -- ---- what stands at each place
 
@@ -47,17 +43,10 @@ module _ (m : Description) (nets : List NetPlan) (target : ℕ) (lists : List (L
   -- a chip's final table is that of its original blocks
   at_chip : (c : Chip) (f : Final) → IsInside m c → slice_get finals (index_of m c) ≡ Some f →
       (marks : List Mark) × AreOriginals m c nets (map original_of marks) × IsFinalFor target marks f
-  at_chip c f inside at =
-      let k = AllZip-at_second (IsFinalFor target) (take (length finals) lists) finals each (index_of m c) f at in
-      let is : slice_index_or lists (index_of m c) [] ≡ k.0 =
-      get_or_from_slice_get lists (index_of m c) k.0 [] (slice_get-taken lists (length finals) (index_of m c) k.0 k.1) in
-      let here = are.blocks c inside in
-      (here.0, here.1, here.2 f (subst (λ (marks : List Mark). IsFinalFor target marks f) (sym is) k.2))
+  at_chip c f inside at = grind (arith, AllZip-at_second, get_or_from_slice_get, slice_get-taken)
 
   pub finals_within : length finals ≤ m.width * m.height
-  finals_within =
-      let long : length finals ≡ length (take (length finals) lists) = AllZip-long (IsFinalFor target) (take (length finals) lists) finals each in
-      omega (arith, long, taken_within (length finals) lists, are.long)
+  finals_within = grind (arith, AllZip-long (IsFinalFor target) (take (length finals) lists) finals each, taken_within (length finals) lists)
 
   -- what holds of the final table of a chip's original blocks holds of each final table
   each_final : (P : Final → Type 0) → ((c : Chip) (f : Final) (marks : List Mark) → AreOriginals m c nets (map original_of marks) → IsFinalFor target marks f → P f) → All P finals
@@ -68,9 +57,7 @@ module _ (m : Description) (nets : List NetPlan) (target : ℕ) (lists : List (L
       from c f here.0 here.1 here.2
 
   pub all_final : AreFinals m nets target finals
-  all_final c f inside at =
-      let here = at_chip c f inside at in
-      record { rows = here.2.table.rows; plain = is_plain m nets c here.0 here.2.table here.1 here.2.plain; is_final = here.2.stands.shortened.final }
+  all_final c f inside at = grind (arith, at_chip c f inside at, is_plain m nets c (at_chip c f inside at).0 (at_chip c f inside at).2.table (at_chip c f inside at).1 (at_chip c f inside at).2.plain)
 
   -- no final table has more entries than there are nets
   pub few_entries : All (λ (f : Final). length f.entries ≤ length nets) finals
@@ -124,13 +111,8 @@ module _ (m : Description) (nets : List NetPlan) (target : ℕ) (lists : List (L
 
 -- original blocks of which there are no more than nets can be covered
 pub coverable : (lists : List (List Mark)) (n : ℕ) → n < 2 ^ 32 → All (λ (marks : List Mark). length marks ≤ n) lists → All AreApart lists → All AreCoverable lists
-coverable lists n small few apart k d below = record {
-  few = let fewer : length (slice_index_or lists k d) ≤ n = few k d below in omega (arith, small, fewer);
-  apart = apart k d below;
-}
+coverable lists n small few apart k d below = search rules
 
 -- a machine has few chips
 pub few_chips : (m : Description) → HasSize m → (n : ℕ) → n ≡ m.width * m.height → n < 2 ^ 32
-few_chips m size n is =
-    let most : m.width * m.height ≤ 64 * 64 = mul-le m.width m.height 64 64 size.width_to_64 size.height_to_64 in
-    omega (arith, is, most)
+few_chips m size n is = grind (arith, mul-le m.width m.height 64 64 size.width_to_64 size.height_to_64)

@@ -1,4 +1,5 @@
 -- The final table of a short plain table has the entries of the original blocks that do not go straight on.
+use Rattle.std.proofs.Common.{rules}
 use Rattle.par_compile.proofs.Common.{Alias, All, All-cons, All-head, All-nil, All-tail, AllPairs-head, AllPairs-permutation, AllPairs-tail, AreApart, AreKept, Bool, Dir, Final, Intersects}
 use Rattle.par_compile.proofs.Common.{Intersects-sym, IsFinalFor, IsPermutation, IsShortened, IsSound, IsStrippable, IsTableOf, KeptFrom, Link, List, Local, Mark, Misses, Port, Route, Row, Some, []}
 use Rattle.par_compile.proofs.Common.{ap, arith, cases_Bool, cons_option, drop, ends, entry_of, eq-eqb, eqb-true, false, false≢true, get_or, goes, goes_straight, if◌then◌else◌, inl, inr, kept_entries}
@@ -9,33 +10,20 @@ use Rattle.par_compile.proofs.Common.{sound_table, stays, straight_on, subst, su
 
 -- one that goes straight on came by a link, and goes on by the opposite one alone
 arrival_of : (port : Port) (route : Route) → goes_straight port route ≡ true → (d : Dir) × (port ≡ Link d) × (route ≡ straight_on d)
-arrival_of (Link d) route straight = (d, refl, same_route route (straight_on d) (eqb-true route.bits (straight_on d).bits straight))
-arrival_of Local route straight = absurd (false≢true straight)
+arrival_of port route straight = grind (arith, same_route, eqb-true, false≢true)
 
 straight_by : (port : Port) (route : Route) (d : Dir) → port ≡ Link d → route ≡ straight_on d → goes_straight port route ≡ true
-straight_by port route d came leaves =
-    ap (λ p. goes_straight p route) came ∙ eq-eqb route.bits (straight_on d).bits (ap (λ (r : Route). r.bits) leaves)
+straight_by port route d came leaves = grind (arith, eq-eqb)
 
 misses : (k l : Mark) → ¬ (Intersects k.block l.block) → Misses l.block (row_of_mark k)
-misses k l apart =
-    All-cons (λ (a : Alias). ¬ (Intersects l.block a.block)) (record { block = k.block; port = k.port }) []
-    (λ meet. apart (Intersects-sym l.block k.block meet)) (All-nil (λ (a : Alias). ¬ (Intersects l.block a.block)))
+misses k l apart = grind (arith, All-cons, Intersects-sym, All-nil)
 
 -- so its row can go before any rows that have none of its keys, and no other row can
 strippable : (k : Mark) (later : List Row) → goes_straight k.port k.route ≡ true → All (λ (r : Row). Misses r.block (row_of_mark k)) later → IsStrippable (row_of_mark k) later
-strippable k later straight clear =
-    let by = arrival_of k.port k.route straight in
-    record {
-      arrival = by.0;
-      route = by.2;
-      arrives = All-cons (λ (a : Alias). a.port ≡ Link by.0) (record { block = k.block; port = k.port }) [] by.1 (All-nil (λ (a : Alias). a.port ≡ Link by.0));
-      clear = clear;
-    }
+strippable k later straight clear = grind (arith, arrival_of k.port k.route straight, All-cons, All-nil)
 
 not_strippable : (k : Mark) (later : List Row) → goes_straight k.port k.route ≡ false → IsStrippable (row_of_mark k) later → ⊥
-not_strippable k later turns strip =
-    let came : k.port ≡ Link strip.arrival = All-head (λ (a : Alias). a.port ≡ Link strip.arrival) (record { block = k.block; port = k.port }) [] strip.arrives in
-    false≢true (sym turns ∙ straight_by k.port k.route strip.arrival came strip.route)
+not_strippable k later turns strip = grind (arith, All-head, false≢true, straight_by)
 
 -- ---- from a place on
 
@@ -77,17 +65,12 @@ module _ (rows : List Row) where
   -- their entries are those of the rows there
   entries_at : (i : ℕ) (ks : List Mark) → drop i rows ≡ map row_of_mark ks → kept_entries ks ≡ map entry_of (rows_at rows (places_from i ks))
   entries_at i [] are = refl
-  entries_at i (k ∷ ks) are =
-      let there = head_there rows i (row_of_mark k) (map row_of_mark ks) are in
-      by (goes_straight k.port k.route) there.0 (entries_at (suc i) ks there.1)
+  entries_at i (k ∷ ks) are = grind (arith, head_there rows i (row_of_mark k) (map row_of_mark ks) are, entries_at (suc i) ks (head_there rows i (row_of_mark k) (map row_of_mark ks) are).1)
     where
       by : (b : Bool) → slice_get rows i ≡ Some (row_of_mark k) → kept_entries ks ≡ map entry_of (rows_at rows (places_from (suc i) ks)) →
           (if b then [] else (entry_of (row_of_mark k) ∷ [])) ++ kept_entries ks
           ≡ map entry_of (rows_at rows (if b then places_from (suc i) ks else (i ∷ places_from (suc i) ks)))
-      by true here later = later
-      by false here later =
-          ap (λ l. entry_of (row_of_mark k) ∷ l) later
-          ∙ sym (ap (map entry_of) (at_first i (row_of_mark k) (places_from (suc i) ks) here))
+      by b here later = grind (arith, at_first)
 
   -- and the rows there are kept
   kept_at : (i : ℕ) (ks : List Mark) → i ≤ length rows → drop i rows ≡ map row_of_mark ks → AreApart ks → KeptFrom rows i (places_from i ks)
@@ -136,12 +119,4 @@ module _ (target : ℕ) (marks sorted : List Mark) (f : Final) (few : length mar
   short_for = short_final target sorted_rows sorted_places f few_rows sound_rows kept_rows entries_are
 
   pub final_for : IsFinalFor target marks f
-  final_for = record {
-    table = table_of_sorted sorted;
-    plain = table;
-    stands = record {
-      shortened = short_for;
-      routes = short_routes target sorted_rows sorted_places f few_rows sound_rows kept_rows entries_are;
-      serves = short_serves target sorted_rows sorted_places f few_rows sound_rows kept_rows entries_are;
-    };
-  }
+  final_for = search (rules, short_for, short_routes, few_rows, sound_rows, kept_rows, entries_are, short_serves)

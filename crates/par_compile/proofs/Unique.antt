@@ -39,23 +39,15 @@ one_final m nets routed target c f g a b =
     final.one_table target b.rows f g (subst (λ (rs : List Row). IsFinalOf target rs f) rows a.is_final) b.is_final
 
 le_from_ltb : (n : ℕ) → nat_lt 1024 n ≡ false → n ≤ 1024
-le_from_ltb n not = elim (cases_order n 1024) [
-  | inl same ↦ omega (arith, same)
-  | inr (inl less) ↦ omega (arith, less)
-  | inr (inr more) ↦ absurd (true≢false (sym (lt-ltb 1024 n more) ∙ not))
-]
+le_from_ltb n not = grind (arith, cases_order n 1024, true≢false, lt-ltb)
 
 -- where none is long, each is short
 pub none_long : (fs : List Final) → position is_long fs ≡ None → All (λ (f : Final). length f.entries ≤ 1024) fs
-none_long fs none k d below =
-    let past : length fs ≤ position_or_len is_long fs = grind (arith, common_steps) in
-    le_from_ltb (length (get_or fs k d).entries) (fails_before_first is_long fs k d (omega arith))
+none_long fs none k d below = grind (arith, common_steps, le_from_ltb, get_or, fails_before_first)
 
 -- the first table that is long is long: it has more entries than a router
 long_at : (fs : List Final) (i : ℕ) (t : Final) → position is_long fs ≡ Some i → slice_get fs i ≡ Some t → is_long t ≡ true
-long_at fs i t first at =
-    let it : get_or fs i t ≡ t = get_or_from_slice_get fs i t t at in
-    subst (λ (f : Final). is_long f ≡ true) it (position-Some is_long fs i t first).1
+long_at fs i t first at = grind (arith, get_or_from_slice_get fs i t t at, position-Some is_long fs i t first)
 
 is_more : (fs : List Final) (i : ℕ) (t : Final) → position is_long fs ≡ Some i → slice_get fs i ≡ Some t → 1024 < length t.entries
 is_more fs i t first at = ltb-true 1024 (length t.entries) (long_at fs i t first at)

@@ -13,11 +13,7 @@ pub record IsWorkedTo (target : ℕ) (start now : List Work) (k : ℕ) : Type 0 
 -- the final tables that work gives are those of the original blocks
 module _ (target : ℕ) where
   gives_one : (t : List Mark) (old new : Work) (f : Final) → IsStillPlain t old → IsWorked target old new → GivesFinal target new f → IsFinalFor target t f
-  gives_one t (Plain b) (Plain c) f waits worked gives = subst (λ (x : List Mark). IsFinalFor target x f) (worked ∙ waits) gives
-  gives_one t (Plain b) (Done g) f waits worked gives = subst (IsFinalFor target t) gives (subst (λ (x : List Mark). IsFinalFor target x g) waits worked)
-  gives_one t (Plain b) Refused f waits worked gives = absurd gives
-  gives_one t (Done g) new f waits worked gives = absurd waits
-  gives_one t Refused new f waits worked gives = absurd waits
+  gives_one t old new f waits worked gives = grind arith
 
   pub all_beside : (ts : List (List Mark)) (fs : List Final) (olds news : List Work) → AllZip IsStillPlain ts olds → length news ≡ length olds →
       ((i : ℕ) (d : Work) → i < length olds → IsWorked target (get_or olds i d) (get_or news i d)) → AllZip (GivesFinal target) (take (length fs) news) fs →
@@ -44,25 +40,13 @@ pub record AreGiven {A B : Type 0} (P : A → B → Type 0) (all rest : List A) 
 module _ {A B : Type 0} (P : A → B → Type 0) (all rest : List A) (made : List B) where
   -- one more
   pub given_more : (a : A) (b : B) → AreGiven P all (a ∷ rest) made → P a b → AreGiven P all rest (made ++ b ∷ [])
-  given_more a b so_far more = record {
-    front = so_far.front ++ a ∷ [];
-    whole = append_assoc so_far.front (a ∷ []) rest ∙ so_far.whole;
-    gives = all_zipped_more P so_far.front made a b so_far.gives more;
-  }
+  given_more a b so_far more = grind (arith, append_assoc so_far.front (a ∷ []) rest, all_zipped_more P so_far.front made a b so_far.gives more)
 
   pub all_given : AreGiven P all rest made → AllZip P (take (length made) all) made
-  all_given so_far =
-      let long : length made ≡ length so_far.front = AllZip-long P so_far.front made so_far.gives in
-      let mine : take (length made) all ≡ so_far.front =
-      ap (λ n. take n all) long ∙ (ap (take (length so_far.front)) (sym so_far.whole) ∙ take-append_seam so_far.front rest) in
-      subst (λ (xs : List A). AllZip P xs made) (sym mine) so_far.gives
+  all_given so_far = grind (arith, AllZip-long P so_far.front made so_far.gives, take-append_seam so_far.front rest)
 
   pub given_at_end : length rest ≡ 0 → AreGiven P all rest made → length made ≡ length all
-  given_at_end none so_far =
-      let long : length made ≡ length so_far.front = AllZip-long P so_far.front made so_far.gives in
-      let both : length (so_far.front ++ rest) ≡ length so_far.front + length rest = length-append so_far.front rest in
-      let whole : length (so_far.front ++ rest) ≡ length all = ap length so_far.whole in
-      omega (arith, long, both, whole, none)
+  given_at_end none so_far = grind (arith, AllZip-long P so_far.front made so_far.gives, length-append so_far.front rest)
 
   pub all_made : length rest ≡ 0 → AreGiven P all rest made → AllZip P all made
   all_made none so_far = subst (λ (xs : List A). AllZip P xs made) (take_all (length made) all (omega (arith, given_at_end none so_far))) (all_given so_far)

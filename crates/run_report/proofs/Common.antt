@@ -1,3 +1,5 @@
+use Rattle.std.proofs.Common.{arith}
+use Rattle.std.proofs.Common.{rules}
 -- The names that the proofs of this crate cite from outside of them, passed on from one place. Declares nothing.
 pub use Rattle.app_graph.specs.declared.graphs.{Net.Net, Vertex.Vertex}
 pub use Rattle.machine_desc.specs.{Description.Description, Live.chip_of, declared.nets.NetPlan.NetPlan}

@@ -5,9 +5,7 @@ use Rattle.run_report.proofs.Common.{sum_by-map-range_with_len_more, sym, take, 
 
 -- a sum over the numbers from 0 on, and the next
 pub sum_more : (g : ℕ → ℕ) (n : ℕ) → sum_by g (range_with_len 0 (n + 1)) ≡ sum_by g (range_with_len 0 n) + g n
-sum_more g n =
-    ap (sum_by g) (sym (map-id (range_with_len 0 (n + 1)))) ∙ sum_by-map-range_with_len_more g (λ (v : ℕ). v) 0 n n (omega arith)
-    ∙ ap (λ l. sum_by g l + g n) (map-id (range_with_len 0 n))
+sum_more g n = grind (arith, sum_by g, map-id (range_with_len 0 (n + 1)), map-id (range_with_len 0 n), sum_by-map-range_with_len_more)
 
 -- a sum that stands still at its greatest value
 pub capped_more : (total more so_far next all : ℕ) → so_far ≡ min total (2 ^ 32 - 1) → next ≡ min (so_far + more) (2 ^ 32 - 1) → all ≡ total + more → next ≡ min all (2 ^ 32 - 1)
@@ -38,9 +36,7 @@ events_more all i d before sofar new below so_far more =
 -- what a function puts for each item of a list, so far and for the next, and when no item is left
 module _ {X A : Type 0} (f : X → List A) (xs : List X) (before sofar : List A) (i : ℕ) (put : sofar ≡ before ++ flat_map f (take i xs)) where
   pub put_at : (d : X) (new : List A) → i < length xs → new ≡ sofar ++ f (get_or xs i d) → new ≡ before ++ flat_map f (take (i + 1) xs)
-  put_at d new below more =
-      more ∙ ap (λ l. l ++ f (get_or xs i d)) put ∙ flat_map_more f before (take i xs) (get_or xs i d)
-      ∙ ap (λ l. before ++ flat_map f l) (sym (take_more xs i d below))
+  put_at d new below more = grind (arith, get_or xs i d, flat_map_more f before (take i xs) (get_or xs i d), take_more xs i d below)
 
   pub put_more : (x : X) (new : List A) → i < length xs → x ≡ get_or xs i x → new ≡ sofar ++ f x → new ≡ before ++ flat_map f (take (i + 1) xs)
   put_more x new below is more = put_at x new below (more ∙ ap (λ y. sofar ++ f y) is)
@@ -51,9 +47,7 @@ module _ {X A : Type 0} (f : X → List A) (xs : List X) (before sofar : List A)
 -- the same for a function that puts one item for each
 module _ {X A : Type 0} (h : X → A) (xs : List X) (before sofar : List A) (i : ℕ) (put : sofar ≡ before ++ map h (take i xs)) where
   pub pushed_at : (d : X) (new : List A) → i < length xs → new ≡ sofar ++ h (get_or xs i d) ∷ [] → new ≡ before ++ map h (take (i + 1) xs)
-  pushed_at d new below more =
-      more ∙ ap (λ l. l ++ h (get_or xs i d) ∷ []) put ∙ append_assoc before (map h (take i xs)) (h (get_or xs i d) ∷ [])
-      ∙ ap (λ l. before ++ l) (sym (map_push h (take i xs) (get_or xs i d)) ∙ ap (map h) (sym (take_more xs i d below)))
+  pushed_at d new below more = grind (arith, get_or xs i d, append_assoc before (map h (take i xs)) (h (get_or xs i d) ∷ []), map_push h (take i xs) (get_or xs i d), take_more xs i d below)
 
   pub pushed_all : length xs ≤ i → sofar ≡ before ++ map h xs
   pushed_all end = put ∙ ap (λ l. before ++ map h l) (take_all i xs end)

@@ -6,11 +6,7 @@ use Rattle.run_report.proofs.Common.{map, named_delivery, nat_cmp, nat_list_cmp_
 -- what the order of keys tells of two deliveries
 not_after : (x y : Delivery) (r t : Ordering) → MatchOrdering r (y.copy.packet < x.copy.packet) (y.copy.packet ≡ x.copy.packet) (x.copy.packet < y.copy.packet) →
     MatchOrdering t (y.vertex < x.vertex) (y.vertex ≡ x.vertex) (x.vertex < y.vertex) → is_lt (ordering_then r (ordering_then t Equal)) ≡ false → IsDeliveryNotAfter x y
-not_after x y Less t p v e = absurd (true≢false e)
-not_after x y Greater t p v e = inl p
-not_after x y Equal Less p v e = absurd (true≢false e)
-not_after x y Equal Equal p v e = inr (sym p, omega (arith, v))
-not_after x y Equal Greater p v e = inr (sym p, omega (arith, v))
+not_after x y r t p v e = grind arith
 
 module _ (placed : List (List ℕ × Spot)) where
   -- deliveries that are told in order stand so that none belongs before an earlier one

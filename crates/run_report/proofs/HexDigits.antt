@@ -64,9 +64,7 @@ padded_onto (suc k) (suc f) n acc low few = elim (eq-zero-or-pos (n / 16)) [
 -- what a hole of a width with leading zeros writes
 zero_padded : (w : ℕ) (ds : List ℕ) → padded_integral (format_spec 32 0 4 w (2 ^ 64 - 1)) false [] ds ≡ zeros_of (w - length ds) ++ ds
 unfolding padded_integral char_count
-zero_padded w ds =
-    let pad : w - length ds - 0 - 0 ≡ w - length ds = omega arith in
-    ap (λ (z : ℕ). zeros_of z ++ (ds ++ [])) pad ∙ ap (λ l. zeros_of (w - length ds) ++ l) (append-nil ds)
+zero_padded w ds = grind (arith, append-nil ds)
 
 hex_text : (k n : ℕ) → k ≤ 63 → HasDigits (suc k) n → padded_integral (format_spec 32 0 4 (suc k) (2 ^ 64 - 1)) false [] (digits 16 false n) ≡ hex (suc k) n
 unfolding digits

@@ -1,4 +1,5 @@
 -- Texts that are appended one after the other.
+use Rattle.std.proofs.Common.{arith}
 use Rattle.run_report.proofs.Common.{List, ap, append_assoc, ℕ, ◌++◌, ◌∙◌, ◌≡◌}
 
 -- one text, and what is appended after it
@@ -6,5 +7,4 @@ pub then_more : (a b c x y : List ℕ) → b ≡ a ++ x → c ≡ b ++ y → c �
 then_more a b c x y e f = f ∙ ap (λ l. l ++ y) e ∙ append_assoc a x y
 
 pub six_appended : (a b c d e f g x y z u v w : List ℕ) → b ≡ a ++ x → c ≡ b ++ y → d ≡ c ++ z → e ≡ d ++ u → f ≡ e ++ v → g ≡ f ++ w → g ≡ a ++ (x ++ (y ++ (z ++ (u ++ (v ++ w)))))
-six_appended a b c d e f g x y z u v w p q r s t o =
-    then_more a b g x _ p (then_more b c g y _ q (then_more c d g z _ r (then_more d e g u _ s (then_more e f g v w t o))))
+six_appended a b c d e f g x y z u v w p q r s t o = grind (arith, then_more)

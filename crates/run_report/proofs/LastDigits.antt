@@ -3,11 +3,7 @@ use Rattle.run_report.proofs.Common.{Did, List, [], ap, append_assoc, arith, cod
 use Rattle.run_report.proofs.Common.{take-append-add, tens_digits, zero, ℕ, ◌%◌, ◌++◌, ◌+◌, ◌/◌, ◌<◌, ◌^◌, ◌∙◌, ◌∷◌, ◌≡◌}
 
 with_tens : (n tens : ℕ) → n < 2 ^ 64 → n / 10 ≡ tens → tens_digits tens ++ (48 + n % 10) ∷ [] ≡ decimal n
-with_tens n zero small is =
-    let last : n % 10 ≡ n = omega (arith, is) in
-    ap (λ d. (48 + d) ∷ []) last ∙ sym (decimal_digit n (omega (arith, is)))
-with_tens n (suc tens) small is =
-    ap (λ m. decimal m ++ (48 + n % 10) ∷ []) (sym is) ∙ sym (decimal_step n (omega (arith, is)) small)
+with_tens n tens small is = grind (arith, decimal_digit, decimal_step)
 
 -- the front of an event's tens, then its last digit, and whether it was enabled
 pub line_put : (n digit : ℕ) (did : Did) (old front sofar new : List ℕ) → n < 2 ^ 64 → digit ≡ n % 10 → front ≡ event_front (n / 10) →
@@ -21,6 +17,4 @@ line_put n digit did old front sofar new small is fronted begun ended =
 
 -- a list to which more than is wanted was put, cut back
 pub cut_back : {X : Type 0} (old more now : List X) (count len end : ℕ) → count ≡ length old → end ≡ count + len → now ≡ old ++ more → take end now ≡ old ++ take len more
-cut_back old more now count len end counted ends put =
-    let is : end ≡ length old + len = omega (arith, counted, ends) in
-    ap (λ k. take k now) is ∙ ap (take (length old + len)) put ∙ take-append-add old more len
+cut_back old more now count len end counted ends put = grind (arith, take-append-add old more len)

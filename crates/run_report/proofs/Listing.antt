@@ -14,8 +14,4 @@ rows_of w h (t ∷ ts) short =
     le_by (row_total (t ∷ ts)) (length t.entries) (row_total ts) (length ts) both here.some_rows.1 rest
 
 pub few_rows : (v : Image) → IsValid v → row_total v.chips < 2 ^ 64
-few_rows v valid =
-    let rows = rows_of v.width v.height v.chips valid.tables in
-    let few = valid.few in
-    let most : v.width * v.height ≤ 64 * 64 = mul-le v.width v.height 64 64 valid.across.1 valid.down.1 in
-    omega (arith, rows, few, most)
+few_rows v valid = grind (arith, rows_of v.width v.height v.chips valid.tables, mul-le v.width v.height 64 64 valid.across.1 valid.down.1)

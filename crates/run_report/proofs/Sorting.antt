@@ -1,26 +1,19 @@
 -- A sort by keys that are tuples of numbers, as an order of lists of numbers.
+use Rattle.std.proofs.Common.{arith}
 use Rattle.run_report.proofs.Common.{Bool, Equal, Greater, IsPermutation, IsSortedBy, IsSortedByKey, IsSortedStably, IsStableBy, IsStableByKey, Less, List, Ordering, [], is_lt, nat_cmp, ordering_then}
 use Rattle.run_report.proofs.Common.{refl, slice_cmp, subst, ℕ, ◌∷◌, ◌≡◌}
 
 two : (a b : Ordering) → ordering_then a b ≡ ordering_then a (ordering_then b Equal)
-two a Less = refl
-two a Equal = refl
-two a Greater = refl
+two a b = grind arith
 
 three : (a b c : Ordering) → ordering_then (ordering_then a b) c ≡ ordering_then a (ordering_then b (ordering_then c Equal))
-three Less b c = refl
-three Greater b c = refl
-three Equal b c = two b c
+three a b c = grind (arith, two)
 
 four : (a b c d : Ordering) → ordering_then (ordering_then (ordering_then a b) c) d ≡ ordering_then a (ordering_then b (ordering_then c (ordering_then d Equal)))
-four Less b c d = refl
-four Greater b c d = refl
-four Equal b c d = three b c d
+four a b c d = grind (arith, three)
 
 five : (a b c d e : Ordering) → ordering_then (ordering_then (ordering_then (ordering_then a b) c) d) e ≡ ordering_then a (ordering_then b (ordering_then c (ordering_then d (ordering_then e Equal))))
-five Less b c d e = refl
-five Greater b c d e = refl
-five Equal b c d e = four b c d e
+five a b c d e = grind (arith, four)
 
 -- pairs, and tuples of four and of five numbers, are ordered as their lists
 abbrev pub cmp_two : ℕ × ℕ → ℕ × ℕ → Ordering

@@ -5,6 +5,8 @@ use Rattle.std.proofs.{Math.Nat.mul-le-mul_left, Math.Seq.drop-cons, Math.Seq.ta
 use Rattle.std.proofs.lemmas.List.{take_more, length-set, get_or-take, length-replicate, drop-replicate}
 use Rattle.spin_base.specs.declared.{blocks.Entry.Entry, chips.Chip.Chip, blocks.ChipTable.ChipTable}
 use Rattle.tcam_find.specs.Memory.{unused, empty_memory}
+use Rattle.std.proofs.lemmas.List.{get_or_default}
+use Rattle.spin_base.proofs.Places.{slice_get-set_same, slice_get-set_other}
 use Rattle.table_load.specs.{declared.tables.Image.Image, Images.IsValid, Images.IsChipBefore, Memories.table_index, Memories.rows_of_index, Memories.loaded}
 
 pub empty_is : empty_memory ≡ loaded []
@@ -48,18 +50,6 @@ pub all_empty : (n : ℕ) (ms : List (List Entry)) → ms ≡ replicate n empty_
     → (length ms ≡ n) × ((i : ℕ) → i < n → slice_get ms i ≡ Some (loaded []))
 all_empty n ms e = grind (arith, length-replicate, slice_get, get_replicate, empty_is)
 
-get_set_same : (xs : List (List Entry)) (i : ℕ) (x : List Entry) → i < length xs → slice_get (set xs i x) i ≡ Some x
-get_set_same [] i x lt = absurd (omega arith)
-get_set_same (y ∷ ys) zero x lt = refl
-get_set_same (y ∷ ys) (suc i) x lt = get_set_same ys i x (omega arith)
-
-get_set_other : (xs : List (List Entry)) (i j : ℕ) (x : List Entry) → j ≢ i → slice_get (set xs i x) j ≡ slice_get xs j
-get_set_other [] i j x ne = refl
-get_set_other (y ∷ ys) zero zero x ne = absurd (ne refl)
-get_set_other (y ∷ ys) zero (suc j) x ne = refl
-get_set_other (y ∷ ys) (suc i) zero x ne = refl
-get_set_other (y ∷ ys) (suc i) (suc j) x ne = get_set_other ys i j x (λ e. ne (ap suc e))
-
 -- no table of the list is of that chip
 abbrev Without : ℕ → List ChipTable → ℕ → Type 0
 Without h ts i = (j : ℕ) (d : ChipTable) → j < length ts → table_index h (get_or ts j d) ≢ i
@@ -91,16 +81,11 @@ module _ (v : Image) (valid : IsValid v) (k : ℕ) (t : ChipTable) (inside : k <
   apart j d lt =
       let before : j < k = omega (arith, length-take-le k v.chips (omega arith)) in
       let same = get_or-take k v.chips j d before in
-      let t_is : get_or v.chips k d ≡ t = default_free v.chips k d t inside ∙ sym is in
+      let t_is : get_or v.chips k d ≡ t = get_or_default v.chips k d t inside ∙ sym is in
       let less = lower v.height (get_or v.chips j d).chip (get_or v.chips k d).chip (valid.tables j d (omega arith)).inside.1 (valid.ordered j k d before inside) in
       let a = ap (table_index v.height) same in
       let b = ap (table_index v.height) t_is in
       λ e. absurd (omega (arith, less, a, b, e))
-    where
-      default_free : (xs : List ChipTable) (i : ℕ) (d e : ChipTable) → i < length xs → get_or xs i d ≡ get_or xs i e
-      default_free [] i d e lt = absurd (omega arith)
-      default_free (x ∷ xs) zero d e lt = refl
-      default_free (x ∷ xs) (suc i) d e lt = default_free xs i d e (omega arith)
 
   module _ (ms : List (List Entry)) (long : length ms ≡ v.width * v.height)
       (each : (i : ℕ) → i < v.width * v.height → slice_get ms i ≡ Some (loaded (rows_of_index v.height (take k v.chips) i))) where
@@ -113,14 +98,14 @@ module _ (v : Image) (valid : IsValid v) (k : ℕ) (t : ChipTable) (inside : k <
           λ i lt. elim (cases_eq i at) [
             | inl here ↦ (
                 ap (slice_get (set ms at m)) here
-                ∙ get_set_same ms at m (omega (arith, in_grid))
+                ∙ slice_get-set_same ms at (loaded (rows_of_index v.height (take k v.chips) at)) m (each at in_grid)
                 ∙ ap Some full
                 ∙ ap (λ r. Some (loaded r)) (sym (rows_here v.height (take k v.chips) t at apart refl))
                 ∙ ap (λ l. Some (loaded (rows_of_index v.height l at))) (sym more)
                 ∙ ap (λ j. Some (loaded (rows_of_index v.height (take (k + 1) v.chips) j))) (sym here)
                 )
             | inr other ↦ (
-                get_set_other ms at i m other
+                slice_get-set_other ms at i m other
                 ∙ each i lt
                 ∙ ap (λ r. Some (loaded r)) (sym (rows_other v.height (take k v.chips) t i (λ e. other (sym e))))
                 ∙ ap (λ l. Some (loaded (rows_of_index v.height l i))) (sym more)

@@ -108,3 +108,15 @@ field_again w limit wide allowed n rest lt good = rw (number_again w limit wide 
 pub field_allows : (w : Width) (allowed : ℕ → Bool) (bytes : List ℕ) (x : ℕ × List ℕ) → field w allowed bytes ≡ Ok x → allowed x.0 ≡ true
 unfolding field
 field_allows w allowed bytes x e = grind (arith, bind_ok, if_ok)
+
+-- ---- items read one after the other
+
+-- what was read before, and what is still read
+abbrev pub with_front : {X : Type 0} → List X → Result (List X × List ℕ) ℕ → Result (List X × List ℕ) ℕ
+with_front front read = read >>= λ x. Ok (front ++ x.0, x.1)
+
+-- one item more is read before
+pub front_more : {X : Type 0} (front : List X) (t : X) (read : Result (List X × List ℕ) ℕ) →
+    with_front front (read >>= λ x. Ok (t ∷ x.0, x.1)) ≡ with_front (front ++ t ∷ []) read
+front_more {X} front t (Ok x) = ap (λ (ts : List X). Ok (ts, x.1)) (simp append_assoc)
+front_more front t (Err f) = refl

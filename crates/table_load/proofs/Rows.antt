@@ -8,7 +8,7 @@ use Rattle.table_load.specs.{declared.faults.Stop.Stop, Images.IsRow, Images.row
 use Rattle.table_load.specs.Reading.{covers, route_of, read_route, read_row, read_rows}
 use Rattle.table_load.specs.declared.faults.Stop.TheVariants as stops
 use Rattle.spin_base.proofs.RouteBits.{same_route}
-use Rattle.table_load.proofs.Numbers.{bind_ok, ok_is, Takes, Takes-then, wide32, number_takes, number_again, field_takes, field_again, field_allows}
+use Rattle.table_load.proofs.Numbers.{with_front, front_more, bind_ok, ok_is, Takes, Takes-then, wide32, number_takes, number_again, field_takes, field_again, field_allows}
 
 -- ---- bounds
 
@@ -113,20 +113,12 @@ rows_again (e ∷ es) rest rows =
 
 -- ---- the loop
 
--- what was read before, and what is still read
-abbrev pub with_front : List Entry → Result (List Entry × List ℕ) ℕ → Result (List Entry × List ℕ) ℕ
-with_front front read = read >>= λ x. Ok (front ++ x.0, x.1)
-
-regroup : (front : List Entry) (e : Entry) (read : Result (List Entry × List ℕ) ℕ) → with_front front (read >>= λ x. Ok (e ∷ x.0, x.1)) ≡ with_front (front ++ e ∷ []) read
-regroup front e (Ok x) = ap (λ (es : List Entry). Ok (es, x.1)) (simp append_assoc)
-regroup front e (Err f) = refl
-
 pub goes_on : (front : List Entry) (count i : ℕ) (bytes : List ℕ) (e : Entry) (after : List ℕ) (total : Result (List Entry × List ℕ) ℕ) → i < count → read_row bytes ≡ Ok (e, after)
     → with_front front (read_rows (count - i) bytes) ≡ total → with_front (front ++ e ∷ []) (read_rows (count - (i + 1)) after) ≡ total
 unfolding read_rows
 goes_on front count i bytes e after total lt h so_far =
     let k : count - i ≡ suc (count - (i + 1)) = omega arith in
-    let one : with_front front (read_rows (count - i) bytes) ≡ with_front (front ++ e ∷ []) (read_rows (count - (i + 1)) after) = rw (k, h) (regroup front e (read_rows (count - (i + 1)) after)) in
+    let one : with_front front (read_rows (count - i) bytes) ≡ with_front (front ++ e ∷ []) (read_rows (count - (i + 1)) after) = rw (k, h) (front_more front e (read_rows (count - (i + 1)) after)) in
     sym one ∙ so_far
 
 pub ends : (s : Stop) (front : List Entry) (count i : ℕ) (bytes : List ℕ) (total : Result (List Entry × List ℕ) ℕ) → i < count → StopsAt s (read_row bytes)

@@ -8,7 +8,7 @@ use Rattle.spin_base.specs.declared.{chips.Chip.Chip, blocks.ChipTable.ChipTable
 use Rattle.table_load.specs.{declared.faults.Stop.Stop, Images.IsRow, Images.IsChipBefore, Images.IsTable, Images.row_bytes, Images.table_bytes, Reading.◌>>=◌, Reading.StopsAt, Reading.AreBytes}
 use Rattle.table_load.specs.Reading.{field, between, comes_after, read_chip, read_rows, read_table, read_tables}
 use Rattle.table_load.specs.declared.faults.Stop.TheVariants as stops
-use Rattle.table_load.proofs.Numbers.{bind_ok, ok_is, Takes, Takes-then, wide8, wide16, byte_is, field_takes, field_again}
+use Rattle.table_load.proofs.Numbers.{with_front, front_more, bind_ok, ok_is, Takes, Takes-then, wide8, wide16, byte_is, field_takes, field_again}
 use Rattle.table_load.proofs.Rows.{between_is, between_from, rows_take, rows_again}
 
 -- ---- the order of chips
@@ -177,14 +177,6 @@ tables_again w h before (t ∷ ts) rest narrow short tables order =
 
 -- ---- the loop
 
--- what was read before, and what is still read
-abbrev pub with_front : List ChipTable → Result (List ChipTable × List ℕ) ℕ → Result (List ChipTable × List ℕ) ℕ
-with_front front read = read >>= λ x. Ok (front ++ x.0, x.1)
-
-regroup : (front : List ChipTable) (t : ChipTable) (read : Result (List ChipTable × List ℕ) ℕ) → with_front front (read >>= λ x. Ok (t ∷ x.0, x.1)) ≡ with_front (front ++ t ∷ []) read
-regroup front t (Ok x) = ap (λ (ts : List ChipTable). Ok (ts, x.1)) (simp append_assoc)
-regroup front t (Err f) = refl
-
 module _ (w h : ℕ) (front : List ChipTable) (count i : ℕ) (before : Option Chip) (bytes : List ℕ) (total : Result (List ChipTable × List ℕ) ℕ)
     (so_far : with_front front (read_tables w h (count - i) before bytes) ≡ total) where
   pub goes_on : (t : ChipTable) (after : List ℕ) → i < count → read_table w h before bytes ≡ Ok (t, after)
@@ -193,7 +185,7 @@ module _ (w h : ℕ) (front : List ChipTable) (count i : ℕ) (before : Option C
   goes_on t after lt read =
       let k : count - i ≡ suc (count - (i + 1)) = omega arith in
       let one : with_front front (read_tables w h (count - i) before bytes) ≡ with_front (front ++ t ∷ []) (read_tables w h (count - (i + 1)) (Some t.chip) after) =
-      rw (k, read) (regroup front t (read_tables w h (count - (i + 1)) (Some t.chip) after)) in
+      rw (k, read) (front_more front t (read_tables w h (count - (i + 1)) (Some t.chip) after)) in
       sym one ∙ so_far
 
   left : (n : ℕ) → i < count → read_table w h before bytes ≡ Err n → total ≡ Err n

@@ -1,6 +1,6 @@
 -- Which row has a key first.
 use Rattle.table_rules.proofs.Common.{All-cons, All-head, All-nil, All-tail, Block, List, Matches, None, NoneHas, RoutedBlock, Some, [], ap, arith, bit_and, cond, eq-eqb, eqb_tells, false, first_with}
-use Rattle.table_rules.proofs.Common.{inl, inr, none-some, refl, row_blocks, same_Some, sym, takes_key, true, ℕ, ◌++◌, ◌∙◌, ◌∷◌, ◌≡◌, ◌⊎◌}
+use Rattle.table_rules.proofs.Common.{find-append, inl, inr, none-some, option_or, refl, row_blocks, same_Some, sym, takes_key, true, ℕ, ◌++◌, ◌∙◌, ◌∷◌, ◌≡◌, ◌⊎◌}
 
 pub has_tells : (k : ℕ) (r : RoutedBlock) → ((takes_key k r ≡ true) × Matches r.block k) ⊎ ((takes_key k r ≡ false) × (Matches r.block k → ⊥))
 has_tells k r = elim (eqb_tells (bit_and k r.block.mask) r.block.key) [
@@ -33,11 +33,7 @@ first_none (r ∷ rows) k none = elim (has_tells k r) [
 
 -- where no row is, the first of those that follow is
 pub first_next : (rows more : List RoutedBlock) (k : ℕ) → first_with rows k ≡ None → first_with (rows ++ more) k ≡ first_with more k
-first_next [] more k none = refl
-first_next (r ∷ rows) more k none = elim (has_tells k r) [
-  | inl hit ↦ absurd (none-some r (sym none ∙ first_hit r rows k hit.1))
-  | inr miss ↦ first_miss r (rows ++ more) k miss.1 ∙ first_next rows more k (sym (first_miss r rows k miss.1) ∙ none)
-]
+first_next rows more k none = find-append (takes_key k) rows more ∙ ap (λ o. option_or o (first_with more k)) none
 
 -- where none of more rows is the first, none of the rows is
 pub none_before : (rows more : List RoutedBlock) (k : ℕ) → first_with (rows ++ more) k ≡ None → first_with rows k ≡ None

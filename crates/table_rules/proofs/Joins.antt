@@ -31,25 +31,13 @@ module _ (a b : Block) (k : ℕ) (small : k < 2 ^ 32) where
 
 module _ (behind : List RoutedBlock) where
   module _ (block : Block) (k : ℕ) (small : k < 2 ^ 32) where
-    had : (b : Block) (bs : List Block) → (SomeHas bs k → SomeHas (with_block behind bs block) k) → (t : Bool) → SomeHas (b ∷ bs) k
-        → SomeHas (if t then b ∷ with_block behind bs block else merge_two b block ∷ bs) k
-    had b bs rest true (inl here) = inl here
-    had b bs rest true (inr later) = inr (rest later)
-    had b bs rest false (inl here) = inl (first_in b block k small here)
-    had b bs rest false (inr later) = inr later
-
     still_had : (bs : List Block) → SomeHas bs k → SomeHas (with_block behind bs block) k
     still_had [] has = absurd has
-    still_had (b ∷ bs) has = had b bs (still_had bs) (meets_one behind (merge_two b block)) has
-
-    taken : (b : Block) (bs : List Block) → SomeHas (with_block behind bs block) k → (t : Bool) → Matches block k
-        → SomeHas (if t then b ∷ with_block behind bs block else merge_two b block ∷ bs) k
-    taken b bs rest true hit = inr rest
-    taken b bs rest false hit = inl (second_in b block k small hit)
+    still_had (b ∷ bs) has = grind (arith, cases_Bool (meets_one behind (merge_two b block)), first_in b block k small, still_had bs)
 
     newly_had : (bs : List Block) → Matches block k → SomeHas (with_block behind bs block) k
     newly_had [] hit = inl hit
-    newly_had (b ∷ bs) hit = taken b bs (newly_had bs hit) (meets_one behind (merge_two b block)) hit
+    newly_had (b ∷ bs) hit = grind (arith, cases_Bool (meets_one behind (merge_two b block)), second_in b block k small hit, newly_had bs hit)
 
   module _ (k : ℕ) (small : k < 2 ^ 32) where
     had_from : (blocks bs : List Block) → SomeHas bs k → SomeHas (fold (with_block behind) bs blocks) k
@@ -68,14 +56,9 @@ module _ (behind : List RoutedBlock) where
   AllClear (b ∷ bs) = (meets_one behind b ≡ false) × AllClear bs
 
   module _ (block : Block) (clear : meets_one behind block ≡ false) where
-    clear_by : (b : Block) (bs : List Block) → AllClear (with_block behind bs block) → AllClear (b ∷ bs) → (t : Bool) → meets_one behind (merge_two b block) ≡ t
-        → AllClear (if t then b ∷ with_block behind bs block else merge_two b block ∷ bs)
-    clear_by b bs rest all true is = (all.0, rest)
-    clear_by b bs rest all false is = (is, all.1)
-
     clear_with : (bs : List Block) → AllClear bs → AllClear (with_block behind bs block)
     clear_with [] all = (clear, tt)
-    clear_with (b ∷ bs) all = clear_by b bs (clear_with bs all.1) all (meets_one behind (merge_two b block)) refl
+    clear_with (b ∷ bs) all = grind (arith, cases_Bool (meets_one behind (merge_two b block)), clear_with bs all.1, all.0, all.1)
 
   clear_from : (blocks bs : List Block) → AllClear bs → AllClear blocks → AllClear (fold (with_block behind) bs blocks)
   clear_from [] bs all these = all
@@ -116,14 +99,8 @@ abbrev pub AreApart : List RoutedBlock → Type 0
 AreApart pieces = (p q : RoutedBlock) → Among p pieces → Among q pieces → (p.route.bits ≡ q.route.bits → ⊥) → Intersects p.block q.block → ⊥
 
 module _ (route : Route) (pieces : List RoutedBlock) where
-  of_own : (p : RoutedBlock) → goes_by route p ≡ true → p.route.bits ≡ route.bits
-  of_own p is = eqb-true p.route.bits route.bits is
-
-  own_of : (p : RoutedBlock) → p.route.bits ≡ route.bits → goes_by route p ≡ true
-  own_of p same = eq-eqb p.route.bits route.bits same
-
   pub of_others : (p : RoutedBlock) → Among p (others route pieces) → Among p pieces × (p.route.bits ≡ route.bits → ⊥)
-  of_others p among = grind (arith, among_filter, false≢true, own_of)
+  of_others p among = grind (arith, among_filter, false≢true, eq-eqb)
 
   pub to_others : (p : RoutedBlock) → Among p pieces → (p.route.bits ≡ route.bits → ⊥) → Among p (others route pieces)
   to_others p among other = grind (arith, eqb_tells p.route.bits route.bits, among_contains p pieces among, contains_among, Contains-filter)
@@ -132,7 +109,7 @@ module _ (route : Route) (pieces : List RoutedBlock) where
   own_block p among same =
       contains_among p.block (own_blocks route pieces)
       (Contains-map (λ (r : RoutedBlock). r.block) (filter (goes_by route) pieces) p
-      (Contains-filter (goes_by route) pieces p (among_contains p pieces among) (own_of p same)))
+      (Contains-filter (goes_by route) pieces p (among_contains p pieces among) (eq-eqb p.route.bits route.bits same)))
 
   others_apart : AreApart pieces → AreApart (others route pieces)
   others_apart apart p q of_p of_q = apart p q (of_others p of_p).0 (of_others q of_q).0
@@ -150,7 +127,7 @@ module _ (route : Route) (pieces : List RoutedBlock) where
         clear_from (others route pieces) (own_blocks route pieces) [] tt
         (all_clear (filter (goes_by route) pieces) (λ p among.
         let parts = among_filter (goes_by route) p pieces among in
-        clear_own p parts.0 (of_own p parts.1)))
+        clear_own p parts.0 (eqb-true p.route.bits route.bits parts.1)))
 
     own_has : (p : RoutedBlock) (k : ℕ) → k < 2 ^ 32 → Among p pieces → p.route.bits ≡ route.bits → Matches p.block k → SomeHas (joined_blocks (others route pieces) (own_blocks route pieces)) k
     own_has p k small among same hit =

@@ -101,8 +101,5 @@ module _ (room : ℕ) (given : List RoutedBlock) (route : Route) (table : List R
   are_joined : AreJoinedRows (others route (pieces_of table)) (pieces_of table) joined
   are_joined = subst (λ l. AreJoinedRows (others route (pieces_of table)) l joined) pieces_are (subst (λ l. AreJoinedRows l pieces joined) own_is are)
 
-  pub keeps_joined : IsFree given route.bits → KeepsRoutes given joined
-  keeps_joined = joined_keeps_within room given route table made joined are_joined
-
-  pub no_more_joined : HasNoNewKeys given joined
-  no_more_joined = joined_has_no_more room given route table made joined are_joined
+  pub joined_says : IsFree given route.bits → KeepsRoutes given joined × HasNoNewKeys given joined
+  joined_says free = (joined_keeps_within room given route table made joined are_joined free, joined_has_no_more room given route table made joined are_joined)

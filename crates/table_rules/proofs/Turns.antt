@@ -1,8 +1,9 @@
 -- One piece more, one row more.
 use Rattle.table_rules.proofs.Common.{All, AreLeft, Block, Covers, HasTooManyPieces, IsCoveredFrom, IsRowAdded, IsShortFrom, IsShorterOf, IsTableFrom, IsTableMadeOf, List, None, PassesDown}
-use Rattle.table_rules.proofs.Common.{RoutedBlock, Row, Some, StandsBefore, [], ap, arith, cut, done, drop, drop_all, drop_more, eq-eqb, eqb_tells, false, generality, get_or, here, later, length}
+use Rattle.table_rules.proofs.Common.{RoutedBlock, Row, Some, StandsBefore, [], ap, arith, cut, done, drop, drop_all, drop_more, false, generality, get_or, here, later, length}
 use Rattle.table_rules.proofs.Common.{length-insert, map, map_push, more, piece_row, pieces_of, place_for, place_for-le, refl, routed, row_blocks, rows_at, rows_at-push, slice_get-get_or, subst, sym}
 use Rattle.table_rules.proofs.Common.{take, take_more, true, with_row, with_rows, ℕ, ◌++◌, ◌+◌, ◌-◌, ◌<◌, ◌==◌, ◌∙◌, ◌∷◌, ◌≡◌, ◌≤◌}
+use Rattle.std.proofs.lemmas.{Bool.cases_eq, Bool.eqb-false, Bool.eqb-true, List.nil_from_length}
 
 -- ---- pieces as rows
 
@@ -54,16 +55,11 @@ module _ (left : ℕ) (given : List RoutedBlock) (i : ℕ) (rows : List Row) whe
 
 -- ---- what the code tests
 
-eqb_is : (n : ℕ) → true ≡ (n == 0) → n ≡ 0
-eqb_is n is = grind (arith, eqb_tells n 0)
-
 pub no_pieces : (pieces : List Block) → true ≡ (length pieces == 0) → pieces ≡ []
-no_pieces [] is = refl
-no_pieces (p ∷ pieces) is = absurd (omega (arith, eqb_is (length (p ∷ pieces)) is))
+no_pieces pieces is = nil_from_length pieces (eqb-true (length pieces) 0 (sym is))
 
 pub some_pieces : (pieces : List Block) → false ≡ (length pieces == 0) → 0 < length pieces
-some_pieces [] is = let no : false ≡ true = is ∙ eq-eqb 0 0 refl in absurd cc
-some_pieces (p ∷ pieces) is = omega arith
+some_pieces pieces is = grind (arith, cases_eq (length pieces) 0, eqb-false (length pieces) 0 (sym is))
 
 module _ (rows list other : List Row) (block : Block) (place g : ℕ) (same : list ≡ rows) (also : other ≡ rows) (general : g ≡ generality block) (at : place ≡ place_for other g) where
   place_is : place ≡ place_for rows (generality block)

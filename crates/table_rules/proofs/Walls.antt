@@ -7,6 +7,7 @@ use Rattle.table_rules.proofs.Common.{bit_xor, cond, cons_option, done, drop, eq
 use Rattle.table_rules.proofs.Common.{insert_place, kept, left_out, length, length-append, length-take, map, merge_rows, merged, merged_row, more, nat_le, nat_tests, none-some, not, option_or, others}
 use Rattle.table_rules.proofs.Common.{piece_row, pieces_of, place_for, position_or_len, refl, rows_at, rows_at-from, rows_before, same_Some, served, served_by, slice_get, stuck, subst, sum_by-append}
 use Rattle.table_rules.proofs.Common.{sym, take, take-append-drop, take_while-cons, takes_key, true, w32, wall_of, walled, whole, whole_row, ℕ, ◌++◌, ◌-◌, ◌<◌, ◌==◌, ◌^◌, ◌∙◌, ◌∷◌, ◌≡◌, ◌≤◌}
+use Rattle.std.proofs.lemmas.List.Folds.{find_at}
 use Rattle.cover_merge.specs.Covering.{short}
 use Rattle.tern_word.specs.Ternary.{merge_two}
 use Rattle.table_rules.proofs.{Faithful.IsServed, Faithful.is_served, Faithful.sent_on, Kept.kept_within, Kept.none_of, FirstRows.first_hit, FirstRows.first_miss, FirstRows.first_next}
@@ -165,11 +166,7 @@ module _ (bits : ℕ) where
 
   -- a row that is found is one of the rows
   pub found_holds : (P : RoutedBlock → Type 0) (rows : List RoutedBlock) (k : ℕ) (row : RoutedBlock) → All P rows → first_with rows k ≡ Some row → P row
-  found_holds P [] k row all first = absurd (none-some row first)
-  found_holds P (r ∷ rows) k row all first = elim (has_tells k r) [
-    | inl hit ↦ subst P (same_Some r row (sym (first_hit r rows k hit.1) ∙ first)) (All-head P r rows all)
-    | inr miss ↦ found_holds P rows k row (All-tail P r rows all) (sym (first_miss r rows k miss.1) ∙ first)
-  ]
+  found_holds P rows k row all first = All-at P rows (position_or_len (takes_key k) rows) row all (sym (find_at (takes_key k) rows) ∙ first)
 
 -- ---- covered within a wall
 
@@ -228,11 +225,7 @@ module _ (target room : ℕ) (given : List RoutedBlock) (route : Route) (table r
       shorter = subst (λ l. IsShorterOf target (others route (pieces_of table)) l left new) pieces_are (subst (λ l. IsShorterOf target l pieces left new) own_is of);
     }
 
-    module _ (sound : IsSound rows) (serves : IsPermutation (served table) (served rows)) where
-      pub keeps_within : KeepsRoutes given left
-      unfolding within
-      keeps_within = keeps_before target room given route rows left within sound serves before_wall
-
-      pub keys_within : HasNoNewKeys given left
-      unfolding within
-      keys_within = no_new_keys target room given route rows left within sound serves before_wall
+    pub says_within : IsSound rows → IsPermutation (served table) (served rows) → KeepsRoutes given left × HasNoNewKeys given left
+    unfolding within
+    says_within sound serves =
+        (keeps_before target room given route rows left within sound serves before_wall, no_new_keys target room given route rows left within sound serves before_wall)

@@ -75,7 +75,8 @@ fn covered_rows(
     if shorter.len() < given.len() {
         return Ok(shorter);
     }
-    copy(alloc, given)
+    let same = copy(alloc, given)?;
+    Ok(same)
 }
 
 // The rows that default routing does not replace, without their aliases.

@@ -144,7 +144,8 @@ fn covered_within(
     if shorter.len() < rows.len() {
         return Ok(shorter);
     }
-    copy(alloc, rows)
+    let same = copy(alloc, rows)?;
+    Ok(same)
 }
 
 // The rows before the first whose route has these bits.

@@ -1,4 +1,5 @@
 -- One table more, and what its entries keep.
+use Rattle.std.proofs.Common.{rules}
 use Rattle.std.proofs.Common.{◌≡◌, ℕ, ◌+◌, ◌<◌, ◌≤◌, Bool, true, false, cond, List, [], ◌∷◌, ◌++◌, length, get_or, take, map, Option, Some, None, refl, sym, ap, ◌∙◌, subst, arith}
 use Rattle.std.specs.Prelude.{IfSome, MatchOption, find}
 use Rattle.std.proofs.lemmas.{List.length-map, List.take_all, List.take_more, Option.none-some, Option.same_Some}
@@ -17,9 +18,7 @@ beside_push R xs ys x y (more a b us vs here rest) this = more a b (us ++ x ∷ 
 pub tables_more : (target : ℕ) (exact : Bool) (tables : List GivenTable) (i : ℕ) (given : GivenTable) (old new : List ShortTable) (short : ShortTable) → i < length tables → given ≡ get_or tables i given
     → AreShorter target exact (take i tables) old → IsShorterTable target exact given short → new ≡ old ++ short ∷ [] → AreShorter target exact (take (i + 1) tables) new
 tables_more target exact tables i given old new short within read so_far this put =
-    subst (AreShorter target exact (take (i + 1) tables)) (sym put)
-    (subst (λ l. AreShorter target exact l (old ++ short ∷ [])) (sym (take_more tables i given within ∙ ap (λ x. take i tables ++ x ∷ []) (sym read)))
-    (beside_push (IsShorterTable target exact) (take i tables) old given short so_far this))
+    grind (arith, take_more tables i given within, beside_push (IsShorterTable target exact) (take i tables) old given short so_far this)
 
 pub tables_all : (target : ℕ) (exact : Bool) (tables : List GivenTable) (i : ℕ) (short : List ShortTable) → length tables ≤ i → AreShorter target exact (take i tables) short → AreShorter target exact tables short
 tables_all target exact tables i short past so_far = subst (λ l. AreShorter target exact l short) (take_all i tables past) so_far
@@ -32,8 +31,7 @@ first_entry (r ∷ rows) k row first = by_test (first_entry rows k row) (takes_k
   where
     by_test : (first_with rows k ≡ Some row → find (λ (e : Entry). matches e k) (map entry_at rows) ≡ Some (entry_at row)) → (b : Bool) → cond b (Some r) (first_with rows k) ≡ Some row
         → cond b (Some (entry_at r)) (find (λ (e : Entry). matches e k) (map entry_at rows)) ≡ Some (entry_at row)
-    by_test behind true same = ap (λ x. Some (entry_at x)) (same_Some r row same)
-    by_test behind false same = behind same
+    by_test behind b same = grind (arith, same_Some)
 
 no_entry : (rows : List RoutedBlock) (k : ℕ) → first_with rows k ≡ None → find (λ (e : Entry). matches e k) (map entry_at rows) ≡ None
 no_entry [] k absent = refl
@@ -41,8 +39,7 @@ no_entry (r ∷ rows) k absent = by_test (no_entry rows k) (takes_key k r) absen
   where
     by_test : (first_with rows k ≡ None → find (λ (e : Entry). matches e k) (map entry_at rows) ≡ None) → (b : Bool) → cond b (Some r) (first_with rows k) ≡ None
         → cond b (Some (entry_at r)) (find (λ (e : Entry). matches e k) (map entry_at rows)) ≡ None
-    by_test behind true some = absurd (none-some r (sym some))
-    by_test behind false same = behind same
+    by_test behind b its_2 = grind (arith, none-some)
 
 -- packets go out by the entries as they are sent by the rows
 go_out : (rows : List RoutedBlock) (k : ℕ) (port : Port) (route : Route) → LeaveBy rows k port route → GoOut (map entry_at rows) k port route
@@ -52,12 +49,7 @@ go_out rows k port route (by_default arrival comes on absent) = straight arrival
 -- the table of rows that keep the routes of those given
 keeps_table : (exact : Bool) (given : GivenTable) (rows : List RoutedBlock) (kept : Bool) → KeepsRoutes given.rows rows → (exact ≡ true → HasNoNewKeys given.rows rows) → length rows ≤ length given.rows
     → KeepsTable exact given (short_at given.chip rows kept)
-keeps_table exact given rows kept keeps no_new few = record {
-  chip = refl;
-  no_longer = omega (arith, length-map rows entry_at, few);
-  routes = λ k row small first. go_out rows k row.port row.route (keeps k row small first);
-  keys = λ is k small absent. no_entry rows k (no_new is k small absent);
-}
+keeps_table exact given rows kept keeps no_new few = search (rules, length-map, go_out, no_entry)
 
 -- What shortening rows tells of them, and of those that it gives, if any.
 pub record AreToldOf (target : ℕ) (exact : Bool) (read : List RoutedBlock) (new : Option (List RoutedBlock)) : Type 0 where

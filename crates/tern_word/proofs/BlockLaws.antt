@@ -146,14 +146,16 @@ merge_of-is_merge (b ∷ bs) some i v = (
 
 -- one more member
 pub merge_of-push : (bs : List Block) (b : Block) → 0 < length bs → merge_of (bs ++ b ∷ []) ≡ merge_two (merge_of bs) b
-merge_of-push bs b some = grind (arith, fold-append)
+merge_of-push [] b some = absurd (omega arith)
+merge_of-push (first ∷ bs) b some = fold-append merge_two first bs (b ∷ [])
 
 -- The blocks after the first, as the code takes them: each turn merges the next.
 abbrev rest_of : List Block → List Block
 rest_of bs = take (length bs - 1) (drop 1 bs)
 
 pub merge_of-first : (bs : List Block) (b : Block) → 0 < length bs → b ≡ get_or bs 0 b → b ≡ merge_of (take (0 + 1) bs)
-merge_of-first bs b some is = grind arith
+merge_of-first [] b some is = absurd (omega arith)
+merge_of-first (first ∷ bs) b some is = is
 
 pub merge_of-more : (bs : List Block) (i : ℕ) (b : Block) → i < length (rest_of bs) → b ≡ get_or (rest_of bs) i b
     → merge_two (merge_of (take (i + 1) bs)) b ≡ merge_of (take (i + 1 + 1) bs)
@@ -178,7 +180,10 @@ unfolding generality
 generality-mono narrow wide h = ones_mono 32 _ _ (omega (arith, narrow.small)) (λ i. by_place i (cases_lt i 32))
   where
     within : (i : ℕ) → bit_at wide.mask i ≤ bit_at narrow.mask i
-    within i = grind (arith, bit_cases wide.mask i)
+    within i = elim (bit_cases wide.mask i) [
+      | inl off ↦ omega (arith, off)
+      | inr on ↦ omega (arith, on, (h i (bit_at wide.key i) (record { cares = on; value = refl })).cares)
+    ]
 
     by_place : (i : ℕ) → (i < 32) ⊎ (32 ≤ i) → bit_at (bit_not w32 narrow.mask) i ≤ bit_at (bit_not w32 wide.mask) i
     by_place i (inl low) = omega (arith, within i, bit_at_not w32 narrow.mask i narrow.small low, bit_at_not w32 wide.mask i wide.small low)
@@ -203,10 +208,16 @@ module _ (e place : ℕ) (fits : e ≤ 32) (aligned : place % 2 ^ e ≡ 0) (smal
   range_within = and_high_mask 32 e fits place small ∙ whole
 
   pub range_keys : (k : ℕ) → k < 2 ^ 32 → (bit_and k (2 ^ 32 - 2 ^ e) ≡ place) ↔ ((place ≤ k) × (k < place + 2 ^ e))
-  range_keys k key_small = grind (arith, masked, shr_split, mod-lt, pow_pos, whole, shr_high)
+  range_keys k key_small = (
+    λ m. let same : k / 2 ^ e * 2 ^ e ≡ place = sym masked ∙ m in (omega (arith, shr_split k e), omega (arith, shr_split k e, mod-lt k (pow_pos e))),
+    λ (from, to). masked ∙ near from to,
+  )
     where
       masked : bit_and k (2 ^ 32 - 2 ^ e) ≡ k / 2 ^ e * 2 ^ e
       masked = and_high_mask 32 e fits k key_small
+
+      near : place ≤ k → k < place + 2 ^ e → k / 2 ^ e * 2 ^ e ≡ place
+      near from to = grind (arith, whole, shr_high (place / 2 ^ e) e (k - place) (omega arith))
 
 -- a power of two up to 2 ^ 32 has an exponent up to 32
 pub exponent_le : (e : ℕ) → 2 ^ e ≤ 2 ^ 32 → e ≤ 32

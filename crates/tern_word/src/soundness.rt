@@ -64,24 +64,20 @@ fn may_stand_before(first: &Row, later: &Row) -> bool
 fn holds_its_aliases(row: &Row) -> bool
     ensures { IsTrue result ↔ HoldsItsAliases row.now }
 {
-    for alias in row.aliases.as_slice() {
-        if !lies_in(alias.block, row.block) {
-            return false;
-        }
-    }
-    true
+    row.aliases
+        .as_slice()
+        .iter()
+        .all(|alias| lies_in(alias.block, row.block))
 }
 
 /// Whether the block meets no alias of the row.
 pub fn misses(block: Block, row: &Row) -> bool
     ensures { IsTrue result ↔ Misses block row.now }
 {
-    for alias in row.aliases.as_slice() {
-        if intersects(block, alias.block) {
-            return false;
-        }
-    }
-    true
+    row.aliases
+        .as_slice()
+        .iter()
+        .all(|alias| !intersects(block, alias.block))
 }
 
 /// Whether each 32-bit key of the first block lies in the second: the first cares for all bits for which the second

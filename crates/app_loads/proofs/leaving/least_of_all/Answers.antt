@@ -9,9 +9,11 @@ least_is c =
     let app = c.args.app.now in
     let first : c.fold-least.result ≡ lesser_of None (least_own_packet app (flat_map packet_numbers_of ((s.unsent ++ s.inputs) ++ s.cores))) =
     fold_from_yields_List _ (λ o q. lesser_of o (least_own_packet app (packet_numbers_of q))) None c.fold-least.result c.fold-least.ensures.ran
-    (YieldsList-from_chain (YieldsList-at c.chain-all.ensures.first (YieldsList-from_chain (YieldsList-at c.chain-queues.ensures.first (YieldsList-from_slice s.unsent cc)) (YieldsList-from_slice s.inputs cc) (cc) (cc))) (YieldsList-from_slice s.cores cc) (cc) (cc))
+    (YieldsList-from_chain (YieldsList-at c.chain-all.ensures.first
+    (YieldsList-from_chain (YieldsList-at c.chain-queues.ensures.first (YieldsList-from_slice s.unsent cc)) (YieldsList-from_slice s.inputs cc) (cc) (cc))) (YieldsList-from_slice s.cores cc) (cc) (cc))
     (λ a x b q k. search rules) ∙ least_folded app packet_numbers_of ((s.unsent ++ s.inputs) ++ s.cores) None in
-    least_more app None c.fold-least.result c.least_in_hands.result (flat_map packet_numbers_of ((s.unsent ++ s.inputs) ++ s.cores)) (flat_map held_packets s.hands) (under_way s) first (grind arith) refl
+    least_more app None c.fold-least.result c.least_in_hands.result (flat_map packet_numbers_of ((s.unsent ++ s.inputs) ++ s.cores)) (flat_map held_packets s.hands)
+    (under_way s) first (grind arith) refl
 
 pub returns-clause-some : goal.returns-clause-some
 returns-clause-some c mesh = least_waits c.args.parts.now mesh c.args.app.now c.least_in_hands.result (least_is c)

@@ -1,5 +1,5 @@
 use Rattle.app_loads.proofs.Common.{AreFreeAgain, AreTaken, CanSettle, Description, HaveRoom, List, Range, State, all_grouped, subst, sym}
-use Rattle.app_loads.proofs.{JoinLaws.can_settle, JoinLaws.served_on, Kept.can_settle_own}
+use Rattle.app_loads.proofs.{Served.can_settle, Served.served_on, Kept.can_settle_own}
 use Rattle.app_loads.proofs.loads.join.Goals as goal
 
 pub returns-in-Err-clause-back : goal.returns-in-Err-clause-back

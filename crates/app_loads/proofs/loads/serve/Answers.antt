@@ -25,11 +25,13 @@ returns-in-Ok-app_of-clause-served c =
       plan_is = made.plan;
       first_is = made.first;
       served = subst (λ (l : List Range). AreServedAlways c.args.machine.now (claims_of c.args.machine.now c.args.plan.now) c.args.regions.now l) (sym ranges)
-          (subst (λ (l : List Claim). AreServedAlways c.args.machine.now l c.args.regions.now c.in-Ok-take_all.ranges.items) (c.deref.ensures.value ∙ c.in-Ok.ensures.claims) c.in-Ok-take_all.ensures.served);
+          (subst (λ (l : List Claim). AreServedAlways c.args.machine.now l c.args.regions.now c.in-Ok-take_all.ranges.items) (c.deref.ensures.value ∙ c.in-Ok.ensures.claims)
+          c.in-Ok-take_all.ensures.served);
       taken = subst (λ (l : List Range). AreTakenAlways c.args.machine.now c.args.regions.now l c.take_all.new.regions) (sym ranges) c.in-Ok-take_all.ensures.taken;
       blocks = grind arith;
     }
 
 pub returns-clause-back : goal.returns-clause-back
 returns-clause-back c taken apart free =
-    c.give_all.ensures.free c.args.machine.now taken (subst (λ (l : List Range). AreTaken c.args.machine.now taken l c.take_all.new.regions) (sym c.deref-in-Err-app_of.ensures.value) (c.in-Ok-take_all.ensures.taken taken apart free))
+    c.give_all.ensures.free c.args.machine.now taken
+    (subst (λ (l : List Range). AreTaken c.args.machine.now taken l c.take_all.new.regions) (sym c.deref-in-Err-app_of.ensures.value) (c.in-Ok-take_all.ensures.taken taken apart free))

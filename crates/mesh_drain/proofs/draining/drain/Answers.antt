@@ -23,6 +23,4 @@ returns-in_err-settle-clause-roomy c = λ numbers only roomy.
     ∙ c.a_roomy_mesh_drops_nothing.ensures.no_record c.args.mesh.now kept.nets kept.labels numbers moved.events kept.mesh kept.right kept.ledger only roomy
 
 pub returns-clause-links : goal.returns-clause-links
-returns-clause-links c =
-    drops_then c.args.mesh.now c.settle.new.mesh c.send_each.new.mesh (after_setup c.args.mesh.now c.settle.new.mesh (after_moved c.args.mesh.now c.settle.new.mesh c.settle.ensures.moved))
-    c.settle.ensures.links (drops_none c.settle.new.mesh c.send_each.new.mesh (dumped_reached c.settle.new.mesh c.send_each.new.mesh c.send_each.ensures.reached))
+returns-clause-links c = drops_then _ _ _ (after_setup _ _ (after_moved _ _ c.settle.ensures.moved)) c.settle.ensures.links (drops_none _ _ (dumped_reached _ _ c.send_each.ensures.reached))

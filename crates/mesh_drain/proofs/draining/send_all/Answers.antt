@@ -20,9 +20,7 @@ send_packet-requires-clause-can c = record {
 }
 
 pub packets-smaller : goal.packets-smaller
-packets-smaller c =
-    (one_less c.args.mesh.now.unsent c.packets.mesh.unsent c.send_packet.new.mesh.unsent c.args.vertex c.packets.invariant.unsent.0 c.unsent.result.now
-    c.packets.invariant.unsent.1 c.unsent.ensures (is_some' c.unsent.result.now c.packets-test.ensures) c.in_ok-send_packet.ensures.unsent).1
+packets-smaller c = grind (arith, one_less, is_some')
 
 pub packets-preserved : goal.packets-preserved
 packets-preserved c = record {
@@ -34,9 +32,7 @@ packets-preserved c = record {
 }
 
 pub returns-clause-unsent : goal.returns-clause-unsent
-returns-clause-unsent c =
-    all_sent_there c.args.mesh.now.unsent c.packets.mesh.unsent c.args.vertex c.packets.invariant.unsent.0 c.unsent.result.now
-    (was_there c.args.mesh.now c.args.vertex c.requires.may.kept c.requires.exists) c.packets.invariant.unsent.1 c.unsent.ensures (is_none c.unsent.result.now c.packets-test.ensures)
+returns-clause-unsent c = grind (arith, all_sent_there, was_there, is_none)
 
 pub returns-in_err-send_packet-clause-reached : goal.returns-in_err-send_packet-clause-reached
 returns-in_err-send_packet-clause-reached c = grind (arith, reached_then c.args.mesh.now c.packets.mesh c.send_packet.new.mesh c.packets.invariant.reached c.send_packet.ensures.reached)

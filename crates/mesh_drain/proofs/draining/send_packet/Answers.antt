@@ -1,4 +1,4 @@
-use Rattle.mesh_drain.proofs.Common.{Inject, after_event, refl, rules, ◌∙◌}
+use Rattle.mesh_drain.proofs.Common.{Inject, after_event, arith, refl, rules, ◌∙◌}
 use Rattle.mesh_drain.proofs.{Frame.dropless, Frame.onward_none, Frame.onward_then, Frame.onward_unsent, Frame.reached_by, Frame.reached_then, Frame.sent_dropless, Turns.begins, Turns.begins_unsent}
 use Rattle.mesh_drain.proofs.Turns.{ends_quiet, popped_smaller}
 use Rattle.mesh_drain.proofs.draining.send_packet.Goals as goal
@@ -11,14 +11,10 @@ loop-next-init c = record {
 }
 
 pub loop-next-preserved : goal.loop-next-preserved
-loop-next-preserved c = record {
-  onward = onward_then (after_event c.args.mesh.now (Inject c.args.vertex)) c.loop-next.mesh c.go_on.new.mesh c.loop-next.invariant.onward c.go_on.ensures.reached;
-  under_way = c.in_ok-go_on.ensures.under_way;
-}
+loop-next-preserved c = grind (arith, onward_then)
 
 pub loop-next-smaller : goal.loop-next-smaller
-loop-next-smaller c = popped_smaller c.loop-next.mesh c.go_on.new.mesh c.loop-next.waiting.items c.pop.new.self.items
-    c.go_on.new.waiting.items c.in-Some.next c.in-Some.ensures.items c.in_ok-go_on.ensures.less
+loop-next-smaller c = grind (arith, popped_smaller)
 
 pub returns-clause-reached : goal.returns-clause-reached
 returns-clause-reached c = sent_dropless c.args.mesh.now c.loop-next.mesh c.args.vertex c.loop-next.invariant.onward
@@ -36,6 +32,4 @@ pub returns-in_err-push-clause-reached : goal.returns-in_err-push-clause-reached
 returns-in_err-push-clause-reached c = reached_by c.args.mesh.now c.step.new.self (Inject c.args.vertex) tt c.in_ok-step.ensures.moves
 
 pub returns-in_err-go_on-clause-reached : goal.returns-in_err-go_on-clause-reached
-returns-in_err-go_on-clause-reached c =
-    reached_then c.args.mesh.now c.loop-next.mesh c.go_on.new.mesh (sent_dropless c.args.mesh.now c.loop-next.mesh c.args.vertex c.loop-next.invariant.onward)
-    (dropless c.loop-next.mesh c.go_on.new.mesh c.go_on.ensures.reached)
+returns-in_err-go_on-clause-reached c = reached_then _ _ _ (sent_dropless _ _ _ c.loop-next.invariant.onward) (dropless _ _ c.go_on.ensures.reached)

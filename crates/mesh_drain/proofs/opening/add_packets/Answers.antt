@@ -2,6 +2,9 @@ use Rattle.mesh_drain.proofs.Common.{NetPlan, None, Packet, arith, first_copy, g
 use Rattle.mesh_drain.proofs.{Opened.known, Opened.listed_source, Opened.grows, Packets.few_in_mesh}
 use Rattle.mesh_drain.proofs.opening.add_packets.Goals as goal
 
+pub loop-number-init : goal.loop-number-init
+loop-number-init c = record { opened = λ none_yet. none_yet }
+
 pub bounds-nets-net : goal.bounds-nets-net
 bounds-nets-net c =
     (known c.args.mesh.now.setup.spots c.args.nets.now c.args.packets.now c.requires.listed.can.of_nets c.requires.listed.can.sources c.loop-number.number _ c.loop-number-test.true).net_within

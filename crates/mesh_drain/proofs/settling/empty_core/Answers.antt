@@ -1,4 +1,4 @@
-use Rattle.mesh_drain.proofs.Common.{Collect, State, ap, set, sym, ◌∙◌, ◌≡◌}
+use Rattle.mesh_drain.proofs.Common.{Collect, State, ap, arith, set, sym, ◌∙◌, ◌≡◌}
 use Rattle.mesh_drain.proofs.{Frame.reached_none, Frame.reached_by, Frame.reached_then, Steps.set_twice, Moving.after_reached, Moving.idle_from, Moving.idle_stays, Moving.lighter, Moving.mesh_after}
 use Rattle.mesh_drain.proofs.{Moving.moved_enabled, Vertices.same_besides, Vertices.same_then, Vertices.collect_besides, Vertices.collect_there, Vertices.collected_there, Vertices.idle_empty}
 use Rattle.mesh_drain.proofs.Vertices.{as_it_was}
@@ -25,8 +25,7 @@ copies-smaller c =
 
 -- the last try changed nothing
 last : (c : goal.In_default) → c.step.new.self ≡ c.copies.mesh
-last c =
-    c.in_ok-step.ensures.moves ∙ idle_stays c.copies.mesh (Collect c.args.vertex) (sym c.in_ok-step.ensures.answer ∙ idle_from c.in_ok-step.field-0 c.in_default.not-Moved)
+last c = grind (arith, idle_stays, idle_from)
 
 pub returns-clause-emptied : goal.returns-clause-emptied
 returns-clause-emptied c =

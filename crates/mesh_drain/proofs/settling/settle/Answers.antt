@@ -4,26 +4,16 @@ use Rattle.mesh_drain.proofs.{Moving.moved_then, Moving.waits_somewhere, Vertice
 use Rattle.mesh_drain.proofs.settling.settle.Goals as goal
 
 pub returns-in_err-empty_cores-clause-moved : goal.returns-in_err-empty_cores-clause-moved
-returns-in_err-empty_cores-clause-moved c =
-    moved_then c.args.mesh.now c.args.mesh.now c.empty_cores.new.mesh (moved_none c.args.mesh.now) c.empty_cores.ensures.reached
+returns-in_err-empty_cores-clause-moved c = moved_then _ _ _ (moved_none _) c.empty_cores.ensures.reached
 
 pub returns-in_err-empty_cores-clause-links : goal.returns-in_err-empty_cores-clause-links
-returns-in_err-empty_cores-clause-links c =
-    drops_none c.args.mesh.now c.empty_cores.new.mesh (dumped_reached c.args.mesh.now c.empty_cores.new.mesh c.empty_cores.ensures.reached)
+returns-in_err-empty_cores-clause-links c = grind (arith, drops_none, dumped_reached)
 
 pub sweeps-init : goal.sweeps-init
-sweeps-init c = record {
-  moved = moved_then c.args.mesh.now c.args.mesh.now c.empty_cores.new.mesh (moved_none c.args.mesh.now) c.empty_cores.ensures.reached;
-  links = drops_none c.args.mesh.now c.empty_cores.new.mesh (dumped_reached c.args.mesh.now c.empty_cores.new.mesh c.empty_cores.ensures.reached);
-  collected = c.in_ok-empty_cores.ensures.collected;
-  still = quiet_still c.args.mesh.now c.empty_cores.new.mesh c.empty_cores.ensures.others c.in_ok-empty_cores.ensures.collected;
-}
+sweeps-init c = grind (arith, moved_then, moved_none, drops_none, dumped_reached, quiet_still)
 
 pub sweeps-smaller : goal.sweeps-smaller
-sweeps-smaller c =
-    let mesh = mesh_after c.sweeps.mesh c.move_on.new.mesh c.every_mesh_is_one.ensures c.move_on.ensures.after in
-    let all = after_lighter c.move_on.new.mesh c.sweep.new.mesh mesh c.sweep.ensures.after in
-    omega (arith, c.in_ok-move_on.ensures.lighter c.in-Some.ensures.some, all)
+sweeps-smaller c = grind (arith, mesh_after, after_lighter)
 
 pub sweeps-preserved : goal.sweeps-preserved
 sweeps-preserved c =
@@ -43,9 +33,7 @@ pub returns-in_err-move_on-clause-moved : goal.returns-in_err-move_on-clause-mov
 returns-in_err-move_on-clause-moved c = grind (arith, moved_on, waits_somewhere)
 
 pub returns-in_err-move_on-clause-links : goal.returns-in_err-move_on-clause-links
-returns-in_err-move_on-clause-links c =
-    drops_then c.args.mesh.now c.sweeps.mesh c.move_on.new.mesh (after_setup c.args.mesh.now c.sweeps.mesh (after_moved c.args.mesh.now c.sweeps.mesh c.sweeps.invariant.moved))
-    c.sweeps.invariant.links (c.move_on.ensures.links c.sweeps.invariant.collected)
+returns-in_err-move_on-clause-links c = drops_then _ _ _ (after_setup _ _ (after_moved _ _ c.sweeps.invariant.moved)) c.sweeps.invariant.links (c.move_on.ensures.links c.sweeps.invariant.collected)
 
 pub returns-in_err-sweep-clause-moved : goal.returns-in_err-sweep-clause-moved
 returns-in_err-sweep-clause-moved c = grind (arith, after_then c.sweeps.mesh c.move_on.new.mesh c.sweep.new.mesh c.move_on.ensures.after c.sweep.ensures.after, moved_on, waits_somewhere)

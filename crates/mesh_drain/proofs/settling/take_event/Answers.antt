@@ -1,4 +1,4 @@
-use Rattle.mesh_drain.proofs.Common.{AreCollected, DropsAtNoVertex, IsAfter, State, ap, subst, sym}
+use Rattle.mesh_drain.proofs.Common.{AreCollected, IsAfter, State, ap, arith, subst, sym}
 use Rattle.mesh_drain.proofs.{Moving.after_none, Moving.after_one, Moving.lighter, Vertices.drops_none, Vertices.event_leads_on, Vertices.event_collected}
 use Rattle.mesh_drain.proofs.settling.take_event.Goals as goal
 
@@ -9,8 +9,7 @@ pub returns-clause-lighter : goal.returns-clause-lighter
 returns-clause-lighter c = λ enabled. lighter c.args.mesh.now c.step.new.self c.args.e c.every_mesh_is_one.ensures enabled c.in_ok-step.ensures.moves
 
 pub returns-clause-links : goal.returns-clause-links
-returns-clause-links c = λ none collected.
-    subst (DropsAtNoVertex c.args.mesh.now) (sym c.in_ok-step.ensures.moves) (event_leads_on c.args.mesh.now c.args.e c.every_mesh_is_one.ensures collected none)
+returns-clause-links c = grind (arith, event_leads_on)
 
 pub returns-clause-collected : goal.returns-clause-collected
 returns-clause-collected c = λ none collected. subst AreCollected (sym c.in_ok-step.ensures.moves) (event_collected c.args.mesh.now c.args.e collected none)

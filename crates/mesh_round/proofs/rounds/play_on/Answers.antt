@@ -1,6 +1,6 @@
 -- One round: a copy moved in it; or none did, and then there was none.
 use Rattle.mesh_round.proofs.Common.{IfOk, IsRaisedFrom, LeadsByRound, MayGoOn, PlaysTo, State, false, refl, subst, sym, true, ◌≡◌}
-use Rattle.mesh_round.proofs.{Played.IsLaw, Played.answers, Played.at_pace, Played.leads, Played.leads_at_rest, Played.ready_after, Played.refuses, Played.stood_still, rounds.play_on.Given.Over}
+use Rattle.mesh_round.proofs.{Played.answers, Played.at_pace, Played.leads, Played.leads_at_rest, Played.ready_after, Played.refuses, Played.stood_still, rounds.play_on.Given.Over}
 use Rattle.mesh_round.proofs.rounds.play_on.Goals.{In-Ok-false, In-Ok-true}
 use Rattle.mesh_round.proofs.rounds.play_on.Goals as goal
 
@@ -23,16 +23,14 @@ Moved g c =
 
 moved : (g : Over) (c : In-Ok-true g) → Moved g c
 moved g c =
-    let l = c.a_round_on_threads_is_a_round.ensures in
-    let law : IsLaw = record { mesh = l.mesh; hands = l.hands; round = l.round; still = l.still } in
     let p = c.args.pace in
     let r = c.in_ok-raised.raised in
     let e = c.in_ok-raised.ensures in
     let to = at_pace p r.pace c.laid.inside.parts r c.play.new.self c.in-Ok-true.field-0 true c.laid.invariant.ready.mesh e.raised e.pace c.in-Ok-true.field-0-test c.in-Ok-true.ensures.played in
     let ready = c.laid.invariant.ready in (
       to,
-      ready_after law p.patience p.turns c.laid.inside.parts to.mesh to.items ready to.played,
-      leads law p.patience p.turns c.laid.inside.parts to.mesh to.items ready to.played to.noted,
+      ready_after p.patience p.turns c.laid.inside.parts to.mesh to.items ready to.played,
+      leads p.patience p.turns c.laid.inside.parts to.mesh to.items ready to.played to.noted,
     )
 
 pub lower-requires-in-Ok-true : goal.lower-requires-in-Ok-true
@@ -57,13 +55,11 @@ Stood g c = PlaysTo c.args.pace.patience c.args.pace.turns c.laid.inside.parts f
 
 stood : (g : Over) (c : In-Ok-false g) → Stood g c
 stood g c =
-    let l = c.a_round_on_threads_is_a_round.ensures in
-    let law : IsLaw = record { mesh = l.mesh; hands = l.hands; round = l.round; still = l.still } in
     let p = c.args.pace in
     let r = c.in_ok-raised.raised in
     let e = c.in_ok-raised.ensures in
     let to = at_pace p r.pace c.laid.inside.parts r c.play.new.self c.in-Ok-false.field-0 false c.laid.invariant.ready.mesh e.raised e.pace c.in-Ok-false.field-0-test c.in-Ok-false.ensures.played in
-    (to, stood_still law p.patience p.turns c.laid.inside.parts c.play.new.self c.laid.invariant.ready.mesh to)
+    (to, stood_still p.patience p.turns c.laid.inside.parts c.play.new.self c.laid.invariant.ready.mesh to)
 
 pub lower-requires-in-Ok-false : goal.lower-requires-in-Ok-false
 lower-requires-in-Ok-false g c = (c.laid.inside.parts, c.laid.invariant.ready.mesh, (stood g (goal.at.lower-requires-in-Ok-false g c).In-Ok-false).1)
@@ -71,12 +67,10 @@ lower-requires-in-Ok-false g c = (c.laid.inside.parts, c.laid.invariant.ready.me
 pub returns-in-Ok-false-clause-round : goal.returns-in-Ok-false-clause-round
 returns-in-Ok-false-clause-round g c =
     rw (← c.laid.view_is)
-    let l = c.a_round_on_threads_is_a_round.ensures in
-    let law : IsLaw = record { mesh = l.mesh; hands = l.hands; round = l.round; still = l.still } in
     let p = c.args.pace in
     let s = stood g (goal.at.returns-in-Ok-false-clause-round g c).In-Ok-false in
     let same = c.lower-in-Ok-false.ensures c.laid.inside.parts c.laid.invariant.ready.mesh s.1 in
-    leads_at_rest law p.patience p.turns c.laid.inside.parts c.play.new.self c.at_rest.result c.laid.invariant.ready s.0
+    leads_at_rest p.patience p.turns c.laid.inside.parts c.play.new.self c.at_rest.result c.laid.invariant.ready s.0
     (subst (λ (m : State). IfOk c.at_rest.result (λ n. n ≡ m)) same c.at_rest.ensures.same) c.at_rest.ensures.none
 
 pub returns-in-Ok-false-clause-ready : goal.returns-in-Ok-false-clause-ready

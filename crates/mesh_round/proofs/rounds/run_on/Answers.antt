@@ -1,7 +1,7 @@
 -- Rounds that moved a copy are counted; those that moved none left the mesh as it was.
 use Rattle.mesh_round.proofs.Common.{HasMovingRounds, IfErr, IfErr-weaker, MayGoOn, false, none, rules, subst, sym, true, ◌∙◌, ◌≡◌}
-use Rattle.mesh_round.proofs.Played.{IsLaw, IsReached, answers, at_pace, begins, moved_on, refuses, rests_where_none, stood_on}
-use Rattle.mesh_round.proofs.rounds.run_on.{Given.Over, Goals.In-Ok-false}
+use Rattle.mesh_round.proofs.{Played.IsReached, Played.answers, Played.at_pace, Played.begins, Played.moved_on, Played.refuses, Played.rests_where_none, Played.stood_on, rounds.run_on.Given.Over}
+use Rattle.mesh_round.proofs.rounds.run_on.Goals.{In-Ok-false}
 use Rattle.mesh_round.proofs.rounds.run_on.Goals as goal
 
 pub returns-in_err-raised-clause-refused : goal.returns-in_err-raised-clause-refused
@@ -36,14 +36,12 @@ returns-in-Err-clause-ready_still g c =
 
 pub loop-preserved-in-Ok-true : goal.loop-preserved-in-Ok-true
 loop-preserved-in-Ok-true g c =
-    let l = c.a_round_on_threads_is_a_round.ensures in
-    let law : IsLaw = record { mesh = l.mesh; hands = l.hands; round = l.round; still = l.still } in
     let p = c.args.pace in
     let here = c.loop.invariant in
     let is = here.0 in
     let r = c.loop.raised in
     let to = at_pace p r.pace is.mesh r c.play.new.self c.in-Ok-true.field-0 true is.ready.mesh is.raised here.1 c.in-Ok-true.field-0-test c.in-Ok-true.ensures.played in
-    (moved_on law p.patience p.turns c.args.laid.mesh r c.play.new.self is to, c.play.ensures.pace ∙ here.1)
+    (moved_on p.patience p.turns c.args.laid.mesh r c.play.new.self is to, c.play.ensures.pace ∙ here.1)
 
 -- the mesh in which a round moved no copy
 abbrev Stood : (g : Over) → In-Ok-false g → Type 0
@@ -51,14 +49,12 @@ Stood g c = IsReached c.args.pace.patience c.args.pace.turns c.args.laid.mesh c.
 
 stood : (g : Over) (c : In-Ok-false g) → Stood g c
 stood g c =
-    let l = c.a_round_on_threads_is_a_round.ensures in
-    let law : IsLaw = record { mesh = l.mesh; hands = l.hands; round = l.round; still = l.still } in
     let p = c.args.pace in
     let here = c.loop.invariant in
     let is = here.0 in
     let r = c.loop.raised in
     let to = at_pace p r.pace is.mesh r c.play.new.self c.in-Ok-false.field-0 false is.ready.mesh is.raised here.1 c.in-Ok-false.field-0-test c.in-Ok-false.ensures.played in
-    stood_on law p.patience p.turns c.args.laid.mesh r c.play.new.self is to
+    stood_on p.patience p.turns c.args.laid.mesh r c.play.new.self is to
 
 pub lower-requires-then-thorough : goal.lower-requires-then-thorough
 lower-requires-then-thorough g c = let is = stood g (goal.at.lower-requires-then-thorough g c).In-Ok-false in (is.mesh, is.ready.mesh, is.raised)

@@ -1,4 +1,4 @@
-use Rattle.net_tables.proofs.Common.{far_inside, subst, sym, ◌<◌, ◌∙◌}
+use Rattle.net_tables.proofs.Common.{far_inside, rules, sym, ◌∙◌}
 use Rattle.net_tables.proofs.{Trees.edge_in, Trees.root_in, Taking.taken_first, Taking.taken_more, Taking.taken_same, Taking.taken_all, Taking.ports_clear, Taking.routes_clear, Taking.all_grown}
 use Rattle.net_tables.proofs.gather.take_marks.Goals.{in-Some+in_ok-take_mark-2, in_default}
 use Rattle.net_tables.proofs.gather.take_marks.Goals as goal
@@ -14,33 +14,17 @@ index-place-requires c =
 pub loop-edge-init : goal.loop-edge-init
 loop-edge-init c =
     taken_first c.args.plan.machine.now c.args.plan.net.now.tree.root c.args.plan.net.now.tree.edges c.args.plan.net.now.block _ _ c.index-root.result c.index-root.ensures.value
-    (record {
-      ports = subst (λ n. c.index-root.result < n) (sym c.requires.boards.ports_long) c.index-root.ensures.below;
-      routes = subst (λ n. c.index-root.result < n) (sym c.requires.boards.routes_long) c.index-root.ensures.below;
-      lists = subst (λ n. c.index-root.result < n) (sym c.requires.long) c.index-root.ensures.below;
-    })
-    (record {
-      ports = c.in_ok-take_mark.ensures.port;
-      routes = c.in_ok-take_mark.ensures.route;
-      lists = c.in_ok-take_mark.ensures.mark;
-    })
+    (search rules)
+    (search rules)
 
 pub loop-edge-preserved : goal.loop-edge-preserved
 loop-edge-preserved c = elim c.match-far.branch [
   | in-Some+in_ok-take_mark-2 w ↦
       rw (w.ports-is, w.routes-is, w.lists-is) (
-      taken_more c.args.plan.machine.now c.args.plan.net.now.tree.root c.as_slice-edge-items.result.now c.args.plan.net.now.tree.edges c.loop-edge.edge-index _ w.in-Some.chip
-      c.args.plan.net.now.block _ _ _ w.index-place.result c.as_slice-edge-items.ensures c.loop-edge-test.true (sym c.far.ensures ∙ w.in-Some.is) w.index-place.ensures.value
-      (record {
-        ports = subst (λ n. w.index-place.result < n) (sym (c.loop-edge.invariant.ports_long ∙ c.requires.boards.ports_long)) w.index-place.ensures.below;
-        routes = subst (λ n. w.index-place.result < n) (sym (c.loop-edge.invariant.routes_long ∙ c.requires.boards.routes_long)) w.index-place.ensures.below;
-        lists = subst (λ n. w.index-place.result < n) (sym (c.loop-edge.invariant.lists_long ∙ c.requires.long)) w.index-place.ensures.below;
-      })
-      (record {
-        ports = w.in_ok-take_mark-2.ensures.port;
-        routes = w.in_ok-take_mark-2.ensures.route;
-        lists = w.in_ok-take_mark-2.ensures.mark;
-      })
+      taken_more c.args.plan.machine.now c.args.plan.net.now.tree.root c.as_slice-edge-items.result.now c.args.plan.net.now.tree.edges c.loop-edge.edge-index _
+      c.args.plan.net.now.block _ _ c.as_slice-edge-items.ensures c.loop-edge-test.true w.in-Some.chip _ w.index-place.result (sym c.far.ensures ∙ w.in-Some.is) w.index-place.ensures.value
+      (search rules)
+      (search rules)
       c.loop-edge.invariant
       )
   | in_default w ↦

@@ -1,9 +1,5 @@
-use Rattle.net_tables.proofs.Common.{arith}
-use Rattle.net_tables.proofs.Whole.{few_turning, turning_apart}
+use Rattle.net_tables.proofs.Whole.{turning_apart}
 use Rattle.net_tables.proofs.turning.turning_blocks.Goals as goal
-
-pub returns-clause-few : goal.returns-clause-few
-returns-clause-few c = grind (arith, few_turning c.args.machine.now c.args.nets.now c.in_ok-lists.lists.items c.requires c.in_ok-lists.ensures)
 
 pub returns-clause-apart : goal.returns-clause-apart
 returns-clause-apart c =

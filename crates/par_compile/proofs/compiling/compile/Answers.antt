@@ -3,15 +3,7 @@ use Rattle.par_compile.proofs.{Refusing.refused_where, Standing.routing_is, Uniq
 use Rattle.par_compile.proofs.compiling.compile.Goals as goal
 
 pub invariant_of-placed : goal.invariant_of-placed
-invariant_of-placed g c =
-    let graph = c.args.request.now.graph.now in
-    record {
-      few = c.requires.few_nets;
-      ends = subst (λ n. All (HasEndsAmong n) graph.nets) (sym c.in-Ok.ensures.placed.all) (All-weaker (IsValidNet (length graph.vertices)) (HasEndsAmong (length graph.vertices))
-          (λ net v. record { source = v.source; some_target = v.some_target; targets = v.targets }) graph.nets c.requires.nets);
-      sites = c.in-Ok.ensures.sites;
-      a_block_each = c.in-Ok-keys.ensures.blocks.all;
-    }
+invariant_of-placed g c = grind (arith, All-weaker)
 
 pub final_tables-requires-after_bounds : goal.final_tables-requires-after_bounds
 final_tables-requires-after_bounds g c κs within = record {

@@ -1,13 +1,10 @@
+use Rattle.std.proofs.Common.{rules}
 use Rattle.par_compile.proofs.Common.{arith, image_in}
 use Rattle.par_compile.proofs.Imaged.{same_image, image_valid, image_rows, image_more, all_read, found_at, small_place}
 use Rattle.par_compile.proofs.images.image_of.Goals as goal
 
 pub overflow_cast-i : goal.overflow_cast-i
-overflow_cast-i c =
-    let small =
-    small_place c.args.machine.now c.args.finals.now c.as_slice-done-items.result.now c.loop-i.i c.chips-count.result c.chips-count.ensures.few c.chips-count.ensures.total c.requires.one_each
-    c.as_slice-done-items.ensures c.loop-i-test.true in
-    omega (arith, small)
+overflow_cast-i c = grind (arith, small_place)
 
 pub loop-i-preserved : goal.loop-i-preserved
 loop-i-preserved c =
@@ -16,10 +13,7 @@ loop-i-preserved c =
     c.chip_at.ensures.chip c.loop-i.invariant c.in_ok-push_table.ensures
 
 pub returns-clause-valid : goal.returns-clause-valid
-returns-clause-valid c =
-    image_valid c.args.machine.now c.width.ensures.size c.args.finals.now c.requires.one_each _ c.width.ensures.value c.height.ensures.value
-    (all_read c.args.machine.now c.args.finals.now c.as_slice-done-items.result.now c.loop-i.i c.loop-i.chips c.as_slice-done-items.ensures c.loop-i-test.false c.loop-i.invariant)
-    c.requires.kept c.requires.short
+returns-clause-valid c = search (rules, image_valid, all_read)
 
 pub returns-clause-rows : goal.returns-clause-rows
 returns-clause-rows c =
@@ -28,7 +22,4 @@ returns-clause-rows c =
     (all_read c.args.machine.now c.args.finals.now c.as_slice-done-items.result.now c.loop-i.i c.loop-i.chips c.as_slice-done-items.ensures c.loop-i-test.false c.loop-i.invariant)
 
 pub returns-clause-image : goal.returns-clause-image
-returns-clause-image c =
-    same_image (record { width = c.width.result; height = c.height.result; wrap = c.wrap.result; chips = c.loop-i.chips }) (image_in c.args.machine.now c.args.finals.now)
-    c.width.ensures.value c.height.ensures.value c.wrap.ensures
-    (all_read c.args.machine.now c.args.finals.now c.as_slice-done-items.result.now c.loop-i.i c.loop-i.chips c.as_slice-done-items.ensures c.loop-i-test.false c.loop-i.invariant)
+returns-clause-image c = grind (arith, same_image, all_read)

@@ -19,9 +19,7 @@ returns-then-long-clause-finals c =
     (subst (λ (rest : List Work). AreGiven (GivesFinal c.args.target) c.args.works.items rest c.loop-work.finals) c.in-Some.ensures.steps.0 c.loop-work.invariant.2) c.in_ok-done.ensures))
 
 pub returns-then-long-clause-all : goal.returns-then-long-clause-all
-returns-then-long-clause-all c = λ none.
-    absurd (last_is_long c.loop-work.finals c.in_ok-done.done (sym c.is_long-long.ensures ∙ c.if-long.true)
-    (subst (λ (fs : List Final). position is_long fs ≡ None) c.in_ok-push.ensures.ok none))
+returns-then-long-clause-all c = grind (arith, last_is_long)
 
 pub returns-clause-finals : goal.returns-clause-finals
 returns-clause-finals c = all_given (GivesFinal c.args.target) c.args.works.items (into_iter_items c.loop-work.work-iterator) c.loop-work.finals c.loop-work.invariant.2

@@ -3,9 +3,7 @@ use Rattle.par_compile.proofs.Working.{AreGiven, all_made, given_more}
 use Rattle.par_compile.proofs.workers.works_of.Goals as goal
 
 pub invariant_of-ready : goal.invariant_of-ready
-invariant_of-ready c =
-    let one = All-head AreCoverable c.in-Some.marks (into_iter_items c.next.new.self) (subst (All AreCoverable) c.in-Some.ensures.steps.0 c.loop-marks.invariant.3) in
-    record { few = one.few; apart = one.apart }
+invariant_of-ready c = grind (arith, All-head AreCoverable c.in-Some.marks (into_iter_items c.next.new.self) (subst (All AreCoverable) c.in-Some.ensures.steps.0 c.loop-marks.invariant.3))
 
 pub loop-marks-preserved : goal.loop-marks-preserved
 loop-marks-preserved c = (
@@ -18,5 +16,4 @@ loop-marks-preserved c = (
 )
 
 pub returns : goal.returns
-returns c =
-    all_made IsStillPlain c.args.blocks (into_iter_items c.loop-marks.marks-iterator) c.loop-marks.works.items (grind (arith, common_steps, c.in-None.ensures.steps.0)) c.loop-marks.invariant.2
+returns c = grind (arith, all_made, common_steps)

@@ -1,6 +1,6 @@
 use Rattle.std.proofs.Common.{◌≡◌, ◌-◌}
 use Rattle.table_load.specs.Reading.{read_rows}
-use Rattle.table_load.proofs.Rows.{with_front}
+use Rattle.table_load.proofs.Numbers.{with_front}
 use Rattle.table_load.proofs.reads.rows_at.Given as goal
 
 -- the rows so far, and what is read of the others, are what is read of all

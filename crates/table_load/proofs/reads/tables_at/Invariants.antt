@@ -1,6 +1,6 @@
 use Rattle.std.proofs.Common.{◌≡◌, ◌-◌, None}
 use Rattle.table_load.specs.Reading.{read_tables}
-use Rattle.table_load.proofs.TableReads.{with_front}
+use Rattle.table_load.proofs.Numbers.{with_front}
 use Rattle.table_load.proofs.reads.tables_at.Given as goal
 
 -- the tables so far, and what is read of the others, are what is read of all

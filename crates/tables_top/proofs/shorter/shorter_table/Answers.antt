@@ -1,4 +1,5 @@
 -- A shorter table, or the one that was given.
+use Rattle.std.proofs.Common.{arith}
 use Rattle.std.proofs.Common.{◌≡◌, true, false}
 use Rattle.std.proofs.lemmas.Result.{IfOk-weaker}
 use Rattle.table_text.specs.declared.writing.ShortTable.{ShortTable}
@@ -14,8 +15,4 @@ returns-in-Some c =
     c.short_table.ensures
 
 pub returns-in-None : goal.returns-in-None
-returns-in-None c =
-    IfOk-weaker c.short_table-in-None.result (λ (s : ShortTable). s ≡ short_at c.args.given.now.chip c.as_slice-in-None.result.now true) (IsShorterTable c.args.target c.args.exact c.args.given.now)
-    (λ s is. short_kept c.args.target c.args.exact c.args.given.now c.as_slice.result.now c.as_slice-in-None.result.now _ s
-    (record { rows = c.in_ok-rows.ensures.rows; routes = c.in_ok-rows.ensures.routes; keys = c.in_ok-rows.ensures.keys; few = c.in_ok-rows.ensures.few }) c.in-None.is c.as_slice.ensures c.as_slice-in-None.ensures is)
-    c.short_table-in-None.ensures
+returns-in-None c = grind (arith, IfOk-weaker, short_kept)

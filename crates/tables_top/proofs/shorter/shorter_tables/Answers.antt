@@ -1,4 +1,5 @@
 -- One table more.
+use Rattle.std.proofs.Common.{arith}
 use Rattle.std.proofs.Common.{[], sym, subst}
 use Rattle.tables_top.specs.Shorter.{AreShorter, none}
 use Rattle.tables_top.proofs.Tables.{tables_all, tables_more}
@@ -8,9 +9,7 @@ pub loop-table-init : goal.loop-table-init
 loop-table-init c = subst (AreShorter c.args.target c.args.exact []) (sym c.new-shorter.ensures) none
 
 pub loop-table-preserved : goal.loop-table-preserved
-loop-table-preserved c =
-    tables_more c.args.target c.args.exact c.args.tables.now c.loop-table.table-index c.table-item.result c.loop-table.shorter c.push.new.self c.in_ok-short.short
-    c.loop-table-test.true c.table-item.is c.loop-table.invariant c.in_ok-short.ensures c.in_ok-push.ensures.ok
+loop-table-preserved c = grind (arith, tables_more)
 
 pub returns : goal.returns
 returns c = tables_all c.args.target c.args.exact c.args.tables.now c.loop-table.table-index c.loop-table.shorter c.loop-table-test.false c.loop-table.invariant

@@ -1,6 +1,6 @@
 -- The packet was delivered to the vertex on the core, or a copy is in the core's queue, or neither.
 use Rattle.mesh_core.proofs.Common.{IsMesh, List, McCopy, Some, State, ap, slice_index_or, subst, sym, vertex_at, ◌∙◌, ◌≡◌}
-use Rattle.mesh_core.proofs.Searching.{delivery_has, core_has, core_lacks, none_from, core_queue_there}
+use Rattle.mesh_core.proofs.{Searching.delivery_has, Searching.core_has, Searching.core_lacks, Searching.core_queue_there, Ways.none_from}
 use Rattle.mesh_core.proofs.meshes.Mesh.at_core.Goals as goal
 
 pub returns-in-Some : goal.returns-in-Some

@@ -1,6 +1,6 @@
 -- The mesh after the copy was sent is the one that the step gives.
-use Rattle.mesh_core.proofs.Common.{Description, Inject, List, Local, McCopy, Some, Spot, State, after_event, ap, arith, drop_front, front_of, has_room, ltb-true, push_at, queue_at, slice_get}
-use Rattle.mesh_core.proofs.Common.{slice_get-get_or, state_of, step_of, subst, sym, true, with_items, with_items_is, ℕ, ◌∙◌, ◌≡◌}
+use Rattle.mesh_core.proofs.Common.{Description, Inject, List, Local, McCopy, Some, Spot, State, ap, arith, drop_front, front_of, has_room, ltb-true, push_at, queue_at, slice_get, slice_get-get_or}
+use Rattle.mesh_core.proofs.Common.{state_of, step_of, sym, true, with_items, with_items_is, ℕ, ◌∙◌, ◌≡◌}
 use Rattle.mesh_core.proofs.{Keeping.IsMesh-step_of, StepParts.step_of-inject, StepParts.after_event-moved}
 use Rattle.mesh_core.proofs.meshes.Mesh.inject.Goals as goal
 

@@ -1,6 +1,6 @@
 -- The mesh after the copy was sent is the one that the step gives.
-use Rattle.mesh_core.proofs.Common.{McCopy, Queue, Send, Some, State, after_event, ap, arith, behind, copy_served, cores_after, hands_after, has_room_behind, index_of, inputs_after, onward}
-use Rattle.mesh_core.proofs.Common.{queue_named, slice_get, state_of, step_of, subst, sym, true, with_items, with_items_is, ℕ, ◌∙◌, ◌≡◌}
+use Rattle.mesh_core.proofs.Common.{McCopy, Queue, Send, Some, State, ap, arith, behind, copy_served, cores_after, hands_after, has_room_behind, index_of, inputs_after, onward, queue_named, slice_get}
+use Rattle.mesh_core.proofs.Common.{state_of, step_of, subst, sym, true, with_items, with_items_is, ℕ, ◌∙◌, ◌≡◌}
 use Rattle.mesh_core.proofs.{Keeping.IsMesh-step_of, StepParts.step_of-send, StepParts.after_event-moved}
 use Rattle.mesh_core.proofs.meshes.Mesh.send.Goals as goal
 

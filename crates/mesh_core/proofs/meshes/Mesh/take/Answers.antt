@@ -1,6 +1,6 @@
 -- The mesh after the copy was taken is the one that the step gives.
-use Rattle.mesh_core.proofs.Common.{Description, List, McCopy, Moved, None, Some, State, Take, after_event, answer, ap, arith, drop_front, front_of, index_of, is_live_chip, length, outputs, queue_at}
-use Rattle.mesh_core.proofs.Common.{set, slice_get, state_of, step_of, subst, sym, true, with_item, with_items, with_items_is, ℕ, ◌*◌, ◌<◌, ◌∙◌, ◌≡◌}
+use Rattle.mesh_core.proofs.Common.{Description, List, McCopy, None, Some, State, Take, ap, arith, drop_front, front_of, index_of, is_live_chip, length, outputs, queue_at, set, slice_get, state_of}
+use Rattle.mesh_core.proofs.Common.{step_of, subst, sym, true, with_item, with_items, with_items_is, ℕ, ◌*◌, ◌<◌, ◌∙◌, ◌≡◌}
 use Rattle.mesh_core.specs.Step.{in_hand}
 use Rattle.mesh_core.proofs.{Keeping.IsMesh-step_of, StepParts.step_of-take, StepParts.answer-moved, StepParts.after_event-moved, ServingLaws.outputs_at, ServingLaws.no_hand}
 use Rattle.mesh_core.proofs.meshes.Mesh.take.Goals as goal

@@ -1,6 +1,5 @@
 -- A core leads to the vertex on it, if there is one.
-use Rattle.std.proofs.Common.{arith}
-use Rattle.mesh_core.proofs.Common.{Setup, Spot, ap, behind, core_queue_of, sym, ◌∙◌}
+use Rattle.mesh_core.proofs.Common.{Setup, Spot, ap, arith, behind, core_queue_of, sym, ◌∙◌}
 use Rattle.mesh_core.proofs.ServingLaws.{vertex_behind-core, vertex_behind-beyond}
 use Rattle.mesh_core.proofs.setups.MeshSetup.behind.Goals as goal
 
