@@ -3,8 +3,8 @@ use Rattle.app_loads.proofs.Common.{All, All-at, All-contains, All-each, All-fla
 use Rattle.app_loads.proofs.Common.{AllPairs-right, AllZip, AllZip-at_first, AppNet, AreNetsOn, AreRoutedApart, Block, Claim, Contains, Contains-at, Description, HaveDisjointBlocks, IsAppNet}
 use Rattle.app_loads.proofs.Common.{IsBlockOf, IsInside, IsKeyOf, IsLoadedOn, IsPacketOfApp, IsRangeFor, IsRangeWithin, IsRoutingTree, IsSpotBefore, IsUsable, KeysOut, List, LoadedApp, Matches}
 use Rattle.app_loads.proofs.Common.{NetPlan, Packet, Range, ShareNoPlace, Some, Spot, [], all_nets, all_ranges, and_from, ap, arith, cases_eq, cases_lt, chip_count, claims_of, eq-eqb, get_or}
-use Rattle.app_loads.proofs.Common.{get_or_from_slice_get, in_from, inl, inr, live_inside, net_with, nets_of, nets_with, place_of, range_has, refl, region_size, same_Some, slice_get}
-use Rattle.app_loads.proofs.Common.{slice_get-get_or, slice_get_within, subst, suc, sym, true, usable_parts, usable_spots, zero, ℕ, ◌+◌, ◌<◌, ◌^◌, ◌↔◌, ◌∙◌, ◌∷◌, ◌≡◌, ◌≢◌, ◌≤◌}
+use Rattle.app_loads.proofs.Common.{get_or_from_slice_get, in_from, inl, inr, live_inside, net_with, nets_of, nets_with, place_of, range_has, refl, region_size, same_Some, slice_get, slice_get-get_or}
+use Rattle.app_loads.proofs.Common.{slice_get_within, subst, suc, sym, true, usable_parts, usable_spots, zero, ℕ, ◌+◌, ◌<◌, ◌^◌, ◌↔◌, ◌∙◌, ◌∷◌, ◌≡◌, ◌≢◌, ◌≤◌}
 use Rattle.app_loads.proofs.{Blocks.block_keys, ClaimCases.IsKeyClaim, ClaimCases.facts, ClaimCases.same_net, LeavingLists.flat_has, LeavingLists.flat_of, Spots.usable_there}
 
 -- a net with its block is made of the net and the block of its place

@@ -6,8 +6,8 @@ use Rattle.app_loads.proofs.Common.{gathered_among, get_or, get_or-map-range_wit
 use Rattle.app_loads.proofs.Common.{length, length-map-range_with_len, live_inside, map, memory_claim, ne_eqb, passes_at_first, place_of, position_or_len, position_or_len_is, pow_pos, range_with_len}
 use Rattle.app_loads.proofs.Common.{refl, region_size, row_claim, size_for, size_of, slice_get, slice_get-get_or, slice_get_there, subst, suc, sym, true, unwrap_or, usable_parts, zero, zip}
 use Rattle.app_loads.proofs.Common.{zip-first_at, ℕ, ◌%◌, ◌++◌, ◌+◌, ◌-◌, ◌<◌, ◌==◌, ◌^◌, ◌∙◌, ◌∷◌, ◌≡◌, ◌≢◌, ◌≤◌}
-use Rattle.app_loads.proofs.{Blocks.block_aligned, Blocks.block_room, LeavingLists.among_flat, LeavingLists.flat_among}
 use Rattle.app_loads.specs.declared.places.Region.TheVariants.{Memory}
+use Rattle.app_loads.proofs.{Blocks.block_aligned, Blocks.block_room, LeavingLists.among_flat, LeavingLists.flat_among}
 
 -- ---- the size for a number of keys
 

@@ -2,7 +2,7 @@
 use Rattle.app_loads.proofs.Common.{AppNet, AppPlan, Claim, Description, IsPowerOfTwo, List, Some, Spot, [], ap, append_assoc, arith, cases_lt, chip_count, claims_of, false, fixed_claim, flat_map}
 use Rattle.app_loads.proofs.Common.{gathered, gathered_more, get_or, inl, inr, key_claim, le-leb, leb, length, length-zip, lt-leb, max, memory_claim, pow_mono, pow_more, range_with_len, refl}
 use Rattle.app_loads.proofs.Common.{row_claim, size_for, slice_get, suc, sym, take, take_all, unwrap_or, zero, zip, ℕ, ◌++◌, ◌+◌, ◌/◌, ◌<◌, ◌^◌, ◌∙◌, ◌∷◌, ◌≡◌, ◌≤◌}
-use Rattle.app_loads.proofs.{ClaimCases.first_of_row}
+use Rattle.app_loads.proofs.ClaimCases.{first_of_row}
 
 -- ---- lists gathered item by item
 

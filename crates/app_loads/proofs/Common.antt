@@ -1,16 +1,14 @@
 -- The names that the proofs of this crate cite from outside of them, passed on from one place. Declares nothing.
 pub use Rattle.app_loads.specs.{Alike.AreAlike, Alike.IsQuiet, Applications.AreApps, Applications.HasRows, Applications.HaveOtherNumbers, Applications.HaveRows, Applications.IsLoadedOn}
 pub use Rattle.app_loads.specs.{Applications.IsRangeFor, Claims.AreBlocks, Claims.AreServed, Claims.IsBlockOf, Claims.IsLeastOpenRange, Claims.IsOpenRange, Claims.IsRefusalDue, Claims.IsRefusedClaim}
-pub use Rattle.app_loads.specs.{Claims.claims_of, Claims.entries_claim, Claims.fixed_claim, Claims.has_chip, Claims.key_claim, Claims.memory_claim, Claims.row_claim, Claims.size_for}
-pub use Rattle.app_loads.specs.{Counting.HasTree}
+pub use Rattle.app_loads.specs.{Claims.claims_of, Claims.entries_claim, Claims.fixed_claim, Claims.has_chip, Claims.key_claim, Claims.memory_claim, Claims.row_claim, Claims.size_for, Counting.HasTree}
 pub use Rattle.app_loads.specs.{Counting.HasTreeInside, Counting.IsRunEnd, Counting.chip_places, Counting.end_places, Counting.run_claim, Counting.tree_places, Earlier.with_earlier, Grouping.Grouped}
 pub use Rattle.app_loads.specs.{Grouping.HasPut, Grouping.all_grouped, Grouping.is_mixed_group, Grouping.is_others_group, Grouping.is_own_group, Groups.EndsWith, Groups.IsBetween, Groups.IsGroup}
 pub use Rattle.app_loads.specs.{Groups.deliveries_at, Groups.deliveries_in, Groups.delivery_of, Groups.grouped_of, Groups.last_arrivals, Groups.sent_of, Host.Free, Host.Host, Host.all_nets}
 pub use Rattle.app_loads.specs.Host.{all_ranges, all_spots, asked_of, asked_of_app, either, is_loaded, is_spot_taken, net_with, nets_of, nets_with}
 pub use Rattle.app_loads.specs.{Inner.IsHost, Inner.host_of, Inner.mesh_in, Inner.numbers_of, Joining.AreKeyed, Joining.AreSent, Joining.AreWritten, Joining.CanJoin, Joining.CanSettle}
-pub use Rattle.app_loads.specs.{Joining.IsKeyRange, Joining.IsSent, Joining.IsServedApp, Joining.IsSettled, Joining.NoneUnsent, Leaving.IsLeastUnderWay, Leaving.NoneUnderWay, Leaving.WaitsIn}
-pub use Rattle.app_loads.specs.Leaving.{held_packets, is_delivery_of, is_packet_of, is_record_of, least_own_packet, lesser_of, mesh_without, others_than, own_packet, packet_numbers_of}
-pub use Rattle.app_loads.specs.Leaving.{unsent_numbers}
+pub use Rattle.app_loads.specs.{Joining.IsKeyRange, Joining.IsServedApp, Joining.IsSettled, Joining.NoneUnsent, Leaving.IsLeastUnderWay, Leaving.NoneUnderWay, Leaving.WaitsIn, Leaving.held_packets}
+pub use Rattle.app_loads.specs.Leaving.{is_delivery_of, is_packet_of, is_record_of, least_own_packet, lesser_of, mesh_without, others_than, own_packet, packet_numbers_of, unsent_numbers}
 pub use Rattle.app_loads.specs.{Loading.HasLoaded, Loading.IsLoadRefusal, Loading.IsWhyNotLoaded, Opening.bare_host, Opening.bare_mesh, Opening.grid_spots, Opening.spot_of, Opening.usable_spots}
 pub use Rattle.app_loads.specs.{Plans.IsAppNet, Plans.IsPacketOfApp, Plans.IsPlan, Plans.IsSpotBefore, Plans.MayLoad, Regions.AreFreeBeside, Regions.IsFreeBeside, Regions.IsRangeWithin}
 pub use Rattle.app_loads.specs.Regions.{IsRegion, ShareNoPlace, all_free, chip_count, is_taken, open_regions, place_of, range_has, region_size}
@@ -18,11 +16,9 @@ pub use Rattle.app_loads.specs.{Removing.CanLeave, Removing.HasLeft, Removing.Is
 pub use Rattle.app_loads.specs.{Running.HasMovedMesh, Running.HasSomeUnsent, Running.IsBlockWith, Running.IsClean, Sending.AreCleared, Sending.AreSources, Sending.AreWithSources, Sending.CanAdd}
 pub use Rattle.app_loads.specs.{Sending.CanSend, Sending.IsPacketOn, Sending.IsSameBeside, Sending.IsSendingFrom, Sending.source_at, Sending.source_vertex, Taking.AreFreeAgain, Taking.AreGivenBack}
 pub use Rattle.app_loads.specs.Taking.{AreRegionsOf, AreServedAlways, AreTaken, AreTakenAlways, CanServe, HaveRoom, HaveServed, IsDueAlways, IsDueOf, IsFair, IsFairFor, RefusesClaim, ServesClaim}
-pub use Rattle.app_loads.specs.{Taking.free_places_in, Taking.frees, Taking.range_at, Unloading.HasUnloaded, Unloading.IsWhyNotUnloaded, Unloading.NoneWaits, Writing.AreCopied, Writing.AreFilled}
-pub use Rattle.app_loads.specs.{Writing.AreFilledFrom, Writing.AreUnused}
-pub use Rattle.app_loads.specs.{Writing.CanClear, Writing.CanCopy, Writing.FitsTable, Writing.row_entry, Writing.HaveRooms, Writing.tables_in, declared.answers.Ended.Ended}
-pub use Rattle.app_loads.specs.{declared.answers.LoadErr.LoadErr}
-pub use Rattle.app_loads.specs.declared.answers.{LoadErr.TheVariants.Refused, LoadRefusal.LoadRefusal, LoadRefusal.TheVariants.KeysOut, LoadRefusal.TheVariants.Loaded}
+pub use Rattle.app_loads.specs.{Taking.free_places_in, Taking.frees, Unloading.HasUnloaded, Unloading.IsWhyNotUnloaded, Unloading.NoneWaits, Writing.AreCopied, Writing.AreFilled}
+pub use Rattle.app_loads.specs.Writing.{AreFilledFrom, AreUnused, CanClear, CanCopy, FitsTable, HaveRooms, row_entry, tables_in}
+pub use Rattle.app_loads.specs.declared.answers.{Ended.Ended, LoadErr.LoadErr, LoadErr.TheVariants.Refused, LoadRefusal.LoadRefusal, LoadRefusal.TheVariants.KeysOut, LoadRefusal.TheVariants.Loaded}
 pub use Rattle.app_loads.specs.declared.answers.{LoadRefusal.TheVariants.MemoryOut, LoadRefusal.TheVariants.RowsOut, UnloadErr.TheVariants.NotLoaded, UnloadErr.TheVariants.Waiting}
 pub use Rattle.app_loads.specs.declared.{answers.UnloadErr.UnloadErr, apps.Apps.TheInside.Inside, arrivals.Arrival.Arrival, group.Sent.Sent, known.KnownBlock.KnownBlock, leaving.Left.Left}
 pub use Rattle.app_loads.specs.declared.{loaded.Claim.Claim, loaded.LoadedApp.LoadedApp, loaded.Range.Range, places.Region.TheVariants.Keys, places.Region.TheVariants.Rows, plans.AppNet.AppNet}
@@ -36,17 +32,15 @@ pub use Rattle.machine_desc.specs.{NetsOn.HaveDisjointBlocks, NetsOn.IsWayOn, Ne
 pub use Rattle.machine_desc.specs.{RightTables.table_at, RoutingTree.IsRoutingTree, RoutingTree.IsTreeChip, RoutingTree.end_of, declared.nets.NetPlan.NetPlan, declared.trees.Edge.Edge}
 pub use Rattle.mesh_core.proofs.{AskedPackets.asked_from, AskedPackets.asked_parts, AskedPackets.net_in_list, Counting.count_covered, Counting.count_le, Counting.count_some, Counting.counted}
 pub use Rattle.mesh_core.proofs.{Counting.counts_one, EventsLaw.IsMesh-after_events, EventsLaw.events_keep_for, ExpectedList.is_of, ExpectedList.is_of_from, ExpectedList.is_of_parts}
-pub use Rattle.mesh_core.proofs.{Fixed.setup_after, LedgerLaw.one_net, Moves.chip_of-index_of, Moves.mark, ServingLaws.vertex_at-below, ServingLaws.vertex_behind-core, Standing.StandsAt}
-pub use Rattle.mesh_core.proofs.{Standing.delivered_mark, Standing.mark_stands, VertexTableLaws.same_spot_place, VertexTableLaws.site_inside, VertexTableLaws.spot_place-below, Ways.some_way}
-pub use Rattle.mesh_core.proofs.{MarkTests.mark_eq, MarkTests.mark_eq_same, MarkTests.mark_eq_true, Moves.behind_hands, Moves.behind_inputs, Moves.behind_unsent}
-pub use Rattle.mesh_core.proofs.Ways.{vertex_at_stands, vertex_there}
+pub use Rattle.mesh_core.proofs.{Fixed.setup_after, LedgerLaw.one_net, MarkTests.mark_eq, MarkTests.mark_eq_same, MarkTests.mark_eq_true, Moves.behind_hands, Moves.behind_inputs, Moves.behind_unsent}
+pub use Rattle.mesh_core.proofs.{Moves.chip_of-index_of, Moves.mark, ServingLaws.vertex_at-below, ServingLaws.vertex_behind-core, Standing.StandsAt, Standing.delivered_mark, Standing.mark_stands}
+pub use Rattle.mesh_core.proofs.{VertexTableLaws.same_spot_place, VertexTableLaws.site_inside, VertexTableLaws.spot_place-below, Ways.some_way, Ways.vertex_at_stands, Ways.vertex_there}
 pub use Rattle.mesh_core.specs.{Expected.IsAtRest, Expected.NothingWaits, Ledger.Asked, Ledger.Label, Ledger.MeetsLedger, Ledger.MeetsLedgerFor, Ledger.all_hand_marks, Ledger.core_marks}
 pub use Rattle.mesh_core.specs.Ledger.{delivered_marks, dumped_marks, hand_marks, input_marks, label_of, marks_at, marks_of, port_of, unsent_marks}
-pub use Rattle.mesh_core.specs.{Opened.asked_at, Opened.asked_by, Opened.copy_from, Opened.empty_mesh, Opened.first_copy, Opened.label_in, Queues.drop_front, State.FitsHand, State.Hand, State.IsMesh}
-pub use Rattle.mesh_core.specs.{State.Queue, State.Setup, State.State, State.core, State.input, State.nowhere, State.queue_at, State.vertex_behind, Step.after_event, Step.after_events}
-pub use Rattle.mesh_core.specs.{Step.collect_of, Step.dump_of, Step.has_room_behind, Step.inject_of, Step.push_behind, Step.send_of, Step.step_of, Step.take_of, Trail.IsUnderWayAt, Trail.Mark}
-pub use Rattle.mesh_core.specs.Trail.{Station, at_core, delivered, dumped, in_hand, in_queue, is_on_trail, is_packet_on_trail, on_trail, unsent}
-pub use Rattle.mesh_core.specs.{VertexTable.spot_place, declared.places.Did.Did}
+pub use Rattle.mesh_core.specs.{Opened.asked_by, Opened.copy_from, Opened.empty_mesh, Opened.first_copy, Opened.label_in, Queues.drop_front, State.FitsHand, State.Hand, State.IsMesh, State.Queue}
+pub use Rattle.mesh_core.specs.{State.Setup, State.State, State.input, State.queue_at, State.vertex_behind, Step.after_event, Step.after_events, Step.collect_of, Step.dump_of, Step.has_room_behind}
+pub use Rattle.mesh_core.specs.{Step.inject_of, Step.push_behind, Step.send_of, Step.step_of, Step.take_of, Trail.IsUnderWayAt, Trail.Mark, Trail.Station, Trail.at_core, Trail.delivered, Trail.dumped}
+pub use Rattle.mesh_core.specs.{Trail.in_hand, Trail.in_queue, Trail.is_on_trail, Trail.is_packet_on_trail, Trail.on_trail, Trail.unsent, VertexTable.spot_place, declared.places.Did.Did}
 pub use Rattle.mesh_drain.proofs.{Frame.dumped_reached, Frame.kept_reached, Frame.reached_none, Frame.reached_then, Frame.setup_reached, Moving.after_moved, Moving.after_none, Moving.after_one}
 pub use Rattle.mesh_drain.proofs.{Moving.after_setup, Packets.few_spots, Senders.Unsent, Senders.moved_of_reached, Senders.one_less_sender, Senders.rest_from, Senders.sender_there}
 pub use Rattle.mesh_drain.proofs.Turns.{all_sent_there, as_before, is_none, is_some', one_less, there_still, was_there}
@@ -60,24 +54,21 @@ pub use Rattle.range_store.specs.{Views.CanGive, Views.Region, declared.holes.Ho
 pub use Rattle.spin_base.proofs.{Counts.count_by-append, Counts.count_by-cons, Counts.count_by-map, Counts.count_by-none, Equality.chip_eq_true, Equality.spot_eq_same, Equality.spot_eq_true}
 pub use Rattle.spin_base.proofs.{Exchange.PutIn, Exchange.count_put_in, Exchange.put_in_before, Exchange.put_in_gathered, Gathering.among_gathered, Gathering.gathered_among, Gathering.gathered_more}
 pub use Rattle.spin_base.proofs.{Gathering.gathered_nothing, Gathering.gathered_of_none, Members.Among, Members.Contains-at, Members.Contains-cases, Members.Contains-filter, Members.Contains-first}
-pub use Rattle.spin_base.proofs.Members.{Contains-from_filter, Contains-later, Contains-map, Contains-none, Contains-unmap, among_any, among_at, among_contains, among_either, among_filter}
-pub use Rattle.spin_base.proofs.Members.{among_left}
+pub use Rattle.spin_base.proofs.Members.{Contains-from_filter, Contains-later, Contains-map, Contains-none, Contains-unmap, among_any, among_at, among_contains, among_either, among_filter, among_left}
 pub use Rattle.spin_base.proofs.Members.{among_map, among_right, any_among, contains_among, map_among, position_nowhere, position_there}
-pub use Rattle.spin_base.proofs.{Pairs.All-flat_map, Pairs.AllPairs-across, Pairs.AllPairs-append, Pairs.AllPairs-head, Pairs.AllPairs-left, Pairs.AllPairs-nil, Pairs.AllPairs-right}
-pub use Rattle.spin_base.proofs.{Pairs.AllPairs-tail, Places.All-at}
-pub use Rattle.spin_base.proofs.Places.{All-each, AllZip-at_first, AllZip-at_second, enumerate_more, map_more_at, none_within, set-slice_get, slice_get-mapped, slice_get-push_cases}
-pub use Rattle.spin_base.proofs.{Places.slice_get-set_other, Places.slice_get-set_same, Places.slice_get_there, Places.take_more_at, Places.unmapped, Places.zip-first_at, Ranges.slice_get-map_range}
+pub use Rattle.spin_base.proofs.Pairs.{All-flat_map, AllPairs-across, AllPairs-append, AllPairs-head, AllPairs-left, AllPairs-nil, AllPairs-right, AllPairs-tail}
+pub use Rattle.spin_base.proofs.Places.{All-at, All-each, AllZip-at_first, AllZip-at_second, enumerate_more, none_within, set-slice_get, slice_get-mapped, slice_get-push_cases, slice_get-set_other}
+pub use Rattle.spin_base.proofs.{Places.slice_get-set_same, Places.slice_get_there, Places.take_more_at, Places.unmapped, Places.zip-first_at, Ranges.slice_get-map_range}
 pub use Rattle.spin_base.specs.{Equality.chip_eq, Equality.spot_eq, Gathered.gathered, Lookup.default_route, Lookup.matches, Outputs.IsOutput, Outputs.has, declared.blocks.Block.Block}
 pub use Rattle.spin_base.specs.declared.{blocks.Entry.Entry, chips.Chip.Chip, chips.Port.Port, chips.Spot.Spot, copies.Delivery.Delivery, copies.DumpRec.DumpRec, copies.Event.Event}
 pub use Rattle.spin_base.specs.declared.copies.{Event.TheVariants.Collect, Event.TheVariants.Dump, Event.TheVariants.Inject, Event.TheVariants.Send, Event.TheVariants.Take, McCopy.McCopy}
 pub use Rattle.spin_base.specs.declared.{copies.Packet.Packet, routes.Out.Out, routes.Out.TheVariants.Core, routes.Route.Route, wants.Memory.Memory}
 pub use Rattle.std.proofs.Common.{Bool, Err, Global, IfOk, IsTrue, List, None, Ok, OnErr, OnOk, Option, Result, Some, Vec, [], ap, append-nil, append_assoc, arith, bit_and, cond, count_by, drop}
-pub use Rattle.std.proofs.Common.{false, find, get_or, if◌then◌else◌, inl, inr, leb, length, ltb, map, max, min, not, refl, replicate, rules, set, subst, suc, sym, take, take-append-drop, true, zero}
-pub use Rattle.std.proofs.Common.{ℕ, ◌%◌, ◌&&◌, ◌*◌, ◌++◌, ◌+◌, ◌-◌, ◌/◌, ◌<◌, ◌==◌, ◌^◌, ◌||◌, ◌↔◌, ◌∙◌, ◌∷◌, ◌≡◌, ◌≢◌, ◌≤◌, ◌⊎◌}
-pub use Rattle.std.proofs.{Math.Bool.or-false, Math.Pow.pow_mono, Math.Seq.drop-cons, Math.Seq.take-length, iter.runs.Made.chains, lemmas.Bool.Decides.nat_tests, lemmas.Bool.and_from}
-pub use Rattle.std.proofs.lemmas.Bool.{and_parts, and_right, both_ways, cases_Bool, cases_eq, cases_lt, cases_order, cond-false, cond-true, cond_both, eq-eqb, eqb-true, false_from_ne_true}
-pub use Rattle.std.proofs.lemmas.Bool.{false≢true}
-pub use Rattle.std.proofs.lemmas.Bool.{le-leb, le-ltb, leb-false, leb-true, lt-leb, lt-ltb, ltb-true, ne_eqb, not-false, not-true, or_cases, or_left, or_parts, or_right}
+pub use Rattle.std.proofs.Common.{false, find, get_or, if◌then◌else◌, inl, inr, leb, length, ltb, map, max, min, not, refl, replicate, rules, set, subst, suc, sym, take, true, zero, ℕ, ◌%◌, ◌&&◌, ◌*◌}
+pub use Rattle.std.proofs.Common.{◌++◌, ◌+◌, ◌-◌, ◌/◌, ◌<◌, ◌==◌, ◌^◌, ◌||◌, ◌↔◌, ◌∙◌, ◌∷◌, ◌≡◌, ◌≢◌, ◌≤◌, ◌⊎◌}
+pub use Rattle.std.proofs.{Math.Bool.or-false, Math.Pow.pow_mono, iter.runs.Made.chains, lemmas.Bool.Decides.nat_tests, lemmas.Bool.and_from, lemmas.Bool.and_parts, lemmas.Bool.and_right}
+pub use Rattle.std.proofs.lemmas.Bool.{both_ways, cases_Bool, cases_eq, cases_lt, cases_order, cond-false, cond-true, cond_both, eq-eqb, eqb-true, false_from_ne_true, false≢true, le-leb, le-ltb}
+pub use Rattle.std.proofs.lemmas.Bool.{leb-false, leb-true, lt-leb, lt-ltb, ltb-true, ne_eqb, not-false, not-true, or_cases, or_left, or_parts, or_right}
 pub use Rattle.std.proofs.lemmas.{Grind.common_steps, Grind.flat_map-append, Grind.pow_more, Iterator.Consumers.YieldsList-at, Iterator.Consumers.YieldsList-from_chain}
 pub use Rattle.std.proofs.lemmas.Iterator.{Consumers.YieldsList-from_filter, Consumers.fold_from_yields_List, YieldsList-from_map, YieldsList-from_range, YieldsList-from_slice, items_from_collect}
 pub use Rattle.std.proofs.lemmas.List.Elements.{All-append, All-cons, All-contains, All-filter, All-from_get_or, All-head, All-map, All-nil, All-push, All-replicate, All-set, All-tail, All-weaker}
@@ -89,7 +80,7 @@ pub use Rattle.std.proofs.lemmas.List.{Sums.count_by-le-length, Sums.fails_befor
 pub use Rattle.std.proofs.lemmas.List.{drop_at, drop_more, flat_map_more, get_or-append_right, get_or-map, get_or-replicate, get_or-take, get_or_append_left, get_or_default, length-append}
 pub use Rattle.std.proofs.lemmas.List.{length-drop, length-map, length-replicate, length-set, length-take, length-take-le, length_push, map-append, map-set, same_lists, set-get_or, set_at}
 pub use Rattle.std.proofs.lemmas.{List.take-append-le, List.take-map, List.take_all, List.take_at, List.with_items_is, Nat.Bits.and_high_mask, Nat.mul-le, Nat.pow_pos, Nat.shr_split}
-pub use Rattle.std.proofs.lemmas.Option.{get_or_from_slice_get, none-some, same_Some, slice_get-get_or, slice_get_past, slice_get_read, slice_get_within, unwrap_or-slice_get}
+pub use Rattle.std.proofs.lemmas.Option.{get_or_from_slice_get, none-some, same_Some, slice_get-get_or, slice_get_read, slice_get_within, unwrap_or-slice_get}
 pub use Rattle.std.proofs.lemmas.{Result.IfErr-at_err, Result.IfOk-at_ok, Slice.Zip.AllZip-long, Slice.Zip.length-zip}
 pub use Rattle.std.specs.{BTreeMap.BTreeMap, BTreeMap.Updates, BTreeMap.is_at, Int.Bits.and_zero_r, Int.IsPowerOfTwo, List.All, List.AllPairs, List.AllZip, List.Contains, List.Sorted.IsPermutation}
 pub use Rattle.std.specs.List.{cons_option, enumerate_from, filter, filter_map, flat_map, fold, list_any, position_or_len, range_with_len, slice_get, slice_index_or, slice_set, sum_by}

@@ -5,8 +5,7 @@ use Rattle.app_loads.proofs.Common.{get_or, get_or-take, get_or_from_slice_get, 
 use Rattle.app_loads.proofs.Common.{list_any-append, map, option_map_or, or_parts, place_of, range_has, refl, row_entry, row_of_mark, same_Some, slice_get, slice_get-get_or, slice_get-mapped}
 use Rattle.app_loads.proofs.Common.{slice_get-set_other, slice_get-set_same, slice_get_there, slice_set, subst, suc, sym, table_at, table_of_sorted, tables_in, take, take_all, take_more_at, true}
 use Rattle.app_loads.proofs.Common.{zero, ℕ, ◌&&◌, ◌+◌, ◌-◌, ◌<◌, ◌==◌, ◌||◌, ◌∙◌, ◌∷◌, ◌≡◌, ◌≢◌, ◌≤◌, ◌⊎◌}
-use Rattle.app_loads.specs.declared.places.Region.{Region}
-use Rattle.app_loads.specs.declared.places.Region.TheVariants.{Memory}
+use Rattle.app_loads.specs.declared.places.Region.{Region, TheVariants.Memory}
 use Rattle.net_tables.specs.declared.marks.Mark.{Mark}
 
 -- the first of the items that are left stands at the next place

@@ -4,7 +4,7 @@ use Rattle.app_loads.proofs.Common.{Option, Some, Spot, StandsAt, State, Station
 use Rattle.app_loads.proofs.Common.{contains_among, count_by, count_by-append, count_by-map, count_covered, count_le, counted, delivered, delivered_mark, dumped, eq-eqb, eqb-true, filter, is_of}
 use Rattle.app_loads.proofs.Common.{is_of_from, is_of_parts, is_packet_on_trail, length, length-filter, mark, mark_stands, marks_of, on_trail, refl, same_Some, subst, sym, true, vertex_at_stands, ℕ}
 use Rattle.app_loads.proofs.Common.{◌&&◌, ◌==◌, ◌∙◌, ◌≡◌, ◌≤◌}
-use Rattle.app_loads.proofs.{Ledgers.trailed}
+use Rattle.app_loads.proofs.Ledgers.{trailed}
 
 abbrev mark_of : Delivery → Mark
 mark_of d = mark d.copy (delivered d.vertex)

@@ -1,8 +1,8 @@
 -- A plan has few spots, and asks the regions for few ranges.
 use Rattle.app_loads.proofs.Common.{All, AllPairs, AllZip-long, AppPlan, Block, Bool, Claim, Description, HasSize, IsInside, IsLoadedOn, IsPlan, IsRangeFor, IsUsable, List, LoadedApp, None, Option}
-use Rattle.app_loads.proofs.Common.{Some, Spot, [], arith, claims_of, count_by, false, fixed_claim, flat_map, gathered, get_or, get_or-map, if◌then◌else◌, key_claim, length, length-append}
-use Rattle.app_loads.proofs.Common.{length-map, length-range_with_len, length-zip, length_le_from_apart, map, mul-le, same_spot_place, site_inside, spot_place, spot_place-below, subst, sym, true}
-use Rattle.app_loads.proofs.Common.{usable_site, ℕ, ◌*◌, ◌+◌, ◌<◌, ◌∙◌, ◌∷◌, ◌≡◌, ◌≢◌, ◌≤◌}
+use Rattle.app_loads.proofs.Common.{Some, Spot, [], arith, claims_of, count_by, false, fixed_claim, flat_map, gathered, get_or, get_or-map, if◌then◌else◌, key_claim, length, length-append, length-map}
+use Rattle.app_loads.proofs.Common.{length-range_with_len, length-zip, length_le_from_apart, map, mul-le, same_spot_place, site_inside, spot_place, spot_place-below, subst, sym, true, usable_site, ℕ}
+use Rattle.app_loads.proofs.Common.{◌*◌, ◌+◌, ◌<◌, ◌∙◌, ◌∷◌, ◌≡◌, ◌≢◌, ◌≤◌}
 
 -- different usable cores have different places among the 24 of each chip
 pub few_spots : (m : Description) (spots : List Spot) → AllPairs (λ a b. a ≢ b) spots → All (IsUsable m) spots → length spots ≤ 24 * (m.width * m.height)

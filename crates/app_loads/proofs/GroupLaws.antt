@@ -5,8 +5,8 @@ use Rattle.app_loads.proofs.Common.{deliveries_in, delivery_of, drop, drop_at, f
 use Rattle.app_loads.proofs.Common.{is_others_group, is_own_group, is_packet_of, last_arrivals, le-leb, leb, leb-true, length, length-append, length-filter_both, length-map, length-take-le, list_any}
 use Rattle.app_loads.proofs.Common.{lt-ltb, ltb, ltb-true, not, not-false, not-true, or_parts, refl, same_Some, sent_of, set-get_or, set_at, slice_get, slice_get-get_or, slice_get_within}
 use Rattle.app_loads.proofs.Common.{slice_index_or, slice_set, subst, sym, take, take_all, take_more_at, true, ℕ, ◌&&◌, ◌++◌, ◌+◌, ◌-◌, ◌<◌, ◌||◌, ◌∙◌, ◌∷◌, ◌≡◌, ◌≢◌, ◌≤◌}
-use Rattle.app_loads.proofs.{PacketLedger.packet_bounds}
 use Rattle.app_loads.specs.declared.group.Group.TheInside.{Inside}
+use Rattle.app_loads.proofs.PacketLedger.{packet_bounds}
 
 -- ---- one group
 

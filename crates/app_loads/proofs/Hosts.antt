@@ -1,8 +1,8 @@
 -- What holds of a host holds after events of its mesh, and of its fields; keys of one block of an application are alike.
 use Rattle.app_loads.proofs.Common.{All-contains, AppNet, AreAlikeInBlocks, AreApps, Block, Contains, Contains-at, Did, Err, Event, HasMovedMesh, Host, IfSome, Inside, IsAfter, IsHost, IsKeyOf}
 use Rattle.app_loads.proofs.Common.{IsLoadedOn, IsMesh, IsMesh-after_events, IsMoved, List, LoadedApp, MeetsLedgerFor, MeetsSomeLedger, Memory, NetPlan, Ok, OnErr, OnOk, Option, Result, SendAlone}
-use Rattle.app_loads.proofs.Common.{Some, State, after_event, after_none, after_one, after_setup, all_nets, ap, arith, asked_of, events_keep_for, host_of, label_of, length, mesh_in, net_with}
-use Rattle.app_loads.proofs.Common.{nets_of, nets_with, refl, slice_get, slice_get_there, slice_get_within, subst, sym, ℕ, ◌≡◌}
+use Rattle.app_loads.proofs.Common.{Some, State, after_event, after_none, after_one, after_setup, all_nets, ap, arith, asked_of, events_keep_for, host_of, label_of, length, mesh_in, net_with, nets_of}
+use Rattle.app_loads.proofs.Common.{nets_with, refl, slice_get, slice_get_there, slice_get_within, subst, sym, ℕ, ◌≡◌}
 use Rattle.app_loads.proofs.{AppNets.member_at, LeavingLists.flat_has, RightRows.alike, Unsent.nets_with_at}
 
 -- the net that has a block

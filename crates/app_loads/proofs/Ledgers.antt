@@ -2,10 +2,9 @@
 use Rattle.app_loads.proofs.Common.{Among, AreNetsOn, Asked, Bool, Contains, Contains-first, Description, Exit, IsKeyOf, IsTrue, IsWayOn, List, Mark, McCopy, MeetsLedgerFor, NetPlan, None, Option}
 use Rattle.app_loads.proofs.Common.{PutIn, Some, Spot, State, [], among_contains, and_from, and_parts, ap, append-nil, arith, behind_unsent, cases_Bool, cases_eq, contains_among, count_by}
 use Rattle.app_loads.proofs.Common.{count_by-cons, count_by-none, count_le, count_put_in, count_some, counted, eq-eqb, eqb-true, false, false_from_ne_true, if◌then◌else◌, inl, inr, is_on_trail}
-use Rattle.app_loads.proofs.Common.{is_packet_on_trail, label_of, map-append, mark, mark_eq, mark_eq_same, mark_eq_true, marks_at, marks_of, ne_eqb, none-some, one_net, put_in_before}
-use Rattle.app_loads.proofs.Common.{put_in_gathered, refl, same_Some, slice_get, slice_set, some_way, subst, sym, true, unsent, unsent_marks, vertex_at, ℕ, ◌++◌, ◌+◌, ◌==◌, ◌∙◌, ◌∷◌, ◌≡◌, ◌≢◌, ◌≤◌}
-use Rattle.app_loads.proofs.Common.{◌⊎◌}
-use Rattle.app_loads.proofs.{LeavingLists.one_if}
+use Rattle.app_loads.proofs.Common.{is_packet_on_trail, label_of, map-append, mark, mark_eq, mark_eq_same, mark_eq_true, marks_at, marks_of, ne_eqb, none-some, one_net, put_in_before, put_in_gathered}
+use Rattle.app_loads.proofs.Common.{refl, same_Some, slice_get, slice_set, some_way, subst, sym, true, unsent, unsent_marks, vertex_at, ℕ, ◌++◌, ◌+◌, ◌==◌, ◌∙◌, ◌∷◌, ◌≡◌, ◌≢◌, ◌≤◌, ◌⊎◌}
+use Rattle.app_loads.proofs.LeavingLists.{one_if}
 
 -- ---- marks that are equal
 

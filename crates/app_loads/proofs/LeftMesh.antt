@@ -1,7 +1,7 @@
 -- A mesh and regions that an application leaves.
 use Rattle.app_loads.proofs.Common.{All, AllPairs-right, AreFreeBeside, AreTaken, CanClear, CanLeave, Delivery, Description, DumpRec, Entry, IsMesh, IsRangeWithin, List, LoadedApp, Range, Region}
 use Rattle.app_loads.proofs.Common.{Setup, ShareNoPlace, State, ap, free_places_in, frees, length, length-map, refl, subst, sym, ◌++◌, ◌∙◌, ◌≡◌}
-use Rattle.app_loads.proofs.{Settling.changed_mesh}
+use Rattle.app_loads.proofs.Settling.{changed_mesh}
 
 -- a mesh with other tables, deliveries and records
 pub mesh_with : (s : State) (tables : List (List Entry)) (delivered : List Delivery) (dumped : List DumpRec) → IsMesh s → length tables ≡ length s.setup.tables →

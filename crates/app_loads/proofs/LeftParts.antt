@@ -3,9 +3,9 @@ use Rattle.app_loads.proofs.Common.{AreApps, AreGivenBack, CanLeave, Contains, C
 use Rattle.app_loads.proofs.Common.{None, NoneUnderWay, NoneWaits, NotLoaded, Ok, OnOk, Region, Result, SendAlone, Some, State, UnloadErr, Waiting, all_ranges, any_among, ap, arith, drop, drop-map}
 use Rattle.app_loads.proofs.Common.{eqb-true, false, false_from_ne_true, frees, get_or, host_of, is_loaded, is_some, map-append, mesh_in, others_than, position, position_nowhere, position_there}
 use Rattle.app_loads.proofs.Common.{same_Some, slice_get, slice_get-get_or, slice_get_within, subst, suc, sym, take, take-map, ℕ, ◌++◌, ◌==◌, ◌∙◌, ◌≡◌}
+use Rattle.app_loads.specs.declared.answers.UnloadErr.TheVariants.{Memory}
 use Rattle.app_loads.proofs.{FewClaims.few_ranges, LeftHost.apps_left, LeftHost.has_unloaded, LeftHost.loaded_one, LeftHost.none_waits, LeftHost.taken_beside, LoadedParts.IsOut, LoadedParts.host_is}
 use Rattle.app_loads.proofs.{LoadedParts.mesh_h, LoadedParts.old_is, Others.without_one, Resting.left_alone}
-use Rattle.app_loads.specs.declared.answers.UnloadErr.TheVariants.{Memory}
 
 -- where no place is found, the number is not loaded
 pub not_loaded : (apps : List LoadedApp) (number : ℕ) → position (λ (app : LoadedApp). app.number == number) apps ≡ None → is_loaded apps number ≡ false

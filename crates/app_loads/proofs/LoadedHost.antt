@@ -9,10 +9,10 @@ use Rattle.app_loads.proofs.Common.{false≢true, filter_map, filter_map-append,
 use Rattle.app_loads.proofs.Common.{length, list_any, list_any-append, ltb, marks_at, marks_of, ne_eqb, nets_of, none-some, not, option_map_or, or_parts, refl, same_Some, same_lists, slice_get}
 use Rattle.app_loads.proofs.Common.{slice_get-get_or, slice_get-set_other, slice_get-set_same, slice_get_there, slice_get_within, slice_set, spot_eq, spot_eq_same, subst, suc, sym, take, take_all}
 use Rattle.app_loads.proofs.Common.{true, unsent, unsent_marks, vertex_at_stands, zero, ℕ, ◌&&◌, ◌++◌, ◌+◌, ◌<◌, ◌==◌, ◌∙◌, ◌∷◌, ◌≡◌, ◌≢◌, ◌≤◌}
+use Rattle.app_loads.specs.declared.answers.LoadErr.TheVariants.{Memory}
 use Rattle.app_loads.proofs.{AppNets.disjoint_blocks, AppNets.facts_of, AppNets.nets_on, AppNets.packet_key, ClaimCases.facts, Holes.same_holes, Served.loaded_from, LeavingLists.any_flat}
 use Rattle.app_loads.proofs.{LeavingLists.flat_has, LeavingLists.flat_of, Ledgers.more_nets, Others.pairs_with_last, PacketLedger.asked_is, PacketLedger.none_past, PacketLedger.other_tables}
 use Rattle.app_loads.proofs.{PacketLedger.same_packets, PacketLedger.sent_ledger, RegionLaws.one_free, RightRows.RowsIn, RightRows.right_rows, RightRows.rows_stay, Settling.settled_mesh}
-use Rattle.app_loads.specs.declared.answers.LoadErr.TheVariants.{Memory}
 
 -- regions with the same free places are the same
 pub same_frees : (m : Description) (taken : List Range) (xs ys : List Free) → AreFreeBeside m taken xs → AreFreeBeside m taken ys → xs ≡ ys

@@ -1,10 +1,10 @@
 -- Each net of a plan has one claim of keys, and so one block.
 use Rattle.app_loads.proofs.Common.{AppNet, AppPlan, Block, Bool, Claim, Description, IsBlockOf, Keys, List, LoadRefusal, None, Option, Range, Rows, Some, [], among_at, ap, arith, cases_order}
 use Rattle.app_loads.proofs.Common.{chip_count, chip_of, claims_of, count_by, count_by-append, count_by-cons, count_some, counts_one, eq-eqb, false, fixed_claim, flat_map, gathered, has_chip}
-use Rattle.app_loads.proofs.Common.{if◌then◌else◌, inl, inr, key_claim, le-leb, leb, lt-leb, memory_claim, ne_eqb, range_with_len, refl, row_claim, same_Some, same_block, size_for, size_of}
-use Rattle.app_loads.proofs.Common.{slice_get, suc, sym, true, zero, zip, ℕ, ◌++◌, ◌+◌, ◌==◌, ◌∙◌, ◌∷◌, ◌≡◌, ◌≤◌}
-use Rattle.app_loads.proofs.{LeavingLists.none_where, LeavingLists.one_if, LeavingLists.one_where}
+use Rattle.app_loads.proofs.Common.{if◌then◌else◌, inl, inr, key_claim, le-leb, leb, lt-leb, memory_claim, ne_eqb, range_with_len, refl, row_claim, same_Some, same_block, size_for, size_of, slice_get}
+use Rattle.app_loads.proofs.Common.{suc, sym, true, zero, zip, ℕ, ◌++◌, ◌+◌, ◌==◌, ◌∙◌, ◌∷◌, ◌≡◌, ◌≤◌}
 use Rattle.app_loads.specs.declared.places.Region.TheVariants.{Memory}
+use Rattle.app_loads.proofs.LeavingLists.{none_where, one_if, one_where}
 use Rattle.app_loads.specs.declared.answers.LoadRefusal.TheVariants as refusals
 
 -- whether a claim is for the keys of a net

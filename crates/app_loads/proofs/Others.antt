@@ -4,7 +4,7 @@ use Rattle.app_loads.proofs.Common.{Contains, Contains-at, Contains-filter, Cont
 use Rattle.app_loads.proofs.Common.{any_among, ap, arith, cases_Bool, cond-false, cond-true, cond_both, contains_among, drop, eq-eqb, eqb-true, false, false≢true, filter, flat_map, get_or, inl, inr}
 use Rattle.app_loads.proofs.Common.{list_any, ne_eqb, not, or_cases, or_left, or_right, others_than, refl, same_Some, slice_get, slice_get-get_or, subst, suc, sym, take, true, zero, ℕ, ◌++◌, ◌==◌}
 use Rattle.app_loads.proofs.Common.{◌||◌, ◌∙◌, ◌∷◌, ◌≡◌, ◌≢◌, ◌⊎◌}
-use Rattle.app_loads.proofs.{LeavingLists.either_pair, LeavingLists.flat_has, LeavingLists.flat_of}
+use Rattle.app_loads.proofs.LeavingLists.{either_pair, flat_has, flat_of}
 
 pub same_tests : (a b : Bool) → (a ≡ true → b ≡ true) → (b ≡ true → a ≡ true) → a ≡ b
 same_tests true b forth back = sym (forth refl)

@@ -4,7 +4,7 @@ use Rattle.app_loads.proofs.Common.{NetPlan, None, Option, Packet, Some, Spot, S
 use Rattle.app_loads.proofs.Common.{cases_Bool, cases_eq, cases_lt, either, eq-eqb, false, false_from_ne_true, get_or_from_slice_get, if◌then◌else◌, inl, inr, is_packet_of, label_in, le-leb, leb}
 use Rattle.app_loads.proofs.Common.{leb-true, length, length-map, link_on_branch, lt-leb, lt-ltb, ltb, ltb-true, ne_eqb, net_in_list, nets_of, none-some, refl, slice_get, slice_get_within, slice_set}
 use Rattle.app_loads.proofs.Common.{subst, suc, sym, true, zero, ℕ, ◌++◌, ◌+◌, ◌-◌, ◌<◌, ◌==◌, ◌∙◌, ◌∷◌, ◌≡◌, ◌≢◌, ◌≤◌}
-use Rattle.app_loads.proofs.{Ledgers.one_packet_more}
+use Rattle.app_loads.proofs.Ledgers.{one_packet_more}
 
 -- a routing tree has a target
 some_target : (m : Description) (net : NetPlan) → IsRoutingTree m net.tree.root net.tree.edges net.targets → (t : Spot) × Contains net.targets t

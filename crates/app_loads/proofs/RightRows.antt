@@ -4,12 +4,12 @@ use Rattle.app_loads.proofs.Common.{Contains-map, Contains-none, Contains-permut
 use Rattle.app_loads.proofs.Common.{IsLoadedOn, IsOriginalOf, IsOutput, IsPermutation-sym, IsPlainTable, IsRangeFor, IsRoutingTree, List, LoadedApp, NetPlan, Original, Out, Port, Range, Route}
 use Rattle.app_loads.proofs.Common.{RoutesByTree, Row, Rows, ShareNoPlace, Some, [], all_nets, all_ranges, and_parts, and_zero_r, ap, arith, bit_and, cases_Bool, chip_of, chip_of-index_of}
 use Rattle.app_loads.proofs.Common.{chip_of-inside, chips_inside, claims_of, comes_in_tree, cond, contains_among, count_by, count_some, default_route, drop, entry_of, eq-eqb, eqb-true, false}
-use Rattle.app_loads.proofs.Common.{false≢true, find, from_net, get_or, has, has_chip, has_original, index_below, index_of, index_of-chip_of, inl, inr, is_taken, is_wanted, leb-true, length}
-use Rattle.app_loads.proofs.Common.{ltb-true, map, matches, nets_of, one_net, option_map_or, place_of, range_has, refl, row_of, same_Some, slice_get, slice_get-get_or, slice_get-mapped, subst, suc}
-use Rattle.app_loads.proofs.Common.{sym, table_at, take, true, unmapped, unused, zero, ℕ, ◌*◌, ◌+◌, ◌-◌, ◌<◌, ◌==◌, ◌∙◌, ◌∷◌, ◌≡◌, ◌≤◌}
+use Rattle.app_loads.proofs.Common.{false≢true, find, from_net, get_or, has, has_chip, has_original, index_below, index_of, index_of-chip_of, inl, inr, is_taken, is_wanted, leb-true, length, ltb-true}
+use Rattle.app_loads.proofs.Common.{map, matches, nets_of, one_net, option_map_or, place_of, range_has, refl, row_of, same_Some, slice_get, slice_get-get_or, slice_get-mapped, subst, suc, sym}
+use Rattle.app_loads.proofs.Common.{table_at, take, true, unmapped, unused, zero, ℕ, ◌*◌, ◌+◌, ◌-◌, ◌<◌, ◌==◌, ◌∙◌, ◌∷◌, ◌≡◌, ◌≤◌}
+use Rattle.spin_base.specs.Lookup.{lookup}
 use Rattle.app_loads.proofs.{AppNets.facts_of, AppNets.member_at, AppNets.spot_inside, ClaimCases.chip_claim, Copying.mine_at, Copying.same_part, LeavingLists.flat_has, LeavingLists.flat_of}
 use Rattle.app_loads.proofs.{Serving.by_taken, Serving.none_taken, Settling.has_chip-true}
-use Rattle.spin_base.specs.Lookup.{lookup}
 
 -- ---- lookup in a table where all that match agree
 

@@ -3,7 +3,7 @@ use Rattle.app_loads.proofs.Common.{All, All-each, AllPairs-right, AllZip, AppPl
 use Rattle.app_loads.proofs.Common.{Description, IsFair, IsLoadedOn, IsPlan, IsRangeFor, IsRangeWithin, IsServedApp, List, LoadedApp, NoneUnsent, Range, Region, ShareNoPlace, Some, State, [], ap}
 use Rattle.app_loads.proofs.Common.{arith, chip_count, claims_of, free_places_in, length, length-map, place_of, pow_mono, pow_pos, refl, region_size, slice_get, slice_get-get_or, slice_get_within}
 use Rattle.app_loads.proofs.Common.{subst, suc, sym, ℕ, ◌%◌, ◌+◌, ◌<◌, ◌^◌, ◌∙◌, ◌∷◌, ◌≡◌, ◌≤◌}
-use Rattle.app_loads.proofs.{ClaimCases.facts, ClaimCases.net_claim}
+use Rattle.app_loads.proofs.ClaimCases.{facts, net_claim}
 
 pub can_serve : (m : Description) (plan : AppPlan) (regions : List Region) (claims : List Claim) → IsPlan m plan → AreRegionsOf m regions → claims ≡ claims_of m plan → CanServe m claims regions
 can_serve m plan regions claims valid own is = (own, subst (All (IsFair m (length regions))) (sym is) (All-each (IsFair m (length regions)) (claims_of m plan) fair))

@@ -4,12 +4,12 @@ use Rattle.app_loads.proofs.Common.{AllPairs-right, AllPairs-tail, AreFreeBeside
 use Rattle.app_loads.proofs.Common.{HaveServed, IfSome, IsDueAlways, IsDueOf, IsFair, IsFairFor, IsFreeBeside, IsLeastOpenRange, IsRangeWithin, IsRefusalDue, List, LoadErr, Range, Refused, Region}
 use Rattle.app_loads.proofs.Common.{ServesClaim, ShareNoPlace, Some, [], among_any, among_contains, among_either, among_right, and_from, and_parts, and_right, any_among, ap, append-nil, append_assoc}
 use Rattle.app_loads.proofs.Common.{arith, both_ways, cases_Bool, cases_eq, contains_among, count_by, count_by-append, count_by-cons, count_by-le-length, drop, drop_all, drop_more, eq-eqb, eqb-true}
-use Rattle.app_loads.proofs.Common.{false, false_from_ne_true, free_places_in, frees, get_or, in_facts, in_range, inl, inr, is_free, is_taken, length, length-set, length_push, list_any-append}
-use Rattle.app_loads.proofs.Common.{lt-ltb, ltb, map-set, ne_eqb, none-some, not, or-false, or_right, place_of, range_has, refl, region_size, replicate, same_Some, set-slice_get, slice_get}
-use Rattle.app_loads.proofs.Common.{slice_get-get_or, slice_get-mapped, slice_get-push_cases, slice_get-set_other, slice_get-set_same, slice_get_within, slice_set, subst, suc, sym, take}
-use Rattle.app_loads.proofs.Common.{take-append-le, take_at, true, zero, ℕ, ◌%◌, ◌&&◌, ◌++◌, ◌+◌, ◌<◌, ◌==◌, ◌||◌, ◌∙◌, ◌∷◌, ◌≡◌, ◌≢◌, ◌≤◌, ◌⊎◌}
-use Rattle.app_loads.proofs.{LeavingLists.one_if, Others.pairs_with_last}
+use Rattle.app_loads.proofs.Common.{false, false_from_ne_true, free_places_in, frees, get_or, in_facts, in_range, inl, inr, is_free, is_taken, length, length-set, length_push, list_any-append, lt-ltb}
+use Rattle.app_loads.proofs.Common.{ltb, map-set, ne_eqb, none-some, not, or-false, or_right, place_of, range_has, refl, region_size, replicate, same_Some, set-slice_get, slice_get, slice_get-get_or}
+use Rattle.app_loads.proofs.Common.{slice_get-mapped, slice_get-push_cases, slice_get-set_other, slice_get-set_same, slice_get_within, slice_set, subst, suc, sym, take, take-append-le, take_at, true}
+use Rattle.app_loads.proofs.Common.{zero, ℕ, ◌%◌, ◌&&◌, ◌++◌, ◌+◌, ◌<◌, ◌==◌, ◌||◌, ◌∙◌, ◌∷◌, ◌≡◌, ◌≢◌, ◌≤◌, ◌⊎◌}
 use Rattle.app_loads.specs.declared.answers.LoadErr.TheVariants.{Memory}
+use Rattle.app_loads.proofs.{LeavingLists.one_if, Others.pairs_with_last}
 
 -- ---- lists
 

@@ -1,8 +1,8 @@
 -- The application of a number, where its place is asked for.
+use Rattle.app_loads.proofs.Common.{All, All-contains, Among, AreApps, Bool, Contains, Host, IsLoadedOn, IsUsable, List, LoadedApp, None, Some, Spot, among_any, among_at, among_contains, among_filter}
+use Rattle.app_loads.proofs.Common.{any_among, ap, arith, both_ways, contains_among, eq-eqb, false, false_from_ne_true, get_or, is_loaded, is_spot_taken, list_any, not, not-true, others_than}
+use Rattle.app_loads.proofs.Common.{position, spot_eq, spot_eq_true, sym, true, ℕ, ◌==◌, ◌||◌, ◌∙◌, ◌≡◌, ◌≢◌}
 pub use Rattle.app_loads.proofs.Others.{same_tests}
-use Rattle.app_loads.proofs.Common.{All, All-contains, Among, AreApps, Bool, Contains, Host, IsLoadedOn, IsUsable, List, LoadedApp, None, Some, Spot, among_any, among_at, among_contains}
-use Rattle.app_loads.proofs.Common.{among_filter, any_among, ap, arith, both_ways, contains_among, eq-eqb, false, false_from_ne_true, get_or, is_loaded, is_spot_taken, list_any, not, not-true}
-use Rattle.app_loads.proofs.Common.{others_than, position, spot_eq, spot_eq_true, sym, true, ℕ, ◌==◌, ◌||◌, ◌∙◌, ◌≡◌, ◌≢◌}
 use Rattle.app_loads.proofs.{LeftParts.found_app, LeftParts.not_loaded, Others.HaveNumbers, Others.across_pairs, Others.any_app, Others.only_one}
 
 -- a number of an application is loaded

@@ -49,7 +49,7 @@ module _ (p e : Block) (i v w : ℕ) (free : bit_at p.mask i ≡ 0) (cares : bit
   half_bit k m = Matches-wants (narrow p e (2 ^ i) v) k i w m half_here
 
   half_has : (k : ℕ) → Matches p k → bit_at k i ≡ w → Matches (narrow p e (2 ^ i) v) k
-  half_has k m bit = Matches-from_wants _ _ (λ j x want. elim (wants_half j x want) [ | inl this ↦ ap (bit_at k) this.0 ∙ (bit ∙ sym this.1) | inr of_p ↦ Matches-wants p k j x m of_p ])
+  half_has k m bit = Matches-from_wants _ _ (λ j x want. elim (wants_half j x want) [ inl this ↦ ap (bit_at k) this.0 ∙ (bit ∙ sym this.1) | inr of_p ↦ Matches-wants p k j x m of_p ])
 
 -- ---- the two halves
 

@@ -4,8 +4,8 @@ pub use Rattle.chip_node.specs.{Acting.service_items, Acting.turn_of_both, Ends.
 pub use Rattle.chip_node.specs.Going.{HasAmpleRoom, HoldsSender, IsEndOf, IsFullEnd, IsFullMoment, IsIdle, IsIdleAt, IsSending, LaneGoes, SenderGoes, Stays, TakerGoes}
 pub use Rattle.chip_node.specs.Items.{Item, Service, brought, delivered_of, deliveries, dumped_of, entered, entered_by, got, injection_place, left, left_by, lost, lost_at, lost_by, port_place}
 pub use Rattle.chip_node.specs.{Items.recorded, Items.records, Items.sent, Items.sent_by, Items.sent_in, Items.served, Items.took, Items.where_same, Offers.RefusesOffers, Offers.Sends as SendsOffer}
-pub use Rattle.chip_node.specs.{Offers.full_noted_often, Passing.EndLacks, Passing.EndRefuses, Passing.EndSends, Passing.EndServes, Passing.EndTakes, Passing.IsSeen, Passing.SendsBehind}
-pub use Rattle.chip_node.specs.{Passing.SendsThere, Routing.outputs_at, Taking.AreOuts, Taking.HasRoomBehind, Taking.HasRoomForOuts, Taking.HasRoomIn, Taking.Looks, declared.ends.End.End}
+pub use Rattle.chip_node.specs.Passing.{EndLacks, EndRefuses, EndSends, EndServes, EndTakes, IsSeen, SendsBehind, SendsThere}
+pub use Rattle.chip_node.specs.{Routing.outputs_at, Taking.AreOuts, Taking.HasRoomBehind, Taking.HasRoomForOuts, Taking.HasRoomIn, Taking.Looks, declared.ends.End.End}
 pub use Rattle.chip_node.specs.declared.ends.{End.TheVariants.Away, End.TheVariants.Own, End.TheVariants.Sends, End.TheVariants.Takes, InEnd.InEnd, OutEnd.OutEnd, Seen.TheVariants.Front}
 pub use Rattle.chip_node.specs.declared.{ends.Served.Served, ends.Served.TheVariants.Dumped, ends.Served.TheVariants.Sent, holdings.Holdings.Holdings, holdings.Turn.TheVariants.Moved}
 pub use Rattle.chip_node.specs.declared.{holdings.Turn.TheVariants.Nothing, holdings.Turn.TheVariants.Waits, holdings.Turn.Turn, nodes.Behind.Behind, nodes.CoreBank.CoreBank}

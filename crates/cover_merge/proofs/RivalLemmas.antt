@@ -306,9 +306,6 @@ pub record AreNumberedTo (rows : List Row) (n : ℕ) (serials : List ℕ) (of : 
   pub is_place : (k : ℕ) → k < n → get_or serials k 0 ≡ k
   pub each : (k : ℕ) (d : List Rival) → k < n → AreRivalsByPlace rows k (get_or of k d)
 
-pub numbered_none : (rows : List Row) (serials : List ℕ) (of : List (List Rival)) → serials ≡ [] → of ≡ [] → AreNumberedTo rows 0 serials of
-numbered_none rows serials of no_serials no_lists = grind arith
-
 module _ (rows : List Row) (n : ℕ) (serials : List ℕ) (of : List (List Rival)) (are : AreNumberedTo rows n serials of) where
   pub numbered_more : (more : List ℕ) (lists : List (List Rival)) (list : List Rival) → more ≡ serials ++ n ∷ [] → lists ≡ of ++ list ∷ [] → AreRivalsByPlace rows n list → AreNumberedTo rows (n + 1) more lists
   numbered_more more lists list is are_lists found = record {

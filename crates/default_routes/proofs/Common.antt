@@ -1,4 +1,3 @@
-use Rattle.std.proofs.Common.{arith}
 -- The names that the proofs of this crate cite from outside of them, passed on from one place. Declares nothing.
 pub use Rattle.cover_merge.proofs.{Answering.fails, Determined.one_covering, Lists.All-flat_map, Lists.AllPairs-nil, Positions.All-has, Positions.has-at, Positions.has-place, Positions.rows_at-from}
 pub use Rattle.cover_merge.proofs.Positions.{rows_at-has, rows_at-length, rows_at-push}
@@ -10,8 +9,8 @@ pub use Rattle.spin_base.proofs.{Members.Contains-map, RouteBits.same_route}
 pub use Rattle.spin_base.specs.{Lookup.default_route, Lookup.lookup, Lookup.matches, Lookup.straight_on, declared.blocks.Entry.Entry, declared.chips.Dir.Dir, declared.chips.Dir.TheVariants.East}
 pub use Rattle.spin_base.specs.declared.chips.{Dir.TheVariants.North, Dir.TheVariants.NorthEast, Dir.TheVariants.South, Dir.TheVariants.SouthWest, Dir.TheVariants.West, Port.Port}
 pub use Rattle.spin_base.specs.declared.chips.Port.TheVariants.{Link}
-pub use Rattle.std.proofs.Common.{Bool, List, Some, [], ap, arith, cond, false, get_or, inl, inr, length, refl, reverse, subst, suc, sym, take, true, ℕ, ◌++◌, ◌+◌, ◌-◌, ◌<◌, ◌==◌, ◌^◌, ◌∙◌, ◌∷◌, ◌≡◌}
-pub use Rattle.std.proofs.Common.{◌≤◌, ◌⊎◌}
+pub use Rattle.std.proofs.Common.{Bool, List, Some, [], ap, arith, cond, false, get_or, inl, inr, length, refl, reverse, rules, subst, suc, sym, take, true, ℕ, ◌++◌, ◌+◌, ◌-◌, ◌<◌, ◌==◌, ◌^◌, ◌∙◌}
+pub use Rattle.std.proofs.Common.{◌∷◌, ◌≡◌, ◌≤◌, ◌⊎◌}
 pub use Rattle.std.proofs.lemmas.{Bool.Decides.eqb_tells, Bool.cases_lt, Bool.eq-eqb, List.Elements.All-append, List.Elements.All-cons, List.Elements.All-head, List.Elements.All-map}
 pub use Rattle.std.proofs.lemmas.List.{Elements.All-more, Elements.All-nil, Elements.All-tail, Elements.All-weaker, Elements.Contains-get_or, Kept.AllPairs-cons, Quantifiers.all_pairs_push}
 pub use Rattle.std.proofs.lemmas.List.{Sorted.All-permutation, Sorted.IsPermutation-refl, Sorted.IsPermutation-sym, get_or-reverse, get_or_default, length-map, length-reverse, map_push}

@@ -1,9 +1,8 @@
 -- The loaded rows route as the table given does.
 use Rattle.default_routes.proofs.Common.{All, All-has, All-head, All-map, All-permutation, All-tail, AreKept, ArePlaces, Bool, Contains, Covers, Entry, Final, HasNoLegalPair, HasRoutesOf}
 use Rattle.default_routes.proofs.Common.{HaveRoutesOf, IsFinalOf, IsPermutation, IsPermutation-sym, IsShortened, IsSound, List, MatchesNoKey, Original, Port, Routes, RoutesAlone, Row, Some, [], after}
-use Rattle.default_routes.proofs.Common.{ap, arith, cond, default_route, entry_of, false, find, get_or, length, length-map, lookup, map, map_push, matches, merged, option_map_or, refl, rows_at}
-use Rattle.default_routes.proofs.Common.{rows_at-from, rows_at-length, rows_at-push, served, short, slice_get-get_or, stuck, subst, sym, take, take_more, true, ℕ, ◌++◌, ◌+◌, ◌<◌, ◌∙◌, ◌∷◌, ◌≡◌, ◌≤◌}
-use Rattle.default_routes.proofs.Common.{◌⊎◌}
+use Rattle.default_routes.proofs.Common.{ap, arith, cond, default_route, entry_of, find, get_or, length, length-map, lookup, map, map_push, matches, merged, option_map_or, refl, rows_at, rows_at-from}
+use Rattle.default_routes.proofs.Common.{rows_at-length, rows_at-push, served, short, slice_get-get_or, stuck, subst, sym, take, take_more, ℕ, ◌++◌, ◌+◌, ◌<◌, ◌∙◌, ◌∷◌, ◌≡◌, ◌≤◌, ◌⊎◌}
 use Rattle.default_routes.proofs.StripLemmas.{kept_places}
 
 -- entries that match no key change no lookup

@@ -1,11 +1,10 @@
 -- Kept rows route as all rows do.
 use Rattle.default_routes.proofs.Common.{Alias, All, All-append, All-cons, All-flat_map, All-head, All-map, All-more, All-nil, All-tail, All-weaker, AllPairs, AllPairs-cons, AllPairs-nil, AreKept}
-use Rattle.default_routes.proofs.Common.{ArePlaces, Bool, Dir, East, Entry, IsSound, IsStrippable, IsTrue, KeptFrom, Link, List, MatchBool, Matches, Misses, North, NorthEast, Original, Port, Routes}
-use Rattle.default_routes.proofs.Common.{RoutesAll, Row, Some, South, SouthWest, West, [], all_pairs_push, ap, arith, bit_and, cases_lt, cond, cons_option, default_route, ends, entry_of, eq-eqb}
-use Rattle.default_routes.proofs.Common.{eqb_tells, fails, false, find, get_or, get_or-reverse, get_or_default, get_or_from_slice_get, goes, has-at, has-place, has_row, if◌then◌else◌, inl, inr}
-use Rattle.default_routes.proofs.Common.{length, length-reverse, lookup, map, matches, option_map_or, refl, reverse, reverse-append, reverse-reverse, rows_at, rows_at-from, rows_at-has, same_route}
-use Rattle.default_routes.proofs.Common.{served, served_by, slice_get, slice_get_read, slice_get_within, stays, straight_on, subst, suc, sym, take, take_more, true, ℕ, ◌++◌, ◌+◌, ◌-◌, ◌<◌, ◌==◌, ◌^◌}
-use Rattle.default_routes.proofs.Common.{◌↔◌, ◌∙◌, ◌∷◌, ◌≡◌, ◌≤◌, ◌⊎◌}
+use Rattle.default_routes.proofs.Common.{ArePlaces, Bool, Dir, East, IsSound, IsStrippable, IsTrue, KeptFrom, Link, List, MatchBool, Matches, Misses, North, NorthEast, Original, Port, Routes}
+use Rattle.default_routes.proofs.Common.{RoutesAll, Row, Some, South, SouthWest, West, [], all_pairs_push, ap, arith, bit_and, cases_lt, cons_option, default_route, ends, entry_of, eq-eqb, eqb_tells}
+use Rattle.default_routes.proofs.Common.{fails, false, get_or, get_or-reverse, get_or_default, get_or_from_slice_get, goes, has-at, has-place, has_row, if◌then◌else◌, inl, inr, length, length-reverse}
+use Rattle.default_routes.proofs.Common.{lookup, map, refl, reverse, reverse-append, reverse-reverse, rows_at, rows_at-from, rows_at-has, same_route, served, served_by, slice_get, slice_get_read}
+use Rattle.default_routes.proofs.Common.{slice_get_within, stays, straight_on, subst, suc, sym, take, take_more, true, ℕ, ◌++◌, ◌+◌, ◌-◌, ◌<◌, ◌==◌, ◌^◌, ◌↔◌, ◌∙◌, ◌∷◌, ◌≡◌, ◌≤◌}
 
 -- ---- lookup, entry by entry
 

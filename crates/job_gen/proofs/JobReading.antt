@@ -4,8 +4,8 @@ use Rattle.job_gen.proofs.Common.{generated_net_name, generated_vertex, if◌the
 use Rattle.job_gen.proofs.Common.{slice_index, unwrap_or, vertex_data, vertex_value, ℕ, ◌+◌, ◌-◌, ◌<◌, ◌∙◌, ◌∷◌, ◌≡◌, ◌≤◌}
 use Rattle.app_graph.specs.RunPart.{key_count_of}
 use Rattle.job_readers.specs.{Items.items_faults, Members.flag_member, Members.flag_member_faults, Members.list_member, Members.number_member, Members.number_member_faults, Members.optional_number}
-use Rattle.job_readers.specs.{Entries.chip_faults, Entries.chip_value, Job.job_own_faults, Members.list_member_faults, Members.long_list_member_faults, Places.reference_faults, Places.reference_value}
-use Rattle.job_readers.specs.{Job.version_faults, Job.version_value, MachinePart.entries_faults, MachinePart.machine_faults, MachinePart.machine_members, MachinePart.machine_members_faults}
+use Rattle.job_readers.specs.{Entries.chip_faults, Entries.chip_value, Job.job_own_faults, Job.version_faults, Job.version_value, Members.list_member_faults, Members.long_list_member_faults}
+use Rattle.job_readers.specs.{MachinePart.entries_faults, MachinePart.machine_faults, MachinePart.machine_members, MachinePart.machine_members_faults, Places.reference_faults, Places.reference_value}
 use Rattle.job_readers.specs.{GraphPart.graph_faults, GraphPart.graph_members, GraphPart.graph_members_faults, GraphPart.graph_value, GraphPart.name_value, MachinePart.machine_value}
 use Rattle.job_readers.specs.{GraphPart.net_names, GraphPart.net_value, GraphPart.nets_faults, GraphPart.nets_value, GraphPart.vertices_faults, GraphPart.vertices_value, RunPart.events_faults}
 use Rattle.job_readers.specs.RunPart.{events_value, packet_faults, packet_net, packet_net_faults, packet_value, packets_faults, packets_value, places_faults, run_faults, run_members_faults}

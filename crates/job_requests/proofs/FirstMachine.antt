@@ -1,8 +1,6 @@
 -- Of the machines of a list's loads the first alone is kept.
-use Rattle.std.proofs.Common.{arith}
-use Rattle.job_requests.proofs.Common.{Bool, Data, HasFirstMachine, List, Load, Run, Step, Unload, [], after_head, ap, bytes_eq, codes, false, first_machine_alone, get_or, head_word, if◌then◌else◌}
-use Rattle.job_requests.proofs.Common.{is_load, is_some, items_in, kept_step, length, list_any, list_any-append, load_of, map, map-append, or-false, refl, sym, take, true, unload_of, unwrap_or}
-use Rattle.job_requests.proofs.Common.{values-more, without_machine, ℕ, ◌++◌, ◌+◌, ◌<◌, ◌||◌, ◌∙◌, ◌∷◌, ◌≡◌}
+use Rattle.job_requests.proofs.Common.{Bool, Data, HasFirstMachine, List, Load, Run, Step, Unload, [], ap, arith, first_machine_alone, get_or, is_load, is_some, kept_step, length, list_any}
+use Rattle.job_requests.proofs.Common.{list_any-append, map, map-append, or-false, refl, take, true, unwrap_or, values-more, without_machine, ℕ, ◌++◌, ◌+◌, ◌<◌, ◌||◌, ◌∷◌, ◌≡◌}
 use Rattle.job_requests.specs.Steps.{step_value, worded_step}
 
 -- ---- one step more

@@ -1,10 +1,8 @@
 -- A job of version 1 or 2 has no device.
-use Rattle.job_requests.proofs.Common.{All, All-each, Bool, Contains-unmap, Data, List, None, Option, Some, Vertex, [], and_parts, ap, arith, codes, false, if◌then◌else◌, is_within, job_own_faults}
-use Rattle.job_requests.proofs.Common.{leb-true, link_value, list_member, lt-leb, member_at, member_of, nat_le, none_first, none_inside, number_faults, number_value, object_value, option_map}
-use Rattle.job_requests.proofs.Common.{range_unless, refl, subst, true, typed_faults, unwrap_or, whole_number, ℕ, ◌≡◌, ◌≤◌}
-use Rattle.job_readers.specs.{GraphPart.device_value, GraphPart.graph_members, GraphPart.graph_value, Job.version_faults, Job.version_value}
-use Rattle.job_readers.specs.{GraphPart.vertex_value, GraphPart.vertices_value, Members.member_since, Members.number_member, Members.number_member_faults, WholeJob.job_faults}
-use Rattle.job_readers.specs.WholeJob.{job_value}
+use Rattle.job_requests.proofs.Common.{All, All-each, Bool, Contains-unmap, Data, List, None, Option, Some, Vertex, [], and_parts, arith, codes, job_own_faults, leb-true, list_member, lt-leb}
+use Rattle.job_requests.proofs.Common.{member_at, member_of, none_first, none_inside, number_faults, number_value, object_value, range_unless, subst, true, ℕ, ◌≡◌, ◌≤◌}
+use Rattle.job_readers.specs.{GraphPart.device_value, GraphPart.graph_members, GraphPart.graph_value, GraphPart.vertex_value, GraphPart.vertices_value, Job.version_faults, Job.version_value}
+use Rattle.job_readers.specs.{Members.member_since, Members.number_member, Members.number_member_faults, WholeJob.job_faults, WholeJob.job_value}
 
 -- a number without a fault is no greater than the greatest
 no_more : (path : List ℕ) (low high : ℕ) (o : Option Data) → number_faults path low high None o ≡ [] → number_value None o ≤ high

@@ -1,4 +1,3 @@
-use Rattle.std.proofs.Common.{arith}
 -- The names that the proofs of this crate cite from outside of them, passed on from one place. Declares nothing.
 pub use Rattle.app_graph.specs.{ValidGraph.AreFixedApart, ValidGraph.IsFixedFor, ValidGraph.IsValidGraph, ValidGraph.ShareNoKey, declared.graphs.Graph.Graph, declared.graphs.Net.Net}
 pub use Rattle.key_alloc.specs.FreeKeys.{AreAhead, AreDownwards, AreKeysFreeBeside, AreStarts, HaveRanges, IsLeastOpenPlace, end_of_run, has_key, key_or_end}

@@ -1,7 +1,6 @@
 -- Nets have at most one right list of blocks.
-use Rattle.std.proofs.Common.{rules}
 use Rattle.key_alloc.proofs.Common.{AreFirstBlocks, AreKeysOut, AreRightBlocks, Block, EachFollows, IsBlockFor, IsLeastBlock, IsOpenPlace, List, MatchOption, Net, None, Option, Some, ap, arith}
-use Rattle.key_alloc.proofs.Common.{cases_lt, determined_begins, fixed_of, inl, inr, length, one_item_at, refl, same_block, size_of, slice_get, slice_get_cases, slice_get_there, slice_get_within}
+use Rattle.key_alloc.proofs.Common.{cases_lt, determined_begins, fixed_of, inl, inr, length, one_item_at, rules, same_block, size_of, slice_get, slice_get_cases, slice_get_there, slice_get_within}
 use Rattle.key_alloc.proofs.Common.{subst, sym, take, take_all, ℕ, ◌++◌, ◌∙◌, ◌≡◌, ◌≤◌}
 use Rattle.key_alloc.proofs.Sizes.{one_size}
 

@@ -1,9 +1,8 @@
 -- The fixed blocks of nets: each is a range of enough keys, and no two share a key.
-use Rattle.std.proofs.Common.{rules}
 use Rattle.key_alloc.proofs.Common.{All, All-at, All-contains, All-each, All-permutation, All-weaker, AllPairs, AllPairs-cons, AllPairs-head, AllPairs-nil, AllPairs-permutation, AllPairs-tail}
 use Rattle.key_alloc.proofs.Common.{AreDownwards, AreFixedApart, Block, Contains, Contains-append_left, Contains-at, Contains-filter_map, Contains-from_filter_map, Graph, HaveRanges, IfSome}
 use Rattle.key_alloc.proofs.Common.{IsFixedFor, IsPermutation, IsValidGraph, List, Net, None, Option, ShareNoKey, Some, [], arith, cases_lt, cons_option, fixed_of, get_or, get_or_from_slice_get, refl}
-use Rattle.key_alloc.proofs.Common.{size_of, slice_get, slice_get_within, subst, ℕ, ◌++◌, ◌+◌, ◌<◌, ◌∷◌, ◌≡◌, ◌≤◌}
+use Rattle.key_alloc.proofs.Common.{rules, size_of, slice_get, slice_get_within, subst, ℕ, ◌++◌, ◌+◌, ◌<◌, ◌∷◌, ◌≡◌, ◌≤◌}
 use Rattle.key_alloc.proofs.BlockRanges.{IsRange, range_of_fixed}
 
 pub record HaveFixed (nets : List Net) : Type 0 where

@@ -1,6 +1,6 @@
 -- Laws for who gives out ranges: which numbers a range has, the room for one more, and what is free once more is taken.
-use Rattle.key_alloc.proofs.Common.{Bool, arith, clash, div_below, false, in_range, mul-le-mul_right, nat_tests, not, pow-add, pow_pos, refl, suc-mul, true, ℕ, ◌&&◌, ◌*◌, ◌+◌, ◌-◌, ◌/◌, ◌<◌, ◌^◌}
-use Rattle.key_alloc.proofs.Common.{◌||◌, ◌≡◌, ◌≤◌}
+use Rattle.key_alloc.proofs.Common.{Bool, arith, clash, div_below, false, in_range, mul-le-mul_right, nat_tests, not, pow-add, pow_pos, suc-mul, true, ℕ, ◌&&◌, ◌*◌, ◌+◌, ◌-◌, ◌/◌, ◌<◌, ◌^◌, ◌||◌, ◌≡◌}
+use Rattle.key_alloc.proofs.Common.{◌≤◌}
 
 -- ---- the numbers of a range
 

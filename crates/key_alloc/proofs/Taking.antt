@@ -1,9 +1,9 @@
 -- Which places of the region of keys are free, while blocks are taken from it.
 use Rattle.key_alloc.proofs.Common.{All-append, All-cons, All-contains, All-left, All-nil, All-weaker, AreAhead, AreKeysFreeBeside, AreRuns, AreStarts, Block, Contains, Contains-append_left, Err}
 use Rattle.key_alloc.proofs.Common.{FreeKeys, HasNoFitFrom, IfOk, IfSome, IsBlockFor, IsFirstFitFrom, IsLeastBlock, IsLeastOpenPlace, IsOpenPlace, IsSizeFor, List, MatchOption, Memory, MissesRange}
-use Rattle.key_alloc.proofs.Common.{Net, None, Ok, Option, Result, Some, Start, [], and_parts, ap, arith, cases_Bool, cases_lt, clash, false, free_in_range, get_or, has_key, in_range, inl, inr}
-use Rattle.key_alloc.proofs.Common.{is_free, is_hole_range, list_any, list_any-append, list_any_at, list_any_none, lt-ltb, ltb, ltb-true, nat_tests, not, not-true, or_left, or_neither, range_of_free}
-use Rattle.key_alloc.proofs.Common.{size_of, subst, sym, true, ℕ, ◌%◌, ◌&&◌, ◌++◌, ◌+◌, ◌-◌, ◌<◌, ◌||◌, ◌∙◌, ◌∷◌, ◌≡◌, ◌≤◌, ◌⊎◌}
+use Rattle.key_alloc.proofs.Common.{Net, None, Ok, Option, Result, Some, Start, [], and_parts, ap, arith, cases_Bool, cases_lt, clash, false, free_in_range, get_or, has_key, in_range, inl, is_free}
+use Rattle.key_alloc.proofs.Common.{is_hole_range, list_any, list_any-append, list_any_at, list_any_none, lt-ltb, ltb, ltb-true, nat_tests, not, not-true, or_left, or_neither, range_of_free, size_of}
+use Rattle.key_alloc.proofs.Common.{subst, sym, true, ℕ, ◌%◌, ◌&&◌, ◌++◌, ◌+◌, ◌-◌, ◌<◌, ◌||◌, ◌∙◌, ◌∷◌, ◌≡◌, ◌≤◌, ◌⊎◌}
 use Rattle.key_alloc.proofs.Ranges.{in_facts, free_of, regroup}
 
 -- ---- the keys that are free while blocks are taken

@@ -1,11 +1,9 @@
 -- Branches of one routing tree: where they pass, that together they pass everywhere, and that none is long.
 use Rattle.machine_desc.proofs.Common.{All-contains, ByLink, Chip, Contains, Contains-append_left, Contains-from_any, Contains-push, Description, Dir, Edge, Exit, GoesOn, IsBranch}
 use Rattle.machine_desc.proofs.Common.{IsDistinct-from_apart, IsInside, IsLiveChip, IsPath, IsRoutingTree, IsTreeChip, IsTreeTo, IsWay, Link, List, Local, None, Port, Some, Spot, [], ap, arith}
-use Rattle.machine_desc.proofs.Common.{arrival_at, arrival_from, end_of, eqb, eqb-true, far_of, get_or, get_or-map, get_or_default, index_of, inl, inr, length, length-append}
-use Rattle.machine_desc.proofs.Common.{length-le_from_distinct_below, length-map, map, map-append, ne_eqb, opposite_of, out_of, port_after, refl, slice_get, slice_get-get_or, subst, suc, sym, zero, ℕ}
-use Rattle.machine_desc.proofs.Common.{◌*◌, ◌++◌, ◌+◌, ◌<◌, ◌∙◌, ◌∷◌, ◌≡◌, ◌≢◌, ◌≤◌, ◌⊎◌}
-use Rattle.spin_base.proofs.Places.{slice_get-mapped, slice_get_there}
-use Rattle.std.proofs.lemmas.Option.{get_or_from_slice_get}
+use Rattle.machine_desc.proofs.Common.{arrival_at, arrival_from, end_of, eqb, eqb-true, far_of, get_or, get_or-map, get_or_default, get_or_from_slice_get, index_of, inl, inr, length, length-append}
+use Rattle.machine_desc.proofs.Common.{length-le_from_distinct_below, length-map, map, map-append, ne_eqb, opposite_of, out_of, port_after, refl, slice_get, slice_get-mapped, slice_get_there, subst}
+use Rattle.machine_desc.proofs.Common.{suc, sym, zero, ℕ, ◌*◌, ◌++◌, ◌+◌, ◌<◌, ◌∙◌, ◌∷◌, ◌≡◌, ◌≢◌, ◌≤◌, ◌⊎◌}
 use Rattle.machine_desc.proofs.{Far.live_inside, Far.far_inside, Far.same_index, Far.index_below, Same.same_edge, TreeLemmas.path_more, TreeLemmas.path_in_tree, TreeLemmas.one_edge_into}
 use Rattle.machine_desc.proofs.TreeLemmas.{edge_lives, root_lives_with_edge}
 

@@ -7,7 +7,7 @@ pub use Rattle.machine_desc.specs.{RoutingTree.end_of, Tables.IsCoreOn, Tables.I
 pub use Rattle.machine_desc.specs.{Tables.chip_total, Tables.core_place, Tables.edge_place, declared.grids.Grid.Grid, declared.steps.Step.Step, declared.steps.Step.TheVariants.Ahead}
 pub use Rattle.machine_desc.specs.declared.{steps.Step.TheVariants.Back, steps.Step.TheVariants.Stay, trees.Edge.Edge}
 pub use Rattle.spin_base.proofs.{Counts.count_by-agree, Equality.chip_eq_same, Equality.chip_eq_true, Equality.dir_eq_same, Equality.dir_eq_true, Equality.out_eq_same, Equality.out_eq_true}
-pub use Rattle.spin_base.proofs.{Equality.spot_eq_same, Equality.spot_eq_true, Spots.dir_at-dir_number, Spots.same_number, Spots.spot_of_link}
+pub use Rattle.spin_base.proofs.{Equality.spot_eq_same, Equality.spot_eq_true, Places.slice_get-mapped, Places.slice_get_there, Spots.dir_at-dir_number, Spots.same_number, Spots.spot_of_link}
 pub use Rattle.spin_base.specs.{Equality.chip_eq, Equality.spot_eq, Links.dir_at, Links.dir_number, Links.opposite_of, Outputs.out_of, declared.chips.Chip.Chip, declared.chips.Dir.Dir}
 pub use Rattle.spin_base.specs.declared.chips.Dir.TheVariants.{East, North, NorthEast, South, SouthWest, West}
 pub use Rattle.spin_base.specs.declared.{chips.Port.Port, chips.Port.TheVariants.Link as ByLink, chips.Port.TheVariants.Local, chips.Spot.Spot, routes.Out.Out, routes.Out.TheVariants.Core}
@@ -20,5 +20,5 @@ pub use Rattle.std.proofs.lemmas.{Bool.not-true, Bool.or_cases, Bool.or_left, Bo
 pub use Rattle.std.proofs.lemmas.List.{Elements.Contains-append_left, Elements.Contains-push, Folds.Any-from_list_any, Folds.list_any_at, Folds.list_any_more, FromFn.get_or-map-range_with_len}
 pub use Rattle.std.proofs.lemmas.List.{FromFn.length-map-range_with_len, ext_get_or, get_or-map, get_or-replicate, get_or-set_other, get_or-set_same, get_or_default, get_or_past, length-append}
 pub use Rattle.std.proofs.lemmas.{List.length-map, List.length-replicate, List.map-append, Map.Keys.IsDistinct-from_apart, Map.Steps.length-le_from_distinct_below, Map.Views.Contains-from_any}
-pub use Rattle.std.proofs.lemmas.{Nat.div-add-mod', Nat.div_below, Nat.mod_below, Nat.mul-add-lt, Nat.mul-le, Nat.same_from_place, Option.slice_get-get_or}
+pub use Rattle.std.proofs.lemmas.{Nat.div-add-mod', Nat.div_below, Nat.mod_below, Nat.mul-add-lt, Nat.mul-le, Nat.same_from_place, Option.get_or_from_slice_get}
 pub use Rattle.std.specs.{List.All, List.Contains, List.list_any, List.slice_get, Prelude.replicate}

@@ -4,8 +4,8 @@ use Rattle.std.proofs.lemmas.{Bool.false≢true, List.Elements.All-from_recursio
 use Rattle.std.specs.List.{Contains}
 use Rattle.spin_base.proofs.{Members.Among, Members.Contains-only, Equality.out_eq_true, Lookups.lookup_hit, Lookups.lookup_miss, Once.all_once}
 use Rattle.spin_base.specs.declared.{chips.Chip.Chip, chips.Port.Port, chips.Port.TheVariants.Local, chips.Dir.TheVariants.East, chips.Dir.TheVariants.West, routes.Out.Out}
-use Rattle.spin_base.specs.{declared.routes.Out.TheVariants.Link, declared.routes.Route.Route, Equality.out_eq, Outputs.has, Outputs.all_outs, Outputs.link_outs, Outputs.core_outs, Outputs.IsOutput}
-use Rattle.spin_base.specs.{Lookup.lookup, Lookup.matches, Links.opposite_of}
+use Rattle.spin_base.specs.{declared.routes.Out.TheVariants.Link, declared.routes.Route.Route, Outputs.has, Outputs.all_outs, Outputs.link_outs, Outputs.core_outs, Outputs.IsOutput, Lookup.lookup}
+use Rattle.spin_base.specs.{Lookup.matches, Links.opposite_of}
 use Rattle.spin_base.specs.declared.chips.Port.TheVariants.{Link as ByLink}
 use Rattle.machine_desc.specs.{declared.trees.Edge.Edge, RoutingTree.end_of, declared.nets.NetPlan.NetPlan, Outputs.is_wanted, RightTables.IsKeyOf, RightTables.RoutesByTree, RightTables.AreRight}
 use Rattle.machine_desc.specs.RightTables.{table_at}

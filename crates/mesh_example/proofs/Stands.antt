@@ -1,14 +1,14 @@
 -- The nets of the example stand on its machine.
-use Rattle.std.proofs.Common.{◌≡◌, ◌≢◌, ℕ, ◌+◌, ◌*◌, suc, zero, List, [], ◌∷◌, map, Some, None, refl, sym, ap, ◌∙◌, subst, arith, inl, inr, ◌⊎◌}
+use Rattle.std.proofs.Common.{◌≡◌, ◌≢◌, ℕ, ◌+◌, ◌*◌, suc, zero, List, [], ◌∷◌, map, Some, None, refl, sym, ap, subst, arith, inl, inr, ◌⊎◌}
 use Rattle.std.proofs.lemmas.{Option.none-some, List.Elements.All-from_recursion, List.Kept.AllPairs-cons}
-use Rattle.std.specs.List.{All, AllPairs, Any, Contains, slice_get}
+use Rattle.std.specs.List.{All, AllPairs, Contains, slice_get}
 use Rattle.spin_base.proofs.Members.{Contains-only}
 use Rattle.spin_base.specs.declared.{chips.Chip.Chip, chips.Spot.Spot, copies.Packet.Packet}
-use Rattle.machine_desc.specs.{declared.trees.Edge.Edge, Description.HasSize, Live.IsLiveLink, Live.IsSite, RoutingTree.IsRoutingTree, RoutingTree.IsTreeChip, RoutingTree.IsPath, RoutingTree.end_of}
-use Rattle.machine_desc.specs.{declared.nets.NetPlan.NetPlan, NetsOn.AreNetsOn, NetsOn.HaveDisjointBlocks, RightTables.IsKeyOf}
+use Rattle.machine_desc.specs.{declared.trees.Edge.Edge, Description.HasSize, Live.IsSite, RoutingTree.IsRoutingTree, RoutingTree.IsTreeChip, RoutingTree.IsPath, declared.nets.NetPlan.NetPlan}
+use Rattle.machine_desc.specs.{NetsOn.AreNetsOn, NetsOn.HaveDisjointBlocks, RightTables.IsKeyOf}
 use Rattle.mesh_core.specs.{State.IsMesh, Opened.AreOfNets}
 use Rattle.mesh_core.proofs.{Changes.IsMesh-empty, OpenedLaw.IsMesh-opened}
-use Rattle.mesh_example.specs.Board.{two_chip_board, left_chip, right_chip, east, source, targets, device, spots, net, other_net, nets, packets, setup, opened, block, other_block}
+use Rattle.mesh_example.specs.Board.{two_chip_board, left_chip, right_chip, east, source, targets, device, spots, net, other_net, nets, packets, setup, opened, block}
 
 left_is_not_right : left_chip ≢ right_chip
 left_is_not_right e = let f : 0 ≡ 1 = ap (λ (c : Chip). c.x) e in absurd (omega (arith, f))

@@ -1,10 +1,9 @@
 -- Each packet of a job is tracked, on each mesh that meets the job's ledger.
-use Rattle.std.proofs.Common.{arith}
-use Rattle.std.proofs.Common.{◌≡◌, ℕ, List, Option, Some, sym, ap, ◌∙◌, subst}
+use Rattle.std.proofs.Common.{arith, ◌≡◌, ℕ, List, Some}
 use Rattle.std.specs.List.{slice_get}
 use Rattle.spin_base.specs.declared.copies.Packet.{Packet}
-use Rattle.machine_desc.specs.{declared.nets.NetPlan.NetPlan, RightTables.IsKeyOf}
-use Rattle.mesh_core.specs.{State.State, Ledger.Asked, Ledger.label_of, Opened.asked_by, Opened.MeetsJobLedger, Whereabouts.IsTracked}
+use Rattle.machine_desc.specs.declared.nets.NetPlan.{NetPlan}
+use Rattle.mesh_core.specs.{State.State, Opened.MeetsJobLedger, Whereabouts.IsTracked}
 use Rattle.mesh_core.proofs.AskedPackets.{asks, asked_from, net_in_list}
 
 pub job_tracked : (s : State) (nets : List NetPlan) (packets : List Packet) → MeetsJobLedger s nets packets →

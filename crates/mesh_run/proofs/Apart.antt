@@ -1,7 +1,7 @@
 -- Places of queues: behind an output of a chip stands a queue that no other output leads to, and that no chip injects into.
-use Rattle.mesh_run.proofs.Common.{Among, ByLink, Chip, Dir, IsInside, IsOutput, IsLiveLink, List, Local, None, Option, Out, Port, Setup, Some, [], ap, arith, behind, chip_eq, chip_eq_same, core, false}
-use Rattle.mesh_run.proofs.Common.{far_inside, far_of, far_parts, inl, input, length, live_back, opposite_of, out_of, out_of-has_bit, place_behind, queue_at, queue_at-below, queue_place_of, refl, same_Some, slice_get_within, subst}
-use Rattle.mesh_run.proofs.Common.{sym, true, vertex_behind_stands, vertex_place, where_same, where_there, ℕ, ◌<◌, ◌∙◌, ◌∷◌, ◌≡◌}
+use Rattle.mesh_run.proofs.Common.{Among, ByLink, Chip, Dir, IsInside, IsLiveLink, IsOutput, List, Local, None, Option, Out, Port, Setup, Some, [], ap, arith, behind, chip_eq, chip_eq_same, core}
+use Rattle.mesh_run.proofs.Common.{false, far_inside, far_of, far_parts, inl, input, length, live_back, opposite_of, out_of, out_of-has_bit, place_behind, queue_at, queue_at-below, queue_place_of}
+use Rattle.mesh_run.proofs.Common.{refl, same_Some, slice_get_within, subst, sym, true, vertex_behind_stands, vertex_place, where_same, where_there, ℕ, ◌<◌, ◌∙◌, ◌∷◌, ◌≡◌}
 use Rattle.spin_base.specs.declared.routes.Out.TheVariants.{Link}
 pub use Rattle.chip_node.proofs.Placing.{where_here as here, where_other as elsewhere}
 use Rattle.mesh_run.proofs.Ends.{leads, by_link, to_vertex, to_none, one_end, one_link, one_port}

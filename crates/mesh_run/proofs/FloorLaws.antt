@@ -1,13 +1,12 @@
 -- Floors chip by chip: the vertices on a chip, the queues behind its outputs, and that there are few vertices.
-use Rattle.mesh_run.proofs.Common.{AddsBehind, All, All-at, AllPairs, AreVerticesOf, Behind, Chip, Contains-at, Contains-filter_map, Contains-from_filter_map, CoreBank, Description, Floor, HasSize}
-use Rattle.mesh_run.proofs.Common.{IsBankOf, IsFloorOf, IsFloorSoFar, IsInside, IsLiveIndex, IsOutput, IsSite, List, None, Option, Out, Setup, Some, Spot, [], ap, append_assoc, arith, cases_eq}
-use Rattle.mesh_run.proofs.Common.{chip_of, get_or, get_or-range_with_len, get_or_from_slice_get, grid_size, index_below, inl, inr, length, length-append, length-map, length-range_with_len}
+use Rattle.mesh_run.proofs.Common.{AddsBehind, All, All-at, AllPairs, AllPairs-apart, AreVerticesOf, Behind, Chip, Contains-at, Contains-filter_map, Contains-from_filter_map, CoreBank, Description}
+use Rattle.mesh_run.proofs.Common.{Floor, HasSize, IsBankOf, IsFloorOf, IsFloorSoFar, IsInside, IsLiveIndex, IsOutput, IsSite, List, None, Option, Out, Setup, Some, Spot, [], ap, append_assoc, arith}
+use Rattle.mesh_run.proofs.Common.{cases_eq, chip_of, get_or, get_or-range_with_len, get_or_from_slice_get, grid_size, index_below, inl, inr, length, length-append, length-map, length-range_with_len}
 use Rattle.mesh_run.proofs.Common.{length_le_from_apart, length_push, live_inside, live_one, map, mul-le-mul_left, none-some, out_number, out_number_below, out_number_injective, place_behind}
 use Rattle.mesh_run.proofs.Common.{place_in, place_of_slot, port_count, range_with_len, refl, same_spot_place, site_inside, slice_get, slice_get-append_left, slice_get-get_or, slice_get-mapped}
 use Rattle.mesh_run.proofs.Common.{slice_get-pushed, slice_get_there, spot_place, spot_place-below, subst, suc, sym, vertex_at_stands, vertex_on, vertex_there, vertices_by, ℕ, ◌*◌, ◌++◌, ◌+◌, ◌<◌}
 use Rattle.mesh_run.proofs.Common.{◌∙◌, ◌∷◌, ◌≡◌, ◌≢◌, ◌≤◌}
 use Rattle.mesh_run.proofs.Going.{pushed}
-use Rattle.spin_base.proofs.Pairs.{AllPairs-apart}
 
 -- ---- few vertices
 

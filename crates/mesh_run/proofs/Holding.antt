@@ -1,8 +1,7 @@
 -- Links with all their ends, seen as a list, and brought down from the last one on.
 use Rattle.mesh_run.proofs.Common.{All, All-at, AreEnds, DownTo, HoldsAll, IsDown, LinkEnds, List, McCopy, Option, Rx, Some, Standing, Tx, [], ap, arith, cases_eq, get_or, get_or-set_other}
 use Rattle.mesh_run.proofs.Common.{get_or-set_same, inl, inr, length, length-map, map, map-append, refl, same_Some, same_from_push, set, slice_get, slice_get_there, slice_get_within, subst, sym, take}
-use Rattle.mesh_run.proofs.Common.{take_all, ℕ, ◌++◌, ◌+◌, ◌-◌, ◌<◌, ◌∙◌, ◌∷◌, ◌≡◌, ◌≤◌}
-use Rattle.spin_base.proofs.Places.{take_more_at}
+use Rattle.mesh_run.proofs.Common.{take_all, take_more_at, ℕ, ◌++◌, ◌+◌, ◌-◌, ◌<◌, ◌∙◌, ◌∷◌, ◌≡◌, ◌≤◌}
 use Rattle.std.proofs.Math.ListN.{length-set}
 
 -- ---- the list is the only one

@@ -1,9 +1,8 @@
 -- A split mesh put together again.
 use Rattle.mesh_run.proofs.Common.{All, AreEnds, AreUp, Cut, DownTo, FitHomes, HoldUnsent, Home, IsDown, IsMesh, IsRaisedFrom, IsUp, LinkEnds, List, McCopy, MovesOut, RaisedMesh, SameButCopies}
-use Rattle.mesh_run.proofs.Common.{SetsQueue, Some, State, [], ap, append-nil, arith, cases_eq, get_or, get_or-set_other, get_or-set_same, get_or_default, inl, inr, length, length-append, length-set}
-use Rattle.mesh_run.proofs.Common.{refl, same_Some, same_lists, set, slice_get, slice_get-get_or, slice_get-mapped, slice_get_there, slice_get_within, subst, sym, ℕ, ◌++◌, ◌+◌, ◌<◌, ◌∙◌, ◌≡◌, ◌≢◌}
-use Rattle.mesh_run.proofs.Common.{◌≤◌}
-use Rattle.std.proofs.Math.Seq.{drop-append_seam, take-append_seam}
+use Rattle.mesh_run.proofs.Common.{SetsQueue, Some, State, [], ap, append-nil, arith, cases_eq, drop-append_seam, get_or, get_or-set_other, get_or-set_same, get_or_default, inl, inr, length}
+use Rattle.mesh_run.proofs.Common.{length-append, length-set, refl, same_Some, same_lists, set, slice_get, slice_get-get_or, slice_get-mapped, slice_get_there, slice_get_within, subst, sym}
+use Rattle.mesh_run.proofs.Common.{take-append_seam, ℕ, ◌++◌, ◌+◌, ◌<◌, ◌∙◌, ◌≡◌, ◌≢◌, ◌≤◌}
 use Rattle.mesh_run.proofs.{AfterDeal.lane_uncut, AfterDeal.links_many, PlanLaws.homes_fit, SplitLaws.same_state, SplitLaws.state_on}
 
 -- ---- what the calls ask for

@@ -1,6 +1,7 @@
 -- The numbers of a range, and that each of a chip's outputs has a bit.
 use Rattle.mesh_run.proofs.Common.{Among, Core, IsOutput, Out, all_dirs, all_outs, among_either, among_map, arith, inl, inr, range_with_len, suc, zero, ℕ, ◌+◌, ◌<◌, ◌≤◌}
-use Rattle.spin_base.specs.{declared.routes.Out.TheVariants.Link, Outputs.core_outs, Outputs.link_outs}
+use Rattle.spin_base.specs.declared.routes.Out.TheVariants.{Link}
+use Rattle.spin_base.specs.Outputs.{core_outs, link_outs}
 
 -- what stands in a range is within it
 pub range_parts : (a n j : ℕ) → Among j (range_with_len a n) → (a ≤ j) × (j < a + n)

@@ -3,9 +3,8 @@ use Rattle.net_tables.proofs.Common.{All, All-contains, All-each, All-head, All-
 use Rattle.net_tables.proofs.Common.{Contains-permutation, Contains-unmap, Core, Description, Edge, HasChip, Intersects, Intersects-sym, IsOriginalOf, IsOutput, IsPermutation, IsPermutation-sym}
 use Rattle.net_tables.proofs.Common.{IsPlainTable, IsRoutingTree, IsRowNotAfter, Link, List, NetPlan, Original, Out, Port, Route, Row, Spot, [], ap, arith, bit_and, bit_at, bit_at-lt, bit_at-zero}
 use Rattle.net_tables.proofs.Common.{cases_eq, cases_lt, dir_at, dir_number-dir_at, edge_wanted, end_wanted, eqb-true, eqb_tells, false≢true, generality, get_or, has, inl, inr, is_wanted, key_small}
-use Rattle.net_tables.proofs.Common.{map, one_edge_into, opposite_of, out_number, out_of, out_of-has_bit, row_of, same_from_bits_below, same_in_order, same_route, subst, sym, true, zero_of, ℕ, ◌*◌}
-use Rattle.net_tables.proofs.Common.{◌+◌, ◌-◌, ◌<◌, ◌==◌, ◌∙◌, ◌∷◌, ◌≡◌}
-use Rattle.spin_base.proofs.Places.{slice_get_there}
+use Rattle.net_tables.proofs.Common.{map, one_edge_into, opposite_of, out_number, out_of, out_of-has_bit, row_of, same_from_bits_below, same_in_order, same_route, slice_get_there, subst, sym, true}
+use Rattle.net_tables.proofs.Common.{zero_of, ℕ, ◌*◌, ◌+◌, ◌-◌, ◌<◌, ◌==◌, ◌∙◌, ◌∷◌, ◌≡◌}
 use Rattle.net_tables.proofs.{Trees.comes_in_tree, Whole.originals_apart, Whole.from_net}
 
 -- ---- routes

@@ -1,16 +1,14 @@
 -- What tables are, once each has a row for each original block of its chip.
-use Rattle.net_tables.proofs.Common.{Alias, All, All-cons, All-head, All-nil, All-tail, AllPairs, AllPairs-cons, AllPairs-filter, AllPairs-from_map, AllPairs-head, AllPairs-map, AllPairs-permutation}
-use Rattle.net_tables.proofs.Common.{AllPairs-tail, AllZip, AreApart, AreBlocksOf, AreOriginals, ArePlainTables, AreRight, AreRoutedApart, AreTurningBlocksOf, AtEach, Block, Bool, Chip, Contains}
-use Rattle.net_tables.proofs.Common.{Contains-cases, Contains-first, Contains-later, Contains-map, Contains-none, Contains-permutation, Contains-unmap, Description, Entry, HasChip, HoldsItsAliases}
-use Rattle.net_tables.proofs.Common.{Intersects, Intersects-sym, IsInside, IsKeyOf, IsOriginalOf, IsOutput, IsPermutation-map, IsPermutation-sym, IsPlainTable, IsRouted, IsRowNotAfter, IsSound}
-use Rattle.net_tables.proofs.Common.{IsTableOf, LiesIn, List, Mark, Misses, NetPlan, Original, Out, Port, Route, Row, ServesOriginals, Some, Table, [], ap, append-nil, arith, bit_and, cases_Bool}
-use Rattle.net_tables.proofs.Common.{cases_eq, cases_lt, chip_of, chip_of-inside, cond, default_route, entries, entry_of, eq-eqb, eqb-true, false≢true, filter, find, generality, get_or}
-use Rattle.net_tables.proofs.Common.{get_or_default, has, index_below, index_of, index_of-chip_of, inl, inr, is_wanted, length, length-filter_both, length-map, length_permutation, lookup, map}
-use Rattle.net_tables.proofs.Common.{matches, not, option_map_or, original_of, refl, row_of, row_of_mark, served, slice_get, subst, suc, sym, true, turns, zero, ℕ, ◌*◌, ◌++◌, ◌+◌, ◌<◌, ◌∙◌, ◌∷◌, ◌≡◌}
-use Rattle.net_tables.proofs.Common.{◌≤◌}
+use Rattle.net_tables.proofs.Common.{Alias, All, All-cons, All-head, All-map, All-nil, All-tail, AllPairs, AllPairs-cons, AllPairs-filter, AllPairs-from_map, AllPairs-head, AllPairs-map}
+use Rattle.net_tables.proofs.Common.{AllPairs-permutation, AllPairs-tail, AllZip, AllZip-at_second, AllZip-long, AreApart, AreBlocksOf, AreOriginals, ArePlainTables, AreRight, AreRoutedApart}
+use Rattle.net_tables.proofs.Common.{AreTurningBlocksOf, AtEach, Block, Bool, Chip, Contains, Contains-cases, Contains-first, Contains-later, Contains-map, Contains-none, Contains-permutation}
+use Rattle.net_tables.proofs.Common.{Contains-unmap, Description, Entry, HasChip, HoldsItsAliases, Intersects, Intersects-sym, IsInside, IsKeyOf, IsOriginalOf, IsOutput, IsPermutation-map}
+use Rattle.net_tables.proofs.Common.{IsPermutation-sym, IsPlainTable, IsRouted, IsRowNotAfter, IsSound, IsTableOf, LiesIn, List, Mark, Misses, NetPlan, Original, Out, Port, Route, Row}
+use Rattle.net_tables.proofs.Common.{ServesOriginals, Some, Table, [], ap, append-nil, arith, bit_and, cases_Bool, cases_eq, cases_lt, chip_of, chip_of-inside, cond, default_route, entries, entry_of}
+use Rattle.net_tables.proofs.Common.{eq-eqb, eqb-true, false≢true, filter, find, generality, get_or, get_or_default, get_or_from_slice_get, has, index_below, index_of, index_of-chip_of, inl, inr}
+use Rattle.net_tables.proofs.Common.{is_wanted, length, length-filter_both, length-map, length_permutation, lookup, map, matches, not, option_map_or, original_of, refl, row_of, row_of_mark, served}
+use Rattle.net_tables.proofs.Common.{slice_get, slice_get-mapped, slice_get_there, subst, suc, sym, true, turns, zero, ℕ, ◌*◌, ◌++◌, ◌+◌, ◌<◌, ◌∙◌, ◌∷◌, ◌≡◌, ◌≤◌}
 use Rattle.net_tables.proofs.Trees.{chips_inside, comes_in_tree}
-use Rattle.spin_base.proofs.Places.{AllZip-at_second, slice_get-mapped, slice_get_there}
-use Rattle.std.proofs.lemmas.{List.Elements.All-map, Option.get_or_from_slice_get, Slice.Zip.AllZip-long}
 
 -- nets that are routed apart are each routed
 pub all_routed : (m : Description) (nets : List NetPlan) → AreRoutedApart m nets → All (IsRouted m) nets

@@ -1,11 +1,10 @@
 -- The image of final tables is valid, has the entries of each chip, and loads them.
-use Rattle.std.proofs.Common.{rules}
 use Rattle.par_compile.proofs.Common.{All, All-append, All-cons, All-head, All-nil, All-tail, AllPairs, AllPairs-cons, AllPairs-nil, CanBeImaged, Chip, ChipTable, Description, Entry, FillTables}
 use Rattle.par_compile.proofs.Common.{Final, HasSize, Image, ImageErr, IsChipBefore, IsLoaded, IsRow, IsTable, IsValid, KeepsRows, List, MatchResult, NoMemory, Ok, Result, Some, Spells, [], ap}
-use Rattle.par_compile.proofs.Common.{append-nil, arith, cases_order, chip_of, chip_of-inside, cond-false, cond-true, eq-eqb, eqb-true, false, false_from_ne_true, gathered_more, get_or, image_in}
-use Rattle.par_compile.proofs.Common.{index_of, index_of-chip_of, inl, inr, inside_parts, length, length-append, length-map, listed, loaded, loaded_of, map, mod_below, mul-le, refl, rows_of_index}
-use Rattle.par_compile.proofs.Common.{slice_get, slice_get-get_or, slice_get-mapped, slice_get_there, slice_get_within, subst, suc, sym, tables_from, take, take_all, zero, ℕ, ◌%◌, ◌*◌, ◌++◌, ◌+◌, ◌/◌}
-use Rattle.par_compile.proofs.Common.{◌<◌, ◌==◌, ◌∙◌, ◌∷◌, ◌≡◌, ◌≤◌}
+use Rattle.par_compile.proofs.Common.{append-nil, arith, cases_order, chip_of, chip_of-inside, cond-false, cond-true, eq-eqb, eqb-true, false_from_ne_true, gathered_more, get_or, image_in, index_of}
+use Rattle.par_compile.proofs.Common.{index_of-chip_of, inside_parts, length, length-append, length-map, listed, loaded, loaded_of, map, mod_below, mul-le, refl, rows_of_index, rules, slice_get}
+use Rattle.par_compile.proofs.Common.{slice_get-get_or, slice_get-mapped, slice_get_there, slice_get_within, subst, suc, sym, tables_from, take, take_all, zero, ℕ, ◌*◌, ◌++◌, ◌+◌, ◌/◌, ◌<◌, ◌==◌, ◌∙◌}
+use Rattle.par_compile.proofs.Common.{◌∷◌, ◌≡◌, ◌≤◌}
 
 abbrev IsShort : Final → Type 0
 IsShort f = length f.entries ≤ 1024

@@ -1,10 +1,9 @@
 -- Final tables that are loaded route every net's packets by its tree.
-use Rattle.std.proofs.Common.{rules}
 use Rattle.par_compile.proofs.Common.{All, All-cons, All-contains, All-map, All-nil, AllZip, AllZip-at_second, AllZip-long, AreApart, AreBlocksFor, AreCoverable, AreFinals, AreOriginals, AreRight}
 use Rattle.par_compile.proofs.Common.{AreRoutedApart, Block, Bool, Chip, Contains, Contains-permutation, Description, Entry, Final, HasChip, HasSize, IsFinalFor, IsInside, KeepsRows, List, Mark}
 use Rattle.par_compile.proofs.Common.{Matches, MatchesNoKey, NetPlan, Original, Out, Port, Route, RoutesAlone, Row, Some, [], ap, arith, bit_and, chip_of, chip_of-inside, chips_inside, comes_in_tree}
 use Rattle.par_compile.proofs.Common.{entry_of, few_rows, get_or, get_or_from_slice_get, has, has_original, index_below, index_of, index_of-chip_of, is_plain, is_wanted, length, loaded_of, lookup}
-use Rattle.par_compile.proofs.Common.{map, mul-le, one_port, original_of, replicate, rows_at, rows_lead, served, serves_them, slice_get, slice_get-get_or, slice_get-mapped, slice_get_there}
+use Rattle.par_compile.proofs.Common.{map, mul-le, one_port, original_of, replicate, rows_at, rows_lead, rules, served, serves_them, slice_get, slice_get-get_or, slice_get-mapped, slice_get_there}
 use Rattle.par_compile.proofs.Common.{slice_index_or, subst, suc, sym, take, unused, unused_matches, zero, ℕ, ◌*◌, ◌-◌, ◌<◌, ◌^◌, ◌∙◌, ◌∷◌, ◌≡◌, ◌≤◌}
 
 -- ---- unused entries

@@ -1,10 +1,9 @@
 -- The final table of a short plain table has the entries of the original blocks that do not go straight on.
-use Rattle.std.proofs.Common.{rules}
-use Rattle.par_compile.proofs.Common.{Alias, All, All-cons, All-head, All-nil, All-tail, AllPairs-head, AllPairs-permutation, AllPairs-tail, AreApart, AreKept, Bool, Dir, Final, Intersects}
-use Rattle.par_compile.proofs.Common.{Intersects-sym, IsFinalFor, IsPermutation, IsShortened, IsSound, IsStrippable, IsTableOf, KeptFrom, Link, List, Local, Mark, Misses, Port, Route, Row, Some, []}
-use Rattle.par_compile.proofs.Common.{ap, arith, cases_Bool, cons_option, drop, ends, entry_of, eq-eqb, eqb-true, false, false≢true, get_or, goes, goes_straight, if◌then◌else◌, inl, inr, kept_entries}
-use Rattle.par_compile.proofs.Common.{length, length-map, length_permutation, map, refl, row_of_mark, rows_at, same_route, short_final, short_routes, short_serves, slice_get, slice_get_within}
-use Rattle.par_compile.proofs.Common.{sound_table, stays, straight_on, subst, suc, sym, table_of_sorted, true, zero, ℕ, ◌++◌, ◌∙◌, ◌∷◌, ◌≡◌, ◌≤◌}
+use Rattle.par_compile.proofs.Common.{All, All-cons, All-head, All-nil, All-tail, AllPairs-head, AllPairs-permutation, AllPairs-tail, AreApart, AreKept, Bool, Dir, Final, Intersects, Intersects-sym}
+use Rattle.par_compile.proofs.Common.{IsFinalFor, IsPermutation, IsShortened, IsSound, IsStrippable, IsTableOf, KeptFrom, Link, List, Mark, Misses, Port, Route, Row, Some, [], ap, arith, cases_Bool}
+use Rattle.par_compile.proofs.Common.{cons_option, drop, ends, entry_of, eq-eqb, eqb-true, false, false≢true, get_or, goes, goes_straight, if◌then◌else◌, inl, inr, kept_entries, length, length-map}
+use Rattle.par_compile.proofs.Common.{length_permutation, map, refl, row_of_mark, rows_at, rules, same_route, short_final, short_routes, short_serves, slice_get, slice_get_within, sound_table, stays}
+use Rattle.par_compile.proofs.Common.{straight_on, subst, suc, sym, table_of_sorted, true, zero, ℕ, ◌++◌, ◌∙◌, ◌∷◌, ◌≡◌, ◌≤◌}
 
 -- ---- one original block
 

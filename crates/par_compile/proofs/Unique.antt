@@ -2,8 +2,8 @@
 use Rattle.par_compile.proofs.Common.{All, All-at, All-contains, All-each, AreFinals, AreNetsOn, ArePlanned, AreRoutedApart, Chip, Contains, Description, Final, Graph, HasFinal, HasLongTable}
 use Rattle.par_compile.proofs.Common.{HasNoLegalPair, IsFinalOf, IsInside, IsPlanOf, IsRoutingOf, IsSite, List, NetPlan, None, Placement, Plan, Row, Some, Spot, ap, arith, blocks_of, cases_order}
 use Rattle.par_compile.proofs.Common.{chip_of, chip_of-inside, common_steps, ended_where_long, fails_before_first, false, get_or, get_or_from_slice_get, index_below, index_of, index_of-chip_of, inl}
-use Rattle.par_compile.proofs.Common.{inr, is_long, length, live_inside, lt-ltb, ltb-true, nat_lt, one_list_of_plans, position, position-Some, position_or_len, same_index, same_places, site_parts}
-use Rattle.par_compile.proofs.Common.{slice_get, slice_get_there, slice_get_within, subst, sym, true, true≢false, ℕ, ◌<◌, ◌∙◌, ◌≡◌, ◌≤◌}
+use Rattle.par_compile.proofs.Common.{inr, is_long, length, live_inside, lt-ltb, ltb-true, nat_lt, one_list_of_plans, position, position-Some, same_index, same_places, site_parts, slice_get}
+use Rattle.par_compile.proofs.Common.{slice_get_there, slice_get_within, subst, sym, true, true≢false, ℕ, ◌<◌, ◌∙◌, ◌≡◌, ◌≤◌}
 use Rattle.place_fit.proofs.Determined as places
 use Rattle.key_alloc.proofs.Determined as keys
 use Rattle.net_tables.proofs.Determined as plain

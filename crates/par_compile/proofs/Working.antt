@@ -1,7 +1,6 @@
 -- Runs of chips whose tables workers cover, chip by chip.
-use Rattle.par_compile.proofs.Common.{AllZip, AllZip-long, Done, Final, GivesFinal, IsFinalFor, IsStillPlain, IsWorked, List, Mark, None, Plain, Refused, Work, [], all_zipped_more, ap, append_assoc}
-use Rattle.par_compile.proofs.Common.{arith, get_or, get_or_push, is_long, length, length-append, ltb-true, position, refl, subst, suc, sym, take, take-append_seam, take_all, true, ℕ, ◌++◌, ◌+◌, ◌<◌}
-use Rattle.par_compile.proofs.Common.{◌∙◌, ◌∷◌, ◌≡◌, ◌≤◌}
+use Rattle.par_compile.proofs.Common.{AllZip, AllZip-long, Final, GivesFinal, IsFinalFor, IsStillPlain, IsWorked, List, Mark, None, Refused, Work, [], all_zipped_more, append_assoc, arith, get_or}
+use Rattle.par_compile.proofs.Common.{get_or_push, is_long, length, length-append, ltb-true, position, refl, subst, suc, take, take-append_seam, take_all, true, ℕ, ◌++◌, ◌+◌, ◌<◌, ◌∷◌, ◌≡◌, ◌≤◌}
 use Rattle.par_compile.proofs.Unique.{none_long}
 
 -- the tables before place k are worked on, and the others are as they were

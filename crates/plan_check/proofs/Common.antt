@@ -1,5 +1,3 @@
-use Rattle.std.proofs.Common.{arith}
-use Rattle.std.proofs.Common.{rules}
 -- The names that the proofs of this crate cite from outside of them, passed on from one place. Declares nothing.
 pub use Rattle.cover_merge.proofs.{Legal.legal_from_checks, Lists.All-flat_map, Lists.All-from_flat_map, Lists.All-left, Lists.All-right, Lists.picked-at, Positions.All-has, Positions.rows_at-from}
 pub use Rattle.cover_merge.proofs.Positions.{rows_at-has}

@@ -1,7 +1,7 @@
 -- In the kept rows of a sound table, all keys of an alias get its row's route: by its row, inside which it lies, or by default.
-use Rattle.plan_check.proofs.Common.{Alias, All-cons, All-map, AreKept, Block, Entry, GetsRoute, Intersects, IsKeyOf, IsSound, IsStrippable, KeptFrom, LiesIn, LiesInside, List, Meets, Port, Route}
-use Rattle.plan_check.proofs.Common.{Row, Some, ap, arith, bit_and, cases_lt, cons_option, default_route, ends, entry_of, eq-eqb, eqb-true, get_or, get_or_from_slice_get, goes, inl, inr, key_small}
-use Rattle.plan_check.proofs.Common.{length, map, refl, rows_at, slice_get, stays, subst, suc, sym, zero, ℕ, ◌<◌, ◌∙◌, ◌∷◌, ◌≡◌, ◌≤◌}
+use Rattle.plan_check.proofs.Common.{Alias, All-cons, All-map, AreKept, Block, Entry, GetsRoute, Intersects, IsSound, IsStrippable, KeptFrom, LiesIn, LiesInside, List, Meets, Port, Route, Row, Some}
+use Rattle.plan_check.proofs.Common.{ap, arith, bit_and, cases_lt, cons_option, default_route, ends, entry_of, eq-eqb, eqb-true, get_or, get_or_from_slice_get, goes, inl, inr, key_small, length, map}
+use Rattle.plan_check.proofs.Common.{refl, rows_at, slice_get, stays, subst, suc, sym, zero, ℕ, ◌<◌, ◌∙◌, ◌∷◌, ◌≡◌, ◌≤◌}
 
 -- a row's entry meets a block where the blocks meet
 entry_meets : (r : Row) (b : Block) → Meets b (entry_of r) → Intersects r.block b

@@ -3,7 +3,7 @@ use Rattle.plan_check.proofs.Common.{All, All-at, All-head, All-tail, AreRight, 
 use Rattle.plan_check.proofs.Common.{IsKeyOf, IsLoaded, IsMisrouted, IsRouted, IsTreeRoute, IsVerdict, IsWrong, LiesInside, List, Meets, NetPlan, NoneMeets, Port, Right, Route, Some, Verdict, [], ap}
 use Rattle.plan_check.proofs.Common.{arith, chips_inside, comes_in_tree, cond, default_route, false, false_from_ne_true, find, get_or, get_or_from_slice_get, has, index_below, index_of, inl, inr}
 use Rattle.plan_check.proofs.Common.{key_small, length, loaded, lookup, lookup_hit, lookup_miss, matches, one_port, option_map_or, refl, replicate, rows_for, slice_get, slice_get_within, subst, suc}
-use Rattle.plan_check.proofs.Common.{sym, table_at, true, unused, unused_matches, zero, ℕ, ◌*◌, ◌++◌, ◌-◌, ◌<◌, ◌∙◌, ◌∷◌, ◌≡◌}
+use Rattle.plan_check.proofs.Common.{sym, table_at, true, unused, unused_matches, zero, ℕ, ◌++◌, ◌-◌, ◌∙◌, ◌∷◌, ◌≡◌}
 use Rattle.plan_check.specs.declared.verdicts.Verdict.TheVariants.{Wrong}
 
 -- ---- lookup, entry by entry

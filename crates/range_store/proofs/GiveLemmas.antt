@@ -1,9 +1,8 @@
 -- A range put back among the holes.
-use Rattle.std.proofs.Common.{rules}
-use Rattle.range_store.proofs.Common.{AreNeighbours, AreRuns, Bool, Err, Hole, IsOk, IsPutBack, List, MatchOption, None, NoneIsFree, Ok, Option, Result, Some, [], ap, append_assoc, arith, cases_lt}
-use Rattle.range_store.proofs.Common.{drop, false, get_or, has_range, hole_end, if◌then◌else◌, in_range, inl, inr, is_free, is_ok, length, length-take-le, list_any-append, nat_tests, refl, set}
-use Rattle.range_store.proofs.Common.{set_at, set_split, slice_get, slice_get-get_or, slice_get_within, subst, suc, sym, take, take-append-drop, true, zero, ℕ, ◌++◌, ◌+◌, ◌-◌, ◌<◌, ◌||◌, ◌∙◌, ◌∷◌}
-use Rattle.range_store.proofs.Common.{◌≡◌, ◌≢◌, ◌≤◌}
+use Rattle.range_store.proofs.Common.{AreNeighbours, AreRuns, Bool, Hole, IsOk, IsPutBack, List, MatchOption, None, NoneIsFree, Option, Result, Some, [], ap, append_assoc, arith, cases_lt, drop}
+use Rattle.range_store.proofs.Common.{get_or, has_range, hole_end, if◌then◌else◌, in_range, inl, inr, is_free, is_ok, length, length-take-le, list_any-append, nat_tests, refl, rules, set, set_at}
+use Rattle.range_store.proofs.Common.{set_split, slice_get, slice_get-get_or, slice_get_within, subst, suc, sym, take, take-append-drop, true, zero, ℕ, ◌++◌, ◌+◌, ◌-◌, ◌<◌, ◌||◌, ◌∙◌, ◌∷◌, ◌≡◌, ◌≢◌}
+use Rattle.range_store.proofs.Common.{◌≤◌}
 use Rattle.range_store.proofs.RunLemmas.{next, runs_split, runs_join, earlier, fits_any, drop_got, split_got, some_len}
 use Rattle.range_store.proofs.HolePlaces.{clash, has_from}
 

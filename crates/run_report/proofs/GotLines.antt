@@ -1,7 +1,7 @@
 -- The got lines of a report are those of the deliveries that the job asks for.
-use Rattle.run_report.proofs.Common.{AllPairs, Delivery, Equal, Greater, IsAtRest, IsDeliveredOf, IsDeliveryNotAfter, IsMesh, Less, List, MatchOrdering, McCopy, MeetsJobLedger, NetPlan, Ordering}
-use Rattle.run_report.proofs.Common.{Packet, Spot, State, [], ap, arith, delivered_as_expected, delivery_key, expected_deliveries, false, flat_map, get_or, got_line, in_order_is_list, inl, inr, is_lt}
-use Rattle.run_report.proofs.Common.{map, named_delivery, nat_cmp, nat_list_cmp_total, ordering_then, ranked, ranks_by, refl, sorted_far, sym, true≢false, without_hop, ℕ, ◌++◌, ◌<◌, ◌∙◌, ◌∷◌, ◌≡◌}
+use Rattle.run_report.proofs.Common.{AllPairs, Delivery, Equal, IsAtRest, IsDeliveredOf, IsDeliveryNotAfter, IsMesh, List, MatchOrdering, McCopy, MeetsJobLedger, NetPlan, Ordering, Packet, Spot}
+use Rattle.run_report.proofs.Common.{State, [], ap, arith, delivered_as_expected, delivery_key, expected_deliveries, false, flat_map, get_or, got_line, in_order_is_list, is_lt, map, named_delivery}
+use Rattle.run_report.proofs.Common.{nat_cmp, nat_list_cmp_total, ordering_then, ranked, ranks_by, refl, sorted_far, sym, without_hop, ℕ, ◌++◌, ◌<◌, ◌∙◌, ◌∷◌, ◌≡◌}
 
 -- what the order of keys tells of two deliveries
 not_after : (x y : Delivery) (r t : Ordering) → MatchOrdering r (y.copy.packet < x.copy.packet) (y.copy.packet ≡ x.copy.packet) (x.copy.packet < y.copy.packet) →

@@ -1,6 +1,5 @@
 -- Texts that are appended one after the other.
-use Rattle.std.proofs.Common.{arith}
-use Rattle.run_report.proofs.Common.{List, ap, append_assoc, ℕ, ◌++◌, ◌∙◌, ◌≡◌}
+use Rattle.run_report.proofs.Common.{List, ap, append_assoc, arith, ℕ, ◌++◌, ◌∙◌, ◌≡◌}
 
 -- one text, and what is appended after it
 pub then_more : (a b c x y : List ℕ) → b ≡ a ++ x → c ≡ b ++ y → c ≡ a ++ (x ++ y)

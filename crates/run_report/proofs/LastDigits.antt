@@ -1,6 +1,6 @@
 -- The last digit of a number, those before it, and lines that differ in it alone.
-use Rattle.run_report.proofs.Common.{Did, List, [], ap, append_assoc, arith, codes, decimal, decimal_digit, decimal_step, did_word, event_front, event_line, length, refl, suc, sym, take}
-use Rattle.run_report.proofs.Common.{take-append-add, tens_digits, zero, ℕ, ◌%◌, ◌++◌, ◌+◌, ◌/◌, ◌<◌, ◌^◌, ◌∙◌, ◌∷◌, ◌≡◌}
+use Rattle.run_report.proofs.Common.{Did, List, [], ap, append_assoc, arith, codes, decimal, decimal_digit, decimal_step, did_word, event_front, event_line, length, refl, sym, take, take-append-add}
+use Rattle.run_report.proofs.Common.{tens_digits, ℕ, ◌%◌, ◌++◌, ◌+◌, ◌/◌, ◌<◌, ◌^◌, ◌∙◌, ◌∷◌, ◌≡◌}
 
 with_tens : (n tens : ℕ) → n < 2 ^ 64 → n / 10 ≡ tens → tens_digits tens ++ (48 + n % 10) ∷ [] ≡ decimal n
 with_tens n tens small is = grind (arith, decimal_digit, decimal_step)

@@ -1,7 +1,6 @@
 -- A sort by keys that are tuples of numbers, as an order of lists of numbers.
-use Rattle.std.proofs.Common.{arith}
-use Rattle.run_report.proofs.Common.{Bool, Equal, Greater, IsPermutation, IsSortedBy, IsSortedByKey, IsSortedStably, IsStableBy, IsStableByKey, Less, List, Ordering, [], is_lt, nat_cmp, ordering_then}
-use Rattle.run_report.proofs.Common.{refl, slice_cmp, subst, ℕ, ◌∷◌, ◌≡◌}
+use Rattle.run_report.proofs.Common.{Bool, Equal, IsPermutation, IsSortedBy, IsSortedByKey, IsSortedStably, IsStableBy, IsStableByKey, List, Ordering, [], arith, is_lt, nat_cmp, ordering_then}
+use Rattle.run_report.proofs.Common.{slice_cmp, subst, ℕ, ◌∷◌, ◌≡◌}
 
 two : (a b : Ordering) → ordering_then a b ≡ ordering_then a (ordering_then b Equal)
 two a b = grind arith

@@ -1,6 +1,5 @@
 -- Laws of bytes that are given and taken piece by piece.
-use Rattle.std.proofs.Common.{◌≡◌, ℕ, ◌+◌, ◌<◌, ◌≤◌, List, [], ◌∷◌, ◌++◌, length, take, Option, Some, None, refl, ap, sym, ◌∙◌, arith, append_assoc, length-append, length-take-le, length-drop, drop}
-use Rattle.std.proofs.Common.{inl, inr, ◌-◌}
+use Rattle.std.proofs.Common.{◌≡◌, ℕ, ◌+◌, ◌<◌, ◌≤◌, List, [], ◌∷◌, ◌++◌, length, take, Option, Some, refl, ap, sym, ◌∙◌, arith, append_assoc, length-append, length-take-le, length-drop, drop, ◌-◌}
 use Rattle.std.proofs.{Math.Seq.take-add, Math.Seq.take-length, lemmas.List.take-append-le, lemmas.List.take-append-drop, lemmas.List.drop-drop}
 use Rattle.spin_base.specs.Outside.{FaultsRose, GivesFirst, GivesAll, HasMoreThan, LosesAtMost, LosesMoreThan, Takes, Reads}
 

@@ -1,5 +1,5 @@
 -- The tests of equality say what equality says.
-use Rattle.std.proofs.Common.{◌≡◌, ℕ, true, ◌==◌, refl, ap, arith}
+use Rattle.std.proofs.Common.{◌≡◌, ℕ, true, ◌==◌, refl, arith}
 use Rattle.std.proofs.lemmas.Bool.{and_parts, eq-eqb, eqb-true}
 use Rattle.spin_base.specs.declared.{chips.Chip.Chip, chips.Dir.Dir, chips.Port.Port, chips.Port.TheVariants.Local, chips.Spot.Spot, routes.Out.Out}
 use Rattle.spin_base.specs.{Links.dir_number, Links.port_number, Outputs.out_number, Equality.chip_eq, Equality.spot_eq, Equality.dir_eq, Equality.port_eq, Equality.out_eq}

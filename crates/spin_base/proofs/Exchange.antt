@@ -35,14 +35,6 @@ put_in_before xs before after r p = grind (arith, append_assoc p.front p.back r,
 
 -- ---- in what is made of one item, so in what is made of the list
 
-pub taken_out_gathered : {X Y : Type 0} (f : ℕ → X → List Y) (y : Y) (i : ℕ) (xs : List X) (j : ℕ) (old new : X) → slice_get xs j ≡ Some old → TakenOut y (f (i + j) old) (f (i + j) new) → TakenOut y (gathered f i xs) (gathered f i (slice_set xs j new))
-taken_out_gathered f y i [] j old new at t = cc
-taken_out_gathered {X} {Y} f y i (x ∷ xs) zero old new at t = grind (arith, taken_out_before)
-taken_out_gathered f y i (x ∷ xs) (suc j) old new at t =
-    let n_is : i + suc j ≡ (i + 1) + j = omega arith in
-    taken_out_after y (f i x) (gathered f (i + 1) xs) (gathered f (i + 1) (slice_set xs j new))
-    (taken_out_gathered f y (i + 1) xs j old new at (subst (λ n. TakenOut y (f n old) (f n new)) n_is t))
-
 pub put_in_gathered : {X Y : Type 0} (f : ℕ → X → List Y) (ys : List Y) (i : ℕ) (xs : List X) (j : ℕ) (old new : X) → slice_get xs j ≡ Some old → PutIn ys (f (i + j) old) (f (i + j) new) → PutIn ys (gathered f i xs) (gathered f i (slice_set xs j new))
 put_in_gathered f ys i [] j old new at t = cc
 put_in_gathered {X} {Y} f ys i (x ∷ xs) zero old new at t = grind (arith, put_in_before)

@@ -1,7 +1,7 @@
 -- The members of a list: of a first item and others, of lists joined, mapped, filtered and searched.
 -- `Among` is membership by recursion over the list; `Contains` of std names a place.
-use Rattle.std.proofs.Common.{◌≡◌, ℕ, zero, suc, ◌<◌, Bool, true, false, cond, nat_lt, List, [], ◌∷◌, ◌++◌, map, length, Option, Some, None, refl, sym, ap, ◌∙◌, subst, arith, inl, inr, ◌⊎◌}
-use Rattle.std.specs.List.{Contains, slice_get, slice_index_or, filter, filter_map, cons_option, list_any, position, position_or_len}
+use Rattle.std.proofs.Common.{◌≡◌, ℕ, zero, suc, ◌<◌, Bool, true, nat_lt, List, [], ◌∷◌, ◌++◌, map, length, Option, Some, None, refl, sym, ap, ◌∙◌, subst, arith, inl, inr, ◌⊎◌}
+use Rattle.std.specs.List.{Contains, slice_get, slice_index_or, filter, filter_map, cons_option, list_any, position}
 use Rattle.std.proofs.lemmas.{Bool.cases_Bool, Bool.cond-true, Bool.cond-false, Bool.ltb-false, List.Folds.Any-from_list_any, List.Folds.list_any_at, List.Quantifiers.position-Some}
 use Rattle.std.proofs.lemmas.{List.Sums.fails_before_first, Option.slice_get-get_or, Option.slice_get_within, Option.get_or_from_slice_get}
 

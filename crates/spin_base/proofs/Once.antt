@@ -1,11 +1,9 @@
 -- How often an output stands in what a route names: once where the route has it, else not.
-use Rattle.std.proofs.Common.{rules}
-use Rattle.std.proofs.Common.{◌≡◌, ℕ, ◌+◌, ◌<◌, ◌≤◌, List, [], ◌∷◌, map, filter, Bool, true, false, ◌==◌, arith, ◌∙◌, refl, cond, if◌then◌else◌, count_by, suc, zero}
+use Rattle.std.proofs.Common.{rules, ◌≡◌, ℕ, ◌+◌, ◌<◌, ◌≤◌, List, [], ◌∷◌, map, filter, Bool, true, false, ◌==◌, arith, ◌∙◌, refl, cond, if◌then◌else◌, count_by, suc, zero}
 use Rattle.std.specs.List.{range_with_len}
 use Rattle.std.proofs.lemmas.{Bool.eqb-true, Bool.ne_eqb, List.Sums.sum_by-append, List.Sums.sum_by-cons}
-use Rattle.spin_base.specs.declared.chips.Dir.{Dir, TheVariants.East, TheVariants.NorthEast, TheVariants.North, TheVariants.West, TheVariants.SouthWest, TheVariants.South}
-use Rattle.spin_base.specs.{declared.routes.Out.Out, declared.routes.Out.TheVariants.Link, declared.routes.Out.TheVariants.Core, declared.routes.Route.Route, Equality.out_eq, Outputs.has}
-use Rattle.spin_base.specs.Outputs.{outs_of, all_outs, link_outs, core_outs, IsOutput}
+use Rattle.spin_base.specs.{declared.chips.Dir.Dir, declared.routes.Out.Out, declared.routes.Out.TheVariants.Link, declared.routes.Out.TheVariants.Core, declared.routes.Route.Route, Equality.out_eq}
+use Rattle.spin_base.specs.Outputs.{has, outs_of, all_outs, link_outs, core_outs, IsOutput}
 use Rattle.spin_base.proofs.{Outputs.dir_number_below, Equality.out_eq_true, Equality.nat_eq_same}
 
 -- a count of a list, from its first item on

@@ -1,12 +1,11 @@
 -- Lemmas on routes and their outputs.
 use Rattle.std.proofs.Common.{◌≡◌, ◌≢◌, ℕ, ◌+◌, ◌*◌, ◌%◌, ◌<◌, ◌≤◌, ◌^◌, ◌==◌, List, [], ◌∷◌, ◌++◌, map, filter, length, zero, suc, length-append, arith, ap, sym, ◌∙◌, refl, append_assoc, append-nil}
-use Rattle.std.proofs.Common.{inl, inr, w32, bit_or, lit<}
+use Rattle.std.proofs.Common.{inl, inr, w32, bit_or}
 use Rattle.std.specs.{Prelude.bit_and, List.range_with_len, Int.bit_at, Int.bit_not, Int.trailing_zeros}
 use Rattle.std.proofs.{lemmas.Bool.cases_eq, lemmas.Bool.cases_lt, lemmas.Nat.and_le_l, lemmas.Nat.or_lt, Math.Pow.pow-lt, lemmas.List.Sums.count_by-le-length, lemmas.List.Sums.length-filter}
 use Rattle.std.proofs.lemmas.Nat.Bits.{bit_at_above, bit_at-zero, bit_at_set_same, bit_at_set_other, bit_at-trailing_zeros, bit_at_clear_same, bit_at_clear_other}
-use Rattle.spin_base.specs.declared.{routes.Out.Out, routes.Out.TheVariants.Link, routes.Out.TheVariants.Core, chips.Dir.Dir, chips.Dir.TheVariants.East, chips.Dir.TheVariants.NorthEast}
-use Rattle.spin_base.specs.declared.{chips.Dir.TheVariants.North, chips.Dir.TheVariants.West, chips.Dir.TheVariants.SouthWest, chips.Dir.TheVariants.South, routes.Route.Route}
-use Rattle.spin_base.specs.{Outputs.has, Outputs.all_outs, Outputs.outs_of, Outputs.link_outs, Outputs.core_outs, Outputs.out_number, Outputs.IsOutput, Outputs.WithOut, Links.dir_number}
+use Rattle.spin_base.specs.{declared.routes.Out.Out, declared.routes.Out.TheVariants.Core, declared.chips.Dir.Dir, declared.routes.Route.Route, Outputs.has, Outputs.all_outs, Outputs.outs_of}
+use Rattle.spin_base.specs.{Outputs.link_outs, Outputs.core_outs, Outputs.out_number, Outputs.IsOutput, Outputs.WithOut, Links.dir_number}
 
 -- no bit from 24 on is set
 pub no_high_bit : (r : Route) (k : ℕ) → 24 ≤ k → bit_at r.bits k ≡ 0

@@ -1,5 +1,5 @@
 -- A route is its bits, and a bit is 0 or 1.
-use Rattle.std.proofs.Common.{◌≡◌, ℕ, zero, suc, ◌^◌, ◌<◌, refl, ap, subst, arith}
+use Rattle.std.proofs.Common.{◌≡◌, ℕ, ◌^◌, ◌<◌, ap, subst, arith}
 use Rattle.std.proofs.Props.{props}
 use Rattle.spin_base.specs.declared.routes.Route.{Route}
 

@@ -1,8 +1,8 @@
 -- The outputs that lead to the spots of a chip: two spots of one chip have two outputs.
-use Rattle.std.proofs.Common.{◌≡◌, ℕ, zero, suc, ◌+◌, ◌-◌, ◌%◌, ◌<◌, ◌≤◌, ltb, refl, arith}
+use Rattle.std.proofs.Common.{◌≡◌, ℕ, ◌+◌, ◌-◌, ◌%◌, ◌<◌, ◌≤◌, ltb, arith}
 use Rattle.std.proofs.{lemmas.Bool.lt-ltb, lemmas.Bool.le-ltb, lemmas.Bool.cases_lt, lemmas.Bool.cond-true, lemmas.Bool.cond-false, Math.Nat.mod-eq_of_lt}
-use Rattle.spin_base.specs.declared.chips.Dir.{Dir, TheVariants.East, TheVariants.NorthEast, TheVariants.North, TheVariants.West, TheVariants.SouthWest, TheVariants.South}
-use Rattle.spin_base.specs.{declared.routes.Out.TheVariants.Link, declared.routes.Out.TheVariants.Core, Links.dir_number, Links.dir_at, Outputs.out_number, Outputs.out_of, Outputs.IsOutput}
+use Rattle.spin_base.specs.{declared.chips.Dir.Dir, declared.routes.Out.TheVariants.Link, declared.routes.Out.TheVariants.Core, Links.dir_number, Links.dir_at, Outputs.out_number, Outputs.out_of}
+use Rattle.spin_base.specs.Outputs.{IsOutput}
 
 -- the link of a number has that number
 pub dir_number-dir_at : (n : ℕ) → n < 6 → dir_number (dir_at n) ≡ n

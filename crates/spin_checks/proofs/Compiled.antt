@@ -1,9 +1,8 @@
 -- What the compiler makes of a graph is answered right.
-use Rattle.std.proofs.Common.{rules}
 use Rattle.spin_checks.proofs.Common.{All, All-at, AllPairs, AreInPlaceOrder, AreNetsWith, AreRoutedApart, Block, Description, Edge, Err, Graph, HasGoodTree, HasKeptRows, HasNoAnswer, IfErr, IfOk}
 use Rattle.spin_checks.proofs.Common.{Image, IsAnswer, IsEdgeBefore, IsImageOf, IsInside, IsNetWith, IsPermutation-refl, IsPlanOf, IsPlannedNet, IsRoutingTree, IsVerdict, Judged, List, MatchResult}
 use Rattle.spin_checks.proofs.Common.{Memory, Net, NetPlan, Ok, Plan, Refusal, Result, Right, Some, Spells, arith, before_place, blocks_of, edges_inside, get_or, inl, inr, length-map, one_item_at}
-use Rattle.spin_checks.proofs.Common.{refl, right_line, routed_of, slice_get, slice_get-mapped, subst, sym, trees_of, ℕ, ◌∙◌, ◌≡◌}
+use Rattle.spin_checks.proofs.Common.{refl, right_line, routed_of, rules, slice_get, slice_get-mapped, subst, sym, trees_of, ℕ, ◌∙◌, ◌≡◌}
 use Rattle.spin_checks.proofs.Refusing.{none_due}
 
 -- ---- the trees of plans are in order

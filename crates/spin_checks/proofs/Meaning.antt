@@ -1,7 +1,7 @@
 -- What the lines mean: each begins as no other does.
 use Rattle.spin_checks.proofs.Common.{AreNetsWith, AreRight, BadImage, BadTree, Chip, Description, Edge, Entry, Finding, Graph, Image, IsLoaded, IsMisrouted, Judged, List, NamesMisrouted, Net}
-use Rattle.spin_checks.proofs.Common.{NetPlan, OtherMachine, Right, RoutesRight, Some, Spells, Split, Wrong, [], ap, arith, codes, finding_line, line, refl, right_line, slice_get, subst, sym, ℕ, ◌∙◌}
-use Rattle.spin_checks.proofs.Common.{◌∷◌, ◌≡◌}
+use Rattle.spin_checks.proofs.Common.{NetPlan, OtherMachine, Right, RoutesRight, Some, Spells, Split, Wrong, [], ap, arith, codes, finding_line, line, right_line, slice_get, subst, sym, ℕ, ◌∙◌, ◌∷◌}
+use Rattle.spin_checks.proofs.Common.{◌≡◌}
 use Rattle.spin_checks.proofs.OneNets.{one_list}
 
 -- the first letter

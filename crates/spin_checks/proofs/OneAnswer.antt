@@ -1,6 +1,5 @@
 -- There is one answer.
-use Rattle.std.proofs.Common.{arith}
-use Rattle.spin_checks.proofs.Common.{All, AreNetsWith, Description, Edge, Finding, Graph, IsAnswer, IsFinding, List, NetPlan, StandsOnSites, ap, finding_line, subst, sym, ℕ, ◌∙◌, ◌≡◌}
+use Rattle.spin_checks.proofs.Common.{All, AreNetsWith, Description, Edge, Finding, Graph, IsAnswer, IsFinding, List, NetPlan, StandsOnSites, arith, finding_line, ℕ, ◌≡◌}
 use Rattle.spin_checks.proofs.{OneFinding.AreLaws, OneFinding.one_finding, OneNets.one_list}
 
 pub one_answer : AreLaws → (m : Description) (graph : Graph) (trees : List (List Edge)) (bytes : List ℕ) (nets : List NetPlan) → All (StandsOnSites m) nets → AreNetsWith m graph trees nets →

@@ -1,8 +1,6 @@
 -- Nets and bytes have one finding.
-use Rattle.std.proofs.Common.{arith}
-use Rattle.spin_checks.proofs.Common.{All, All-at, BadImage, BadTree, Description, Finding, HasGoodTree, Image, IsFinding, IsFirstBad, IsInside, IsOfGrid, IsRouted, IsRoutingTree, IsVerdict, Judged}
-use Rattle.spin_checks.proofs.Common.{List, NetPlan, None, Option, OtherMachine, Some, Spells, StandsOnSites, Verdict, [], ap, append-nil, cases_order, fault_of, inl, inr, refl, subst, sym, ℕ, ◌++◌}
-use Rattle.spin_checks.proofs.Common.{◌≡◌}
+use Rattle.spin_checks.proofs.Common.{All, All-at, BadImage, BadTree, Description, Finding, HasGoodTree, Image, IsFinding, IsFirstBad, IsOfGrid, IsRouted, Judged, List, NetPlan, None, Option}
+use Rattle.spin_checks.proofs.Common.{OtherMachine, Some, Spells, StandsOnSites, Verdict, [], ap, append-nil, arith, cases_order, fault_of, refl, subst, sym, ℕ, ◌++◌, ◌≡◌}
 use Rattle.spin_checks.proofs.OneVerdict.{one_verdict}
 
 -- a net with a good tree, on sites, is routed

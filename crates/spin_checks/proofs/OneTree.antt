@@ -1,7 +1,7 @@
 -- Edges that are put in order give one tree.
 use Rattle.spin_checks.proofs.Common.{All, All-cons, AllPairs, AllPairs-head, AllPairs-tail, Bool, Chip, Edge, IsEdgeBefore, IsPermutation, IsPermutation-sym, IsPermutation-trans, IsTreeOf, List}
-use Rattle.spin_checks.proofs.Common.{Tree, [], ap, arith, edge_eq, edge_eq-true, edge_eq_self, edge_key, false, get_or, inl, inr, refl, same_chip, same_dir, same_edge, same_from_neither, subst}
-use Rattle.spin_checks.proofs.Common.{sum_by, sum_by-IsPermutation, sum_by-cons, sum_by-le, sym, true, ℕ, ◌+◌, ◌∙◌, ◌∷◌, ◌≡◌, ◌≤◌}
+use Rattle.spin_checks.proofs.Common.{Tree, [], ap, arith, edge_eq, edge_eq-true, edge_eq_self, edge_key, false, get_or, refl, same_chip, same_dir, same_edge, same_from_neither, subst, sum_by}
+use Rattle.spin_checks.proofs.Common.{sum_by-IsPermutation, sum_by-cons, sum_by-le, sym, true, ℕ, ◌+◌, ◌∙◌, ◌∷◌, ◌≡◌, ◌≤◌}
 
 -- no edge is before itself
 not_before_itself : (e : Edge) → IsEdgeBefore e e → ⊥

@@ -1,8 +1,7 @@
 -- Nets that are routed have one verdict on an image.
-use Rattle.std.proofs.Common.{arith}
 use Rattle.spin_checks.proofs.Common.{All, All-at, AreFineBefore, Block, Chip, Description, Entry, GetsRoute, GetsRouteThat, Image, IsFine, IsFineAll, IsFirstToMeet, IsInside, IsRouted, IsSplitAt}
-use Rattle.spin_checks.proofs.Common.{IsTreeRoute, IsVerdict, IsWrong, LiesInside, List, Meets, NetPlan, Port, Right, Route, Some, Split, Verdict, Wrong, ap, cases_order, chips_inside, index_of, inl}
-use Rattle.spin_checks.proofs.Common.{inr, one_item_at, one_port, refl, rows_for, same_index, slice_get, subst, sym, ℕ, ◌∙◌, ◌≡◌}
+use Rattle.spin_checks.proofs.Common.{IsTreeRoute, IsVerdict, IsWrong, LiesInside, List, Meets, NetPlan, Port, Right, Route, Some, Split, Verdict, Wrong, ap, arith, cases_order, chips_inside}
+use Rattle.spin_checks.proofs.Common.{index_of, inl, inr, one_item_at, one_port, refl, rows_for, same_index, slice_get, subst, sym, ℕ, ◌∙◌, ◌≡◌}
 
 -- ---- a block in rows
 

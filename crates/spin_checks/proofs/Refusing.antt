@@ -1,8 +1,7 @@
 -- A graph has at most one refusal that is due, and none where it has nets with trees.
-use Rattle.std.proofs.Common.{arith}
 use Rattle.spin_checks.proofs.Common.{AreNetsWith, Description, Edge, Err, Graph, HasNoAnswer, IfErr, IfOk, IsAnswer, IsJobRefusal, IsKeysCause, IsPlacement, IsPlacementCause, IsRefusedBy, KeyErr}
-use Rattle.spin_checks.proofs.Common.{KeysOut, List, Memory, Net, NetPlan, NoRoom, Ok, Option, PlaceErr, Refusal, Result, Spot, Vertex, WantsMemory, [], ap, inl, inr, key_refusal, keys_out, net_in}
-use Rattle.spin_checks.proofs.Common.{no_room, one_item_at, option_map_or, place_refusal, sym, vertex_in, ℕ, ◌∙◌, ◌≡◌}
+use Rattle.spin_checks.proofs.Common.{KeysOut, List, Memory, Net, NetPlan, NoRoom, Ok, Option, PlaceErr, Refusal, Result, Spot, Vertex, WantsMemory, [], ap, arith, inl, inr, key_refusal, keys_out}
+use Rattle.spin_checks.proofs.Common.{net_in, no_room, one_item_at, option_map_or, place_refusal, vertex_in, ℕ, ◌∙◌, ◌≡◌}
 use Rattle.place_fit.specs.declared.placing.PlaceErr.TheVariants as places
 use Rattle.key_alloc.specs.declared.alloc.KeyErr.TheVariants as keys
 use Rattle.place_fit.proofs.Determined as placing

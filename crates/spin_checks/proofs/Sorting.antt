@@ -1,6 +1,6 @@
 -- A sort of edges by their numbers puts them in their order.
-use Rattle.spin_checks.proofs.Common.{AllPairs, Edge, Equal, Greater, IsEdgeBefore, IsSortedByKey, IsTotalOrder, Less, List, MatchOrdering, Ordering, arith, dir_number, edge_key, inl, inr, is_lt}
-use Rattle.spin_checks.proofs.Common.{nat_cmp, nat_cmp_total, on_total, ordering_then, ranked, ranks_by, refl, sorted_far, sym, then_total, true, true≢false, ℕ, ◌<◌, ◌∙◌, ◌≡◌}
+use Rattle.spin_checks.proofs.Common.{AllPairs, Edge, IsEdgeBefore, IsSortedByKey, IsTotalOrder, List, Ordering, arith, edge_key, is_lt, nat_cmp, nat_cmp_total, on_total, ordering_then, ranked}
+use Rattle.spin_checks.proofs.Common.{ranks_by, sorted_far, sym, then_total, true, true≢false, ℕ, ◌∙◌, ◌≡◌}
 
 -- how the code compares two triples
 abbrev compared : ℕ × ℕ × ℕ → ℕ × ℕ × ℕ → Ordering

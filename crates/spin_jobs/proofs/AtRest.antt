@@ -1,12 +1,11 @@
 -- The report of a mesh at rest.
-use Rattle.std.proofs.Common.{arith}
-use Rattle.spin_jobs.proofs.Common.{All, All-at, AreAsExpected, Block, Chip, ChipTable, CoreQueue, Delivery, Did, DumpRec, Err, Hand, HasKeptPasses, HasLostNothing, HasReinjected, HasRunOut, IfOk}
-use Rattle.spin_jobs.proofs.Common.{Image, InQueue, IsAtRest, IsDeliveredOf, IsMesh, IsMeshOf, IsPermutation, IsReachedSoon, IsReportOf, IsReported, IsRoomy, IsRunKept, Job, JobWithPlan, List, McCopy}
-use Rattle.spin_jobs.proofs.Common.{MeetsJobLedger, NetPlan, None, Ok, Option, Packet, Parts, Place, Plan, Report, Reports, Result, Setup, Some, Spot, State, TellsRun, WordOutput, [], all_ports, ap}
-use Rattle.spin_jobs.proofs.Common.{chip_waits, codes, copies_at, core_waits, decimal, delivered_as_expected, dump_line, event_lines, expected_deliveries, flat_map, full_report, gathered, got_line}
-use Rattle.spin_jobs.proofs.Common.{got_lines, grid_chips, hand_waits, held_waits, in_order_is_list, index_of, keys_line, length, length-map, length_permutation, line, map, min, named_delivery}
-use Rattle.spin_jobs.proofs.Common.{nil_from_length, none_after, parts_with, place_line, placed_of, queue_at, queue_waits, range_with_len, refl, report_text, slice_get, subst, sum_none, sym}
-use Rattle.spin_jobs.proofs.Common.{table_lines, tables_image, unsent_by, unsent_total, wait_line, waits_at, waits_of, without_hop, ℕ, ◌++◌, ◌+◌, ◌-◌, ◌^◌, ◌∙◌, ◌∷◌, ◌≡◌}
+use Rattle.spin_jobs.proofs.Common.{All, All-at, AreAsExpected, Block, Chip, ChipTable, Delivery, Did, DumpRec, Hand, HasKeptPasses, HasLostNothing, HasReinjected, HasRunOut, IfOk, Image, IsAtRest}
+use Rattle.spin_jobs.proofs.Common.{IsDeliveredOf, IsMesh, IsMeshOf, IsPermutation, IsReachedSoon, IsReportOf, IsReported, IsRoomy, IsRunKept, Job, JobWithPlan, List, McCopy, MeetsJobLedger, NetPlan}
+use Rattle.spin_jobs.proofs.Common.{None, Option, Packet, Parts, Place, Plan, Report, Reports, Result, Setup, Some, Spot, State, TellsRun, WordOutput, [], ap, arith, chip_waits, codes, copies_at}
+use Rattle.spin_jobs.proofs.Common.{decimal, delivered_as_expected, dump_line, event_lines, expected_deliveries, flat_map, full_report, gathered, got_line, got_lines, held_waits, in_order_is_list}
+use Rattle.spin_jobs.proofs.Common.{index_of, keys_line, length, length-map, length_permutation, line, map, min, named_delivery, nil_from_length, none_after, parts_with, place_line, placed_of, refl}
+use Rattle.spin_jobs.proofs.Common.{report_text, slice_get, subst, sum_none, sym, table_lines, tables_image, unsent_total, wait_line, waits_at, waits_of, without_hop, ℕ, ◌++◌, ◌+◌, ◌-◌, ◌^◌, ◌∙◌, ◌∷◌}
+use Rattle.spin_jobs.proofs.Common.{◌≡◌}
 use Rattle.spin_base.specs.declared.wants.Memory.{Memory}
 
 -- ---- lists

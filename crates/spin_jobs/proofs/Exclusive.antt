@@ -1,8 +1,7 @@
 -- A job has a plan or one reason why it has none, since the compiler has one answer.
-use Rattle.std.proofs.Common.{arith}
 use Rattle.spin_jobs.proofs.Common.{CanBePlanned, Chip, CompileErr, CutOff, Description, Err, Final, Graph, HasBlocks, HasCutOff, HasLongTable, HasNoPlan, HasPlacement, IfOk, IsCompileCause, IsNameIn}
-use Rattle.spin_jobs.proofs.Common.{IsPlanOf, IsPlanOfJob, Job, KeysOut, List, Memory, Names, Net, NoMemory, NoRoom, Ok, Plan, Refusal, Result, TableLong, Vertex, ap, inl, inr, one_item_at, refl}
-use Rattle.spin_jobs.proofs.Common.{refusal_of, refused_where, subst, sym, ℕ, ◌∙◌, ◌≡◌, ◌⊎◌}
+use Rattle.spin_jobs.proofs.Common.{IsPlanOf, IsPlanOfJob, Job, KeysOut, List, Memory, Names, NoMemory, NoRoom, Ok, Plan, Refusal, Result, TableLong, arith, one_item_at, refusal_of, refused_where}
+use Rattle.spin_jobs.proofs.Common.{subst, sym, ℕ, ◌≡◌, ◌⊎◌}
 use Rattle.place_fit.proofs.Determined as places
 use Rattle.key_alloc.proofs.Determined as blocks
 use Rattle.run_report.specs.declared.causes.Refusal.TheVariants as refusals

@@ -1,10 +1,8 @@
 -- The opened mesh of a job: what it asks of the plan, and what it keeps.
-use Rattle.std.proofs.Common.{arith}
-use Rattle.std.proofs.Common.{rules}
-use Rattle.spin_jobs.proofs.Common.{All-at, All-replicate, AllZip-at_first, AreOfNets, Block, Description, Err, Graph, Hand, HasKeys, HasNoHand, IfOk, IsKeyOf, IsMesh, IsPacketOf, IsPlanOf}
-use Rattle.spin_jobs.proofs.Common.{IsPlanOfJob, IsRunOf, Job, List, MayGoOn, McCopy, MeetsJobLedger, Net, NetPlan, None, NothingWaits, Ok, Option, Packet, Plan, Result, RunPart, Setup, Some, State}
-use Rattle.spin_jobs.proofs.Common.{[], ap, blocks_of, get_or_from_slice_get, length, map, opened_meets_ledger, opened_mesh, opened_of, option_map, refl, setup_of, slice_get, slice_get-get_or}
-use Rattle.spin_jobs.proofs.Common.{slice_get-map, slice_index_or, subst, sym, ℕ, ◌*◌, ◌+◌, ◌<◌, ◌∙◌, ◌≡◌}
+use Rattle.spin_jobs.proofs.Common.{All-at, All-replicate, AllZip-at_first, AreOfNets, Block, Description, Err, Graph, HasKeys, HasNoHand, IfOk, IsKeyOf, IsMesh, IsPacketOf, IsPlanOf, IsPlanOfJob}
+use Rattle.spin_jobs.proofs.Common.{IsRunOf, Job, List, MayGoOn, MeetsJobLedger, Net, NetPlan, None, NothingWaits, Ok, Option, Packet, Plan, Result, RunPart, Setup, Some, State, [], ap, arith}
+use Rattle.spin_jobs.proofs.Common.{blocks_of, get_or_from_slice_get, map, opened_meets_ledger, opened_mesh, opened_of, option_map, refl, rules, setup_of, slice_get, slice_get-get_or, slice_get-map}
+use Rattle.spin_jobs.proofs.Common.{slice_index_or, subst, sym, ℕ, ◌+◌, ◌<◌, ◌∙◌, ◌≡◌}
 use Rattle.app_graph.specs.RunPart.{key_count_of}
 
 -- how many keys a net has

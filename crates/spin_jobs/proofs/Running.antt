@@ -1,8 +1,7 @@
 -- Rounds from the opened mesh of a job, and copies put back between them: what is kept after each of these.
-use Rattle.std.proofs.Common.{rules}
 use Rattle.spin_jobs.proofs.Common.{AreNetsOn, AreOfNets, AreRight, HasKeptPasses, HasKeptRounds, HasPasses, HasRounds, IsMesh, IsMeshOf, IsPlanOfJob, IsReachedSoon, IsRoomy, IsRunOf, Job, LeadsSoon}
 use Rattle.spin_jobs.proofs.Common.{List, MeetsJobLedger, NetPlan, Packet, Plan, Setup, State, [], after_put_back, ap, arith, by_putting_back, by_round, first_opened, kept_in, length, more, no_pass}
-use Rattle.spin_jobs.proofs.Common.{none, opened, opened_mesh, opened_of, refl, round, rounds_in, setup_of, suc, then_put_back, then_round, ℕ, ◌≡◌, ◌≤◌}
+use Rattle.spin_jobs.proofs.Common.{none, opened, opened_mesh, opened_of, refl, round, rounds_in, rules, suc, then_put_back, then_round, ℕ, ◌≡◌, ◌≤◌}
 use Rattle.spin_jobs.proofs.Opening.{job_of_nets, opened_keeps}
 
 -- the law that what leads from mesh to mesh keeps the ledger of a job

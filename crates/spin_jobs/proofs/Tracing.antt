@@ -1,7 +1,6 @@
 -- Events one by one, and what a trace keeps.
-use Rattle.std.proofs.Common.{rules}
 use Rattle.spin_jobs.proofs.Common.{Did, Event, IsMesh, IsPlanOfJob, IsRunOf, Job, List, MeetsJobLedger, Plan, State, [], after_event, after_events, answer, answers_of, ap, events_keep_job, length}
-use Rattle.spin_jobs.proofs.Common.{opened_of, refl, slice_get-get_or, slice_index_or, sym, take, take_more_at, ℕ, ◌++◌, ◌+◌, ◌<◌, ◌∙◌, ◌∷◌, ◌≡◌}
+use Rattle.spin_jobs.proofs.Common.{opened_of, refl, rules, slice_get-get_or, slice_index_or, sym, take, take_more_at, ℕ, ◌++◌, ◌+◌, ◌<◌, ◌∙◌, ◌∷◌, ◌≡◌}
 use Rattle.spin_jobs.proofs.Opening.{opened_keeps}
 
 after_one_more : (s : State) (es : List Event) (e : Event) → after_events s (es ++ e ∷ []) ≡ after_event (after_events s es) e

@@ -1,8 +1,6 @@
 -- What holds of the parts that a word makes of a job.
-use Rattle.std.proofs.Common.{arith}
 use Rattle.spin_jobs.proofs.Common.{Err, Gen, HasReinjected, HasRunOut, IfOk, IsMadeOf, IsRunKept, IsThePlan, IsTraced, Job, JobWord, List, Makes, MeetsJobLedger, Ok, Parts, Plan, Reinject, Report}
-use Rattle.spin_jobs.proofs.Common.{Result, Run, State, Trace, WhereGiven, WhereRun, WordOutput, generated, imaged, listed, parts_with, plan_parts, ran, reinjected, run_parts, subst, sym, traced, ℕ}
-use Rattle.spin_jobs.proofs.Common.{◌≡◌}
+use Rattle.spin_jobs.proofs.Common.{Result, Run, State, Trace, WhereGiven, WhereRun, WordOutput, arith, parts_with, plan_parts, run_parts, ℕ, ◌≡◌}
 
 -- what each value has, each value has that has more
 pub ok_weaker : {A E : Type 0} (r : Result A E) (P Q : A → Type 0) → ((x : A) → P x → Q x) → IfOk r P → IfOk r Q

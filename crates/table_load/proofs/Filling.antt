@@ -2,10 +2,9 @@
 use Rattle.std.proofs.Common.{◌≡◌, ◌≢◌, ℕ, zero, suc, ◌+◌, ◌*◌, ◌<◌, ◌≤◌, eqb, cond, List, [], ◌∷◌, ◌++◌, length, get_or, set, take, drop, replicate, refl, sym, ap, ◌∙◌, arith, Some, slice_get}
 use Rattle.std.proofs.Common.{append_assoc, inl, inr}
 use Rattle.std.proofs.{Math.Nat.mul-le-mul_left, Math.Seq.drop-cons, Math.Seq.take-length, lemmas.Bool.cases_eq, lemmas.Bool.eq-eqb, lemmas.Bool.ne_eqb, lemmas.List.set_at, lemmas.List.length-take-le}
-use Rattle.std.proofs.lemmas.List.{take_more, length-set, get_or-take, length-replicate, drop-replicate}
+use Rattle.std.proofs.lemmas.List.{take_more, length-set, get_or-take, length-replicate, drop-replicate, get_or_default}
 use Rattle.spin_base.specs.declared.{blocks.Entry.Entry, chips.Chip.Chip, blocks.ChipTable.ChipTable}
 use Rattle.tcam_find.specs.Memory.{unused, empty_memory}
-use Rattle.std.proofs.lemmas.List.{get_or_default}
 use Rattle.spin_base.proofs.Places.{slice_get-set_same, slice_get-set_other}
 use Rattle.table_load.specs.{declared.tables.Image.Image, Images.IsValid, Images.IsChipBefore, Memories.table_index, Memories.rows_of_index, Memories.loaded}
 

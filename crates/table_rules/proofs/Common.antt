@@ -10,19 +10,19 @@ pub use Rattle.spin_base.proofs.Members.{Among, Contains-filter, Contains-map, C
 pub use Rattle.spin_base.proofs.{Members.position_nowhere, Pairs.All-flat_map, Pairs.All-from_map, Pairs.AllAcross, Pairs.AllPairs-across, Pairs.AllPairs-append, Pairs.AllPairs-from_map}
 pub use Rattle.spin_base.proofs.{Pairs.AllPairs-head, Pairs.AllPairs-left, Pairs.AllPairs-nil, Pairs.AllPairs-right, Pairs.AllPairs-tail, Places.All-at, Places.All-each, RouteBits.same_route}
 pub use Rattle.spin_base.specs.declared.{blocks.Block.Block, chips.Port.Port, chips.Port.TheVariants.Local, routes.Route.Route}
-pub use Rattle.std.proofs.Common.{Bool, List, None, Option, Some, [], ap, append_assoc, arith, cond, drop, eqb, false, get_or, get_or-drop, get_or-take, inl, inr, length, length-append, length-drop}
+pub use Rattle.std.proofs.Common.{List, None, Option, Some, [], ap, append_assoc, arith, cond, drop, eqb, false, get_or, get_or-drop, get_or-take, inl, inr, length, length-append, length-drop}
 pub use Rattle.std.proofs.Common.{length-take, map, min, refl, set, subst, suc, sym, take, take-append-drop, true, zero, ℕ, ◌%◌, ◌++◌, ◌+◌, ◌-◌, ◌<◌, ◌==◌, ◌^◌, ◌↔◌, ◌∙◌, ◌∷◌, ◌≡◌, ◌≤◌, ◌⊎◌}
-pub use Rattle.std.proofs.lemmas.{Bool.Decides.eqb_tells, Bool.Decides.nat_tests, Bool.cases_Bool, Bool.cases_lt, Bool.eq-eqb, Bool.eqb-true, Bool.false≢true, List.Concat.flat_map-append}
-pub use Rattle.std.proofs.lemmas.List.{Edits.length-insert, Elements.All-append, Elements.All-cons, Elements.All-drop, Elements.All-head, Elements.All-map, Elements.All-nil, Elements.All-tail}
-pub use Rattle.std.proofs.lemmas.List.{Elements.All-take, Elements.Contains-append_cases, Elements.Contains-append_left, Elements.Contains-append_right, Elements.Contains-get_or, Filters.dedup_is}
-pub use Rattle.std.proofs.lemmas.List.{Folds.find-append, Kept.AllPairs-cons, Kept.AllPairs-from_increasing, Kept.Contains-dedup_nat, Kept.Contains-from_dedup, Quantifiers.position-Some}
-pub use Rattle.std.proofs.lemmas.List.{Sorted.All-permutation, Sorted.Contains-permutation, Sorted.IsNonDecreasingBy-from_sort, Sorted.IsPermutation-refl, Sorted.IsPermutation-sym, Sums.sum_by-append}
-pub use Rattle.std.proofs.lemmas.List.{Sums.take_while-cons, append-nil, drop_all, drop_more, get_or-map, get_or_default, length-map, map_push, take_all, take_more}
-pub use Rattle.std.proofs.lemmas.{Map.Keys.IsStrictlyIncreasing-dedup, Nat.Bits.bit_at-zero, Nat.and_le_l, Nat.and_le_r, Nat.mod_low, Option.get_or_from_slice_get, Option.none-some, Option.same_Some}
-pub use Rattle.std.proofs.lemmas.{Option.slice_get-get_or, Option.slice_get_within, Result.IfOk-weaker}
+pub use Rattle.std.proofs.lemmas.Bool.{Decides.eqb_tells, Decides.nat_tests, cases_Bool, cases_eq, cases_lt, eq-eqb, eqb-false, eqb-true, false≢true}
+pub use Rattle.std.proofs.lemmas.List.{Concat.flat_map-append, Edits.length-insert, Elements.All-append, Elements.All-cons, Elements.All-drop, Elements.All-head, Elements.All-map, Elements.All-nil}
+pub use Rattle.std.proofs.lemmas.List.Elements.{All-tail, All-take, Contains-append_cases, Contains-append_left, Contains-append_right, Contains-get_or}
+pub use Rattle.std.proofs.lemmas.List.{Filters.dedup_is, Folds.find-append, Folds.find_at, Kept.AllPairs-cons, Kept.AllPairs-from_increasing, Kept.Contains-dedup_nat, Kept.Contains-from_dedup}
+pub use Rattle.std.proofs.lemmas.List.{Quantifiers.position-Some, Sorted.All-permutation, Sorted.Contains-permutation, Sorted.IsNonDecreasingBy-from_sort, Sorted.IsPermutation-refl}
+pub use Rattle.std.proofs.lemmas.List.{Sorted.IsPermutation-sym, Sums.sum_by-append, Sums.take_while-cons, append-nil, drop_all, drop_more, get_or-map, get_or_default, length-map, map_push}
+pub use Rattle.std.proofs.lemmas.{List.nil_from_length, List.take_all, List.take_more, Map.Keys.IsStrictlyIncreasing-dedup, Nat.Bits.bit_at-zero, Nat.and_le_l, Nat.and_le_r, Nat.mod_low}
+pub use Rattle.std.proofs.lemmas.{Option.get_or_from_slice_get, Option.none-some, Option.same_Some, Option.slice_get-get_or, Option.slice_get_within, Result.IfOk-weaker}
 pub use Rattle.std.specs.{Int.bit_at, Int.bit_not, Int.w32, List.Contains, List.Sorted.IsNonDecreasing, List.Sorted.IsPermutation, List.cons_option, List.dedup, List.position, List.position_or_len}
 pub use Rattle.std.specs.{Option.option_or, Prelude.All, Prelude.AllPairs, Prelude.IfSome, Prelude.MatchOption, Prelude.bit_and, Prelude.bit_xor, Prelude.count_by, Prelude.filter, Prelude.fold}
-pub use Rattle.std.specs.Prelude.{if◌then◌else◌, insert, nat_le, not, slice_get, slice_index}
+pub use Rattle.std.specs.Prelude.{insert, nat_le, not, slice_get, slice_index}
 pub use Rattle.table_rules.specs.Exact.{HasAllRoutes, IsCoveredWithin, IsFree, IsShortWithin, IsShortenedWithin, no_route, rows_before, wall_of, walled}
 pub use Rattle.table_rules.specs.Made.{HasTooManyPieces, IsRowAdded, IsTableFrom, IsTableMadeOf, StandsBefore, alias_of, done, here, in_pieces, later, left_out, more, piece_row, row_blocks, whole}
 pub use Rattle.table_rules.specs.{Made.whole_row, Made.with_row, Made.with_rows, Pairs.AreJoinedRows, Pairs.AreRoutesOf, Pairs.goes_by, Pairs.joined_blocks, Pairs.meets_one, Pairs.others}

@@ -1,6 +1,6 @@
 -- Which row has a key first.
-use Rattle.table_rules.proofs.Common.{All-cons, All-head, All-nil, All-tail, Block, List, Matches, None, NoneHas, RoutedBlock, Some, [], ap, arith, bit_and, cond, eq-eqb, eqb_tells, false, first_with}
-use Rattle.table_rules.proofs.Common.{find-append, inl, inr, none-some, option_or, refl, row_blocks, same_Some, sym, takes_key, true, ℕ, ◌++◌, ◌∙◌, ◌∷◌, ◌≡◌, ◌⊎◌}
+use Rattle.table_rules.proofs.Common.{All-cons, All-head, All-nil, All-tail, Block, List, Matches, None, NoneHas, RoutedBlock, Some, [], ap, arith, bit_and, cond, eq-eqb, eqb_tells, false}
+use Rattle.table_rules.proofs.Common.{find-append, first_with, inl, inr, none-some, option_or, refl, row_blocks, same_Some, sym, takes_key, true, ℕ, ◌++◌, ◌∙◌, ◌∷◌, ◌≡◌, ◌⊎◌}
 
 pub has_tells : (k : ℕ) (r : RoutedBlock) → ((takes_key k r ≡ true) × Matches r.block k) ⊎ ((takes_key k r ≡ false) × (Matches r.block k → ⊥))
 has_tells k r = elim (eqb_tells (bit_and k r.block.mask) r.block.key) [

@@ -1,9 +1,8 @@
 -- One piece more, one row more.
 use Rattle.table_rules.proofs.Common.{All, AreLeft, Block, Covers, HasTooManyPieces, IsCoveredFrom, IsRowAdded, IsShortFrom, IsShorterOf, IsTableFrom, IsTableMadeOf, List, None, PassesDown}
-use Rattle.table_rules.proofs.Common.{RoutedBlock, Row, Some, StandsBefore, [], ap, arith, cut, done, drop, drop_all, drop_more, false, generality, get_or, here, later, length}
-use Rattle.table_rules.proofs.Common.{length-insert, map, map_push, more, piece_row, pieces_of, place_for, place_for-le, refl, routed, row_blocks, rows_at, rows_at-push, slice_get-get_or, subst, sym}
-use Rattle.table_rules.proofs.Common.{take, take_more, true, with_row, with_rows, ℕ, ◌++◌, ◌+◌, ◌-◌, ◌<◌, ◌==◌, ◌∙◌, ◌∷◌, ◌≡◌, ◌≤◌}
-use Rattle.std.proofs.lemmas.{Bool.cases_eq, Bool.eqb-false, Bool.eqb-true, List.nil_from_length}
+use Rattle.table_rules.proofs.Common.{RoutedBlock, Row, Some, StandsBefore, [], ap, arith, cases_eq, cut, done, drop, drop_all, drop_more, eqb-false, eqb-true, false, generality, get_or, here, later}
+use Rattle.table_rules.proofs.Common.{length, length-insert, map, map_push, more, nil_from_length, piece_row, pieces_of, place_for, place_for-le, routed, row_blocks, rows_at, rows_at-push}
+use Rattle.table_rules.proofs.Common.{slice_get-get_or, subst, sym, take, take_more, true, with_row, with_rows, ℕ, ◌++◌, ◌+◌, ◌-◌, ◌<◌, ◌==◌, ◌∙◌, ◌∷◌, ◌≡◌, ◌≤◌}
 
 -- ---- pieces as rows
 

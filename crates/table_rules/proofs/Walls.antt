@@ -3,15 +3,14 @@ use Rattle.table_rules.proofs.Common.{Alias, All, All-append, All-at, All-cons, 
 use Rattle.table_rules.proofs.Common.{AllPairs-left, AreLeft, Block, Contains, Contains-append_cases, Contains-append_left, Contains-append_right, Covers, HasNoNewKeys, HoldsItsAliases, Intersects}
 use Rattle.table_rules.proofs.Common.{IsCoveredWithin, IsFree, IsPermutation, IsRowAdded, IsShortWithin, IsShorterOf, IsSound, IsTableFrom, IsTableMadeOf, KeepsRoutes, List, Matches, Misses, None}
 use Rattle.table_rules.proofs.Common.{Option, Original, Port, Route, RoutedBlock, Row, Some, StandsBefore, [], after, all_keys, and_le_l, and_le_r, ap, arith, bit_and, bit_at, bit_at-zero, bit_not}
-use Rattle.table_rules.proofs.Common.{bit_xor, cond, cons_option, done, drop, eqb_tells, false, find-append, first_with, fold, generality, generality-mono, get_or, has_row, in_pieces, inl, inr}
-use Rattle.table_rules.proofs.Common.{insert_place, kept, left_out, length, length-append, length-take, map, merge_rows, merged, merged_row, more, nat_le, nat_tests, none-some, not, option_or, others}
-use Rattle.table_rules.proofs.Common.{piece_row, pieces_of, place_for, position_or_len, refl, rows_at, rows_at-from, rows_before, same_Some, served, served_by, slice_get, stuck, subst, sum_by-append}
-use Rattle.table_rules.proofs.Common.{sym, take, take-append-drop, take_while-cons, takes_key, true, w32, wall_of, walled, whole, whole_row, ℕ, ◌++◌, ◌-◌, ◌<◌, ◌==◌, ◌^◌, ◌∙◌, ◌∷◌, ◌≡◌, ◌≤◌}
-use Rattle.std.proofs.lemmas.List.Folds.{find_at}
+use Rattle.table_rules.proofs.Common.{bit_xor, cond, cons_option, done, drop, eqb_tells, false, find-append, find_at, first_with, fold, generality, generality-mono, get_or, has_row, in_pieces, inl}
+use Rattle.table_rules.proofs.Common.{inr, insert_place, kept, left_out, length, length-append, length-take, map, merge_rows, merged, merged_row, more, nat_le, nat_tests, not, option_or, others}
+use Rattle.table_rules.proofs.Common.{piece_row, pieces_of, place_for, position_or_len, refl, rows_at, rows_at-from, rows_before, served, served_by, slice_get, stuck, subst, sum_by-append, sym, take}
+use Rattle.table_rules.proofs.Common.{take-append-drop, take_while-cons, takes_key, true, w32, wall_of, walled, whole, whole_row, ℕ, ◌++◌, ◌-◌, ◌<◌, ◌==◌, ◌^◌, ◌∙◌, ◌∷◌, ◌≡◌, ◌≤◌}
 use Rattle.cover_merge.specs.Covering.{short}
 use Rattle.tern_word.specs.Ternary.{merge_two}
-use Rattle.table_rules.proofs.{Faithful.IsServed, Faithful.is_served, Faithful.sent_on, Kept.kept_within, Kept.none_of, FirstRows.first_hit, FirstRows.first_miss, FirstRows.first_next}
-use Rattle.table_rules.proofs.{FirstRows.has_tells, Sounds.all_insert, Sounds.all_with_rows, Sounds.tail_sound}
+use Rattle.table_rules.proofs.{Faithful.IsServed, Faithful.is_served, Faithful.sent_on, Kept.kept_within, Kept.none_of, FirstRows.first_hit, FirstRows.first_next, Sounds.all_insert}
+use Rattle.table_rules.proofs.Sounds.{all_with_rows, tail_sound}
 
 -- ---- blocks of all keys
 

@@ -1,6 +1,5 @@
 -- One table more, and what its entries keep.
-use Rattle.std.proofs.Common.{rules}
-use Rattle.std.proofs.Common.{◌≡◌, ℕ, ◌+◌, ◌<◌, ◌≤◌, Bool, true, false, cond, List, [], ◌∷◌, ◌++◌, length, get_or, take, map, Option, Some, None, refl, sym, ap, ◌∙◌, subst, arith}
+use Rattle.std.proofs.Common.{rules, ◌≡◌, ℕ, ◌+◌, ◌<◌, ◌≤◌, Bool, true, false, cond, List, [], ◌∷◌, ◌++◌, length, get_or, take, map, Option, Some, None, refl, sym, ap, ◌∙◌, subst, arith}
 use Rattle.std.specs.Prelude.{IfSome, MatchOption, find}
 use Rattle.std.proofs.lemmas.{List.length-map, List.take_all, List.take_more, Option.none-some, Option.same_Some}
 use Rattle.spin_base.specs.{declared.blocks.Entry.Entry, declared.chips.Port.Port, declared.routes.Route.Route, Lookup.matches}

@@ -1,5 +1,5 @@
 -- The bits that entries have in common.
-use Rattle.std.proofs.Common.{◌≡◌, ℕ, ◌+◌, ◌-◌, ◌%◌, ◌^◌, ◌<◌, eqb, min, Bool, true, false, bit_and, ◌≢◌, refl, sym, ap, ◌∙◌, arith}
+use Rattle.std.proofs.Common.{◌≡◌, ℕ, ◌-◌, ◌^◌, ◌<◌, eqb, min, false, bit_and, ◌≢◌, sym, ap, ◌∙◌, arith}
 use Rattle.std.proofs.lemmas.{Bool.eqb-false, Bool.eqb-true, Nat.and_assoc, Nat.and_comm, Nat.and_le_l, Nat.xor_lt, Nat.Bits.bit_at-lt, Nat.Bits.bit_at_and, Nat.Bits.bit_at_not, Nat.Bits.bit_at_xor}
 use Rattle.std.proofs.lemmas.Nat.Bits.{same_from_bits_below}
 use Rattle.std.specs.Int.{bit_at, bit_not, w32, Bits.and_self, Bits.bit_xor}

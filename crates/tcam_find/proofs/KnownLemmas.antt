@@ -1,5 +1,5 @@
 -- What is known of groups, and of blocks of eight of them.
-use Rattle.std.proofs.Common.{◌≡◌, ◌≢◌, ℕ, ◌+◌, ◌-◌, ◌*◌, ◌/◌, ◌<◌, ◌≤◌, eqb, Bool, true, false, List, length, get_or, set, bit_and, replicate, refl, sym, ap, ◌∙◌, subst, arith, inl, inr}
+use Rattle.std.proofs.Common.{◌≡◌, ◌≢◌, ℕ, ◌+◌, ◌-◌, ◌*◌, ◌/◌, ◌<◌, ◌≤◌, eqb, false, List, length, get_or, set, bit_and, replicate, ap, ◌∙◌, subst, arith, inl, inr}
 use Rattle.std.proofs.lemmas.{Bool.cases_lt, Bool.eqb-false, Bool.eqb-true, List.get_or-replicate, List.get_or-set_other, Grind.get_or-set_at}
 use Rattle.std.specs.Int.Bits.{and_zero_r}
 use Rattle.tcam_find.specs.Memory.{Misses, TellOfGroups}

@@ -1,6 +1,5 @@
 -- From the mask of eight comparisons to the entries that were compared.
-use Rattle.std.proofs.Common.{rules}
-use Rattle.std.proofs.Common.{◌≡◌, ℕ, ◌+◌, ◌-◌, ◌%◌, ◌^◌, ◌<◌, ◌≤◌, eqb, cond, Bool, true, false, not, List, map, length, get_or, take, drop, replicate, bit_and, sym, ap, ◌∙◌, arith}
+use Rattle.std.proofs.Common.{rules, ◌≡◌, ℕ, ◌+◌, ◌-◌, ◌%◌, ◌^◌, ◌<◌, ◌≤◌, eqb, cond, Bool, true, false, not, List, map, length, get_or, take, drop, replicate, bit_and, sym, ap, ◌∙◌, arith}
 use Rattle.std.proofs.lemmas.{Bool.not-true, Bool.not-false, List.map-id, List.length-take-le, List.length-drop, List.length-replicate, List.get_or-take, List.get_or-drop, List.get_or-replicate}
 use Rattle.std.proofs.lemmas.{List.Sums.prefix_len-le-length, List.Sums.prefix_len_passes, List.Sums.prefix_len_stops, Simd.mask_l-mod, Simd.length-chunk, Simd.length-zip2, Simd.get_or-chunk}
 use Rattle.std.proofs.lemmas.Simd.{get_or-zip2, first_set_mask_l, tops_compared}

@@ -1,7 +1,6 @@
 -- The entries of a memory, which stand in groups of eight.
-use Rattle.std.proofs.Common.{rules}
-use Rattle.std.proofs.Common.{◌≡◌, ℕ, ◌+◌, ◌*◌, ◌/◌, ◌<◌, ◌≤◌, eqb, Bool, true, false, List, [], ◌∷◌, ◌++◌, length, get_or, set, replicate, bit_and, refl, sym, ap, ◌∙◌, subst, arith, zero, suc, Some}
-use Rattle.std.proofs.Common.{None, slice_get, ◌-◌, inl, inr}
+use Rattle.std.proofs.Common.{rules, ◌≡◌, ℕ, ◌+◌, ◌*◌, ◌/◌, ◌<◌, ◌≤◌, eqb, Bool, true, false, List, [], ◌∷◌, ◌++◌, length, get_or, set, replicate, bit_and, refl, sym, ap, ◌∙◌, arith, zero, suc, Some}
+use Rattle.std.proofs.Common.{None, slice_get, ◌-◌}
 use Rattle.std.proofs.lemmas.{Bool.cases_lt, Bool.eqb-false, Bool.eqb-true, List.length-replicate, List.length-append, List.length-set, List.set_past, List.length_push, List.append_assoc}
 use Rattle.std.proofs.lemmas.{List.get_or-replicate, List.replicate-append-replicate, List.set-append_left, List.set-append_right, Grind.flat_map-append, Option.slice_get-get_or}
 use Rattle.std.proofs.lemmas.{Option.slice_get_within, List.Elements.All-cons, List.Elements.All-head, List.Elements.All-nil, List.Elements.All-replicate, List.Elements.All-set}

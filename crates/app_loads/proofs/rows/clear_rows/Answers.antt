@@ -1,5 +1,4 @@
-use Rattle.app_loads.proofs.Common.{All, AreUnused, Chip, Description, IsRangeWithin, List, Range, ap, chip_count, get_or, index_of, length, refl, region_size, subst, sym, take, ℕ, ◌+◌, ◌<◌, ◌∙◌}
-use Rattle.app_loads.proofs.Common.{◌≤◌}
+use Rattle.app_loads.proofs.Common.{All, AreUnused, Chip, Description, IsRangeWithin, List, Range, ap, chip_count, get_or, index_of, length, refl, region_size, subst, sym, take, ℕ, ◌+◌, ◌<◌, ◌∙◌, ◌≤◌}
 use Rattle.app_loads.proofs.{Copying.IsOfChip, Copying.T_long, Copying.filled_more, Copying.filled_skip, Copying.of_chip, Copying.place_of_no_rows, Settling.rows_size}
 use Rattle.app_loads.proofs.rows.clear_rows.Goals as goal
 

@@ -1,5 +1,5 @@
 use Rattle.app_loads.proofs.Common.{ap, arith, entry_of, refl, set, slice_get_read, slice_set, true, ◌∙◌}
-use Rattle.app_loads.proofs.{Copying.filled_next, Copying.row_next}
+use Rattle.app_loads.proofs.Copying.{filled_next, row_next}
 use Rattle.app_loads.proofs.rows.put_rows.Goals as goal
 
 pub loop-at-preserved : goal.loop-at-preserved

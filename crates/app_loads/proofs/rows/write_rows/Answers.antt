@@ -1,6 +1,5 @@
 use Rattle.app_loads.proofs.Common.{AreCopied, Contains-at, [], arith, common_steps, false, length-drop, length-map, refl, slice_get-get_or, subst, sym, tables_in, take, true, ◌+◌, ◌∙◌}
-use Rattle.app_loads.proofs.{Copying.T_long, Copying.all_filled, Copying.filled_more, Copying.filled_size, Copying.filled_skip, Copying.fit, Copying.j_below, Copying.j_in_tables, Copying.left_first}
-use Rattle.app_loads.proofs.{Copying.of_chip, Copying.place_of_no_rows, Copying.rows_filled}
+use Rattle.app_loads.proofs.Copying.{T_long, all_filled, filled_more, filled_size, filled_skip, fit, j_below, j_in_tables, left_first, of_chip, place_of_no_rows, rows_filled}
 use Rattle.app_loads.proofs.rows.write_rows.Goals as goal
 
 pub bounds-tables-at : goal.bounds-tables-at

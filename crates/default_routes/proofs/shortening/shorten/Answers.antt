@@ -1,6 +1,5 @@
 -- What covering promises of the covered table, and stripping of its rows, together.
-use Rattle.std.proofs.Common.{arith}
-use Rattle.default_routes.proofs.Common.{All, ArePlaces, List, Original, Routes, Row, refl, rows_at, served, sets_of, subst}
+use Rattle.default_routes.proofs.Common.{ArePlaces, List, Row, arith, refl, sets_of, subst}
 use Rattle.default_routes.proofs.FinalLemmas.{loaded_routes, of_kept, serves_given, shortened}
 use Rattle.default_routes.proofs.shortening.shorten.Goals as goal
 

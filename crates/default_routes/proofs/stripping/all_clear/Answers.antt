@@ -1,5 +1,5 @@
 -- The rows are clear where each of them misses the row.
-use Rattle.std.proofs.Common.{rules}
+use Rattle.default_routes.proofs.Common.{rules}
 use Rattle.default_routes.proofs.StripLemmas.{meets_one, misses_more, misses_all}
 use Rattle.default_routes.proofs.stripping.all_clear.Goals as goal
 

@@ -1,5 +1,5 @@
 -- The link, the aliases and the later rows together.
-use Rattle.default_routes.proofs.Common.{Alias, All, Link, rows_at, subst, ◌≡◌}
+use Rattle.default_routes.proofs.Common.{Alias, All, Link, subst, ◌≡◌}
 use Rattle.default_routes.proofs.StripLemmas.{match_strip}
 use Rattle.default_routes.proofs.stripping.can_go.Goals as goal
 

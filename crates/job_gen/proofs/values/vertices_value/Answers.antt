@@ -1,4 +1,4 @@
-use Rattle.job_gen.proofs.Common.{ap, array, chains, items_of, vertex_data, rules, view-Array, ◌∙◌}
+use Rattle.job_gen.proofs.Common.{ap, array, chains, items_of, rules, vertex_data, view-Array, ◌∙◌}
 use Rattle.job_gen.proofs.ValueLemmas.{numbered_values}
 use Rattle.job_gen.proofs.values.vertices_value.Goals as goal
 

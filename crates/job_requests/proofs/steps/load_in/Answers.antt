@@ -1,5 +1,4 @@
-use Rattle.std.proofs.Common.{arith}
-use Rattle.job_requests.proofs.Common.{All, IsValidJob, Job, None, Vertex, subst, sym, ◌≡◌}
+use Rattle.job_requests.proofs.Common.{arith}
 use Rattle.job_requests.proofs.Versions.{job_of_cores}
 use Rattle.job_requests.proofs.steps.load_in.Goals as goal
 

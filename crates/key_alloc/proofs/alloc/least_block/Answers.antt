@@ -1,5 +1,4 @@
-use Rattle.std.proofs.Common.{rules}
-use Rattle.key_alloc.proofs.Common.{IsOpenPlace, arith, subst}
+use Rattle.key_alloc.proofs.Common.{IsOpenPlace, arith, rules, subst}
 use Rattle.key_alloc.proofs.{Sizes.size_from_half, Sizes.size_within, Sizes.one_size, Taking.block_from_least}
 use Rattle.key_alloc.proofs.alloc.least_block.Goals as goal
 

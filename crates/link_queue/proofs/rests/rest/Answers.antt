@@ -1,5 +1,4 @@
-use Rattle.std.proofs.Common.{arith}
-use Rattle.std.proofs.Common.{◌≡◌, true, ap, ◌∙◌, subst}
+use Rattle.std.proofs.Common.{arith, ◌≡◌, true, ap, ◌∙◌, subst}
 use Rattle.crossbeam_queue.specs.Passes.{view}
 use Rattle.link_queue.specs.{declared.known.Known.Known, Ends.cap_of, Ends.sending, Ends.taking, Steps.joined, Steps.renewed, Steps.sender_of, Steps.receiver_of, Steps.Balanced}
 use Rattle.link_queue.proofs.StepLemmas.{joins, balanced, renews, rested}

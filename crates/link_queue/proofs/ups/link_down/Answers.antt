@@ -1,6 +1,5 @@
-use Rattle.std.proofs.Common.{rules}
-use Rattle.std.proofs.Common.{arith, ap, sym, subst, ◌∙◌, ◌++◌}
-use Rattle.link_queue.specs.{Ends.sending, Ends.taking, declared.known.Known.Known, Steps.Balanced}
+use Rattle.std.proofs.Common.{rules, arith, ap, sym, subst, ◌∙◌}
+use Rattle.link_queue.specs.{declared.known.Known.Known, Steps.Balanced}
 use Rattle.link_queue.proofs.StepLemmas.{all_popped, balanced, empties, joins, some_left}
 use Rattle.link_queue.proofs.ups.link_down.Goals as goal
 

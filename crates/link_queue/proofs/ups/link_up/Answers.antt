@@ -1,5 +1,4 @@
-use Rattle.std.proofs.Common.{arith}
-use Rattle.std.proofs.Common.{sym}
+use Rattle.std.proofs.Common.{arith, sym}
 use Rattle.link_queue.proofs.StepLemmas.{places, seats, sees_full}
 use Rattle.link_queue.proofs.ups.link_up.Goals as goal
 

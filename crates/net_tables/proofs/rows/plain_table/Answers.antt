@@ -1,4 +1,4 @@
-use Rattle.std.proofs.Common.{arith}
+use Rattle.net_tables.proofs.Common.{arith}
 use Rattle.net_tables.proofs.{Ordering.table_sorted, Whole.as_many_rows, Whole.sound_table}
 use Rattle.net_tables.proofs.rows.plain_table.Goals as goal
 

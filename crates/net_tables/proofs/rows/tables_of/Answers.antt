@@ -1,5 +1,4 @@
-use Rattle.std.proofs.Common.{arith}
-use Rattle.net_tables.proofs.Common.{AllZip-more}
+use Rattle.net_tables.proofs.Common.{AllZip-more, arith}
 use Rattle.net_tables.proofs.rows.tables_of.Goals as goal
 
 pub loop-list-preserved : goal.loop-list-preserved

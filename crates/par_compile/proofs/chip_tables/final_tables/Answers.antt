@@ -1,4 +1,4 @@
-use Rattle.par_compile.proofs.Common.{All, AllZip, AreAllUnlessLong, AreFinals, AreRight, Final, IfOk-weaker, IsFinalFor, KeepsRows, List, arith, length, loaded_of, map, take, ◌*◌, ◌∙◌, ◌≡◌, ◌≤◌}
+use Rattle.par_compile.proofs.Common.{All, AllZip, Final, IfOk-weaker, IsFinalFor, KeepsRows, List, arith, length, take, ◌*◌, ◌≤◌}
 use Rattle.par_compile.proofs.Righted.{all_final, all_keep, all_right, few_chips, few_entries, finals_within}
 use Rattle.par_compile.proofs.chip_tables.final_tables.Goals as goal
 

@@ -1,4 +1,4 @@
-use Rattle.par_compile.proofs.Common.{All, All-weaker, HasEndsAmong, HasLongTable, IsValidNet, Some, ap, arith, is_long, length, position, rules, slice_get, subst, sym, ◌∙◌, ◌≡◌}
+use Rattle.par_compile.proofs.Common.{All-weaker, HasLongTable, Some, ap, arith, is_long, length, position, rules, slice_get, subst, sym, ◌∙◌, ◌≡◌}
 use Rattle.par_compile.proofs.{Refusing.refused_where, Standing.routing_is, Unique.long_has_many, Unique.long_has_no_pair, Unique.none_long, Unique.one_plan, Unique.routed_of}
 use Rattle.par_compile.proofs.compiling.compile.Goals as goal
 

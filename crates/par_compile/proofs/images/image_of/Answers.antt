@@ -1,5 +1,4 @@
-use Rattle.std.proofs.Common.{rules}
-use Rattle.par_compile.proofs.Common.{arith, image_in}
+use Rattle.par_compile.proofs.Common.{arith, rules}
 use Rattle.par_compile.proofs.Imaged.{same_image, image_valid, image_rows, image_more, all_read, found_at, small_place}
 use Rattle.par_compile.proofs.images.image_of.Goals as goal
 

@@ -1,5 +1,4 @@
-use Rattle.std.proofs.Common.{arith}
-use Rattle.par_compile.proofs.Common.{AreRight, Entry, IfOk-weaker, Image, IsLoaded, List, NetPlan, ap, loaded_of, map, subst, sym, ◌≡◌}
+use Rattle.par_compile.proofs.Common.{AreRight, Entry, IfOk-weaker, List, NetPlan, arith, loaded_of, map, subst, sym, ◌≡◌}
 use Rattle.par_compile.proofs.Imaged.{all_loaded, read_again}
 use Rattle.par_compile.proofs.images.memories_of.Goals as goal
 

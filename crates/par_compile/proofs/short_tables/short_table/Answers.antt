@@ -1,4 +1,4 @@
-use Rattle.std.proofs.Common.{arith}
+use Rattle.par_compile.proofs.Common.{arith}
 use Rattle.par_compile.proofs.ShortTables.{final_for}
 use Rattle.par_compile.proofs.short_tables.short_table.Goals as goal
 

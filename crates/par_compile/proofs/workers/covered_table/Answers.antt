@@ -1,5 +1,4 @@
-use Rattle.std.proofs.Common.{arith}
-use Rattle.par_compile.proofs.Common.{AreApart, IsTableOf, List, Mark, subst, sym}
+use Rattle.par_compile.proofs.Common.{AreApart, arith, subst, sym}
 use Rattle.par_compile.proofs.workers.covered_table.Goals as goal
 
 pub shorten-requires-clause-sound : goal.shorten-requires-clause-sound

@@ -1,4 +1,4 @@
-use Rattle.par_compile.proofs.Common.{AllZip, AllZip-long, AreAllUnlessLong, Final, GivesFinal, IfOk-weaker, IsFinalFor, IsStillPlain, List, arith, length, take, ◌∙◌}
+use Rattle.par_compile.proofs.Common.{AllZip-long, IfOk-weaker, IsStillPlain, arith}
 use Rattle.par_compile.proofs.Working.{all_beside}
 use Rattle.par_compile.proofs.workers.finals.Goals as goal
 

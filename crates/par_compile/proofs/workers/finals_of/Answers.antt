@@ -1,4 +1,4 @@
-use Rattle.par_compile.proofs.Common.{Final, GivesFinal, List, None, Work, arith, common_steps, into_iter_items, is_long, position, subst, sym, ◌∙◌, ◌≡◌}
+use Rattle.par_compile.proofs.Common.{GivesFinal, List, Work, arith, common_steps, into_iter_items, subst, sym}
 use Rattle.par_compile.proofs.Working.{AreGiven, all_given, given_at_end, given_more, last_is_long}
 use Rattle.par_compile.proofs.workers.finals_of.Goals as goal
 

@@ -1,4 +1,4 @@
-use Rattle.std.proofs.Common.{arith}
+use Rattle.plan_check.proofs.Common.{arith}
 use Rattle.plan_check.proofs.Meeting.{first_here, none_more, none_at_all}
 use Rattle.plan_check.proofs.flaws.first_to_meet.Goals as goal
 

@@ -1,5 +1,4 @@
-use Rattle.std.proofs.Common.{arith}
-use Rattle.plan_check.proofs.Common.{IsRow, slice_get_within, subst, sym}
+use Rattle.plan_check.proofs.Common.{arith, slice_get_within}
 use Rattle.plan_check.proofs.Meeting.{amiss_by_default, amiss_by_row, amiss_by_split}
 use Rattle.plan_check.proofs.flaws.flaw_in.Goals as goal
 

@@ -1,5 +1,4 @@
-use Rattle.std.proofs.Common.{arith}
-use Rattle.plan_check.proofs.Common.{ChipTable, ap, get_or, length, rules, ◌*◌, ◌∙◌}
+use Rattle.plan_check.proofs.Common.{ap, arith, get_or, length, rules, ◌*◌}
 use Rattle.plan_check.proofs.TablePlaces.{tells_none, table_read}
 use Rattle.plan_check.proofs.places.set_places.Goals as goal
 

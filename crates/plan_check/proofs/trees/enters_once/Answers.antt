@@ -1,5 +1,4 @@
-use Rattle.std.proofs.Common.{arith}
-use Rattle.plan_check.proofs.Common.{Description, length, subst, ◌*◌, ◌∙◌, ◌≡◌}
+use Rattle.plan_check.proofs.Common.{Description, arith, length, subst, ◌*◌, ◌∙◌, ◌≡◌}
 use Rattle.plan_check.proofs.Marking.{goes_first, goes_more, goes_no_more, goes_to_end}
 use Rattle.plan_check.proofs.trees.enters_once.Goals as goal
 

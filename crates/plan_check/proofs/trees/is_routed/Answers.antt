@@ -1,5 +1,4 @@
-use Rattle.std.proofs.Common.{arith}
-use Rattle.plan_check.proofs.Common.{All, All-append, All-map, AreMarks, Edge, EntersOnce, IsInside, IsMarkedChip, IsReachedChip, IsRoutingTree, Spot, answers_no, fails, sym, ◌∙◌}
+use Rattle.plan_check.proofs.Common.{All, All-append, All-map, AreMarks, Edge, IsInside, IsMarkedChip, IsReachedChip, IsRoutingTree, Spot, answers_no, arith, fails, sym, ◌∙◌}
 use Rattle.plan_check.proofs.TreeLaws.{begins_marked, targets_marked, is_tree_tells, once_of, once_inside, has_inside}
 use Rattle.plan_check.proofs.trees.is_routed.Goals as goal
 

@@ -1,4 +1,4 @@
-use Rattle.std.proofs.Common.{arith}
+use Rattle.plan_check.proofs.Common.{arith}
 use Rattle.plan_check.proofs.TreeLaws.{alone_tells}
 use Rattle.plan_check.proofs.trees.is_tree.Goals as goal
 

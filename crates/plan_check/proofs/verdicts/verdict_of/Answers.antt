@@ -1,5 +1,4 @@
-use Rattle.std.proofs.Common.{arith}
-use Rattle.plan_check.proofs.Common.{IsRouted, subst, sym}
+use Rattle.plan_check.proofs.Common.{IsRouted, arith, subst, sym}
 use Rattle.plan_check.proofs.Chips.{verdict_found, nets_more, all_fine}
 use Rattle.plan_check.proofs.verdicts.verdict_of.Goals as goal
 

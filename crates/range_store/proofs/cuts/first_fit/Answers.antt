@@ -1,5 +1,4 @@
-use Rattle.std.proofs.Common.{rules}
-use Rattle.range_store.proofs.Common.{Hole, ap, arith, cases_eq, get_or, inl, inr, is_hole_range, length, slice_get-get_or, take, ◌-◌, ◌<◌, ◌∙◌, ◌≡◌}
+use Rattle.range_store.proofs.Common.{Hole, ap, arith, cases_eq, get_or, inl, inr, is_hole_range, length, rules, slice_get-get_or, take, ◌-◌, ◌<◌, ◌∙◌, ◌≡◌}
 use Rattle.range_store.proofs.{Beginnings.none_before, RunLemmas.end_below, RunLemmas.first_is_least}
 use Rattle.range_store.proofs.cuts.first_fit.Goals as goal
 

@@ -1,5 +1,4 @@
-use Rattle.std.proofs.Common.{rules}
-use Rattle.range_store.proofs.Common.{AreRuns, arith, subst, sym}
+use Rattle.range_store.proofs.Common.{AreRuns, rules, subst, sym}
 use Rattle.range_store.proofs.GiveLemmas.{arm_none, arm_right, arm_left, arm_both, right_end, left_end, inserted}
 use Rattle.range_store.proofs.gives.put_back.Goals as goal
 

@@ -1,5 +1,4 @@
-use Rattle.std.proofs.Common.{arith}
-use Rattle.run_report.proofs.Common.{List, Spot, Vertex, [], ap, map, option_map, slice_get-map, sym, take, zip, zip_more, ℕ, ◌++◌, ◌∙◌, ◌∷◌}
+use Rattle.run_report.proofs.Common.{arith, slice_get-map, zip_more}
 use Rattle.run_report.proofs.lists.placed_of.Goals as goal
 
 pub loop-i-preserved : goal.loop-i-preserved

@@ -1,5 +1,4 @@
-use Rattle.std.proofs.Common.{arith}
-use Rattle.run_report.proofs.Common.{ap, copies_at, length, min, range_with_len, sum_by, sym, unsent_by, ℕ, ◌+◌, ◌-◌, ◌^◌, ◌∙◌, ◌≡◌}
+use Rattle.run_report.proofs.Common.{arith, sum_by, ◌-◌}
 use Rattle.run_report.proofs.Gathering.{sum_more, capped_more}
 use Rattle.run_report.proofs.unsents.unsent_of.Goals as goal
 

@@ -1,5 +1,4 @@
-use Rattle.std.proofs.Common.{arith}
-use Rattle.spin_checks.proofs.Common.{Ok, rules}
+use Rattle.spin_checks.proofs.Common.{Ok, arith, rules}
 use Rattle.spin_checks.proofs.{Compiled.right_or_memory, Meaning.right_means, OneAnswer.one_answer, Refusing.refused_answer}
 use Rattle.spin_checks.proofs.answers.answer.Goals as goal
 

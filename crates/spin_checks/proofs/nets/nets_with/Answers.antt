@@ -1,5 +1,4 @@
-use Rattle.std.proofs.Common.{arith}
-use Rattle.spin_checks.proofs.Common.{All, All-weaker, HasEndsAmong, IsValidNet, length, subst, sym}
+use Rattle.spin_checks.proofs.Common.{All-weaker, arith}
 use Rattle.spin_checks.proofs.{Refusing.key_due, Refusing.place_due, Refusing.refused_nets, Sites.all_on_sites}
 use Rattle.spin_checks.proofs.nets.nets_with.Goals as goal
 

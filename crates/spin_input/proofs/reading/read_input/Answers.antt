@@ -1,9 +1,8 @@
-use Rattle.std.proofs.Common.{arith}
-use Rattle.std.proofs.Common.{◌≡◌, ◌⊎◌, Ok, Err, ap, ◌∙◌, subst, sym, inl, inr}
+use Rattle.std.proofs.Common.{arith, ◌≡◌, ◌⊎◌, Err, ap, ◌∙◌, sym, inl, inr}
 use Rattle.job_text.specs.Json.{json_of}
 use Rattle.run_report.specs.declared.causes.Refusal.{Refusal}
 use Rattle.run_report.specs.declared.causes.Refusal.TheVariants as refusals
-use Rattle.spin_input.specs.{Inputs.Reading, Inputs.HasNoFault, Inputs.HasNoInput, Inputs.IsReadAs, Inputs.not_read_as, Inputs.no_memory, Kinds.input_of, Kinds.input_from, Kinds.input_in}
+use Rattle.spin_input.specs.{Inputs.Reading, Inputs.HasNoFault, Inputs.HasNoInput, Inputs.not_read_as, Inputs.no_memory, Kinds.input_of, Kinds.input_from, Kinds.input_in}
 use Rattle.std.proofs.lemmas.Result.{IfErr-weaker, IfOk-weaker}
 use Rattle.spin_input.proofs.JobBytes.{input_in-few, read_quiet, unread_input}
 use Rattle.spin_input.proofs.reading.read_input.Goals as goal

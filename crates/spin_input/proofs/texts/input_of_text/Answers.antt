@@ -1,8 +1,4 @@
 use Rattle.std.proofs.Common.{arith}
-use Rattle.std.proofs.Common.{◌∙◌, refl, ap, subst, Ok, Err}
-use Rattle.serde_json.specs.View.{view}
-use Rattle.job_text.specs.{Json.json_of, Reading.GivesOrFaults}
-use Rattle.spin_input.specs.Kinds.{input_of}
 use Rattle.spin_input.proofs.JobBytes.{fitted_input, read_ok, read_err, unparsed_err}
 use Rattle.spin_input.proofs.texts.input_of_text.Goals as goal
 

@@ -1,5 +1,4 @@
-use Rattle.std.proofs.Common.{arith}
-use Rattle.spin_jobs.proofs.Common.{Did, IsReported, JobWithPlan, List, Setup, [], ap, few_rows, refl, row_total, subst, summary_text, sym, ◌<◌, ◌^◌, ◌∙◌}
+use Rattle.spin_jobs.proofs.Common.{Did, IsReported, JobWithPlan, List, [], ap, arith, few_rows, refl, row_total, subst, summary_text, sym, ◌<◌, ◌^◌, ◌∙◌}
 use Rattle.spin_jobs.proofs.{AtRest.is_kept, AtRest.ran_out, AtRest.reported_of, AtRest.told_count, AtRest.told_none, Generating.generated_roomy}
 use Rattle.spin_jobs.proofs.makes.generated.Goals as goal
 

@@ -1,5 +1,4 @@
-use Rattle.std.proofs.Common.{arith}
-use Rattle.spin_jobs.proofs.Common.{JobWithPlan, Setup, ap, refl, sym, ◌∙◌}
+use Rattle.spin_jobs.proofs.Common.{arith}
 use Rattle.spin_jobs.proofs.AtRest.{reported_of}
 use Rattle.spin_jobs.proofs.makes.reported.Goals as goal
 

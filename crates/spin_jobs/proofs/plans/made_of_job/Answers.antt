@@ -1,4 +1,4 @@
-use Rattle.std.proofs.Common.{arith}
+use Rattle.spin_jobs.proofs.Common.{arith}
 use Rattle.spin_jobs.proofs.Exclusive.{no_plan_by_name}
 use Rattle.spin_jobs.proofs.plans.made_of_job.Goals as goal
 

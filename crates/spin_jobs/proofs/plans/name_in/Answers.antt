@@ -1,5 +1,4 @@
-use Rattle.std.proofs.Common.{arith}
-use Rattle.spin_jobs.proofs.Common.{CutOff, IfOk-weaker, IsNameIn, KeysOut, NoRoom, ◌∙◌, ◌≡◌}
+use Rattle.spin_jobs.proofs.Common.{IfOk-weaker, arith}
 use Rattle.spin_jobs.proofs.Exclusive.{name_in_same}
 use Rattle.spin_jobs.proofs.plans.name_in.Goals as goal
 

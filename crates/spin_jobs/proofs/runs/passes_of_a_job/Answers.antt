@@ -1,5 +1,4 @@
-use Rattle.std.proofs.Common.{arith}
-use Rattle.spin_jobs.proofs.Common.{HasPasses, IsMesh, State, opened_of, subst}
+use Rattle.spin_jobs.proofs.Common.{arith}
 use Rattle.spin_jobs.proofs.Running.{by_passes, kept_passes}
 use Rattle.spin_jobs.proofs.runs.passes_of_a_job.Goals as goal
 

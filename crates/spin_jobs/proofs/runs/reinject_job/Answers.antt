@@ -1,5 +1,4 @@
-use Rattle.std.proofs.Common.{arith}
-use Rattle.spin_jobs.proofs.Common.{HasPasses, IsOfNets, JobWithPlan, ap, opened_of, subst, sym, ℕ, ◌∙◌}
+use Rattle.spin_jobs.proofs.Common.{HasPasses, JobWithPlan, ap, arith, opened_of, subst, sym, ℕ, ◌∙◌}
 use Rattle.spin_jobs.proofs.Opening.{opened_keeps}
 use Rattle.spin_jobs.proofs.runs.reinject_job.Goals as goal
 

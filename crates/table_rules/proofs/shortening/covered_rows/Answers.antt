@@ -1,7 +1,6 @@
 -- The rows that are left of the covered table, and its joined pieces, say what the rows say.
 use Rattle.table_rules.proofs.Common.{IsShortFrom, IsShortenedTo, KeepsRoutes, ap, arith, no_shorter, pieces_of, shorter, subst, sym, ◌∙◌, ◌≡◌}
-use Rattle.table_rules.proofs.{Faithful.keeps_itself, Faithful.made_is_sound, Keeping.short_keeps, Turns.is_short_from}
-use Rattle.table_rules.proofs.shortening.covered_rows.Goals.{After-len}
+use Rattle.table_rules.proofs.{Faithful.keeps_itself, Faithful.made_is_sound, Keeping.short_keeps, Turns.is_short_from, shortening.covered_rows.Goals.After-len}
 use Rattle.table_rules.proofs.shortening.covered_rows.Goals as goal
 
 pub cover-requires-clause-sound : goal.cover-requires-clause-sound

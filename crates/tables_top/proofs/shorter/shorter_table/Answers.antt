@@ -1,6 +1,5 @@
 -- A shorter table, or the one that was given.
-use Rattle.std.proofs.Common.{arith}
-use Rattle.std.proofs.Common.{◌≡◌, true, false}
+use Rattle.std.proofs.Common.{arith, ◌≡◌, false}
 use Rattle.std.proofs.lemmas.Result.{IfOk-weaker}
 use Rattle.table_text.specs.declared.writing.ShortTable.{ShortTable}
 use Rattle.tables_top.specs.Shorter.{IsShorterTable, short_at}

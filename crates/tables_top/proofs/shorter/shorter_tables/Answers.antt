@@ -1,6 +1,5 @@
 -- One table more.
-use Rattle.std.proofs.Common.{arith}
-use Rattle.std.proofs.Common.{[], sym, subst}
+use Rattle.std.proofs.Common.{arith, [], sym, subst}
 use Rattle.tables_top.specs.Shorter.{AreShorter, none}
 use Rattle.tables_top.proofs.Tables.{tables_all, tables_more}
 use Rattle.tables_top.proofs.shorter.shorter_tables.Goals as goal

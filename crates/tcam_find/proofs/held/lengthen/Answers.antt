@@ -1,6 +1,4 @@
 use Rattle.std.proofs.Common.{rules}
-use Rattle.std.proofs.Common.{◌∙◌, arith, sym, subst}
-use Rattle.tcam_find.specs.Memory.{AreLengthened}
 use Rattle.tcam_find.proofs.MemoryLemmas.{lengthened_more, lengthened_none}
 use Rattle.tcam_find.proofs.held.lengthen.Goals as goal
 

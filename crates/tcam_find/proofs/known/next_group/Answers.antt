@@ -1,7 +1,4 @@
 use Rattle.std.proofs.Common.{rules}
-use Rattle.std.proofs.Common.{sym, subst}
-use Rattle.std.specs.Prelude.{IfSome}
-use Rattle.tcam_find.specs.{declared.known.Known.Known, Memory.HaveInCommon}
 use Rattle.tcam_find.proofs.known.next_group.Goals as goal
 
 pub returns-in-Some-clause-others : goal.returns-in-Some-clause-others

@@ -1,5 +1,5 @@
-use Rattle.job_readers.proofs.Common.{All, AreSlots, MaybePlace, [], ap, arith, inl, is_at, length, length-replicate, lookup, map, nat_cmp, refl, replicate, rules, slice_cmp, subst, sym, told_of, ℕ, ◌≡◌}
-use Rattle.std.proofs.lemmas.List.Elements.{All-replicate}
+use Rattle.job_readers.proofs.Common.{All, All-replicate, AreSlots, MaybePlace, [], ap, arith, inl, is_at, length, length-replicate, lookup, map, nat_cmp, refl, replicate, rules, slice_cmp, subst}
+use Rattle.job_readers.proofs.Common.{sym, told_of, ℕ, ◌≡◌}
 use Rattle.job_readers.proofs.names.Names.new.Goals as goal
 
 pub invariant_of-result : goal.invariant_of-result

@@ -1,5 +1,4 @@
-use Rattle.std.proofs.Common.{rules}
-use Rattle.std.proofs.Common.{◌++◌, ap, arith}
+use Rattle.std.proofs.Common.{rules, ◌++◌, ap, arith}
 use Rattle.spin_base.specs.Outputs.{all_outs}
 use Rattle.spin_base.proofs.{Once.outs_once, Outputs.all_found, Outputs.less_fits, Outputs.less_is_less, Outputs.lowest_below, Outputs.one_more, Outputs.outs_in, Outputs.room_left}
 use Rattle.spin_base.proofs.routes.Route.outs.Goals as goal

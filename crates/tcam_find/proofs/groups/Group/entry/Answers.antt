@@ -1,5 +1,4 @@
 use Rattle.std.proofs.Common.{rules}
-use Rattle.std.proofs.Common.{arith, ◌%◌}
 use Rattle.tcam_find.proofs.MemoryLemmas.{get-entries_of}
 use Rattle.tcam_find.proofs.groups.Group.entry.Goals as goal
 

@@ -1,5 +1,4 @@
-use Rattle.std.proofs.Common.{rules}
-use Rattle.std.proofs.Common.{◌/◌, ◌%◌, ◌∙◌, length, arith, sym, subst, ap, slice_set}
+use Rattle.std.proofs.Common.{rules, ◌/◌, ◌%◌, ◌∙◌, length, arith, sym, subst, ap, slice_set}
 use Rattle.std.specs.Prelude.{IfSome}
 use Rattle.std.proofs.lemmas.{List.length-set, Option.IfSome_then}
 use Rattle.spin_base.proofs.Places.{slice_get_there}

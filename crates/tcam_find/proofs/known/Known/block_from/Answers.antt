@@ -1,5 +1,4 @@
-use Rattle.std.proofs.Common.{rules}
-use Rattle.std.proofs.Common.{◌≡◌, ◌+◌, ◌*◌, eqb, false, bit_and, get_or, arith}
+use Rattle.std.proofs.Common.{rules, ◌≡◌, ◌+◌, ◌*◌, eqb, false, bit_and, get_or, arith}
 use Rattle.tcam_find.proofs.KnownLemmas.{through_block}
 use Rattle.tcam_find.proofs.known.Known.block_from.Goals as goal
 

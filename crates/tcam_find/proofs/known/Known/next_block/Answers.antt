@@ -1,5 +1,4 @@
 use Rattle.std.proofs.Common.{rules}
-use Rattle.std.proofs.Common.{arith}
 use Rattle.tcam_find.proofs.KnownLemmas.{blocks_passed}
 use Rattle.tcam_find.proofs.known.Known.next_block.Goals as goal
 

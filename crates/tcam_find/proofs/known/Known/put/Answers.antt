@@ -1,5 +1,4 @@
 use Rattle.std.proofs.Common.{rules}
-use Rattle.std.proofs.Common.{refl, sym, ◌∙◌, arith}
 use Rattle.tcam_find.proofs.KnownLemmas.{at_set, blocks_after, missed_before}
 use Rattle.tcam_find.proofs.known.Known.put.Goals as goal
 

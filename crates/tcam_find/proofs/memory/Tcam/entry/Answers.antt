@@ -1,5 +1,4 @@
-use Rattle.std.proofs.Common.{rules}
-use Rattle.std.proofs.Common.{◌+◌, ◌-◌, ◌*◌, ◌/◌, ◌%◌, length, arith, sym, ap, ◌∙◌, replicate, slice_get}
+use Rattle.std.proofs.Common.{rules, ◌+◌, ◌-◌, ◌*◌, ◌/◌, ◌%◌, length, arith, sym, ap, ◌∙◌, replicate, slice_get}
 use Rattle.std.proofs.lemmas.Option.{get_or_from_slice_get}
 use Rattle.spin_base.proofs.Places.{slice_get-append_left, slice_get_there}
 use Rattle.tcam_find.specs.Memory.{entries_held, entries_in, entries_of_groups, unused}
