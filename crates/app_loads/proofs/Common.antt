@@ -16,17 +16,17 @@ pub use Rattle.app_loads.specs.{Removing.CanLeave, Removing.HasLeft, Removing.Is
 pub use Rattle.app_loads.specs.{Running.HasMovedMesh, Running.HasSomeUnsent, Running.IsBlockWith, Running.IsClean, Sending.AreCleared, Sending.AreSources, Sending.AreWithSources, Sending.CanAdd}
 pub use Rattle.app_loads.specs.{Sending.CanSend, Sending.IsPacketOn, Sending.IsSameBeside, Sending.IsSendingFrom, Sending.source_at, Sending.source_vertex, Taking.AreFreeAgain, Taking.AreGivenBack}
 pub use Rattle.app_loads.specs.Taking.{AreRegionsOf, AreServedAlways, AreTaken, AreTakenAlways, CanServe, HaveRoom, HaveServed, IsDueAlways, IsDueOf, IsFair, IsFairFor, RefusesClaim, ServesClaim}
-pub use Rattle.app_loads.specs.{Taking.free_places_in, Taking.frees, Unloading.HasUnloaded, Unloading.IsWhyNotUnloaded, Unloading.NoneWaits, Writing.AreCopied, Writing.AreFilled}
-pub use Rattle.app_loads.specs.Writing.{AreFilledFrom, AreUnused, CanClear, CanCopy, FitsTable, HaveRooms, row_entry, tables_in}
-pub use Rattle.app_loads.specs.declared.answers.{Ended.Ended, LoadErr.LoadErr, LoadErr.TheVariants.Refused, LoadRefusal.LoadRefusal, LoadRefusal.TheVariants.KeysOut, LoadRefusal.TheVariants.Loaded}
+pub use Rattle.app_loads.specs.{Taking.free_places_in, Taking.frees, Unloading.HasUnloaded, Unloading.IsWhyNotUnloaded, Unloading.NoneWaits, Writing.AreCopied, Writing.AreFilled, Writing.AreUnused}
+pub use Rattle.app_loads.specs.{Writing.CanClear, Writing.CanCopy, Writing.FillsFrom, Writing.FitsTable, Writing.HaveRooms, Writing.row_entry, Writing.tables_in, declared.answers.Ended.Ended}
+pub use Rattle.app_loads.specs.declared.answers.{LoadErr.LoadErr, LoadErr.TheVariants.Refused, LoadRefusal.LoadRefusal, LoadRefusal.TheVariants.KeysOut, LoadRefusal.TheVariants.Loaded}
 pub use Rattle.app_loads.specs.declared.answers.{LoadRefusal.TheVariants.MemoryOut, LoadRefusal.TheVariants.RowsOut, UnloadErr.TheVariants.NotLoaded, UnloadErr.TheVariants.Waiting}
 pub use Rattle.app_loads.specs.declared.{answers.UnloadErr.UnloadErr, apps.Apps.TheInside.Inside, arrivals.Arrival.Arrival, group.Sent.Sent, known.KnownBlock.KnownBlock, leaving.Left.Left}
 pub use Rattle.app_loads.specs.declared.{loaded.Claim.Claim, loaded.LoadedApp.LoadedApp, loaded.Range.Range, places.Region.TheVariants.Keys, places.Region.TheVariants.Rows, plans.AppNet.AppNet}
 pub use Rattle.app_loads.specs.declared.plans.AppPlan.{AppPlan}
 pub use Rattle.key_alloc.proofs.Ranges.{free_of, in_facts, in_from, regroup, room_above}
 pub use Rattle.key_alloc.specs.KeyBlocks.{size_of}
-pub use Rattle.machine_desc.proofs.{Branches.length_le_from_apart, Branches.link_on_branch, Far.far_inside, Far.index_below, Far.live_ends, Far.live_inside, Far.same_index, Live.chip_of-inside}
-pub use Rattle.machine_desc.proofs.{Live.index_of-chip_of, Same.chip_eq-from_same, Same.same_spot, Sites.usable_parts, Sites.usable_site, TreeLemmas.tree_cases, TreeLemmas.tree_end}
+pub use Rattle.machine_desc.proofs.{Branches.link_on_branch, Far.far_inside, Far.index_below, Far.live_ends, Far.live_inside, Far.same_index, Live.chip_of-inside, Live.index_of-chip_of}
+pub use Rattle.machine_desc.proofs.{Same.chip_eq-from_same, Same.same_spot, Sites.usable_parts, Sites.usable_site, TreeLemmas.tree_cases, TreeLemmas.tree_end}
 pub use Rattle.machine_desc.specs.{Branch.Exit, Description.Description, Description.HasSize, Live.IsInside, Live.IsUsable, Live.chip_of, Live.index_of, Live.is_usable, NetsOn.AreNetsOn}
 pub use Rattle.machine_desc.specs.{NetsOn.HaveDisjointBlocks, NetsOn.IsWayOn, NetsOn.vertex_at, Outputs.is_wanted, RightTables.AreRight, RightTables.IsKeyOf, RightTables.RoutesByTree}
 pub use Rattle.machine_desc.specs.{RightTables.table_at, RoutingTree.IsRoutingTree, RoutingTree.IsTreeChip, RoutingTree.end_of, declared.nets.NetPlan.NetPlan, declared.trees.Edge.Edge}
@@ -34,13 +34,13 @@ pub use Rattle.mesh_core.proofs.{AskedPackets.asked_from, AskedPackets.asked_par
 pub use Rattle.mesh_core.proofs.{Counting.counts_one, EventsLaw.IsMesh-after_events, EventsLaw.events_keep_for, ExpectedList.is_of, ExpectedList.is_of_from, ExpectedList.is_of_parts}
 pub use Rattle.mesh_core.proofs.{Fixed.setup_after, LedgerLaw.one_net, MarkTests.mark_eq, MarkTests.mark_eq_same, MarkTests.mark_eq_true, Moves.behind_hands, Moves.behind_inputs, Moves.behind_unsent}
 pub use Rattle.mesh_core.proofs.{Moves.chip_of-index_of, Moves.mark, ServingLaws.vertex_at-below, ServingLaws.vertex_behind-core, Standing.StandsAt, Standing.delivered_mark, Standing.mark_stands}
-pub use Rattle.mesh_core.proofs.{VertexTableLaws.same_spot_place, VertexTableLaws.site_inside, VertexTableLaws.spot_place-below, Ways.some_way, Ways.vertex_at_stands, Ways.vertex_there}
+pub use Rattle.mesh_core.proofs.{VertexTableLaws.few_sites, Ways.some_way, Ways.vertex_at_stands, Ways.vertex_there}
 pub use Rattle.mesh_core.specs.{Expected.IsAtRest, Expected.NothingWaits, Ledger.Asked, Ledger.Label, Ledger.MeetsLedger, Ledger.MeetsLedgerFor, Ledger.all_hand_marks, Ledger.core_marks}
 pub use Rattle.mesh_core.specs.Ledger.{delivered_marks, dumped_marks, hand_marks, input_marks, label_of, marks_at, marks_of, port_of, unsent_marks}
 pub use Rattle.mesh_core.specs.{Opened.asked_by, Opened.copy_from, Opened.empty_mesh, Opened.first_copy, Opened.label_in, Queues.drop_front, State.FitsHand, State.Hand, State.IsMesh, State.Queue}
 pub use Rattle.mesh_core.specs.{State.Setup, State.State, State.input, State.queue_at, State.vertex_behind, Step.after_event, Step.after_events, Step.collect_of, Step.dump_of, Step.has_room_behind}
 pub use Rattle.mesh_core.specs.{Step.inject_of, Step.push_behind, Step.send_of, Step.step_of, Step.take_of, Trail.IsUnderWayAt, Trail.Mark, Trail.Station, Trail.at_core, Trail.delivered, Trail.dumped}
-pub use Rattle.mesh_core.specs.{Trail.in_hand, Trail.in_queue, Trail.is_on_trail, Trail.is_packet_on_trail, Trail.on_trail, Trail.unsent, VertexTable.spot_place, declared.places.Did.Did}
+pub use Rattle.mesh_core.specs.{Trail.in_hand, Trail.in_queue, Trail.is_on_trail, Trail.is_packet_on_trail, Trail.on_trail, Trail.unsent, declared.places.Did.Did}
 pub use Rattle.mesh_drain.proofs.{Frame.dumped_reached, Frame.kept_reached, Frame.reached_none, Frame.reached_then, Frame.setup_reached, Moving.after_moved, Moving.after_none, Moving.after_one}
 pub use Rattle.mesh_drain.proofs.{Moving.after_setup, Packets.few_spots, Senders.Unsent, Senders.moved_of_reached, Senders.one_less_sender, Senders.rest_from, Senders.sender_there}
 pub use Rattle.mesh_drain.proofs.Turns.{all_sent_there, as_before, is_none, is_some', one_less, there_still, was_there}
@@ -77,11 +77,11 @@ pub use Rattle.std.proofs.lemmas.List.{Filters.length-filter_both, Folds.find_at
 pub use Rattle.std.proofs.lemmas.List.{FromFn.length-range_with_len, Kept.AllPairs-filter, Quantifiers.all_pairs_push, Sorted.All-permutation, Sorted.Contains-permutation}
 pub use Rattle.std.proofs.lemmas.List.Sorted.{IsNonDecreasingBy-from_sort, IsPermutation-refl, IsPermutation-sym, length_permutation, sum_by-IsPermutation}
 pub use Rattle.std.proofs.lemmas.List.{Sums.count_by-le-length, Sums.fails_before_first, Sums.length-filter, Sums.passes_at_first, Sums.position_or_len_is, Sums.sum_by-cons, drop-map, drop_all}
-pub use Rattle.std.proofs.lemmas.List.{drop_at, drop_more, flat_map_more, get_or-append_right, get_or-map, get_or-replicate, get_or-take, get_or_append_left, get_or_default, length-append}
-pub use Rattle.std.proofs.lemmas.List.{length-drop, length-map, length-replicate, length-set, length-take, length-take-le, length_push, map-append, map-set, same_lists, set-get_or, set_at}
-pub use Rattle.std.proofs.lemmas.{List.take-append-le, List.take-map, List.take_all, List.take_at, List.with_items_is, Nat.Bits.and_high_mask, Nat.mul-le, Nat.pow_pos, Nat.shr_split}
-pub use Rattle.std.proofs.lemmas.Option.{get_or_from_slice_get, none-some, same_Some, slice_get-get_or, slice_get_read, slice_get_within, unwrap_or-slice_get}
-pub use Rattle.std.proofs.lemmas.{Result.IfErr-at_err, Result.IfOk-at_ok, Slice.Zip.AllZip-long, Slice.Zip.length-zip}
+pub use Rattle.std.proofs.lemmas.List.{drop_at, drop_more, flat_map_more, get_or-append_right, get_or-replicate, get_or-take, get_or_append_left, get_or_default, length-append, length-drop}
+pub use Rattle.std.proofs.lemmas.List.{length-map, length-replicate, length-set, length-take, length-take-le, length_push, map-append, map-set, same_lists, set-get_or, set_at, take-append-le}
+pub use Rattle.std.proofs.lemmas.{List.take-map, List.take_all, List.take_at, List.with_items_is, Nat.Bits.and_high_mask, Nat.mul-le, Nat.pow_pos, Nat.shr_split, Option.get_or_from_slice_get}
+pub use Rattle.std.proofs.lemmas.{Option.none-some, Option.same_Some, Option.slice_get-get_or, Option.slice_get_read, Option.slice_get_within, Option.unwrap_or-slice_get, Result.IfErr-at_err}
+pub use Rattle.std.proofs.lemmas.{Result.IfOk-at_ok, Slice.Zip.AllZip-long, Slice.Zip.length-zip}
 pub use Rattle.std.specs.{BTreeMap.BTreeMap, BTreeMap.Updates, BTreeMap.is_at, Int.Bits.and_zero_r, Int.IsPowerOfTwo, List.All, List.AllPairs, List.AllZip, List.Contains, List.Sorted.IsPermutation}
 pub use Rattle.std.specs.List.{cons_option, enumerate_from, filter, filter_map, flat_map, fold, list_any, position_or_len, range_with_len, slice_get, slice_index_or, slice_set, sum_by}
 pub use Rattle.std.specs.{Map.lookup, Option.option_map_or, Option.option_to_list, Ordering.nat_cmp, Prelude.IfNone, Prelude.IfSome, Prelude.is_err, Prelude.is_some, Prelude.position}

@@ -1,7 +1,7 @@
 -- Ranges of entries filled, one after the other.
-use Rattle.app_loads.proofs.Common.{AllPairs, AllZip, AreFilled, AreFilledFrom, CanCopy, Chip, Contains, Contains-at, Contains-push_cases, Description, Entry, IsInside, IsRegion, IsTableOf, Keys}
-use Rattle.app_loads.proofs.Common.{List, Option, Range, Rows, ShareNoPlace, Some, Table, [], and_from, ap, arith, both_ways, cases_eq, chip_count, drop, entry_of, eq-eqb, false, false_from_ne_true}
-use Rattle.app_loads.proofs.Common.{get_or, get_or-take, get_or_from_slice_get, in_facts, in_from, in_range, index_below, index_of, inl, inr, is_taken, length, length-map, length-set, length-take-le}
+use Rattle.app_loads.proofs.Common.{AllPairs, AllZip, AreFilled, CanCopy, Chip, Contains, Contains-at, Contains-push_cases, Description, Entry, FillsFrom, IsInside, IsRegion, IsTableOf, Keys, List}
+use Rattle.app_loads.proofs.Common.{Option, Range, Rows, ShareNoPlace, Some, Table, [], and_from, ap, arith, both_ways, cases_eq, chip_count, drop, entry_of, eq-eqb, false, false_from_ne_true, get_or}
+use Rattle.app_loads.proofs.Common.{get_or-take, get_or_from_slice_get, in_facts, in_from, in_range, index_below, index_of, inl, inr, is_taken, length, length-map, length-set, length-take-le}
 use Rattle.app_loads.proofs.Common.{list_any-append, map, option_map_or, or_parts, place_of, range_has, refl, row_entry, row_of_mark, same_Some, slice_get, slice_get-get_or, slice_get-mapped}
 use Rattle.app_loads.proofs.Common.{slice_get-set_other, slice_get-set_same, slice_get_there, slice_set, subst, suc, sym, table_at, table_of_sorted, tables_in, take, take_all, take_more_at, true}
 use Rattle.app_loads.proofs.Common.{zero, ℕ, ◌&&◌, ◌+◌, ◌-◌, ◌<◌, ◌==◌, ◌||◌, ◌∙◌, ◌∷◌, ◌≡◌, ◌≢◌, ◌≤◌, ◌⊎◌}
@@ -100,8 +100,8 @@ place_of_no_rows m (Rows c) other is k at = absurd (other c refl)
 
 -- ---- one entry more
 
-pub filled_next : (first p : ℕ) (fill : ℕ → Option Entry) (old cur new : List Entry) (x : Entry) → AreFilledFrom first p fill old cur → first + p < length old → fill (first + p) ≡ Some x →
-    new ≡ slice_set cur (first + p) x → AreFilledFrom first (p + 1) fill old new
+pub filled_next : (first p : ℕ) (fill : ℕ → Option Entry) (old cur new : List Entry) (x : Entry) → FillsFrom first p fill old cur → first + p < length old → fill (first + p) ≡ Some x →
+    new ≡ slice_set cur (first + p) x → FillsFrom first (p + 1) fill old new
 filled_next first p fill old cur new x so_far inside is given = record {
   all = ap length given ∙ (length-set cur (first + p) x ∙ so_far.all);
   filled = λ k small within. ap (λ l. slice_get l k) given ∙ elim (cases_eq k (first + p)) [
@@ -120,8 +120,8 @@ filled_next first p fill old cur new x so_far inside is given = record {
     there = slice_get_there cur (first + p) (let l = so_far.all in omega (arith, l, inside))
 
 -- as many
-pub filled_size : {first count size : ℕ} {fill : ℕ → Option Entry} {old new : List Entry} → size ≡ count → AreFilledFrom first count fill old new → AreFilledFrom first size fill old new
-filled_size {first} {count} {size} {fill} {old} {new} same = subst (λ n. AreFilledFrom first n fill old new) (sym same)
+pub filled_size : {first count size : ℕ} {fill : ℕ → Option Entry} {old new : List Entry} → size ≡ count → FillsFrom first count fill old new → FillsFrom first size fill old new
+filled_size {first} {count} {size} {fill} {old} {new} same = subst (λ n. FillsFrom first n fill old new) (sym same)
 
 -- the row of one original block more
 pub row_next : (marks : List Mark) (first p : ℕ) (x : Mark) → slice_get marks p ≡ Some x → row_entry (map row_of_mark marks) first (first + p) ≡ Some (entry_of (row_of_mark x))
@@ -175,7 +175,7 @@ module _ {m : Description} {fill : Range → Chip → ℕ → Option Entry} {old
       T_long = ap length (sym (was_here m cur cur_long j j_below dt T c0 of.index_is)) ∙ so_far.long c0 of.inside
 
       -- where the ranges are apart, it is filled
-      pub filled_more : AllPairs ShareNoPlace ranges → (entries : ℕ → Option Entry) (table : List Entry) → AreFilledFrom range.place range.size entries T table →
+      pub filled_more : AllPairs ShareNoPlace ranges → (entries : ℕ → Option Entry) (table : List Entry) → FillsFrom range.place range.size entries T table →
           ((c : Chip) (k : ℕ) → index_of m c ≡ j → entries k ≡ fill range c k) → AreFilled m fill (take (i + 1) ranges) old (slice_set cur j table)
       filled_more apart entries table done is = record {
         all = length-set cur j table ∙ so_far.all;

@@ -53,7 +53,7 @@ pub record CanCopy (m : Description) (tables : List (List Entry)) (rows : List T
   pub room : HaveRooms m ranges rooms
 
 -- so many entries from a place on are these, and all others as they were
-pub record AreFilledFrom (first count : ℕ) (fill : ℕ → Option Entry) (old new : List Entry) : Type 0 where
+pub record FillsFrom (first count : ℕ) (fill : ℕ → Option Entry) (old new : List Entry) : Type 0 where
   pub all : length new ≡ length old
   pub filled : (k : ℕ) → k < length old → in_range first count k ≡ true → slice_get new k ≡ fill k
   pub others : (k : ℕ) → in_range first count k ≡ false → slice_get new k ≡ slice_get old k

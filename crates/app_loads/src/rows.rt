@@ -8,7 +8,7 @@ ghost use Rattle.net_tables.specs.Marks.{IsTableOf, row_of_mark, table_of_sorted
 ghost use Rattle.net_tables.specs.PlainTable.{AtEach, IsPlainTable};
 ghost use Rattle.app_loads.specs.Host.{net_with, nets_of};
 ghost use Rattle.app_loads.specs.Joining.{HasRoutes};
-ghost use Rattle.app_loads.specs.Writing.{AreCopied, AreFilledFrom, AreUnused, CanClear, CanCopy, HasEntriesFrom, HasRoom, HaveRooms, row_entry, tables_in};
+ghost use Rattle.app_loads.specs.Writing.{AreCopied, FillsFrom, AreUnused, CanClear, CanCopy, HasEntriesFrom, HasRoom, HaveRooms, row_entry, tables_in};
 
 use crate::loaded::{LoadedApp, Range};
 use crate::places::Region;
@@ -152,7 +152,7 @@ pub(crate) fn write_rows(
 fn put_rows(alloc: Global, table: &mut Tcam, room: Room, first: u32, marks: &[Mark])
     requires has { HasEntriesFrom table.old first (length marks.now) }
     requires fits { first + length marks.now ≤ room }
-    ensures { AreFilledFrom first (length marks.now) (row_entry (map row_of_mark marks.now) first)
+    ensures { FillsFrom first (length marks.now) (row_entry (map row_of_mark marks.now) first)
         table.old table.new }
 {
     let mut roomy = RoomyTcam::new(std::mem::replace(table, Tcam::empty(alloc)), room);
@@ -192,7 +192,7 @@ pub(crate) fn clear_rows(machine: &Machine, tables: &mut [Tcam], ranges: &[Range
 // Makes so many entries unused, from a place on.
 fn clear_entries(table: &mut Tcam, first: u32, count: u32)
     requires { HasEntriesFrom table.old first count }
-    ensures { AreFilledFrom first count (λ k. Some unused) table.old table.new }
+    ensures { FillsFrom first count (λ k. Some unused) table.old table.new }
 {
     for at in 0..count {
         table.clear(first + at);

@@ -8,7 +8,7 @@ pub use Rattle.link_detours.specs.declared.{repairs.RepairErr.TheVariants.Memory
 pub use Rattle.machine_desc.proofs.{Branches.edge_down, Far.far_back, Far.far_inside, Far.far_parts, Far.index_below, Far.inside_from, Far.inside_parts, Far.live_back, Far.live_ends, Far.live_inside}
 pub use Rattle.machine_desc.proofs.{Far.opposite_of-opposite, Far.same_index, Listing.Tells-more, Listing.Tells-none, Live.chip_of-inside, Live.index_of-chip_of, Same.below_six}
 pub use Rattle.machine_desc.proofs.{Same.chip_eq-from_same, Same.edge_eq-true, Same.edge_eq_self, Same.same_chip, Same.same_dir, Same.same_edge, TreeLemmas.chip_in, TreeLemmas.more_chips}
-pub use Rattle.machine_desc.proofs.TreeLemmas.{path_more, tree_cases, tree_end}
+pub use Rattle.machine_desc.proofs.TreeLemmas.{path_more, tree_cases, tree_end, tree_push_cases}
 pub use Rattle.machine_desc.specs.{Description.Description, Equality.edge_eq, Flags.is_flagged, Flags.link_place, Live.IsInside, Live.IsLiveLink, Live.IsLiveWalk, Live.LeadsTo, Live.chip_of}
 pub use Rattle.machine_desc.specs.{Live.far_of, Live.index_of, Live.is_inside, Live.is_live_link, Live.stepped, Live.x_step, Live.y_step, RoutingTree.IsPath, RoutingTree.IsTreeChip}
 pub use Rattle.machine_desc.specs.{RoutingTree.IsTreeTo, RoutingTree.end_of, Tables.TellsListed, declared.steps.Step.Step, declared.steps.Step.TheVariants.Ahead, declared.steps.Step.TheVariants.Back}

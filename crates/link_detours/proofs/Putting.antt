@@ -1,8 +1,8 @@
 -- Chips put into a set, one after the other.
-use Rattle.link_detours.proofs.Common.{AreRoadsOf, Chip, Contains-push, Contains-push_cases, Description, Edge, HasBitOf, IsIn, IsInside, IsTreeChip, List, None, Roads, Some, [], ap, arith, bit_at}
-use Rattle.link_detours.proofs.Common.{bit_at-zero, bit_at_set_other, bit_at_set_same, bit_or, bits, cases_eq, cases_lt, end_of, get_or, get_or-replicate, get_or-set_other, get_or-set_same}
-use Rattle.link_detours.proofs.Common.{get_or_past, inl, inr, inside_parts, length, length-replicate, more_chips, replicate, same_Some, same_chip, set, subst, sym, take, take_more, tree_cases}
-use Rattle.link_detours.proofs.Common.{tree_end, w64, ℕ, ◌%◌, ◌*◌, ◌++◌, ◌+◌, ◌<◌, ◌^◌, ◌↔◌, ◌∙◌, ◌∷◌, ◌≡◌, ◌≢◌, ◌⊎◌}
+use Rattle.link_detours.proofs.Common.{AreRoadsOf, Chip, Contains-push, Description, Edge, HasBitOf, IsIn, IsInside, IsTreeChip, List, None, Roads, Some, [], ap, arith, bit_at, bit_at-zero}
+use Rattle.link_detours.proofs.Common.{bit_at_set_other, bit_at_set_same, bit_or, bits, cases_eq, cases_lt, end_of, get_or, get_or-replicate, get_or-set_other, get_or-set_same, get_or_past, inl, inr}
+use Rattle.link_detours.proofs.Common.{inside_parts, length, length-replicate, more_chips, replicate, same_Some, same_chip, set, subst, sym, take, take_more, tree_cases, tree_end, tree_push_cases}
+use Rattle.link_detours.proofs.Common.{w64, ℕ, ◌%◌, ◌*◌, ◌++◌, ◌+◌, ◌<◌, ◌^◌, ◌↔◌, ◌∙◌, ◌∷◌, ◌≡◌, ◌≢◌}
 use Rattle.link_detours.proofs.Searching.{cases_chip}
 
 -- a chip inside the grid has a bit in a set of the machine's chips
@@ -38,16 +38,6 @@ pub TellsTree-root : (m : Description) (root : Chip) (words chips : List ℕ) �
     ((e : Chip) → e ≢ root → bit_at (get_or chips e.x 0) e.y ≡ bit_at (get_or words e.x 0) e.y) → TellsTree m root [] chips
 TellsTree-root m root words chips empty here others c = grind (arith, cases_chip c root, tree_cases m root)
 
--- a chip of a tree with one edge more is one of the tree, or the edge leads into it
-chip_pushed : (m : Description) (root : Chip) (tree : List Edge) (f : Edge) (c : Chip) → IsTreeChip m root (tree ++ f ∷ []) c → IsTreeChip m root tree c ⊎ (end_of m f ≡ Some c)
-chip_pushed m root tree f c on = elim (tree_cases m root (tree ++ f ∷ []) c on) [
-  | inl at ↦ inl (inl at)
-  | inr into ↦ elim (Contains-push_cases tree f into.0 into.1) [
-    | inl old ↦ inl (tree_end m root tree into.0 c old into.2)
-    | inr last ↦ inr (ap (end_of m) last ∙ into.2)
-  ]
-]
-
 -- one edge more, into this chip
 pub TellsTree-push : (m : Description) (root : Chip) (tree : List Edge) (old chips : List ℕ) (f : Edge) (far : Chip) → end_of m f ≡ Some far →
     IsIn chips far → ((e : Chip) → e ≢ far → bit_at (get_or chips e.x 0) e.y ≡ bit_at (get_or old e.x 0) e.y) →
@@ -59,7 +49,7 @@ TellsTree-push m root tree old chips f far leads here others told c = (
   ],
   λ on. elim (cases_chip c far) [
     | inl same ↦ subst (λ (x : Chip). IsIn chips x) (sym same) here
-    | inr other ↦ others c other ∙ (told c).1 (elim (chip_pushed m root tree f c on) [ inl was ↦ was | inr at ↦ absurd (other (sym (same_Some far c (sym leads ∙ at)))) ])
+    | inr other ↦ others c other ∙ (told c).1 (elim (tree_push_cases m root tree f c on) [ inl was ↦ was | inr at ↦ absurd (other (sym (same_Some far c (sym leads ∙ at)))) ])
   ],
 )
 
@@ -68,7 +58,7 @@ pub TellsTree-skip : (m : Description) (root : Chip) (tree : List Edge) (chips :
     TellsTree m root tree chips → TellsTree m root (tree ++ f ∷ []) chips
 TellsTree-skip m root tree chips f leads told c = (
   λ bit. more_chips m root tree (f ∷ []) c ((told c).0 bit),
-  λ on. (told c).1 (elim (chip_pushed m root tree f c on) [ inl was ↦ was | inr at ↦ (let none : None ≡ Some c = leads ∙ at in cc) ]),
+  λ on. (told c).1 (elim (tree_push_cases m root tree f c on) [ inl was ↦ was | inr at ↦ (let none : None ≡ Some c = leads ∙ at in cc) ]),
 )
 
 -- a prefix of a list, and one item more

@@ -17,8 +17,9 @@ pub use Rattle.std.proofs.Common.{◌%◌, ◌&&◌, ◌*◌, ◌++◌, ◌+◌,
 pub use Rattle.std.proofs.{Math.Bool.or-false, Math.Bool.true-and, Math.ListN.length-set, Math.Nat.add-mod_right, Math.Nat.mod-eq_of_lt, Math.Nat.mod_self, lemmas.Bool.and_from, lemmas.Bool.and_parts}
 pub use Rattle.std.proofs.lemmas.Bool.{cases_Bool, cases_eq, cases_lt, cases_order, cond-false, cond-true, eq-eqb, eqb-true, false_from_ne_true, false≢true, le-ltb, leb-true, lt-ltb, ltb-true, ne_eqb}
 pub use Rattle.std.proofs.lemmas.{Bool.not-true, Bool.or_cases, Bool.or_left, Bool.or_right, List.Elements.All-contains, List.Elements.All-from_get_or, List.Elements.All-weaker}
-pub use Rattle.std.proofs.lemmas.List.{Elements.Contains-append_left, Elements.Contains-push, Folds.Any-from_list_any, Folds.list_any_at, Folds.list_any_more, FromFn.get_or-map-range_with_len}
-pub use Rattle.std.proofs.lemmas.List.{FromFn.length-map-range_with_len, ext_get_or, get_or-map, get_or-replicate, get_or-set_other, get_or-set_same, get_or_default, get_or_past, length-append}
-pub use Rattle.std.proofs.lemmas.{List.length-map, List.length-replicate, List.map-append, Map.Keys.IsDistinct-from_apart, Map.Steps.length-le_from_distinct_below, Map.Views.Contains-from_any}
-pub use Rattle.std.proofs.lemmas.{Nat.div-add-mod', Nat.div_below, Nat.mod_below, Nat.mul-add-lt, Nat.mul-le, Nat.same_from_place, Option.get_or_from_slice_get}
+pub use Rattle.std.proofs.lemmas.List.{Elements.Contains-append_left, Elements.Contains-push, Elements.Contains-push_cases, Folds.Any-from_list_any, Folds.list_any_at, Folds.list_any_more}
+pub use Rattle.std.proofs.lemmas.List.{FromFn.get_or-map-range_with_len, FromFn.length-map-range_with_len, ext_get_or, get_or-map, get_or-replicate, get_or-set_other, get_or-set_same, get_or_default}
+pub use Rattle.std.proofs.lemmas.{List.get_or_past, List.length-append, List.length-map, List.length-replicate, List.map-append, Map.Keys.IsDistinct-from_apart}
+pub use Rattle.std.proofs.lemmas.{Map.Steps.length-le_from_distinct_below, Map.Views.Contains-from_any, Nat.div-add-mod', Nat.div_below, Nat.mod_below, Nat.mul-add-lt, Nat.mul-le, Nat.same_from_place}
+pub use Rattle.std.proofs.lemmas.Option.{get_or_from_slice_get}
 pub use Rattle.std.specs.{List.All, List.Contains, List.list_any, List.slice_get, Prelude.replicate}

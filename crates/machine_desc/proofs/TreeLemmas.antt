@@ -1,6 +1,6 @@
 -- The chips of a tree and the paths in it, and a tree's edges.
-use Rattle.machine_desc.proofs.Common.{All-contains, Chip, Contains, Contains-append_left, Description, Edge, IsLiveChip, IsLiveLink, IsPath, IsTreeChip, IsTreeTo, List, Some, [], arith, cases_order}
-use Rattle.machine_desc.proofs.Common.{end_of, get_or, get_or_default, inl, inr, refl, subst, sym, ◌++◌, ◌∙◌, ◌∷◌, ◌≡◌, ◌⊎◌}
+use Rattle.machine_desc.proofs.Common.{All-contains, Chip, Contains, Contains-append_left, Contains-push_cases, Description, Edge, IsLiveChip, IsLiveLink, IsPath, IsTreeChip, IsTreeTo, List, Some, []}
+use Rattle.machine_desc.proofs.Common.{arith, cases_order, end_of, get_or, get_or_default, inl, inr, refl, subst, sym, ◌++◌, ◌∙◌, ◌∷◌, ◌≡◌, ◌⊎◌}
 use Rattle.machine_desc.proofs.Far.{live_ends}
 
 -- a chip into which an edge of the tree leads is a chip of the tree
@@ -22,6 +22,16 @@ chip_in m root tree other has c on = elim (tree_cases m root tree c on) [
 
 pub more_chips : (m : Description) (root : Chip) (tree more : List Edge) (c : Chip) → IsTreeChip m root tree c → IsTreeChip m root (tree ++ more) c
 more_chips m root tree more = chip_in m root tree (tree ++ more) (Contains-append_left tree more)
+
+-- a chip of a tree with one edge more is one of the tree, or the edge leads to it
+pub tree_push_cases : (m : Description) (root : Chip) (es : List Edge) (e : Edge) (c : Chip) → IsTreeChip m root (es ++ e ∷ []) c → IsTreeChip m root es c ⊎ (end_of m e ≡ Some c)
+tree_push_cases m root es e c on = elim (tree_cases m root (es ++ e ∷ []) c on) [
+  | inl is ↦ inl (inl is)
+  | inr into ↦ elim (Contains-push_cases es e into.0 into.1) [
+    | inl before ↦ inl (inr (before.0, into.0, before.1, before.2, into.2))
+    | inr last ↦ inr (subst (λ (x : Edge). end_of m x ≡ Some c) (sym last) into.2)
+  ]
+]
 
 -- a path over edges is one over each list that has them
 pub path_in : (m : Description) (edges others : List Edge) → ((e : Edge) → Contains edges e → Contains others e) → (from : Chip) (path : List Edge) (to : Chip) →

@@ -1,7 +1,8 @@
 -- The names that the proofs of this crate cite from outside of them, passed on from one place. Declares nothing.
-pub use Rattle.machine_desc.proofs.Branches.{ComesBy, ExitLeads, branch_inside, branch_short, comes_by, end_on_branch, exit_leads, exit_of, last_exit, link_on_branch, same_exit, same_place, way_first}
-pub use Rattle.machine_desc.proofs.{Far.far_inside, Far.index_below, Far.live_back, Far.live_ends, Far.live_inside, Far.same_index, Live.index_of-chip_of, Same.same_spot, Sites.end_is_no_live_link}
-pub use Rattle.machine_desc.proofs.{Sites.same_site, Sites.site_parts, TreeLemmas.one_edge_into, Wanted.edge_wanted, Wanted.end_wanted, Wanted.spot_of_out, Wanted.wanted_cases}
+pub use Rattle.machine_desc.proofs.Branches.{ComesBy, ExitLeads, branch_inside, branch_short, comes_by, end_on_branch, exit_leads, exit_of, last_exit, length_le_from_apart, link_on_branch, same_exit}
+pub use Rattle.machine_desc.proofs.{Branches.same_place, Branches.way_first, Far.far_inside, Far.index_below, Far.live_back, Far.live_ends, Far.live_inside, Far.same_index, Live.index_of-chip_of}
+pub use Rattle.machine_desc.proofs.{Same.same_spot, Sites.end_is_no_live_link, Sites.same_site, Sites.site_parts, TreeLemmas.one_edge_into, Wanted.edge_wanted, Wanted.end_wanted, Wanted.spot_of_out}
+pub use Rattle.machine_desc.proofs.Wanted.{wanted_cases}
 pub use Rattle.machine_desc.specs.{Branch.Exit, Branch.IsBranch, Branch.arrival_at, Description.Description, Description.HasSize, Live.IsInside, Live.IsLiveChip, Live.IsLiveLink, Live.IsSite}
 pub use Rattle.machine_desc.specs.{Live.chip_of, Live.far_of, Live.index_of, Live.is_live_chip, Live.is_live_link, NetsOn.AreNetsOn, NetsOn.HaveDisjointBlocks, NetsOn.IsWayOn, NetsOn.vertex_at}
 pub use Rattle.machine_desc.specs.{Outputs.ComesIn, Outputs.is_wanted, Outputs.leads_to_spot, RightTables.AreRight, RightTables.IsKeyOf, RightTables.RoutesByTree, RightTables.table_at}
@@ -27,8 +28,8 @@ pub use Rattle.spin_base.proofs.Gathering.{among_chosen, among_gathered, among_g
 pub use Rattle.spin_base.proofs.{Gathering.gathered_nothing, Gathering.gathered_of_none, Gathering.made_among, Members.Among, Members.Contains-filter, Members.Contains-unmap, Members.among_any}
 pub use Rattle.spin_base.proofs.Members.{among_contains, among_either, among_filter, among_left, among_map, among_only, among_right, any_among, contains_among, map_among, position_nowhere}
 pub use Rattle.spin_base.proofs.{Members.position_there, Once.outs_once, Outputs.dir_number_below, Outputs.no_high_bit, Pairs.AllPairs-apart, Pairs.AllPairs-head, Pairs.AllPairs-tail, Places.All-at}
-pub use Rattle.spin_base.proofs.{Places.All-each, Places.set-slice_get, Places.slice_get-set_other, Places.slice_get-set_same, Places.slice_get_there, Spots.dir_at-dir_number, Spots.out_of-core}
-pub use Rattle.spin_base.proofs.Spots.{out_of-device, out_of-has_bit, spot_of_core, spot_of_link}
+pub use Rattle.spin_base.proofs.{Places.All-each, Places.set-slice_get, Places.slice_get-mapped, Places.slice_get-set_other, Places.slice_get-set_same, Places.slice_get_there, Spots.dir_at-dir_number}
+pub use Rattle.spin_base.proofs.Spots.{out_of-core, out_of-device, out_of-has_bit, spot_of_core, spot_of_link}
 pub use Rattle.spin_base.specs.{Equality.chip_eq, Equality.out_eq, Equality.port_eq, Equality.spot_eq, Gathered.gathered, Hops.last_hop, Hops.onward, Links.dir_at, Links.dir_number, Links.opposite_of}
 pub use Rattle.spin_base.specs.{Links.port_number, Lookup.lookup, Outputs.IsOutput, Outputs.all_outs, Outputs.has, Outputs.out_of, Outputs.outs_of, declared.blocks.Entry.Entry}
 pub use Rattle.spin_base.specs.declared.chips.{Chip.Chip, Dir.Dir, Dir.TheVariants.East, Dir.TheVariants.North, Dir.TheVariants.NorthEast, Dir.TheVariants.South, Dir.TheVariants.SouthWest}

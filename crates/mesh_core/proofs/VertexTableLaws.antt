@@ -1,9 +1,9 @@
 -- The table of vertices, as it is made.
-use Rattle.mesh_core.proofs.Common.{All, All-at, All-head, All-tail, AllPairs, Bool, Description, IsInside, IsSite, IsSpotPlace, List, None, Option, Some, Spot, TellsVertices, [], ap, arith, cases_eq}
-use Rattle.mesh_core.proofs.Common.{cond, false, get_or, get_or-replicate, get_or-take, get_or_default, get_or_from_slice_get, index_below, inl, inr, length, length-replicate, length-set}
-use Rattle.mesh_core.proofs.Common.{length-take-le, live_inside, position_from, position_from-zero, refl, replicate, same_index, same_spot, set, site_parts, slice_get, slice_get-get_or}
-use Rattle.mesh_core.proofs.Common.{slice_get-set_other, slice_get-set_same, spot_eq, spot_eq_same, spot_eq_true, spot_place, subst, sym, take, take_more, true, vertex_at, ℕ, ◌*◌, ◌++◌, ◌+◌, ◌<◌, ◌∙◌}
-use Rattle.mesh_core.proofs.Common.{◌∷◌, ◌≡◌, ◌≢◌}
+use Rattle.mesh_core.proofs.Common.{All, All-at, All-head, All-tail, AllPairs, AllPairs-apart, Bool, Description, IsInside, IsSite, IsSpotPlace, List, None, Option, Some, Spot, TellsVertices, [], ap}
+use Rattle.mesh_core.proofs.Common.{arith, cases_eq, cond, false, get_or, get_or-replicate, get_or-take, get_or_default, get_or_from_slice_get, index_below, inl, inr, length, length-map}
+use Rattle.mesh_core.proofs.Common.{length-replicate, length-set, length-take-le, length_le_from_apart, live_inside, map, position_from, position_from-zero, refl, replicate, same_index, same_spot}
+use Rattle.mesh_core.proofs.Common.{set, site_parts, slice_get, slice_get-get_or, slice_get-mapped, slice_get-set_other, slice_get-set_same, slice_get_there, spot_eq, spot_eq_same, spot_eq_true}
+use Rattle.mesh_core.proofs.Common.{spot_place, subst, sym, take, take_more, true, vertex_at, ℕ, ◌*◌, ◌++◌, ◌+◌, ◌<◌, ◌∙◌, ◌∷◌, ◌≡◌, ◌≢◌, ◌≤◌}
 use Rattle.mesh_core.proofs.Ways.{none_from, vertex_at_stands}
 
 -- a site is one of the 24 spots of a chip of the grid
@@ -16,6 +16,29 @@ same_spot_place m a b in_a in_b small_a small_b e = grind (arith, same_spot a b 
 
 pub spot_place-below : (m : Description) (s : Spot) → IsInside m s.chip → s.core < 24 → spot_place m s < 24 * (m.width * m.height)
 spot_place-below m s inside small = omega (arith, index_below m s.chip inside)
+
+-- vertices on different sites are at different places of the table of spots
+pub few_sites : (m : Description) (spots : List Spot) → AllPairs (λ a b. a ≢ b) spots → All (IsSite m) spots → length spots ≤ 24 * (m.width * m.height)
+few_sites m spots different sites = subst (λ l. l ≤ 24 * (m.width * m.height)) (length-map spots (spot_place m)) (length_le_from_apart places (24 * (m.width * m.height)) apart below)
+  where
+    places : List ℕ
+    places = map (spot_place m) spots
+
+    at : (k d : ℕ) → k < length (map (spot_place m) spots) → (s : Spot) × (slice_get spots k ≡ Some s) × (IsInside m s.chip × (s.core < 24)) × (get_or (map (spot_place m) spots) k d ≡ spot_place m s)
+    at k d low =
+        let s = slice_get_there spots k (subst (λ l. k < l) (length-map spots (spot_place m)) low) in
+        (s.0, s.1, site_inside m s.0 (All-at (IsSite m) spots k s.0 sites s.1), get_or_from_slice_get places k (spot_place m s.0) d (slice_get-mapped (spot_place m) spots k s.0 s.1))
+
+    below : (k d : ℕ) → k < length (map (spot_place m) spots) → get_or (map (spot_place m) spots) k d < 24 * (m.width * m.height)
+    below k d low = let s = at k d low in subst (λ v. v < 24 * (m.width * m.height)) (sym s.3) (spot_place-below m s.0 s.2.0 s.2.1)
+
+    apart : (i j d : ℕ) → i < j → j < length (map (spot_place m) spots) → get_or (map (spot_place m) spots) i d ≢ get_or (map (spot_place m) spots) j d
+    apart i j d before low e =
+        let a = at i d (omega (arith, before, low)) in
+        let b = at j d low in
+        let same = same_spot_place m a.0 b.0 a.2.0 b.2.0 a.2.1 b.2.1 (sym a.3 ∙ (e ∙ b.3)) in
+        let one = AllPairs-apart spots b.0 different i j (subst (λ (s : Spot). slice_get spots i ≡ Some s) same a.1) b.1 in
+        omega (arith, before, one)
 
 -- what a search gives where there is one more item
 position-push_other : (t : Spot → Bool) (xs : List Spot) (y : Spot) (n : ℕ) → t y ≡ false → position_from t n (xs ++ y ∷ []) ≡ position_from t n xs

@@ -58,9 +58,6 @@ module _ (s t : State) (nets : List NetPlan) (labels : ℕ → Label) (mesh : Is
   abbrev pub Occurs : Mark → Type 0
   Occurs k = 1 ≤ count_by (mark_eq k) (marks_of s) + count_come (mark_eq k) bag.moves
 
-  leaves_occur : (v : Moved s) → Among v bag.moves → Occurs v.leaves
-  leaves_occur v a = omega (arith, left_one (mark_eq v.leaves) v bag.moves a (mark_eq_same v.leaves), bag.balance (mark_eq v.leaves))
-
   -- such a mark is as the ledger asks: by induction on how far it is on
   right_below : (n : ℕ) (k : Mark) → rank k < n → Occurs k → Right k
   right_below zero k far some = absurd (omega (arith, far))
@@ -72,14 +69,15 @@ module _ (s t : State) (nets : List NetPlan) (labels : ℕ → Label) (mesh : Is
         let of = come_among k bag.moves (omega (arith, none, some)) in
         let v : Moved s = of.0 in
         let raised = move_raises s v.leaves v.come v.small v.is_move k of.2 in
-        right_come s t nets labels mesh right ledger v.leaves (right_below n v.leaves (omega (arith, far, raised)) (leaves_occur v of.1)) v.come v.is_move k of.2
+        right_come s t nets labels mesh right ledger v.leaves (right_below n v.leaves (omega (arith, far, raised))
+        (omega (arith, left_one (mark_eq v.leaves) v bag.moves of.1 (mark_eq_same v.leaves), bag.balance (mark_eq v.leaves)))) v.come v.is_move k of.2
   ]
 
   pub occurs_right : (k : Mark) → Occurs k → Right k
   occurs_right k some = right_below (suc (rank k)) k (omega arith) some
 
   pub leaves_right : (v : Moved s) → Among v bag.moves → Right v.leaves
-  leaves_right v a = occurs_right v.leaves (leaves_occur v a)
+  leaves_right v a = occurs_right v.leaves (omega (arith, left_one (mark_eq v.leaves) v bag.moves a (mark_eq_same v.leaves), bag.balance (mark_eq v.leaves)))
 
   pub now_right : (k : Mark) → Among k (marks_of t) → Right k
   now_right k a = occurs_right k (omega (arith, counts (mark_eq k) k (marks_of t) a (mark_eq_same k), bag.balance (mark_eq k)))

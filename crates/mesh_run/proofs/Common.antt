@@ -10,14 +10,14 @@ pub use Rattle.chip_node.specs.declared.{flags.Flags.Flags, holdings.Holdings.Ho
 pub use Rattle.chip_node.specs.declared.{holdings.Turn.Turn, nodes.Behind.Behind, nodes.CoreBank.CoreBank, nodes.RouterNode.RouterNode}
 pub use Rattle.link_queue.specs.{Ends.IsRx, Ends.IsTx, Ends.cap_of, Ends.sending, Ends.taking, TheRule.IsFullNote, TheRule.put_of, Ups.NoNotes, Ups.Rests, declared.known.Known.Known}
 pub use Rattle.link_queue.specs.declared.links.{Link.Link, Link.Link as QueueLink, LinkEnds.LinkEnds, Rx.Rx, Tx.Tx}
-pub use Rattle.machine_desc.proofs.{Branches.length_le_from_apart, Far.far_back, Far.far_inside, Far.far_parts, Far.index_below, Far.live_back, Far.live_ends, Far.live_inside}
-pub use Rattle.machine_desc.proofs.{Far.opposite_of-opposite, Live.chip_of-inside, Live.index_of-chip_of}
+pub use Rattle.machine_desc.proofs.{Far.far_back, Far.far_inside, Far.far_parts, Far.index_below, Far.live_back, Far.live_ends, Far.live_inside, Far.opposite_of-opposite, Live.chip_of-inside}
+pub use Rattle.machine_desc.proofs.Live.{index_of-chip_of}
 pub use Rattle.machine_desc.specs.{Description.Description, Description.HasSize, Live.IsInside, Live.IsLiveLink, Live.IsSite, Live.chip_of, Live.far_of, Live.index_of, Live.is_live_chip}
 pub use Rattle.machine_desc.specs.{Live.is_live_link, RightTables.table_at}
 pub use Rattle.mesh_core.proofs.{Changes.queue_at-below, Keeping.core_is_somewhere, Keeping.input_is_no_core, Keeping.input_is_somewhere, Keeping.same_core, Keeping.same_input}
-pub use Rattle.mesh_core.proofs.{VertexTableLaws.same_spot_place, VertexTableLaws.site_inside, VertexTableLaws.spot_place-below, Ways.vertex_at_stands, Ways.vertex_behind_stands, Ways.vertex_there}
+pub use Rattle.mesh_core.proofs.{VertexTableLaws.few_sites, VertexTableLaws.site_inside, Ways.vertex_at_stands, Ways.vertex_behind_stands, Ways.vertex_there}
 pub use Rattle.mesh_core.specs.State.{FitsQueue, IsMesh, Setup, State, behind, behind_link, core, core_queue_of, input, nowhere, queue_at, vertex_behind}
-pub use Rattle.mesh_core.specs.{Step.outputs, VertexTable.spot_place}
+pub use Rattle.mesh_core.specs.Step.{outputs}
 pub use Rattle.mesh_run.specs.Crossing.{AreCuts, AreLaid, AreSameButEnds, Deals, HoldsCollected, HoldsNoEnds, IsLaid, IsOfCut, IsUncut, PutsEnd, SameButEnds}
 pub use Rattle.mesh_run.specs.Floors.{AddsBehind, AreVerticesOf, IsBankOf, IsFloorOf, IsFloorSoFar, IsRouterOf, grid_size, live_if, live_one, place_of_slot, vertex_on, vertices_by}
 pub use Rattle.mesh_run.specs.{Gathering.AreEmptied, Gathering.FitsLogs, Gathering.HasRoomForLogs, Gathering.IsAnyMoved, Gathering.IsEmptied, Homes.AreCutsOf, Homes.AreHomesOf, Homes.AreHomesTo}

@@ -1,42 +1,19 @@
 -- Floors chip by chip: the vertices on a chip, the queues behind its outputs, and that there are few vertices.
 use Rattle.mesh_run.proofs.Common.{AddsBehind, All, All-at, AllPairs, AllPairs-apart, AreVerticesOf, Behind, Chip, Contains-at, Contains-filter_map, Contains-from_filter_map, CoreBank, Description}
-use Rattle.mesh_run.proofs.Common.{Floor, HasSize, IsBankOf, IsFloorOf, IsFloorSoFar, IsInside, IsLiveIndex, IsOutput, IsSite, List, None, Option, Out, Setup, Some, Spot, [], ap, append_assoc, arith}
-use Rattle.mesh_run.proofs.Common.{cases_eq, chip_of, get_or, get_or-range_with_len, get_or_from_slice_get, grid_size, index_below, inl, inr, length, length-append, length-map, length-range_with_len}
-use Rattle.mesh_run.proofs.Common.{length_le_from_apart, length_push, live_inside, live_one, map, mul-le-mul_left, none-some, out_number, out_number_below, out_number_injective, place_behind}
-use Rattle.mesh_run.proofs.Common.{place_in, place_of_slot, port_count, range_with_len, refl, same_spot_place, site_inside, slice_get, slice_get-append_left, slice_get-get_or, slice_get-mapped}
-use Rattle.mesh_run.proofs.Common.{slice_get-pushed, slice_get_there, spot_place, spot_place-below, subst, suc, sym, vertex_at_stands, vertex_on, vertex_there, vertices_by, ℕ, ◌*◌, ◌++◌, ◌+◌, ◌<◌}
-use Rattle.mesh_run.proofs.Common.{◌∙◌, ◌∷◌, ◌≡◌, ◌≢◌, ◌≤◌}
+use Rattle.mesh_run.proofs.Common.{Floor, HasSize, IsBankOf, IsFloorOf, IsFloorSoFar, IsLiveIndex, IsOutput, IsSite, List, None, Option, Out, Setup, Some, Spot, [], ap, append_assoc, arith, cases_eq}
+use Rattle.mesh_run.proofs.Common.{chip_of, few_sites, get_or, get_or-range_with_len, grid_size, index_below, inl, inr, length, length-append, length-range_with_len, length_push, live_inside}
+use Rattle.mesh_run.proofs.Common.{live_one, mul-le-mul_left, none-some, out_number, out_number_below, out_number_injective, place_behind, place_in, place_of_slot, port_count, range_with_len, refl}
+use Rattle.mesh_run.proofs.Common.{site_inside, slice_get, slice_get-append_left, slice_get-get_or, slice_get-pushed, slice_get_there, subst, suc, sym, vertex_at_stands, vertex_on, vertex_there}
+use Rattle.mesh_run.proofs.Common.{vertices_by, ℕ, ◌*◌, ◌++◌, ◌+◌, ◌<◌, ◌∙◌, ◌∷◌, ◌≡◌, ◌≢◌, ◌≤◌}
 use Rattle.mesh_run.proofs.Going.{pushed}
 
 -- ---- few vertices
 
--- vertices on different sites are at different places of the table of spots
 pub few_chips : (m : Description) → HasSize m → m.width * m.height ≤ 4096
 few_chips m size = grind (arith, mul-le-mul_left m.width size.height_to_64)
 
 pub few_vertices : (m : Description) (spots : List Spot) → AllPairs (λ a b. a ≢ b) spots → All (IsSite m) spots → HasSize m → length spots ≤ 98304
-few_vertices m spots different sites size =
-    let few = subst (λ l. l ≤ 24 * (m.width * m.height)) (length-map spots (spot_place m)) (length_le_from_apart places (24 * (m.width * m.height)) apart below) in
-    omega (arith, few, few_chips m size)
-  where
-    places : List ℕ
-    places = map (spot_place m) spots
-
-    at : (k d : ℕ) → k < length (map (spot_place m) spots) → (s : Spot) × (slice_get spots k ≡ Some s) × (IsInside m s.chip × (s.core < 24)) × (get_or (map (spot_place m) spots) k d ≡ spot_place m s)
-    at k d low =
-        let s = slice_get_there spots k (subst (λ l. k < l) (length-map spots (spot_place m)) low) in
-        (s.0, s.1, site_inside m s.0 (All-at (IsSite m) spots k s.0 sites s.1), get_or_from_slice_get places k (spot_place m s.0) d (slice_get-mapped (spot_place m) spots k s.0 s.1))
-
-    below : (k d : ℕ) → k < length (map (spot_place m) spots) → get_or (map (spot_place m) spots) k d < 24 * (m.width * m.height)
-    below k d low = let s = at k d low in subst (λ v. v < 24 * (m.width * m.height)) (sym s.3) (spot_place-below m s.0 s.2.0 s.2.1)
-
-    apart : (i j d : ℕ) → i < j → j < length (map (spot_place m) spots) → get_or (map (spot_place m) spots) i d ≢ get_or (map (spot_place m) spots) j d
-    apart i j d before low e =
-        let a = at i d (omega (arith, before, low)) in
-        let b = at j d low in
-        let same = same_spot_place m a.0 b.0 a.2.0 b.2.0 a.2.1 b.2.1 (sym a.3 ∙ (e ∙ b.3)) in
-        let one = AllPairs-apart spots b.0 different i j (subst (λ (s : Spot). slice_get spots i ≡ Some s) same a.1) b.1 in
-        omega (arith, before, one)
+few_vertices m spots different sites size = omega (arith, few_sites m spots different sites, few_chips m size)
 
 -- ---- lists
 

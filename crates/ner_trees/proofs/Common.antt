@@ -1,6 +1,6 @@
 -- The names that the proofs of this crate cite from outside of them, passed on from one place. Declares nothing.
 pub use Rattle.machine_desc.proofs.{Far.far_from, Far.far_inside, Far.index_below, Far.inside_from, Far.inside_parts, Far.same_index, Same.below_six, Same.same_chip, Same.same_edge}
-pub use Rattle.machine_desc.proofs.TreeLemmas.{more_chips, more_path, path_more, tree_cases, tree_end}
+pub use Rattle.machine_desc.proofs.TreeLemmas.{chip_in, more_chips, more_path, path_in, path_more, tree_cases, tree_end}
 pub use Rattle.machine_desc.specs.{Description.Description, Description.HasSize, EdgeOrder.IsEdgeBefore, Live.IsInside, Live.IsLiveLink, Live.chip_at, Live.far_of, Live.index_of, Live.stepped}
 pub use Rattle.machine_desc.specs.{Live.x_step, Live.y_step, RoutingTree.IsPath, RoutingTree.IsTreeChip, RoutingTree.IsTreeTo, RoutingTree.end_of, declared.steps.Step.Step}
 pub use Rattle.machine_desc.specs.declared.{steps.Step.TheVariants.Ahead, steps.Step.TheVariants.Back, steps.Step.TheVariants.Stay, trees.Edge.Edge}

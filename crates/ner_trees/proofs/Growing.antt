@@ -2,10 +2,11 @@
 use Rattle.ner_trees.proofs.Common.{All, All-append, All-contains, All-push, AllPairs, AllPairs-permutation, Any, AreAllOn, AreOn, Bool, Chip, Contains, Contains-append_cases, Contains-append_left}
 use Rattle.ner_trees.proofs.Common.{Contains-append_right, Contains-get_or, Contains-permutation, Contains-push, Description, Dir, Edge, Grows, HasSize, IsAdded, IsCutAt, IsEdgeBefore, IsGrown}
 use Rattle.ner_trees.proofs.Common.{IsInside, IsJoinedBy, IsLiveLink, IsMarkedBy, IsNear, IsNearestOn, IsPath, IsPermutation, IsPermutation-sym, IsTreeChip, IsTreeTo, IsWithoutDead, Join, List, None}
-use Rattle.ner_trees.proofs.Common.{Option, Some, TellsTree, [], and_from, ap, append-nil, append_assoc, arith, cases_eq, cases_order, dir_eq_true, dir_number, displacement_of, distance_of}
+use Rattle.ner_trees.proofs.Common.{Option, Some, TellsTree, [], and_from, ap, append-nil, append_assoc, arith, cases_eq, cases_order, chip_in, dir_eq_true, dir_number, displacement_of, distance_of}
 use Rattle.ner_trees.proofs.Common.{distance_sum, end_of, eq-eqb, false, far_inside, far_of, get_or, get_or-replicate, get_or-set_other, get_or-set_same, if◌then◌else◌, index_below, index_of, inl}
-use Rattle.ner_trees.proofs.Common.{inr, is_on, ldf_of, length, length-replicate, length_permutation, map, map_push, more_chips, next_of, or_stay, refl, replicate, same_chip, same_edge, same_index}
-use Rattle.ner_trees.proofs.Common.{set, subst, sum_by, sym, take, take_all, take_more, tree_cases, tree_end, true, true≢false, ℕ, ∥∥₁_map, ◌*◌, ◌++◌, ◌+◌, ◌<◌, ◌∙◌, ◌∷◌, ◌≡◌, ◌≢◌, ◌≤◌, ◌⊎◌}
+use Rattle.ner_trees.proofs.Common.{inr, is_on, ldf_of, length, length-replicate, length_permutation, map, map_push, more_chips, next_of, or_stay, path_in, refl, replicate, same_chip, same_edge}
+use Rattle.ner_trees.proofs.Common.{same_index, set, subst, sum_by, sym, take, take_all, take_more, tree_cases, tree_end, true, true≢false, ℕ, ∥∥₁_map, ◌*◌, ◌++◌, ◌+◌, ◌<◌, ◌∙◌, ◌∷◌, ◌≡◌, ◌≢◌, ◌≤◌}
+use Rattle.ner_trees.proofs.Common.{◌⊎◌}
 use Rattle.ner_trees.proofs.{Searching.IsNoneOn, Trees.spanning_root, Trees.Outcome, Trees.grown, Walking.ldf_walks}
 
 -- chips of a tree whose edges begin inside the grid are inside
@@ -141,16 +142,6 @@ pub record Finished (m : Description) (root : Chip) (targets : List Chip) (joins
   pub live : All (λ e. IsLiveLink m e.chip e.dir) edges → 0 < length targets → IsTreeTo m root edges targets
   pub routing : IsWithoutDead m → 0 < length targets → IsTreeTo m root edges targets
 
-path_map : (m : Description) (es fs : List Edge) → ((e : Edge) → Contains es e → Contains fs e) → (from : Chip) (path : List Edge) (to : Chip) → IsPath m es from path to → IsPath m fs from path to
-path_map m es fs sub from [] to is = is
-path_map m es fs sub from (e ∷ path) to is = (sub e is.0, is.1, (is.2.0, is.2.1, path_map m es fs sub is.2.0 path to is.2.2))
-
-chip_map : (m : Description) (root : Chip) (es fs : List Edge) → ((e : Edge) → Contains es e → Contains fs e) → (c : Chip) → IsTreeChip m root es c → IsTreeChip m root fs c
-chip_map m root es fs sub c on = elim (tree_cases m root es c on) [
-  | inl at ↦ inl at
-  | inr into ↦ tree_end m root fs into.0 c (sub into.0 into.1) into.2
-]
-
 -- an edge of the tree begins at the root, or the root is the only chip that the path leads to
 root_goes : (m : Description) (root : Chip) (targets : List Chip) (es : List Edge) (t : Chip) (path : List Edge) → IsPath m es root path t → Contains targets t →
     Any (λ e. e.chip ≡ root) es ⊎ Contains targets root
@@ -180,14 +171,14 @@ finished m root targets joins on whole edges size root_in targets_in so_far perm
     let sums : sum_by (distance_of m root) (map (λ j. j.target) joins) ≡ sum_by (distance_of m root) targets = ap (sum_by (distance_of m root)) so_far.targets in
     let whole_where_live : All (λ e. IsLiveLink m e.chip e.dir) edges → 0 < length targets → IsTreeTo m root edges targets = λ lives some. record {
       edges_live = lives;
-      edges_begin = λ k d within. chip_map m root whole edges back' (get_or edges k d).chip (out.spans.begins (get_or edges k d) (at k d within));
+      edges_begin = λ k d within. chip_in m root whole edges back' (get_or edges k d).chip (out.spans.begins (get_or edges k d) (at k d within));
       none_into_root = none_into;
       one_into_each = apart;
       reached = λ c on'.
-          let way = out.spans.reached c (chip_map m root edges whole to c on') in
-          (way.0, path_map m whole edges back' root way.0 c way.1);
-      has_targets = λ k d within. chip_map m root whole edges back' (get_or targets k d) (has_target (get_or targets k d) (Contains-get_or targets k d within));
-      ends_are_targets = λ c on'. elim (out.ended c (chip_map m root edges whole to c on')) [
+          let way = out.spans.reached c (chip_in m root edges whole to c on') in
+          (way.0, path_in m whole edges back' root way.0 c way.1);
+      has_targets = λ k d within. chip_in m root whole edges back' (get_or targets k d) (has_target (get_or targets k d) (Contains-get_or targets k d within));
+      ends_are_targets = λ c on'. elim (out.ended c (chip_in m root edges whole to c on')) [
         | inr (inl goes) ↦ (let has = back' goes.0 goes.1 in inl (has.0, goes.0, has.1, has.2, goes.2))
         | inr (inr target) ↦ inr target
         | inl is_root ↦
@@ -195,7 +186,7 @@ finished m root targets joins on whole edges size root_in targets_in so_far perm
             let has : Contains targets t = Contains-get_or targets 0 root some in
             let way = out.spans.reached t (has_target t has) in
             subst (λ (x : Chip). Any (λ e. e.chip ≡ x) edges ⊎ Contains targets x) (sym is_root)
-            (root_goes m root targets edges t way.0 (path_map m whole edges back' root way.0 t way.1) has)
+            (root_goes m root targets edges t way.0 (path_in m whole edges back' root way.0 t way.1) has)
       ];
     } in
     record {

@@ -41,12 +41,6 @@ reaches m p q size p_in q_in =
 abbrev pub one_if : Bool → ℕ
 one_if b = cond b 1 0
 
-one_if_true : (b : Bool) → b ≡ true → one_if b ≡ 1
-one_if_true b e = cond-true b 1 0 e
-
-one_if_false : (b : Bool) → b ≡ false → one_if b ≡ 0
-one_if_false b e = cond-false b 1 0 e
-
 -- each link leads along some axis
 some_step : (d : Dir) → (x_step d ≡ Stay) → (y_step d ≡ Stay) → ⊥
 some_step East x y = true≢false (ap is_ahead x)
@@ -66,17 +60,17 @@ step_goes false Back against = inr refl
 
 one_goes : (bx by : Bool) (d : Dir) → goes (not bx) (x_step d) ≡ false → goes (not by) (y_step d) ≡ false →
     0 < one_if (goes bx (x_step d)) + one_if (goes by (y_step d))
-one_goes bx by d x y = grind (arith, step_goes bx (x_step d) x, goes bx (x_step d), step_goes by (y_step d) y, goes by (y_step d), one_if_true, some_step)
+one_goes bx by d x y = grind (arith, step_goes bx (x_step d) x, goes bx (x_step d), step_goes by (y_step d) y, goes by (y_step d), cond-true, some_step)
 
 -- the first of steps none of which passes a test, and the rest
 none_first : (p : Dir → Bool) (d : Dir) (ds : List Dir) → count_by p (d ∷ ds) ≡ 0 → (p d ≡ false) × (count_by p ds ≡ 0)
 none_first p d ds none = elim (cases_Bool (p d)) [
   | inl yes' ↦
-      let one : one_if (p d) ≡ 1 = one_if_true (p d) yes' in
+      let one : one_if (p d) ≡ 1 = cond-true (p d) 1 0 yes' in
       let all : count_by p (d ∷ ds) ≡ one_if (p d) + count_by p ds = sum_by-cons (λ e. one_if (p e)) d ds in
       absurd (omega arith)
   | inr no' ↦
-      let one : one_if (p d) ≡ 0 = one_if_false (p d) no' in
+      let one : one_if (p d) ≡ 0 = cond-false (p d) 1 0 no' in
       let all : count_by p (d ∷ ds) ≡ one_if (p d) + count_by p ds = sum_by-cons (λ e. one_if (p e)) d ds in
       (no', omega arith)
 ]
@@ -105,9 +99,9 @@ module _ (m : Description) (p q : Chip) (p_in : IsInside m p) (q_in : IsInside m
       let cy : count_by (λ d. goes by (y_step d)) (d ∷ ds) ≡ one_if (goes by (y_step d)) + count_by (λ d. goes by (y_step d)) ds =
       sum_by-cons (λ e. one_if (goes by (y_step e))) d ds in
       let room_x : goes bx (x_step d) ≡ true → gap bx m.width p.x c.x < gap bx m.width p.x q.x =
-      λ g. (let one : one_if (goes bx (x_step d)) ≡ 1 = one_if_true (goes bx (x_step d)) g in omega (arith, one, cx, left_x)) in
+      λ g. (let one : one_if (goes bx (x_step d)) ≡ 1 = cond-true (goes bx (x_step d)) 1 0 g in omega (arith, one, cx, left_x)) in
       let room_y : goes by (y_step d) ≡ true → gap by m.height p.y c.y < gap by m.height p.y q.y =
-      λ g. (let one : one_if (goes by (y_step d)) ≡ 1 = one_if_true (goes by (y_step d)) g in omega (arith, one, cy, left_y)) in
+      λ g. (let one : one_if (goes by (y_step d)) ≡ 1 = cond-true (goes by (y_step d)) 1 0 g in omega (arith, one, cy, left_y)) in
       let mx = moves_on m.wrap bx m.width p.x q.x c.x (x_step d) pa.0 qa.0 ca.0 sx nx.0 room_x in
       let my = moves_on m.wrap by m.height p.y q.y c.y (y_step d) pa.1 qa.1 ca.1 sy ny.0 room_y in
       let e : Chip = record { x = mx.0; y = my.0 } in

@@ -1,6 +1,6 @@
 -- The names that the proofs of this crate cite from outside of them, passed on from one place. Declares nothing.
 pub use Rattle.machine_desc.proofs.{Far.far_inside, Far.index_below, Far.live_ends, Far.live_inside, Far.same_index, Live.chip_of-inside, Live.index_of-chip_of, Same.edge_eq-true, Same.edge_eq_self}
-pub use Rattle.machine_desc.proofs.{TreeLemmas.one_edge_into, TreeLemmas.tree_cases, Wanted.edge_wanted, Wanted.end_wanted, Wanted.leads_to_own, Wanted.spot_of_out}
+pub use Rattle.machine_desc.proofs.{TreeLemmas.one_edge_into, TreeLemmas.tree_cases, TreeLemmas.tree_push_cases, Wanted.edge_wanted, Wanted.end_wanted, Wanted.leads_to_own, Wanted.spot_of_out}
 pub use Rattle.machine_desc.specs.{Description.Description, Equality.edge_eq, Live.IsInside, Live.chip_of, Live.index_of, Outputs.ComesIn, Outputs.is_edge_out, Outputs.is_wanted}
 pub use Rattle.machine_desc.specs.{Outputs.leads_to_spot, RightTables.AreRight, RightTables.IsKeyOf, RoutingTree.IsRoutingTree, RoutingTree.IsTreeChip, RoutingTree.end_of}
 pub use Rattle.machine_desc.specs.declared.{nets.NetPlan.NetPlan, trees.Edge.Edge}
@@ -19,8 +19,8 @@ pub use Rattle.std.proofs.Common.{Bool, List, None, Option, Ordering, Some, [], 
 pub use Rattle.std.proofs.Common.{set, subst, suc, sym, take, true, zero, ℕ, ◌*◌, ◌++◌, ◌+◌, ◌-◌, ◌<◌, ◌==◌, ◌||◌, ◌∙◌, ◌∷◌, ◌≡◌, ◌≢◌, ◌≤◌, ◌⊎◌}
 pub use Rattle.std.proofs.{Math.Bool.or-false, Math.Bool.or_assoc, Math.ListN.get_or-map, Math.ListN.length-set, Math.Logic.∥∥₁_elim, Math.Logic.∥∥₁_map, Props.props, lemmas.Bool.Decides.eqb_tells}
 pub use Rattle.std.proofs.lemmas.Bool.{cases_Bool, cases_eq, cases_lt, cases_order, eq-eqb, eqb-true, false_from_ne_true, false≢true, or_right}
-pub use Rattle.std.proofs.lemmas.List.Elements.{All-cons, All-contains, All-drop, All-head, All-map, All-more, All-nil, All-tail, All-take, Contains-append_left, Contains-push, Contains-push_cases}
-pub use Rattle.std.proofs.lemmas.List.{Elements.filter-append, Filters.length-filter_both, Folds.drop_split, Folds.list_any_more, Kept.AllPairs-cons, Kept.AllPairs-filter, Quantifiers.all_pairs_push}
+pub use Rattle.std.proofs.lemmas.List.Elements.{All-cons, All-contains, All-drop, All-head, All-map, All-more, All-nil, All-tail, All-take, Contains-append_left, Contains-push, filter-append}
+pub use Rattle.std.proofs.lemmas.List.{Filters.length-filter_both, Folds.drop_split, Folds.list_any_more, Kept.AllPairs-cons, Kept.AllPairs-filter, Quantifiers.all_pairs_push}
 pub use Rattle.std.proofs.lemmas.List.{Sorted.Contains-permutation, Sorted.IsPermutation-map, Sorted.IsPermutation-sym, Sorted.answers_always, Sorted.length_permutation, append-nil, append_assoc}
 pub use Rattle.std.proofs.lemmas.List.{get_or-replicate, get_or-set_other, get_or-set_same, get_or_default, get_or_past, length-map, length-replicate, map-append, map_push, take_all, take_more}
 pub use Rattle.std.proofs.lemmas.{Map.Keys.ge_from_not_lt, Nat.Bits.bit_at-lt, Nat.Bits.bit_at-zero, Nat.Bits.same_from_bits_below, Option.get_or_from_slice_get, Option.none-some, Option.same_Some}

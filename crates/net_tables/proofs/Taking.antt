@@ -1,8 +1,8 @@
 -- What stands on the boards is moved to the lists, place by place.
 use Rattle.net_tables.proofs.Common.{Block, Chip, Contains-none, Description, Edge, GainsMark, IsBlank, IsClearOff, IsInside, IsTreeChip, List, Mark, NetPlan, None, Option, Port, Route, Some}
 use Rattle.net_tables.proofs.Common.{TellsPort, TellsPorts, TellsRoutes, [], ap, cases_eq, end_of, get_or, get_or-set_other, get_or-set_same, index_of, inl, inr, length, length-set, none-some}
-use Rattle.net_tables.proofs.Common.{nothing, refl, same_Some, set, subst, sym, take, take_all, tree_cases, with_mark, ℕ, ◌*◌, ◌+◌, ◌<◌, ◌∙◌, ◌≡◌, ◌≢◌, ◌≤◌, ◌⊎◌}
-use Rattle.net_tables.proofs.{Telling.reads, Trees.comes_in_tree, Trees.grows, Trees.tree_push_cases}
+use Rattle.net_tables.proofs.Common.{nothing, refl, same_Some, set, subst, sym, take, take_all, tree_cases, tree_push_cases, with_mark, ℕ, ◌*◌, ◌+◌, ◌<◌, ◌∙◌, ◌≡◌, ◌≢◌, ◌≤◌, ◌⊎◌}
+use Rattle.net_tables.proofs.{Telling.reads, Trees.comes_in_tree, Trees.grows}
 
 -- the boards and the lists at one moment
 pub record Stand : Type 0 where

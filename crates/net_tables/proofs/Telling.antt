@@ -3,9 +3,8 @@ use Rattle.net_tables.proofs.Common.{Bool, ByLink, Chip, Contains-append_left, C
 use Rattle.net_tables.proofs.Common.{Local, NetPlan, None, Option, Out, Port, Route, Some, Spot, TellsPort, TellsPorts, TellsRoutes, WithOut, [], ap, arith, cases_Bool, cases_eq, edge_eq}
 use Rattle.net_tables.proofs.Common.{edge_eq-true, edge_eq_self, end_of, false, false_from_ne_true, false≢true, far_inside, get_or, get_or-set_other, get_or-set_same, get_or_default, has, index_of}
 use Rattle.net_tables.proofs.Common.{inl, inr, is_edge_out, is_wanted, leads_to_own, leads_to_spot, length, length-set, list_any, list_any_more, none-some, nothing, opposite_of, or-false, or_assoc}
-use Rattle.net_tables.proofs.Common.{or_right, out_of, refl, same_Some, same_index, set, spot_of_out, subst, sym, take, take_all, take_more, tree_cases, true, ℕ, ◌*◌, ◌++◌, ◌+◌, ◌<◌, ◌||◌, ◌∙◌, ◌∷◌}
-use Rattle.net_tables.proofs.Common.{◌≡◌, ◌≢◌, ◌≤◌}
-use Rattle.net_tables.proofs.Trees.{tree_push_cases}
+use Rattle.net_tables.proofs.Common.{or_right, out_of, refl, same_Some, same_index, set, spot_of_out, subst, sym, take, take_all, take_more, tree_cases, tree_push_cases, true, ℕ, ◌*◌, ◌++◌, ◌+◌, ◌<◌}
+use Rattle.net_tables.proofs.Common.{◌||◌, ◌∙◌, ◌∷◌, ◌≡◌, ◌≢◌, ◌≤◌}
 
 -- ---- ports
 

@@ -1,7 +1,7 @@
 -- A routing tree is inside the grid, and what is told of its chips is what their lists get.
-use Rattle.net_tables.proofs.Common.{All, All-contains, Chip, ComesIn, Contains-push_cases, Description, Edge, GainsMark, HasChip, IsInside, IsOutput, IsRouted, IsRoutingTree, IsTreeChip, List, Mark}
-use Rattle.net_tables.proofs.Common.{NetPlan, None, Option, Out, Port, Route, Some, Spot, TellsPort, [], arith, end_of, far_inside, get_or, get_or-map, has, inl, inr, is_wanted, length, length-map}
-use Rattle.net_tables.proofs.Common.{live_ends, live_inside, props, refl, subst, sym, tree_cases, with_mark, ℕ, ∥∥₁_elim, ◌++◌, ◌<◌, ◌∷◌, ◌≡◌, ◌⊎◌}
+use Rattle.net_tables.proofs.Common.{All, All-contains, Chip, ComesIn, Description, Edge, GainsMark, HasChip, IsInside, IsOutput, IsRouted, IsRoutingTree, IsTreeChip, List, Mark, NetPlan, None}
+use Rattle.net_tables.proofs.Common.{Option, Out, Port, Route, Some, Spot, TellsPort, arith, far_inside, get_or, get_or-map, has, inl, inr, is_wanted, length, length-map, live_ends, live_inside}
+use Rattle.net_tables.proofs.Common.{props, refl, subst, sym, tree_cases, with_mark, ℕ, ∥∥₁_elim, ◌<◌, ◌≡◌}
 
 module _ (m : Description) (root : Chip) (edges : List Edge) (targets : List Spot) (tree : IsRoutingTree m root edges targets) where
   pub edges_inside : All (λ (e : Edge). IsInside m e.chip) edges
@@ -14,16 +14,6 @@ module _ (m : Description) (root : Chip) (edges : List Edge) (targets : List Spo
   targets_on k d below =
       subst (IsTreeChip m root edges) (get_or-map (λ (s : Spot). s.chip) targets k d)
       (tree.has_targets k d.chip (subst (λ n. k < n) (sym (length-map targets (λ (s : Spot). s.chip))) below))
-
--- a chip of a tree with one edge more is one of the tree, or the edge leads to it
-pub tree_push_cases : (m : Description) (root : Chip) (es : List Edge) (e : Edge) (c : Chip) → IsTreeChip m root (es ++ e ∷ []) c → IsTreeChip m root es c ⊎ (end_of m e ≡ Some c)
-tree_push_cases m root es e c on = elim (tree_cases m root (es ++ e ∷ []) c on) [
-  | inl is ↦ inl (inl is)
-  | inr into ↦ elim (Contains-push_cases es e into.0 into.1) [
-    | inl before ↦ inl (inr (before.0, into.0, before.1, before.2, into.2))
-    | inr last ↦ inr (subst (λ (x : Edge). end_of m x ≡ Some c) (sym last) into.2)
-  ]
-]
 
 -- the same of an edge or a target that is read from a list that is a net's
 module _ (m : Description) (net : NetPlan) (routed : ∥ IsRouted m net ∥₁) where
