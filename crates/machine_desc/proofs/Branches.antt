@@ -49,13 +49,7 @@ comes_by m edges s from port (y ∷ ys) k x way h =
 
     place : Later → (d : Dir) (c : Chip) → y.out ≡ Link d → Contains edges (record { chip = from; dir = d }) → far_of m from d ≡ Some c →
         IsWay m edges s c ys → (j : ℕ) → slice_get ys j ≡ Some x → ComesBy m edges (y ∷ ys) port j x.chip
-    place on d c is has leads rest zero h = record {
-      edge = record { chip = from; dir = d };
-      in_tree = has;
-      leads = leads ∙ ap Some (sym (way_first m edges s c ys x rest h));
-      before = ap Some (same_exit y (record { chip = from; out = Link d }) way.0 is);
-      arrives = ap port_after is;
-    }
+    place on d c is has leads rest zero h = grind (arith, way_first m edges s c ys x rest h, same_exit y (record { chip = from; out = Link d }) way.0 is)
     place on d c is has leads rest (suc j) h =
         let later : ComesBy m edges ys (port_after y.out) j x.chip = on c rest j h in
         record { edge = later.edge; in_tree = later.in_tree; leads = later.leads; before = later.before; arrives = later.arrives }
@@ -90,13 +84,11 @@ exit_leads m edges s from (y ∷ ys) zero x way h = subst (ExitLeads m edges s (
 exit_leads m edges s from (y ∷ ys) (suc i) x way h = leaves (λ c rest. exit_leads m edges s c ys i x rest h) way.1
   where
     later : ExitLeads m edges s ys i x → ExitLeads m edges s (y ∷ ys) (suc i) x
-    later (inl leads) = inl leads
-    later (inr (at, is, last)) = inr (at, is, ap suc last)
+    later its_0 = grind arith
 
     leaves : ((c : Chip) → IsWay m edges s c ys → ExitLeads m edges s ys i x) →
         GoesOn m edges s from y.out ys (λ e. IsWay m edges s e ys) → ExitLeads m edges s (y ∷ ys) (suc i) x
-    leaves on (inl (d, is, has, (e, far, rest))) = later (on e rest)
-    leaves on (inr (at, is, last)) = let none : None ≡ Some x = ap (λ zs. slice_get zs i) (sym last) ∙ h in cc
+    leaves on its_1 = grind (arith, later)
 
 -- the way along a path, and on
 pub way_along : (m : Description) (edges : List Edge) (s : Spot) (from to : Chip) (path : List Edge) (ys : List Exit) →
@@ -238,8 +230,7 @@ target_chip targets s has = grind (arith, length-map, get_or-map)
 -- Each target of a routing tree has a branch, whose last exit is by the output that leads to it.
 pub end_on_branch : (m : Description) (root : Chip) (edges : List Edge) (targets : List Spot) → IsRoutingTree m root edges targets →
     (s : Spot) → Contains targets s → (xs : List Exit) × IsBranch m root edges s xs × Contains xs (last_exit s)
-end_on_branch m root edges targets tree s has =
-    target_on_branch m root edges (map (λ t. t.chip) targets) tree s (target_chip targets s has)
+end_on_branch m root edges targets tree s has = target_on_branch _ _ _ (map (λ t. t.chip) targets) tree _ (target_chip _ _ has)
 
 -- Each edge of a routing tree lies on a branch to some target.
 pub link_on_branch : (m : Description) (root : Chip) (edges : List Edge) (targets : List Spot) → IsRoutingTree m root edges targets →

@@ -1,18 +1,15 @@
 -- The names that the proofs of this crate cite from outside of them, passed on from one place. Declares nothing.
 pub use Rattle.machine_desc.specs.{Branch.Exit, Branch.GoesOn, Branch.IsBranch, Branch.IsWay, Branch.arrival_at, Branch.arrival_from, Branch.port_after, Described.described, Description.Description}
-pub use Rattle.machine_desc.specs.{EdgeOrder.IsEdgeBefore, Equality.edge_eq, Flags.link_place, Live.IsInside, Live.IsLiveChip, Live.IsLiveLink, Live.IsSite, Live.IsUsable, Live.chip_at, Live.chip_of}
-pub use Rattle.machine_desc.specs.Live.{far_of, grid_chips, index_of, is_device_place, is_live_between, is_live_chip, is_live_link, live_count_of, other_than, stepped, x_step, y_step}
-pub use Rattle.machine_desc.specs.{Outputs.is_edge_out, Outputs.is_wanted, Outputs.leads_to_spot, RoutingTree.IsPath, RoutingTree.IsRoutingTree, RoutingTree.IsTreeChip, RoutingTree.IsTreeTo}
-pub use Rattle.machine_desc.specs.{RoutingTree.end_of, Tables.IsCoreOn, Tables.IsEdgeOn, Tables.IsOn, Tables.TellsChips, Tables.TellsCores, Tables.TellsLinks, Tables.TellsListed, Tables.chip_place}
-pub use Rattle.machine_desc.specs.{Tables.chip_total, Tables.core_place, Tables.edge_place, declared.grids.Grid.Grid, declared.steps.Step.Step, declared.steps.Step.TheVariants.Ahead}
-pub use Rattle.machine_desc.specs.declared.{steps.Step.TheVariants.Back, steps.Step.TheVariants.Stay, trees.Edge.Edge}
+pub use Rattle.machine_desc.specs.{EdgeOrder.IsEdgeBefore, Equality.edge_eq, Flags.link_place, Live.IsInside, Live.IsLiveChip, Live.IsLiveLink, Live.IsSite, Live.IsUsable, Live.chip_of, Live.far_of}
+pub use Rattle.machine_desc.specs.Live.{grid_chips, index_of, is_device_place, is_live_chip, is_live_link, live_count_of, other_than, stepped, x_step, y_step}
+pub use Rattle.machine_desc.specs.{Outputs.is_wanted, Outputs.leads_to_spot, RoutingTree.IsPath, RoutingTree.IsRoutingTree, RoutingTree.IsTreeChip, RoutingTree.IsTreeTo, RoutingTree.end_of}
+pub use Rattle.machine_desc.specs.Tables.{IsCoreOn, IsEdgeOn, IsOn, TellsChips, TellsCores, TellsLinks, TellsListed, chip_place, chip_total, core_place, edge_place}
+pub use Rattle.machine_desc.specs.declared.{grids.Grid.Grid, steps.Step.Step, steps.Step.TheVariants.Ahead, steps.Step.TheVariants.Back, steps.Step.TheVariants.Stay, trees.Edge.Edge}
 pub use Rattle.spin_base.proofs.{Counts.count_by-agree, Equality.chip_eq_same, Equality.chip_eq_true, Equality.dir_eq_same, Equality.dir_eq_true, Equality.out_eq_same, Equality.out_eq_true}
 pub use Rattle.spin_base.proofs.{Equality.spot_eq_same, Equality.spot_eq_true, Places.slice_get-mapped, Places.slice_get_there, Spots.dir_at-dir_number, Spots.same_number, Spots.spot_of_link}
-pub use Rattle.spin_base.specs.{Equality.chip_eq, Equality.spot_eq, Links.dir_at, Links.dir_number, Links.opposite_of, Outputs.out_of, declared.chips.Chip.Chip, declared.chips.Dir.Dir}
-pub use Rattle.spin_base.specs.declared.chips.Dir.TheVariants.{East, North, NorthEast, South, SouthWest, West}
-pub use Rattle.spin_base.specs.declared.{chips.Port.Port, chips.Port.TheVariants.Link as ByLink, chips.Port.TheVariants.Local, chips.Spot.Spot, routes.Out.Out, routes.Out.TheVariants.Core}
-pub use Rattle.spin_base.specs.declared.routes.Out.TheVariants.{Link}
-pub use Rattle.std.proofs.Common.{Bool, List, None, Option, Some, [], ap, arith, cond, count_by, eqb, false, get_or, inl, inr, length, ltb, map, not, refl, set, subst, suc, sym, take, true, zero, ℕ}
+pub use Rattle.spin_base.specs.{Equality.chip_eq, Equality.spot_eq, Links.dir_at, Links.opposite_of, Outputs.out_of, declared.chips.Chip.Chip, declared.chips.Dir.Dir, declared.chips.Port.Port}
+pub use Rattle.spin_base.specs.declared.{chips.Port.TheVariants.Link as ByLink, chips.Port.TheVariants.Local, chips.Spot.Spot, routes.Out.Out, routes.Out.TheVariants.Link}
+pub use Rattle.std.proofs.Common.{Bool, List, None, Option, Some, [], ap, arith, cond, count_by, eqb, false, get_or, inl, inr, length, map, not, refl, rules, set, subst, suc, sym, take, true, zero, ℕ}
 pub use Rattle.std.proofs.Common.{◌%◌, ◌&&◌, ◌*◌, ◌++◌, ◌+◌, ◌-◌, ◌<◌, ◌||◌, ◌∙◌, ◌∷◌, ◌≡◌, ◌≢◌, ◌≤◌, ◌⊎◌}
 pub use Rattle.std.proofs.{Math.Bool.or-false, Math.Bool.true-and, Math.ListN.length-set, Math.Nat.add-mod_right, Math.Nat.mod-eq_of_lt, Math.Nat.mod_self, lemmas.Bool.and_from, lemmas.Bool.and_parts}
 pub use Rattle.std.proofs.lemmas.Bool.{cases_Bool, cases_eq, cases_lt, cases_order, cond-false, cond-true, eq-eqb, eqb-true, false_from_ne_true, false≢true, le-ltb, leb-true, lt-ltb, ltb-true, ne_eqb}

@@ -1,20 +1,14 @@
 -- A table that tells which things are listed, as the list is read.
 use Rattle.machine_desc.proofs.Common.{Bool, Chip, Edge, Grid, IsCoreOn, IsEdgeOn, IsOn, List, Spot, TellsChips, TellsCores, TellsLinks, TellsListed, arith, cases_eq, cases_lt, chip_eq, chip_eq_same}
-use Rattle.machine_desc.proofs.Common.{chip_eq_true, chip_place, core_place, dir_number, edge_eq, edge_place, false, false_from_ne_true, get_or, get_or-replicate, get_or-set_other, get_or-set_same}
-use Rattle.machine_desc.proofs.Common.{get_or_past, inl, inr, length, length-replicate, list_any, list_any_more, or-false, or_right, replicate, same_from_place, set, spot_eq, spot_eq_same}
-use Rattle.machine_desc.proofs.Common.{spot_eq_true, take, true, ℕ, ◌+◌, ◌<◌, ◌||◌, ◌≡◌, ◌≤◌}
+use Rattle.machine_desc.proofs.Common.{chip_eq_true, chip_place, core_place, edge_eq, edge_place, false, false_from_ne_true, get_or, get_or-replicate, get_or-set_other, get_or-set_same, get_or_past}
+use Rattle.machine_desc.proofs.Common.{inl, inr, length, length-replicate, list_any, list_any_more, or-false, or_right, replicate, same_from_place, set, spot_eq, spot_eq_same, spot_eq_true, take}
+use Rattle.machine_desc.proofs.Common.{true, ℕ, ◌+◌, ◌<◌, ◌||◌, ◌≡◌, ◌≤◌}
 use Rattle.machine_desc.proofs.Same.{same_chip, same_spot, same_edge, same_dir, below_six, edge_eq-true, edge_eq_self}
 
 -- a clear table tells of the empty list
 pub Tells-none : {K : Type 0} (HasPlace : K → Type 0) (place_of : K → ℕ) (same : K → K → Bool) (n : ℕ) (table : List Bool) (listed : List K) →
     table ≡ replicate n false → TellsListed HasPlace place_of same table (take 0 listed)
-Tells-none HasPlace place_of same n table listed e = λ k _. rw e (clear (place_of k))
-  where
-    clear : (i : ℕ) → get_or (replicate n false) i false ≡ false
-    clear i = elim (cases_lt i n) [
-      | inl below ↦ get_or-replicate n i false false below
-      | inr past ↦ let long : length (replicate n false) ≤ i = rw (length-replicate n false) past in get_or_past (replicate n false) i false long
-    ]
+Tells-none HasPlace place_of same n table listed e = grind (arith, get_or, cases_lt, get_or-replicate, length-replicate, get_or_past)
 
 module _ {K : Type 0} (HasPlace : K → Type 0) (place_of : K → ℕ) (same : K → K → Bool)
     (same_true : (a b : K) → same a b ≡ true → a ≡ b) (same_self : (a : K) → same a a ≡ true) where
@@ -43,14 +37,10 @@ chips_apart grid a b p q e =
     let same = same_from_place a.x a.y b.x b.y grid.height p.1 q.1 e in same_chip a b same.0 same.1
 
 pub spots_apart : (grid : Grid) (a b : Spot) → IsCoreOn grid a → IsCoreOn grid b → core_place grid a ≡ core_place grid b → a ≡ b
-spots_apart grid a b p q e =
-    let same = same_from_place (chip_place grid a.chip) a.core (chip_place grid b.chip) b.core 18 p.1 q.1 e in
-    same_spot a b (chips_apart grid a.chip b.chip p.0 q.0 same.0) same.1
+spots_apart grid a b p q e = grind (arith, same_from_place, same_spot, chips_apart)
 
 pub edges_apart : (grid : Grid) (a b : Edge) → IsEdgeOn grid a → IsEdgeOn grid b → edge_place grid a ≡ edge_place grid b → a ≡ b
-edges_apart grid a b p q e =
-    let same = same_from_place (chip_place grid a.chip) (dir_number a.dir) (chip_place grid b.chip) (dir_number b.dir) 6 (below_six a.dir) (below_six b.dir) e in
-    same_edge a b (chips_apart grid a.chip b.chip p q same.0) (same_dir a.dir b.dir same.1)
+edges_apart grid a b p q e = grind (arith, same_from_place, below_six, same_edge, chips_apart, same_dir)
 
 pub TellsChips-more : (grid : Grid) (table : List Bool) (listed : List Chip) (i p : ℕ) (d : Chip) → i < length listed → p ≡ chip_place grid (get_or listed i d) →
     IsOn grid (get_or listed i d) → p < length table → TellsChips grid table (take i listed) →

@@ -7,21 +7,14 @@ use Rattle.machine_desc.proofs.Far.{inside_from, inside_parts, same_index, index
 
 -- the chip of an index below width * height is inside the grid, and has that index
 pub chip_of-inside : (m : Description) (i : ℕ) → i < m.width * m.height → IsInside m (chip_of m i)
-chip_of-inside m i h =
-    let some : 0 < m.height = height_from m.width m.height i h in
-    inside_from m (chip_of m i) (div_below i m.height m.width some h) (mod_below i m.height some)
-  where
-    height_from : (w k i : ℕ) → i < w * k → 0 < k
-    height_from w zero i h = absurd (omega (arith, h))
-    height_from w (suc k) i h = omega arith
+chip_of-inside m i h = grind (arith, inside_from, div_below, mod_below)
 
 pub index_of-chip_of : (m : Description) (i : ℕ) → index_of m (chip_of m i) ≡ i
 index_of-chip_of m i = div-add-mod' i m.height
 
 -- the chip of a chip's index
 pub chip_of-index_of : (m : Description) (c : Chip) → IsInside m c → chip_of m (index_of m c) ≡ c
-chip_of-index_of m c inside =
-    same_index m (chip_of m (index_of m c)) c (chip_of-inside m (index_of m c) (index_below m c inside)) inside (index_of-chip_of m (index_of m c))
+chip_of-index_of m c inside = grind (arith, same_index, chip_of-inside, index_below, index_of-chip_of)
 
 -- the chips of the grid are inside it
 pub grid_chips-inside : (m : Description) → All (IsInside m) (grid_chips m)

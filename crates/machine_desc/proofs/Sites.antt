@@ -29,5 +29,4 @@ end_is_no_live_link m s d h e = grind (arith, spot_of_link s.core d (site_parts 
 
 -- sites of one chip to which one output leads are one site
 pub same_site : (m : Description) (s t : Spot) → IsSite m s → IsSite m t → s.chip ≡ t.chip → out_of s.core ≡ out_of t.core → s ≡ t
-same_site m s t h k chips outs =
-    same_spot s t chips (same_number s.core t.core (site_parts m s h).1 (site_parts m t k).1 outs)
+same_site m s t h k chips outs = grind (arith, same_spot, same_number, site_parts)

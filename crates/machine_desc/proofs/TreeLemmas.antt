@@ -10,8 +10,7 @@ tree_end m root tree e c has leads = inr (has.0, e, has.1, has.2, leads)
 -- the edge of the tree that leads into a chip, where that is not the root
 pub tree_cases : (m : Description) (root : Chip) (tree : List Edge) (c : Chip) → IsTreeChip m root tree c →
     (c ≡ root) ⊎ ((e : Edge) × Contains tree e × (end_of m e ≡ Some c))
-tree_cases m root tree c (inl at) = inl at
-tree_cases m root tree c (inr into) = inr (into.1, (into.0, into.2, into.3), into.4)
+tree_cases m root tree c its_4 = grind arith
 
 -- a chip of a tree is one of each tree with its edges
 pub chip_in : (m : Description) (root : Chip) (tree other : List Edge) → ((e : Edge) → Contains tree e → Contains other e) → (c : Chip) → IsTreeChip m root tree c → IsTreeChip m root other c

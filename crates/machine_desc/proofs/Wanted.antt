@@ -1,15 +1,7 @@
 -- What it means that a tree wants an output at a chip: an edge leaves by it, or it leads to a target there.
-use Rattle.machine_desc.proofs.Common.{Any-from_list_any, Chip, Contains, Core, Dir, Edge, Link, List, Out, Spot, and_from, and_parts, ap, arith, chip_eq_same, chip_eq_true, edge_eq, false≢true, inl}
-use Rattle.machine_desc.proofs.Common.{inr, is_edge_out, is_wanted, leads_to_spot, list_any_at, or_cases, or_left, or_right, out_eq_same, out_eq_true, out_of, refl, subst, sym, true, ◌∙◌, ◌≡◌, ◌⊎◌}
+use Rattle.machine_desc.proofs.Common.{Any-from_list_any, Chip, Contains, Dir, Edge, Link, List, Out, Spot, and_from, and_parts, ap, arith, chip_eq_same, chip_eq_true, edge_eq, false≢true, is_wanted}
+use Rattle.machine_desc.proofs.Common.{leads_to_spot, list_any_at, or_cases, or_left, or_right, out_eq_same, out_eq_true, out_of, rules, true, ◌∙◌, ◌≡◌, ◌⊎◌}
 use Rattle.machine_desc.proofs.Same.{edge_eq-true, edge_eq_self}
-
--- the edge by which an output leaves a chip
-pub edge_out : (edges : List Edge) (c : Chip) (o : Out) → is_edge_out edges c o ≡ true → (d : Dir) × (o ≡ Link d) × Contains edges (record { chip = c; dir = d })
-edge_out edges c (Link d) h =
-    let found = Any-from_list_any (edge_eq (record { chip = c; dir = d })) edges h in
-    let has : Contains edges found.1 = (found.0, found.2, found.3) in
-    (d, refl, subst (λ (e : Edge). Contains edges e) (sym (edge_eq-true (record { chip = c; dir = d }) found.1 found.4)) has)
-edge_out edges c (Core p) h = absurd (false≢true h)
 
 -- a spot to which an output leads
 pub spot_of_out : (c : Chip) (o : Out) (s : Spot) → leads_to_spot c o s ≡ true → (s.chip ≡ c) × (o ≡ out_of s.core)
@@ -21,15 +13,10 @@ leads_to_own s = and_from _ _ (chip_eq_same s.chip) (out_eq_same (out_of s.core)
 pub wanted_cases : (edges : List Edge) (targets : List Spot) (c : Chip) (o : Out) → is_wanted edges targets c o ≡ true →
     ((d : Dir) × (o ≡ Link d) × Contains edges (record { chip = c; dir = d }))
     ⊎ ((s : Spot) × Contains targets s × (s.chip ≡ c) × (o ≡ out_of s.core))
-wanted_cases edges targets c o h = elim (or_cases _ _ h) [
-  | inl edge ↦ inl (edge_out edges c o edge)
-  | inr end ↦
-      grind (arith, Any-from_list_any (leads_to_spot c o) targets end, spot_of_out c o (Any-from_list_any (leads_to_spot c o) targets end).1 (Any-from_list_any (leads_to_spot c o) targets end).4)
-]
+wanted_cases edges targets c o h = search (rules, or_cases, Any-from_list_any, spot_of_out, edge_eq-true, false≢true)
 
 pub edge_wanted : (edges : List Edge) (targets : List Spot) (e : Edge) → Contains edges e → is_wanted edges targets e.chip (Link e.dir) ≡ true
 edge_wanted edges targets e has = grind (arith, list_any_at (edge_eq e) edges has.0 e has.1 (ap (edge_eq e) has.2 ∙ edge_eq_self e), edge_eq_self e, or_left)
 
 pub end_wanted : (edges : List Edge) (targets : List Spot) (s : Spot) → Contains targets s → is_wanted edges targets s.chip (out_of s.core) ≡ true
-end_wanted edges targets s has =
-    grind (arith, list_any_at (leads_to_spot s.chip (out_of s.core)) targets has.0 s has.1 (ap (leads_to_spot s.chip (out_of s.core)) has.2 ∙ leads_to_own s), leads_to_own s, or_right)
+end_wanted edges targets s has = grind (arith, list_any_at, leads_to_own, or_right)
