@@ -223,7 +223,7 @@ def counts():
         "conditions a function, in hundredths": 100 * sum(conditions) // len(conditions),
         "conditions of one function": max(conditions),
         "lines of proofs": lines_of("crates/*/proofs/**/*.antt"),
-        "lines of proofs longer than 200 characters": 368sum(len(it) > 200 for it in proofs),
+        "lines of proofs longer than 200 characters": sum(len(it) > 200 for it in proofs),
         "lines of proofs longer than 300 characters": sum(len(it) > 300 for it in proofs),
         "lines of definitions": lines_of("crates/*/specs/**/*.antt"),
         "lines of definitions on which the programs' calls rest": sum(size for names in believed.by_file().values() for _, size in names),
