@@ -128,20 +128,26 @@ def functions_of(front, lines):
             type_name = trait = ""
         elif opened:
             trait, _, of = opened[2].rpartition(" for ") if opened[1] == "impl" else ("", "", opened[2])
-            type_name, trait = (re.sub(r"<.*|[: ]*$|:? .*", "", it).rpartition("::")[2] for it in (of, trait))
+            type_name, trait = (re.sub(r"<.*|[: ]*$|:? .*", "", with_tuple(it)).rpartition("::")[2] for it in (of, trait))
         found = re.match(r"( *)(?:pub(?:\(crate\))? )?(?:const )?fn (\w+)", line)
         if found and has_body(lines[at:], found[1]):
             yield Function(front, type_name, trait, found[2])
 
 
+def with_tuple(of):
+    """A type as the module names it, where it is a tuple of types by their names: `Tuple2NameSpot` for `(Name, Spot)`."""
+    items = re.match(r"\(([\w, ]+)\)", of)
+    names = [it[0].upper() + it[1:] for it in items[1].split(", ")] if items else []
+    return f"Tuple{len(names)}{''.join(names)}" if names else of
+
+
 def has_body(lines, indent):
     """Whether a function does anything: its body is no `{}`, and it is no trait's without one."""
     for line in lines:
-        if re.match(rf"{indent}\S", line):
-            if line.endswith(("{}", ";")):
-                return False
-            if line.endswith("{"):
-                return True
+        if line.endswith(("{}", ";")):
+            return False
+        if re.match(rf"{indent}\S", line) and line.endswith("{"):
+            return True
     return False
 
 
