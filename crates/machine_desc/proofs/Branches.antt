@@ -4,6 +4,8 @@ use Rattle.machine_desc.proofs.Common.{IsDistinct-from_apart, IsInside, IsLiveCh
 use Rattle.machine_desc.proofs.Common.{arrival_at, arrival_from, end_of, eqb, eqb-true, far_of, get_or, get_or-map, get_or_default, index_of, inl, inr, length, length-append}
 use Rattle.machine_desc.proofs.Common.{length-le_from_distinct_below, length-map, map, map-append, ne_eqb, opposite_of, out_of, port_after, refl, slice_get, slice_get-get_or, subst, suc, sym, zero, ℕ}
 use Rattle.machine_desc.proofs.Common.{◌*◌, ◌++◌, ◌+◌, ◌<◌, ◌∙◌, ◌∷◌, ◌≡◌, ◌≢◌, ◌≤◌, ◌⊎◌}
+use Rattle.spin_base.proofs.Places.{slice_get-mapped, slice_get_there}
+use Rattle.std.proofs.lemmas.Option.{get_or_from_slice_get}
 use Rattle.machine_desc.proofs.{Far.live_inside, Far.far_inside, Far.same_index, Far.index_below, Same.same_edge, TreeLemmas.path_more, TreeLemmas.path_in_tree, TreeLemmas.one_edge_into}
 use Rattle.machine_desc.proofs.TreeLemmas.{edge_lives, root_lives_with_edge}
 
@@ -136,40 +138,26 @@ module _ (m : Description) (root : Chip) (edges : List Edge) (targets : List Chi
 
   -- A branch has at most as many exits as the grid has chips.
   pub branch_short : IsLiveChip m root → (s : Spot) (xs : List Exit) → IsBranch m root edges s xs → length xs ≤ m.width * m.height
-  branch_short root_lives s xs p =
-      let short : length (map index xs) ≤ m.width * m.height = length_le_from_apart (map index xs) (m.width * m.height) apart below in
-      subst (λ n. n ≤ m.width * m.height) (length-map xs index) short
+  branch_short root_lives s xs p = subst (λ n. n ≤ m.width * m.height) (length-map xs index) (length_le_from_apart (map index xs) (m.width * m.height) apart below)
     where
       index : Exit → ℕ
       index x = index_of m x.chip
 
-      within : (k : ℕ) → k < length (map index xs) → k < length xs
-      within k h = subst (λ n. k < n) (length-map xs index) h
-
-      nothing : Exit
-      nothing = last_exit (record { chip = root; core = 0 })
-
-      at : (k : ℕ) → k < length xs → slice_get xs k ≡ Some (get_or xs k nothing)
-      at k h = slice_get-get_or xs k nothing h
-
-      read : (k d : ℕ) → k < length xs → get_or (map index xs) k d ≡ index_of m (get_or xs k nothing).chip
-      read k d h = get_or-map index xs k nothing d h
+      at : (k d : ℕ) → k < length (map index xs) → (x : Exit) × (slice_get xs k ≡ Some x) × (get_or (map index xs) k d ≡ index_of m x.chip)
+      at k d h =
+          let there = slice_get_there xs k (subst (λ n. k < n) (length-map xs index) h) in
+          (there.0, there.1, get_or_from_slice_get (map index xs) k (index there.0) d (slice_get-mapped index xs k there.0 there.1))
 
       below : (k d : ℕ) → k < length (map index xs) → get_or (map index xs) k d < m.width * m.height
-      below k d h =
-          rw (read k d (within k h))
-          (index_below m (get_or xs k nothing).chip (branch_inside root_lives s xs p k (get_or xs k nothing) (at k (within k h))))
+      below k d h = let x = at k d h in subst (λ n. n < m.width * m.height) (sym x.2) (index_below m x.0.chip (branch_inside root_lives s xs p k x.0 x.1))
 
       apart : (i j d : ℕ) → i < j → j < length (map index xs) → get_or (map index xs) i d ≢ get_or (map index xs) j d
       apart i j d lt h e =
-          let there : j < length xs = within j h in
-          let here : i < length xs = omega arith in
-          let same : (get_or xs i nothing).chip ≡ (get_or xs j nothing).chip =
-          same_index m (get_or xs i nothing).chip (get_or xs j nothing).chip
-          (branch_inside root_lives s xs p i (get_or xs i nothing) (at i here)) (branch_inside root_lives s xs p j (get_or xs j nothing) (at j there))
-          (sym (read i d here) ∙ (e ∙ read j d there)) in
-          let one = same_place s s xs xs p p i j (get_or xs i nothing) (get_or xs j nothing) (at i here) (at j there) same in
-          let eq : i ≡ j = one.0 in omega arith
+          let x = at i d (omega (arith, lt, h)) in
+          let y = at j d h in
+          let same : x.0.chip ≡ y.0.chip =
+          same_index m x.0.chip y.0.chip (branch_inside root_lives s xs p i x.0 x.1) (branch_inside root_lives s xs p j y.0 y.1) (sym x.2 ∙ (e ∙ y.2)) in
+          let one : i ≡ j = (same_place s s xs xs p p i j x.0 y.0 x.1 y.1 same).0 in omega arith
 
   -- A path in the tree has fewer edges than the grid has chips.
   pub path_short : IsLiveChip m root → (c : Chip) (path : List Edge) → IsPath m edges root path c → length path < m.width * m.height
@@ -200,6 +188,14 @@ module _ (m : Description) (root : Chip) (edges : List Edge) (targets : List Chi
         | inr target ↦ (c, target, ([], refl))
       ]
 
+  -- An edge leads to a chip from which a path leads down to a target.
+  pub edge_down : (e : Edge) → Contains edges e → (c : Chip) × (end_of m e ≡ Some c) × ((to : Chip) × Contains targets to × ((down : List Edge) × IsPath m edges c down to))
+  edge_down e has =
+      let path = tree.reached e.chip (All-contains (λ f. IsTreeChip m root edges f.chip) edges e tree.edges_begin has) in
+      let ends = edge_lives m root edges targets tree e has in
+      let longer = path_more m edges root e.chip ends.0 path.0 e path.1 has refl ends.1 in
+      (ends.0, ends.1, goes_down (root_lives_with_edge m root edges targets tree e has) (m.width * m.height) ends.0 (path.0 ++ e ∷ []) longer (omega arith))
+
   -- Each target chip has a branch, to each of its spots.
   pub target_on_branch : (s : Spot) → Contains targets s.chip → (xs : List Exit) × IsBranch m root edges s xs × Contains xs (last_exit s)
   target_on_branch s has =
@@ -214,20 +210,18 @@ module _ (m : Description) (root : Chip) (edges : List Edge) (targets : List Chi
   pub edge_on_branch : (e : Edge) → Contains edges e →
       (to : Chip) × Contains targets to × ((s : Spot) → s.chip ≡ to → (xs : List Exit) × IsBranch m root edges s xs × Contains xs (exit_of e))
   edge_on_branch e has =
-      let begins : IsTreeChip m root edges e.chip = All-contains (λ f. IsTreeChip m root edges f.chip) edges e tree.edges_begin has in
-      let path = tree.reached e.chip begins in
-      let ends = edge_lives m root edges targets tree e has in
-      let longer : IsPath m edges root (path.0 ++ e ∷ []) ends.0 = path_more m edges root e.chip ends.0 path.0 e path.1 has refl ends.1 in
-      let below = goes_down (root_lives_with_edge m root edges targets tree e has) (m.width * m.height) ends.0 (path.0 ++ e ∷ []) longer (omega arith) in (
-        below.0,
-        below.1,
+      let path = tree.reached e.chip (All-contains (λ f. IsTreeChip m root edges f.chip) edges e tree.edges_begin has) in
+      let (c, leads, (to, wanted, (down, along))) = edge_down e has in
+      let longer : IsPath m edges root (path.0 ++ e ∷ []) c = path_more m edges root e.chip c path.0 e path.1 has refl leads in (
+        to,
+        wanted,
         λ s at.
             let end : List Exit = last_exit s ∷ [] in
-            let down : IsPath m edges ends.0 below.2.0 s.chip = subst (λ (c : Chip). IsPath m edges ends.0 below.2.0 c) (sym at) below.2.1 in
-            let last : IsWay m edges s ends.0 (map exit_of below.2.0 ++ end) = way_along m edges s ends.0 s.chip below.2.0 end down (way_last m edges s) in (
-              map exit_of (path.0 ++ e ∷ []) ++ (map exit_of below.2.0 ++ end),
-              way_along m edges s root ends.0 (path.0 ++ e ∷ []) (map exit_of below.2.0 ++ end) longer last,
-              Contains-append_left (map exit_of (path.0 ++ e ∷ [])) (map exit_of below.2.0 ++ end) (exit_of e)
+            let last : IsWay m edges s c (map exit_of down ++ end) =
+            way_along m edges s c s.chip down end (subst (λ (x : Chip). IsPath m edges c down x) (sym at) along) (way_last m edges s) in (
+              map exit_of (path.0 ++ e ∷ []) ++ (map exit_of down ++ end),
+              way_along m edges s root c (path.0 ++ e ∷ []) (map exit_of down ++ end) longer last,
+              Contains-append_left (map exit_of (path.0 ++ e ∷ [])) (map exit_of down ++ end) (exit_of e)
                   (subst (λ zs. Contains zs (exit_of e)) (sym (map-append exit_of path.0 (e ∷ []))) (Contains-push (map exit_of path.0) (exit_of e))),
             ),
       )

@@ -13,16 +13,24 @@ pub tree_cases : (m : Description) (root : Chip) (tree : List Edge) (c : Chip) �
 tree_cases m root tree c (inl at) = inl at
 tree_cases m root tree c (inr into) = inr (into.1, (into.0, into.2, into.3), into.4)
 
-pub more_chips : (m : Description) (root : Chip) (tree more : List Edge) (c : Chip) → IsTreeChip m root tree c → IsTreeChip m root (tree ++ more) c
-more_chips m root tree more c on = elim (tree_cases m root tree c on) [
+-- a chip of a tree is one of each tree with its edges
+pub chip_in : (m : Description) (root : Chip) (tree other : List Edge) → ((e : Edge) → Contains tree e → Contains other e) → (c : Chip) → IsTreeChip m root tree c → IsTreeChip m root other c
+chip_in m root tree other has c on = elim (tree_cases m root tree c on) [
   | inl at ↦ inl at
-  | inr into ↦ tree_end m root (tree ++ more) into.0 c (Contains-append_left tree more into.0 into.1) into.2
+  | inr into ↦ tree_end m root other into.0 c (has into.0 into.1) into.2
 ]
 
--- a path over edges is one over more edges
+pub more_chips : (m : Description) (root : Chip) (tree more : List Edge) (c : Chip) → IsTreeChip m root tree c → IsTreeChip m root (tree ++ more) c
+more_chips m root tree more = chip_in m root tree (tree ++ more) (Contains-append_left tree more)
+
+-- a path over edges is one over each list that has them
+pub path_in : (m : Description) (edges others : List Edge) → ((e : Edge) → Contains edges e → Contains others e) → (from : Chip) (path : List Edge) (to : Chip) →
+    IsPath m edges from path to → IsPath m others from path to
+path_in m edges others has from [] to along = along
+path_in m edges others has from (e ∷ path) to along = (has e along.0, along.1, (along.2.0, along.2.1, path_in m edges others has along.2.0 path to along.2.2))
+
 pub more_path : (m : Description) (edges more : List Edge) (from : Chip) (path : List Edge) (to : Chip) → IsPath m edges from path to → IsPath m (edges ++ more) from path to
-more_path m edges more from [] to along = along
-more_path m edges more from (e ∷ path) to along = grind (arith, Contains-append_left edges more e along.0, more_path m edges more along.2.0 path to along.2.2)
+more_path m edges more = path_in m edges (edges ++ more) (Contains-append_left edges more)
 
 -- one edge more at the end of a path
 pub path_more : (m : Description) (edges : List Edge) (from to c : Chip) (path : List Edge) (e : Edge) →
