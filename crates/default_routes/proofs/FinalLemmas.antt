@@ -2,9 +2,8 @@
 use Rattle.default_routes.proofs.Common.{All, All-has, All-head, All-map, All-permutation, All-tail, AreKept, ArePlaces, Bool, Contains, Covers, Entry, Final, HasNoLegalPair, HasRoutesOf}
 use Rattle.default_routes.proofs.Common.{HaveRoutesOf, IsFinalOf, IsPermutation, IsPermutation-sym, IsShortened, IsSound, List, MatchesNoKey, Original, Port, Routes, RoutesAlone, Row, Some, [], after}
 use Rattle.default_routes.proofs.Common.{ap, arith, cond, default_route, entry_of, false, find, get_or, length, length-map, lookup, map, map_push, matches, merged, option_map_or, refl, rows_at}
-use Rattle.default_routes.proofs.Common.{rows_at-from, rows_at-length, rows_at-push, served, short, slice_get-get_or, stuck, subst, sym, take, take_more, true, ℕ, ◌++◌, ◌+◌, ◌<◌, ◌∙◌, ◌∷◌, ◌≡◌, ◌≤◌}
-use Rattle.default_routes.proofs.Common.{◌⊎◌}
-use Rattle.default_routes.proofs.StripLemmas.{kept_places}
+use Rattle.default_routes.proofs.Common.{rows_at-from, rows_at-length, served, short, stuck, subst, sym, take, true, ℕ, ◌++◌, ◌+◌, ◌<◌, ◌∙◌, ◌∷◌, ◌≡◌, ◌≤◌, ◌⊎◌}
+use Rattle.default_routes.proofs.StripLemmas.{kept_places, rows_more}
 
 -- entries that match no key change no lookup
 lookup_past : (rest : List Entry) (key : ℕ) (port : Port) → All MatchesNoKey rest → lookup rest key port ≡ default_route port
@@ -46,13 +45,11 @@ pub entries_more : (rows : List Row) (places : List ℕ) (i : ℕ) (r : Row) (e 
     r ≡ get_or rows (get_or places i 0) r → e ≡ entry_of r → old ≡ map entry_of (rows_at rows (take i places)) → new ≡ old ++ e ∷ [] →
     new ≡ map entry_of (rows_at rows (take (i + 1) places))
 entries_more rows places i r e old new in_range within read entry so_far is =
-    let s : ℕ = get_or places i 0 in
-    let there = slice_get-get_or rows s r (in_range i 0 within) ∙ ap Some (sym read) in
     is
     ∙ (ap (λ (x : Entry). old ++ x ∷ []) entry
     ∙ (ap (λ (l : List Entry). l ++ entry_of r ∷ []) so_far
     ∙ (sym (map_push entry_of (rows_at rows (take i places)) r)
-    ∙ ap (map entry_of) (sym (ap (rows_at rows) (take_more places i 0 within) ∙ rows_at-push rows (take i places) s r there)))))
+    ∙ ap (map entry_of) (sym (rows_more rows places i r in_range within read)))))
 
 -- covered, and without the rows that default routing replaces
 module _ (rows list : List Row) (kept places : List ℕ) (entries : List Entry) (same : list ≡ rows) (also : places ≡ kept) (are : entries ≡ map entry_of (rows_at list places)) where

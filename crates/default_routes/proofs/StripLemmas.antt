@@ -1,30 +1,24 @@
 -- Kept rows route as all rows do.
-use Rattle.default_routes.proofs.Common.{Alias, All, All-append, All-cons, All-flat_map, All-head, All-map, All-more, All-nil, All-tail, All-weaker, AllPairs, AllPairs-cons, AllPairs-nil, AreKept}
-use Rattle.default_routes.proofs.Common.{ArePlaces, Bool, Dir, East, Entry, IsSound, IsStrippable, IsTrue, KeptFrom, Link, List, MatchBool, Matches, Misses, North, NorthEast, Original, Port, Routes}
-use Rattle.default_routes.proofs.Common.{RoutesAll, Row, Some, South, SouthWest, West, [], all_pairs_push, ap, arith, bit_and, cases_lt, cond, cons_option, default_route, ends, entry_of, eq-eqb}
-use Rattle.default_routes.proofs.Common.{eqb_tells, fails, false, find, get_or, get_or-reverse, get_or_default, get_or_from_slice_get, goes, has-at, has-place, has_row, if◌then◌else◌, inl, inr}
-use Rattle.default_routes.proofs.Common.{length, length-reverse, lookup, map, matches, option_map_or, refl, reverse, reverse-append, reverse-reverse, rows_at, rows_at-from, rows_at-has, same_route}
-use Rattle.default_routes.proofs.Common.{served, served_by, slice_get, slice_get_read, slice_get_within, stays, straight_on, subst, suc, sym, take, take_more, true, ℕ, ◌++◌, ◌+◌, ◌-◌, ◌<◌, ◌==◌, ◌^◌}
-use Rattle.default_routes.proofs.Common.{◌↔◌, ◌∙◌, ◌∷◌, ◌≡◌, ◌≤◌, ◌⊎◌}
+use Rattle.default_routes.proofs.Common.{Alias, All, All-append, All-cons, All-flat_map, All-head, All-map, All-more, All-nil, All-push, All-tail, All-weaker, AllPairs, AllPairs-cons, AllPairs-nil}
+use Rattle.default_routes.proofs.Common.{AreKept, ArePlaces, Bool, Dir, IsSound, IsStrippable, IsTrue, KeptFrom, Link, List, MatchBool, Matches, Misses, Original, Port, Routes, RoutesAll, Row, Some}
+use Rattle.default_routes.proofs.Common.{[], all_pairs_push, ap, arith, bit_and, cases_lt, cons_option, default_route, ends, entry_of, eq-eqb, eqb-true, fails, false, false_from_ne_true, get_or}
+use Rattle.default_routes.proofs.Common.{get_or-reverse, get_or_default, get_or_from_slice_get, goes, has-at, has-place, has_row, inl, inr, length, length-reverse, lookup, lookup_hit, lookup_miss}
+use Rattle.default_routes.proofs.Common.{map, matches, refl, reverse, reverse-append, reverse-reverse, rows_at, rows_at-from, rows_at-has, rows_at-push, same_route, served, served_by, slice_get}
+use Rattle.default_routes.proofs.Common.{slice_get-get_or, slice_get_read, slice_get_within, stays, straight_on, subst, suc, sym, take, take_more, true, ℕ, ◌++◌, ◌+◌, ◌-◌, ◌<◌, ◌^◌, ◌↔◌, ◌∙◌, ◌∷◌}
+use Rattle.default_routes.proofs.Common.{◌≡◌, ◌≤◌}
 
 -- ---- lookup, entry by entry
 
-pub lookup_hit : (r : Row) (rows : List Row) (key : ℕ) (port : Port) → Matches r.block key → lookup (map entry_of (r ∷ rows)) key port ≡ r.route
-lookup_hit r rows key port hit = grind (arith, eq-eqb (bit_and key r.block.mask) r.block.key hit)
-
-pub lookup_miss : (r : Row) (rows : List Row) (key : ℕ) (port : Port) → (Matches r.block key → ⊥) → lookup (map entry_of (r ∷ rows)) key port ≡ lookup (map entry_of rows) key port
-lookup_miss r rows key port miss =
-    ap (λ b. option_map_or (λ (e : Entry). e.route) (cond b (Some (entry_of r)) (find (λ (e : Entry). matches e key) (map entry_of rows))) (default_route port)) (off (eqb_tells (bit_and key r.block.mask) r.block.key))
-  where
-    off : ((bit_and key r.block.mask == r.block.key) ≡ true) × (Matches r.block key) ⊎ ((bit_and key r.block.mask == r.block.key) ≡ false) × (Matches r.block key → ⊥) → (bit_and key r.block.mask == r.block.key) ≡ false
-    off (inl hit) = absurd (miss hit.1)
-    off (inr other) = other.0
+-- the entry of a row matches no key that the row's block does not
+unmatched : (r : Row) (key : ℕ) → (Matches r.block key → ⊥) → matches (entry_of r) key ≡ false
+unmatched r key miss = false_from_ne_true (matches (entry_of r) key) (λ hit. miss (eqb-true (bit_and key r.block.mask) r.block.key hit))
 
 -- where no row matches, the default route
 pub lookup_none : (rows : List Row) (key : ℕ) (port : Port) → All (λ (r : Row). Matches r.block key → ⊥) rows → lookup (map entry_of rows) key port ≡ default_route port
 lookup_none [] key port all = refl
 lookup_none (r ∷ rows) key port all =
-    lookup_miss r rows key port (All-head (λ (x : Row). Matches x.block key → ⊥) r rows all) ∙ lookup_none rows key port (All-tail (λ (x : Row). Matches x.block key → ⊥) r rows all)
+    lookup_miss (entry_of r) (map entry_of rows) key port (unmatched r key (All-head (λ (x : Row). Matches x.block key → ⊥) r rows all))
+    ∙ lookup_none rows key port (All-tail (λ (x : Row). Matches x.block key → ⊥) r rows all)
 
 -- ---- kept rows route as the table does
 
@@ -58,15 +52,16 @@ module _ (rows : List Row) (sound : IsSound rows) where
         let first : rows_at rows (n ∷ rest) ≡ row ∷ rows_at rows rest = ap (λ o. cons_option o (rows_at rows rest)) here in
         let at : get_or rows n d ≡ row = get_or_from_slice_get rows n row d here in
         ap (λ l. lookup (map entry_of l) key (get_or (get_or rows j d).aliases m e).port) first
-        ∙ lookup_miss row (rows_at rows rest) key (get_or (get_or rows j d).aliases m e).port (λ met.
-        sound.unmet n j d behind within m e inside (record { key = key; small = small; first = subst (λ (x : Row). Matches x.block key) (sym at) met; second = hit }))
+        ∙ lookup_miss (entry_of row) (map entry_of (rows_at rows rest)) key (get_or (get_or rows j d).aliases m e).port (unmatched row key (λ met.
+        sound.unmet n j d behind within m e inside (record { key = key; small = small; first = subst (λ (x : Row). Matches x.block key) (sym at) met; second = hit })))
         ∙ routes_from (suc n) rest later j d behind within m e inside key small hit
     | inr before ↦
         let same : n ≡ j = omega arith in
         let first : rows_at rows (n ∷ rest) ≡ row ∷ rows_at rows rest = ap (λ o. cons_option o (rows_at rows rest)) here in
         let is : row ≡ get_or rows j d = sym (get_or_from_slice_get rows n row d here) ∙ ap (λ x. get_or rows x d) same in
         ap (λ l. lookup (map entry_of l) key (get_or (get_or rows j d).aliases m e).port) first
-        ∙ lookup_hit row (rows_at rows rest) key (get_or (get_or rows j d).aliases m e).port (subst (λ (x : Row). Matches x.block key) (sym is) (sound.inside j d within m e inside key small hit))
+        ∙ lookup_hit (entry_of row) (map entry_of (rows_at rows rest)) key (get_or (get_or rows j d).aliases m e).port
+        (eq-eqb (bit_and key row.block.mask) row.block.key (subst (λ (x : Row). Matches x.block key) (sym is) (sound.inside j d within m e inside key small hit)))
         ∙ ap (λ (x : Row). x.route) is
   ]
 
@@ -109,13 +104,6 @@ places_from rows i kept (stays n row rest here keep later) =
 pub kept_places : (rows : List Row) (kept : List ℕ) → AreKept rows kept → ArePlaces rows kept
 kept_places rows kept are = let from = places_from rows 0 kept are in record { in_range = from.in_range; ascending = from.ascending; few = omega (arith, from.few) }
 
--- ---- one arrival for each one-link route
-
--- the way of packets that a route with these bits sends straight on
-abbrev direction : ℕ → Dir
-direction bits =
-    if bits == 8 then East else (if bits == 16 then NorthEast else (if bits == 32 then North else (if bits == 1 then West else (if bits == 2 then SouthWest else South))))
-
 -- ---- a row that can go
 
 module _ (row : Row) (later : List Row) (d : Dir) (bits : (straight_on d).bits ≡ row.route.bits) where
@@ -136,22 +124,17 @@ meets_one rows places row i d b in_range within tells came all =
     fails (Misses (get_or rows (get_or places i 0) d).block row) b tells came
     (rows_at-has (λ (r : Row). Misses r.block row) rows places in_range all (get_or places i 0) d (has-at places i within))
 
-pub misses_more : (rows : List Row) (places : List ℕ) (row : Row) (i : ℕ) (e : Row) (b : Bool) → All (λ s. s < length rows) places → i < length places
-    → ((k : ℕ) (d : Row) → k < i → Misses (get_or rows (get_or places k 0) d).block row)
-    → (IsTrue b) ↔ (Misses (get_or rows (get_or places i 0) e).block row) → b ≡ true
-    → (k : ℕ) (d : Row) → k < i + 1 → Misses (get_or rows (get_or places k 0) d).block row
-misses_more rows places row i e b in_range within before tells came k d less = elim (cases_lt k i) [
-  | inl earlier ↦ before k d earlier
-  | inr here ↦
-      let same : i ≡ k = omega arith in
-      subst (λ n. Misses (get_or rows (get_or places n 0) d).block row) same
-      (subst (λ (r : Row). Misses r.block row) (get_or_default rows (get_or places i 0) e d (in_range i 0 within)) (tells.0 came))
-]
+-- the row of one place more
+pub rows_more : (rows : List Row) (places : List ℕ) (i : ℕ) (r : Row) → All (λ s. s < length rows) places → i < length places → r ≡ get_or rows (get_or places i 0) r →
+    rows_at rows (take (i + 1) places) ≡ rows_at rows (take i places) ++ r ∷ []
+rows_more rows places i r in_range within read =
+    ap (rows_at rows) (take_more places i 0 within)
+    ∙ rows_at-push rows (take i places) (get_or places i 0) r (slice_get-get_or rows (get_or places i 0) r (in_range i 0 within) ∙ ap Some (sym read))
 
-pub misses_all : (rows : List Row) (places : List ℕ) (row : Row) (i : ℕ) → length places ≤ i → ((k : ℕ) (d : Row) → k < i → Misses (get_or rows (get_or places k 0) d).block row)
-    → All (λ (r : Row). Misses r.block row) (rows_at rows places)
-misses_all rows places row i all before =
-    rows_at-from (λ (r : Row). Misses r.block row) rows places (λ s d found. let at = has-place places s found in subst (λ n. Misses (get_or rows n d).block row) at.2 (before at.0 d (omega (arith, at.1))))
+pub misses_more : (rows : List Row) (places : List ℕ) (row : Row) (i : ℕ) (r : Row) → All (λ s. s < length rows) places → i < length places → r ≡ get_or rows (get_or places i 0) r →
+    Misses r.block row → All (λ (x : Row). Misses x.block row) (rows_at rows (take i places)) → All (λ (x : Row). Misses x.block row) (rows_at rows (take (i + 1) places))
+misses_more rows places row i r in_range within read apart before =
+    subst (All (λ (x : Row). Misses x.block row)) (sym (rows_more rows places i r in_range within read)) (All-push (λ (x : Row). Misses x.block row) (rows_at rows (take i places)) r before apart)
 
 -- ---- one row after another, the last first
 
@@ -221,11 +204,13 @@ pub missed : (rows : List Row) (kept list : List ℕ) → list ≡ kept → (i :
     All (λ s. s < length rows) kept → 0 < i → i ≤ length rows → KeptFrom rows i (reverse kept) → All (λ (r : Row). Misses r.block row) (rows_at rows list)
 missed rows kept list same i row read apart in_range some within from =
     subst (λ ks. All (λ (r : Row). Misses r.block row) (rows_at rows ks)) (sym same)
-    (misses_all rows kept row (length kept) (omega arith) (λ k e less.
+    (rows_at-from (λ (r : Row). Misses r.block row) rows kept (λ s e found.
+    let (k, less, is) = has-place kept s found in
     let behind : i ≤ get_or kept k 0 = subst (λ s. i ≤ s) (get_or-reverse-reverse k less)
     ((places_from rows i (reverse kept) from).behind (length kept - 1 - k) 0 (rw (length-reverse kept) (omega arith))) in
-    subst (λ (r : Row). Misses (get_or rows (get_or kept k 0) e).block r) (get_or_default rows (i - 1) e row (omega arith) ∙ sym read)
-    (apart (i - 1) (get_or kept k 0) e (omega arith) (in_range k 0 less))))
+    subst (λ n. Misses (get_or rows n e).block row) is
+    (subst (λ (r : Row). Misses (get_or rows (get_or kept k 0) e).block r) (get_or_default rows (i - 1) e row (omega arith) ∙ sym read)
+    (apart (i - 1) (get_or kept k 0) e (omega arith) (in_range k 0 less)))))
   where
     get_or-reverse-reverse : (k : ℕ) → k < length kept → get_or (reverse kept) (length kept - 1 - k) 0 ≡ get_or kept k 0
     get_or-reverse-reverse k less = get_or-reverse kept (length kept - 1 - k) 0 (omega arith) ∙ ap (λ n. get_or kept n 0) (omega arith)

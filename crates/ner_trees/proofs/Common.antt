@@ -1,6 +1,6 @@
 -- The names that the proofs of this crate cite from outside of them, passed on from one place. Declares nothing.
 pub use Rattle.machine_desc.proofs.{Far.far_from, Far.far_inside, Far.index_below, Far.inside_from, Far.inside_parts, Far.same_index, Same.below_six, Same.same_chip, Same.same_edge}
-pub use Rattle.machine_desc.proofs.TreeLemmas.{more_chips, more_path, path_more, tree_cases, tree_end}
+pub use Rattle.machine_desc.proofs.TreeLemmas.{chip_in, more_chips, more_path, path_in, path_more, tree_cases, tree_end}
 pub use Rattle.machine_desc.specs.{Description.Description, Description.HasSize, EdgeOrder.IsEdgeBefore, Live.IsInside, Live.IsLiveLink, Live.chip_at, Live.far_of, Live.index_of, Live.stepped}
 pub use Rattle.machine_desc.specs.{Live.x_step, Live.y_step, RoutingTree.IsPath, RoutingTree.IsTreeChip, RoutingTree.IsTreeTo, RoutingTree.end_of, declared.steps.Step.Step}
 pub use Rattle.machine_desc.specs.declared.{steps.Step.TheVariants.Ahead, steps.Step.TheVariants.Back, steps.Step.TheVariants.Stay, trees.Edge.Edge}
@@ -11,7 +11,7 @@ pub use Rattle.ner_trees.specs.LongestFirst.{is_ahead, is_back, ldf_of, link_run
 pub use Rattle.ner_trees.specs.Search.{AreAllOn, AreOn, AtOffsets, AtStep, IsBetter, IsCutAt, IsLeastNearness, IsMarkedBy, IsNearestOn, IsNoneNearer, IsOnWithin, TellsTree, is_on, is_there, nearness}
 pub use Rattle.ner_trees.specs.{Search.place_at, declared.displacements.Disp.Disp, declared.growths.Join.Join, declared.walks.Run.Run}
 pub use Rattle.spin_base.proofs.{Equality.chip_eq_true, Equality.dir_eq_true, Members.Contains-cases, Members.Contains-first, Members.Contains-later, Members.Contains-none, Pairs.AllPairs-head}
-pub use Rattle.spin_base.proofs.{Pairs.AllPairs-permutation, Pairs.AllPairs-tail, Spots.dir_at-dir_number}
+pub use Rattle.spin_base.proofs.{Pairs.AllPairs-nil, Pairs.AllPairs-permutation, Pairs.AllPairs-tail, Spots.dir_at-dir_number}
 pub use Rattle.spin_base.specs.{Equality.chip_eq, Links.all_dirs, Links.dir_at, Links.dir_number, Links.opposite_of, declared.chips.Chip.Chip, declared.chips.Dir.Dir}
 pub use Rattle.spin_base.specs.declared.chips.Dir.TheVariants.{East, North, NorthEast, South, SouthWest, West}
 pub use Rattle.std.proofs.Common.{Bool, Err, Global, IfOk, List, None, Ok, Option, Result, Some, Vec, [], ap, arith, cond, eqb, false, get_or, inl, inr, leb, length, ltb, map, max, min, not, of_z}

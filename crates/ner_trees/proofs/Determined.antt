@@ -2,7 +2,7 @@
 use Rattle.ner_trees.proofs.Common.{All, All-append, All-cons, All-head, All-nil, All-tail, Chip, Contains, Description, Dir, Edge, Grows, IsAdded, IsEdgeBefore, IsGrown, IsInside, IsNear}
 use Rattle.ner_trees.proofs.Common.{IsNotFarther, IsTreeChip, Join, List, [], ap, arith, displacement_of, end_of_walk, index_of, inl, inr, ldf_of, links_of, map, next_of, refl, same_index, subst, sym}
 use Rattle.ner_trees.proofs.Common.{◌++◌, ◌∙◌, ◌∷◌, ◌≡◌}
-use Rattle.ner_trees.proofs.{Growing.on_inside, Growing.next_inside, Ordered.same_list, Trees.link}
+use Rattle.ner_trees.proofs.{Trees.on_inside, Trees.link, Growing.next_inside, Ordered.same_list}
 
 -- the first numbers of two chips that are each not farther than the other
 neither_farther : (m : Description) (t a b : Chip) → IsNotFarther m t a b → IsNotFarther m t b a → index_of m a ≡ index_of m b

@@ -1,16 +1,13 @@
 -- The tree so far: what its table says, and what comes of growing when it is done.
-use Rattle.ner_trees.proofs.Common.{All, All-append, All-contains, All-push, AllPairs, AllPairs-permutation, Any, AreAllOn, AreOn, Bool, Chip, Contains, Contains-append_cases, Contains-append_left}
-use Rattle.ner_trees.proofs.Common.{Contains-append_right, Contains-get_or, Contains-permutation, Contains-push, Description, Dir, Edge, Grows, HasSize, IsAdded, IsCutAt, IsEdgeBefore, IsGrown}
-use Rattle.ner_trees.proofs.Common.{IsInside, IsJoinedBy, IsLiveLink, IsMarkedBy, IsNear, IsNearestOn, IsPath, IsPermutation, IsPermutation-sym, IsTreeChip, IsTreeTo, IsWithoutDead, Join, List, None}
-use Rattle.ner_trees.proofs.Common.{Option, Some, TellsTree, [], and_from, ap, append-nil, append_assoc, arith, cases_eq, cases_order, dir_eq_true, dir_number, displacement_of, distance_of}
-use Rattle.ner_trees.proofs.Common.{distance_sum, end_of, eq-eqb, false, far_inside, far_of, get_or, get_or-replicate, get_or-set_other, get_or-set_same, if◌then◌else◌, index_below, index_of, inl}
-use Rattle.ner_trees.proofs.Common.{inr, is_on, ldf_of, length, length-replicate, length_permutation, map, map_push, more_chips, next_of, or_stay, refl, replicate, same_chip, same_edge, same_index}
-use Rattle.ner_trees.proofs.Common.{set, subst, sum_by, sym, take, take_all, take_more, tree_cases, tree_end, true, true≢false, ℕ, ∥∥₁_map, ◌*◌, ◌++◌, ◌+◌, ◌<◌, ◌∙◌, ◌∷◌, ◌≡◌, ◌≢◌, ◌≤◌, ◌⊎◌}
-use Rattle.ner_trees.proofs.{Searching.IsNoneOn, Trees.spanning_root, Trees.Outcome, Trees.grown, Walking.ldf_walks}
-
--- chips of a tree whose edges begin inside the grid are inside
-pub on_inside : (m : Description) (root : Chip) (tree : List Edge) → IsInside m root → All (λ e. IsInside m e.chip) tree → (c : Chip) → IsTreeChip m root tree c → IsInside m c
-on_inside m root tree root_in inside c on = grind (arith, tree_cases m root tree c on, far_inside, All-contains)
+use Rattle.ner_trees.proofs.Common.{All, All-append, All-contains, All-permutation, All-push, AllPairs, AllPairs-permutation, Any, AreAllOn, AreOn, Bool, Chip, Contains, Contains-append_cases}
+use Rattle.ner_trees.proofs.Common.{Contains-append_left, Contains-append_right, Contains-get_or, Contains-permutation, Contains-push, Description, Dir, Edge, Grows, HasSize, IsAdded, IsCutAt}
+use Rattle.ner_trees.proofs.Common.{IsEdgeBefore, IsGrown, IsInside, IsJoinedBy, IsLiveLink, IsMarkedBy, IsNear, IsNearestOn, IsPath, IsPermutation, IsPermutation-sym, IsTreeChip, IsTreeTo}
+use Rattle.ner_trees.proofs.Common.{IsWithoutDead, Join, List, None, Option, Some, TellsTree, [], and_from, ap, append-nil, append_assoc, arith, cases_eq, cases_order, chip_in, dir_eq_true}
+use Rattle.ner_trees.proofs.Common.{dir_number, displacement_of, distance_of, distance_sum, end_of, eq-eqb, false, far_inside, far_of, get_or, get_or-replicate, get_or-set_other, get_or-set_same}
+use Rattle.ner_trees.proofs.Common.{if◌then◌else◌, index_below, index_of, inl, inr, is_on, ldf_of, length, length-replicate, length_permutation, map, map_push, more_chips, next_of, or_stay, path_in}
+use Rattle.ner_trees.proofs.Common.{refl, replicate, same_chip, same_edge, same_index, set, subst, sum_by, sym, take, take_all, take_more, tree_cases, tree_end, true, true≢false, ℕ, ∥∥₁_map, ◌*◌}
+use Rattle.ner_trees.proofs.Common.{◌++◌, ◌+◌, ◌<◌, ◌∙◌, ◌∷◌, ◌≡◌, ◌≢◌, ◌≤◌, ◌⊎◌}
+use Rattle.ner_trees.proofs.{Searching.IsNoneOn, Trees.spanning_root, Trees.on_inside, Trees.Outcome, Trees.grown, Walking.ldf_walks}
 
 pub near_is : (m : Description) (root : Chip) (on : List Bool) (tree : List Edge) (t near : Chip) → IsInside m root → All (λ e. IsInside m e.chip) tree → TellsTree m root on tree →
     IsNearestOn m on t 20 near ⊎ (IsNoneOn m on t 20 × (near ≡ root)) → IsNear m root tree t near
@@ -141,16 +138,6 @@ pub record Finished (m : Description) (root : Chip) (targets : List Chip) (joins
   pub live : All (λ e. IsLiveLink m e.chip e.dir) edges → 0 < length targets → IsTreeTo m root edges targets
   pub routing : IsWithoutDead m → 0 < length targets → IsTreeTo m root edges targets
 
-path_map : (m : Description) (es fs : List Edge) → ((e : Edge) → Contains es e → Contains fs e) → (from : Chip) (path : List Edge) (to : Chip) → IsPath m es from path to → IsPath m fs from path to
-path_map m es fs sub from [] to is = is
-path_map m es fs sub from (e ∷ path) to is = (sub e is.0, is.1, (is.2.0, is.2.1, path_map m es fs sub is.2.0 path to is.2.2))
-
-chip_map : (m : Description) (root : Chip) (es fs : List Edge) → ((e : Edge) → Contains es e → Contains fs e) → (c : Chip) → IsTreeChip m root es c → IsTreeChip m root fs c
-chip_map m root es fs sub c on = elim (tree_cases m root es c on) [
-  | inl at ↦ inl at
-  | inr into ↦ tree_end m root fs into.0 c (sub into.0 into.1) into.2
-]
-
 -- an edge of the tree begins at the root, or the root is the only chip that the path leads to
 root_goes : (m : Description) (root : Chip) (targets : List Chip) (es : List Edge) (t : Chip) (path : List Edge) → IsPath m es root path t → Contains targets t →
     Any (λ e. e.chip ≡ root) es ⊎ Contains targets root
@@ -171,23 +158,22 @@ finished m root targets joins on whole edges size root_in targets_in so_far perm
     let to : (e : Edge) → Contains edges e → Contains whole e = λ e has. Contains-permutation edges whole e (IsPermutation-sym whole edges perm) has in
     let back' : (e : Edge) → Contains whole e → Contains edges e = λ e has. Contains-permutation whole edges e perm has in
     let apart : AllPairs (λ e f. end_of m e ≢ end_of m f) edges = AllPairs-permutation (λ e f. end_of m e ≢ end_of m f) (λ e f differ' same. differ' (sym same)) whole edges perm out.spans.apart in
-    let at : (k : ℕ) (d : Edge) → k < length edges → Contains whole (get_or edges k d) = λ k d within. to (get_or edges k d) (Contains-get_or edges k d within) in
-    let inside : All (λ e. IsInside m e.chip) edges = λ k d within. out.spans.inside (get_or edges k d) (at k d within) in
-    let none_into : All (λ e. end_of m e ≢ Some root) edges = λ k d within. out.spans.none_into_root (get_or edges k d) (at k d within) in
+    let inside : All (λ e. IsInside m e.chip) edges = All-permutation (λ e. IsInside m e.chip) whole edges perm out.spans.inside in
+    let none_into : All (λ e. end_of m e ≢ Some root) edges = All-permutation (λ e. end_of m e ≢ Some root) whole edges perm out.spans.none_into_root in
     let has_target : (t : Chip) → Contains targets t → IsTreeChip m root whole t = λ t has. out.has t (subst (λ ts. Contains ts t) (sym so_far.targets) has) in
     let long : length edges ≡ length whole = length_permutation whole edges perm in
     let most : length whole ≤ length {A = Edge} [] + sum_by (distance_of m root) (map (λ j. j.target) joins) = out.few in
     let sums : sum_by (distance_of m root) (map (λ j. j.target) joins) ≡ sum_by (distance_of m root) targets = ap (sum_by (distance_of m root)) so_far.targets in
     let whole_where_live : All (λ e. IsLiveLink m e.chip e.dir) edges → 0 < length targets → IsTreeTo m root edges targets = λ lives some. record {
       edges_live = lives;
-      edges_begin = λ k d within. chip_map m root whole edges back' (get_or edges k d).chip (out.spans.begins (get_or edges k d) (at k d within));
+      edges_begin = λ k d within. chip_in m root whole edges back' (get_or edges k d).chip (All-permutation (λ e. IsTreeChip m root whole e.chip) whole edges perm out.spans.begins k d within);
       none_into_root = none_into;
       one_into_each = apart;
       reached = λ c on'.
-          let way = out.spans.reached c (chip_map m root edges whole to c on') in
-          (way.0, path_map m whole edges back' root way.0 c way.1);
-      has_targets = λ k d within. chip_map m root whole edges back' (get_or targets k d) (has_target (get_or targets k d) (Contains-get_or targets k d within));
-      ends_are_targets = λ c on'. elim (out.ended c (chip_map m root edges whole to c on')) [
+          let way = out.spans.reached c (chip_in m root edges whole to c on') in
+          (way.0, path_in m whole edges back' root way.0 c way.1);
+      has_targets = λ k d within. chip_in m root whole edges back' (get_or targets k d) (has_target (get_or targets k d) (Contains-get_or targets k d within));
+      ends_are_targets = λ c on'. elim (out.ended c (chip_in m root edges whole to c on')) [
         | inr (inl goes) ↦ (let has = back' goes.0 goes.1 in inl (has.0, goes.0, has.1, has.2, goes.2))
         | inr (inr target) ↦ inr target
         | inl is_root ↦
@@ -195,7 +181,7 @@ finished m root targets joins on whole edges size root_in targets_in so_far perm
             let has : Contains targets t = Contains-get_or targets 0 root some in
             let way = out.spans.reached t (has_target t has) in
             subst (λ (x : Chip). Any (λ e. e.chip ≡ x) edges ⊎ Contains targets x) (sym is_root)
-            (root_goes m root targets edges t way.0 (path_map m whole edges back' root way.0 t way.1) has)
+            (root_goes m root targets edges t way.0 (path_in m whole edges back' root way.0 t way.1) has)
       ];
     } in
     record {
@@ -214,7 +200,7 @@ finished m root targets joins on whole edges size root_in targets_in so_far perm
       live = whole_where_live;
       routing = λ dead. whole_where_live (λ k d within.
           let e : Edge = get_or edges k d in
-          let leads = out.spans.leads e (at k d within) in
+          let leads = All-permutation (λ e. (c : Chip) × (end_of m e ≡ Some c)) whole edges perm out.spans.leads k d within in
           live_link m e.chip leads.0 e.dir dead (inside k d within) (far_inside m e.chip leads.0 e.dir (inside k d within) leads.1) leads.1);
     }
 

@@ -3,7 +3,7 @@ use Rattle.ner_trees.proofs.Common.{All, All-contains, AreAllOn, AreOn, Bool, Ch
 use Rattle.ner_trees.proofs.Common.{Contains-push_cases, Description, Edge, HasSize, IsInside, IsLeastNearness, IsNear, IsTreeChip, List, TellsTree, [], arith, cases_eq, cases_lt, distance_of, get_or}
 use Rattle.ner_trees.proofs.Common.{index_below, index_of, inl, inr, is_on, length, min, mul-le, nearness, props, same_index, subst, sym, take, take_more, true, ℕ, ∥∥₁_elim, ◌%◌, ◌*◌, ◌++◌, ◌+◌, ◌<◌}
 use Rattle.ner_trees.proofs.Common.{◌∙◌, ◌∷◌, ◌≡◌, ◌≤◌, ◌⊎◌}
-use Rattle.ner_trees.proofs.Growing.{on_inside}
+use Rattle.ner_trees.proofs.Trees.{on_inside}
 
 one_is : (a b n : ℕ) → n ≡ min a b → (n ≡ a) ⊎ (n ≡ b)
 one_is a b n e = elim (cases_eq n a) [ inl is ↦ inl is | inr other ↦ inr (omega (arith, e, other)) ]

@@ -23,60 +23,41 @@ line w p q r i at sum =
     cond-false (ltb (q + i) r) None (cond (ltb (q + i - r) w) (Some (q + i - r)) None) (le-ltb (q + i) r low)
     ∙ (cond-true (ltb (q + i - r) w) (Some (q + i - r)) None (lt-ltb (q + i - r) w high) ∙ ap Some is)
 
+-- a place of a ring, so many times round from there
+ring : (w p q r i k : ℕ) → p < w → q + w * 20 + i ≡ k * w + p + r → place_at true w q r i ≡ Some p
+ring w p q r i k at sum = let round : q + w * 20 + i - r ≡ k * w + p = omega arith in ap (λ n. Some (n % w)) round ∙ ap Some (mod-mul-add k w p at)
+
 -- the window has each place that is near enough, as far from its middle as the displacement says
 place_covers : (wrap : Bool) (w p q r : ℕ) (z : ℤ) → Reaches wrap w p q z → forth z + back z ≤ r → (i : ℕ) × (i + forth z ≡ r + back z) × (place_at wrap w q r i ≡ Some p)
 place_covers true w p q r (pos n) reach near =
-    let far : ahead_by w p q ≡ n + 0 = reach.far in
-    let at : p < w = reach.from_inside in (
+    let far : ahead_by w p q ≡ n + 0 = reach.far in (
       r - n,
       omega arith,
       elim (ahead_cases w p q reach.from_inside reach.to_inside) [
-        | inl one ↦
-            let x : ahead_by w p q + p ≡ q = one.1 in
-            let sum : q + w * 20 + (r - n) - r ≡ 20 * w + p = omega arith in
-            ap (λ k. Some (k % w)) sum ∙ ap Some (mod-mul-add 20 w p at)
-        | inr one ↦
-            let x : ahead_by w p q + p ≡ q + w = one.1 in
-            let sum : q + w * 20 + (r - n) - r ≡ 19 * w + p = omega arith in
-            ap (λ k. Some (k % w)) sum ∙ ap Some (mod-mul-add 19 w p at)
+        | inl one ↦ let x : ahead_by w p q + p ≡ q = one.1 in ring w p q r (r - n) 20 reach.from_inside (omega arith)
+        | inr one ↦ let x : ahead_by w p q + p ≡ q + w = one.1 in ring w p q r (r - n) 19 reach.from_inside (omega arith)
       ],
     )
 place_covers true w p q r (negsuc n) reach near =
-    let far : ahead_by w q p ≡ 0 + suc n = reach.far in
-    let at : p < w = reach.from_inside in (
+    let far : ahead_by w q p ≡ 0 + suc n = reach.far in (
       r + suc n,
       omega arith,
       elim (ahead_cases w q p reach.to_inside reach.from_inside) [
-        | inl one ↦
-            let x : ahead_by w q p + q ≡ p = one.1 in
-            let sum : q + w * 20 + (r + suc n) - r ≡ 20 * w + p = omega arith in
-            ap (λ k. Some (k % w)) sum ∙ ap Some (mod-mul-add 20 w p at)
-        | inr one ↦
-            let x : ahead_by w q p + q ≡ p + w = one.1 in
-            let sum : q + w * 20 + (r + suc n) - r ≡ 21 * w + p = omega arith in
-            ap (λ k. Some (k % w)) sum ∙ ap Some (mod-mul-add 21 w p at)
+        | inl one ↦ let x : ahead_by w q p + q ≡ p = one.1 in ring w p q r (r + suc n) 20 reach.from_inside (omega arith)
+        | inr one ↦ let x : ahead_by w q p + q ≡ p + w = one.1 in ring w p q r (r + suc n) 21 reach.from_inside (omega arith)
       ],
     )
 place_covers false w p q r (pos n) reach near =
     let far : ahead_by w p q ≡ n + 0 = reach.far in
-    let at : p < w = reach.from_inside in
-    let straight : p ≤ q = reach.straight refl in (
-      r - n,
-      omega arith,
-      line w p q r (r - n) at (omega (arith, ahead_cases w p q reach.from_inside reach.to_inside)),
-    )
+    let straight : p ≤ q = reach.straight refl in
+    (r - n, omega arith, line w p q r (r - n) reach.from_inside (omega (arith, ahead_cases w p q reach.from_inside reach.to_inside)))
 place_covers false w p q r (negsuc n) reach near =
     let far : ahead_by w q p ≡ 0 + suc n = reach.far in
-    let at : p < w = reach.from_inside in
-    let straight : q ≤ p = reach.straight refl in (
-      r + suc n,
-      omega arith,
-      line w p q r (r + suc n) at (omega (arith, ahead_cases w q p reach.to_inside reach.from_inside)),
-    )
+    let straight : q ≤ p = reach.straight refl in
+    (r + suc n, omega arith, line w p q r (r + suc n) reach.from_inside (omega (arith, ahead_cases w q p reach.to_inside reach.from_inside)))
 
 -- The ring has each chip from which the centre is just so many links away.
 pub ring_covers : (m : Description) (t e : Chip) (r : ℕ) → HasSize m → IsInside m t → IsInside m e → distance_of m e t ≡ r → (s : ℕ) × (s < r + 1) × AtStep m t r s e
-unfolding offset_chip
 ring_covers m t e r size t_in e_in is = sides (one_sided d.a) (one_sided d.b)
   where
     d : Disp
@@ -96,37 +77,25 @@ ring_covers m t e r size t_in e_in is = sides (one_sided d.a) (one_sided d.b)
 
     at : (column row : ℕ) → x.0 ≡ column → y.0 ≡ row → AtOffsets m t r column row e
     at column row ex ey =
-        ap (λ (z : Option ℕ). chip_at z (place_at m.wrap m.height t.y r row)) (ap (λ n. place_at m.wrap m.width t.x r n) (sym ex) ∙ x.2)
-        ∙ ap (λ (z : Option ℕ). chip_at (Some e.x) z) (ap (λ n. place_at m.wrap m.height t.y r n) (sym ey) ∙ y.2)
+        sym (offset_is m t r column row (Some e.x) (Some e.y) (sym x.2 ∙ ap (place_at m.wrap m.width t.x r) ex) (sym y.2 ∙ ap (place_at m.wrap m.height t.y r) ey))
 
     ends : (p q n : ℕ) → n ≡ max p q → (p ≡ n) ⊎ (q ≡ n)
-    ends p q n top = elim (cases_lt p q) [
-      | inl less ↦ inr (omega (arith, top))
-      | inr more ↦ inl (omega (arith, top))
-    ]
+    ends p q n top = grind (arith, cases_lt p q)
 
     sides : (forth d.a ≡ 0) ⊎ (back d.a ≡ 0) → (forth d.b ≡ 0) ⊎ (back d.b ≡ 0) → (s : ℕ) × (s < r + 1) × AtStep m t r s e
     sides (inr a) (inr b) =
-        let ix : x.0 + forth d.a ≡ r + back d.a = x.1 in
-        let iy : y.0 + forth d.b ≡ r + back d.b = y.1 in
         elim (ends (forth d.a) (forth d.b) r (omega (arith, length_at, a, b))) [
-          | inl far ↦ (y.0, omega (arith, iy, b), inl (at 0 y.0 (omega (arith, ix, a, far)) refl))
-          | inr far ↦ (x.0, omega (arith, ix, a), inr (inl (at x.0 0 refl (omega (arith, iy, b, far)))))
+          | inl far ↦ (y.0, omega (arith, y.1, b), inl (at 0 y.0 (omega (arith, x.1, a, far)) refl))
+          | inr far ↦ (x.0, omega (arith, x.1, a), inr (inl (at x.0 0 refl (omega (arith, y.1, b, far)))))
         ]
     sides (inr a) (inl b) =
-        let ix : x.0 + forth d.a ≡ r + back d.a = x.1 in
-        let iy : y.0 + forth d.b ≡ r + back d.b = y.1 in
-        (x.0, omega (arith, ix, a), inr (inr (inl (at x.0 (r + x.0) refl (omega (arith, ix, iy, a, b, length_at))))))
+        (x.0, omega (arith, x.1, a), inr (inr (inl (at x.0 (r + x.0) refl (omega (arith, x.1, y.1, a, b, length_at))))))
     sides (inl a) (inr b) =
-        let ix : x.0 + forth d.a ≡ r + back d.a = x.1 in
-        let iy : y.0 + forth d.b ≡ r + back d.b = y.1 in
-        (y.0, omega (arith, iy, b), inr (inr (inr (inl (at (r + y.0) y.0 (omega (arith, ix, iy, a, b, length_at)) refl)))))
+        (y.0, omega (arith, y.1, b), inr (inr (inr (inl (at (r + y.0) y.0 (omega (arith, x.1, y.1, a, b, length_at)) refl)))))
     sides (inl a) (inl b) =
-        let ix : x.0 + forth d.a ≡ r + back d.a = x.1 in
-        let iy : y.0 + forth d.b ≡ r + back d.b = y.1 in
         elim (ends (back d.a) (back d.b) r (omega (arith, length_at, a, b))) [
-          | inl far ↦ (back d.b, omega (arith, length_at, a, b), inr (inr (inr (inr (inr (at (2 * r) (r + back d.b) (omega (arith, ix, a, far)) (omega (arith, iy, b))))))))
-          | inr far ↦ (back d.a, omega (arith, length_at, a, b), inr (inr (inr (inr (inl (at (r + back d.a) (2 * r) (omega (arith, ix, a)) (omega (arith, iy, b, far))))))))
+          | inl far ↦ (back d.b, omega (arith, length_at, a, b), inr (inr (inr (inr (inr (at (2 * r) (r + back d.b) (omega (arith, x.1, a, far)) (omega (arith, y.1, b))))))))
+          | inr far ↦ (back d.a, omega (arith, length_at, a, b), inr (inr (inr (inr (inl (at (r + back d.a) (2 * r) (omega (arith, x.1, a)) (omega (arith, y.1, b, far))))))))
         ]
 
 -- what the search has found, one chip on

@@ -42,20 +42,18 @@ weight_is d = grind (arith, length_is d, abs_is d.a, abs_is d.b)
 shorter : (d e : Disp) → length_of (lesser_disp d e) ≡ min (length_of d) (length_of e)
 shorter d e = grind (arith, cases_Bool (is_before e d), cond-true, differs_true, cond-false, differs_false)
 
--- to lead back all the way is heavier than to stay
-round_a : (w : ℕ) (z y : ℤ) → 0 < w → forth z ≡ 0 → back z ≡ w → weight (disp (pos 0) y) < weight (disp z y)
-round_a w z y some f b =
-    rw (weight_is (disp (pos 0) y), weight_is (disp z y), f, b) (numbers w (forth y) (back y) some)
+-- to lead back is not lighter than to lead ahead by no place
+some_a : (w a : ℕ) (z y : ℤ) → a < w → forth z ≡ 0 → back z ≡ w - a → weight (disp z y) ≤ weight (disp (pos a) y) → 0 < a
+some_a w a z y less f b light = numbers w a (forth y) (back y) less (rw (weight_is (disp z y), weight_is (disp (pos a) y), f, b) at light)
   where
-    numbers : (w m n : ℕ) → 0 < w → (max 0 m + max 0 n) * 65536 + (0 + 0) * 256 + (m + n) < (max 0 m + max w n) * 65536 + (0 + w) * 256 + (m + n)
-    numbers w m n some = omega arith
+    numbers : (w a m n : ℕ) → a < w → (max 0 m + max (w - a) n) * 65536 + (0 + (w - a)) * 256 + (m + n) ≤ (max a m + max 0 n) * 65536 + (a + 0) * 256 + (m + n) → 0 < a
+    numbers w a m n less light = omega arith
 
-round_b : (w : ℕ) (z y : ℤ) → 0 < w → forth z ≡ 0 → back z ≡ w → weight (disp y (pos 0)) < weight (disp y z)
-round_b w z y some f b =
-    rw (weight_is (disp y (pos 0)), weight_is (disp y z), f, b) (numbers w (forth y) (back y) some)
+some_b : (w a : ℕ) (z y : ℤ) → a < w → forth z ≡ 0 → back z ≡ w - a → weight (disp y z) ≤ weight (disp y (pos a)) → 0 < a
+some_b w a z y less f b light = numbers w a (forth y) (back y) less (rw (weight_is (disp y z), weight_is (disp y (pos a)), f, b) at light)
   where
-    numbers : (w m n : ℕ) → 0 < w → (max m 0 + max n 0) * 65536 + (m + n) * 256 + (0 + 0) < (max m 0 + max n w) * 65536 + (m + n) * 256 + (0 + w)
-    numbers w m n some = omega arith
+    numbers : (w a m n : ℕ) → a < w → (max m 0 + max n (w - a)) * 65536 + (m + n) * 256 + (0 + (w - a)) ≤ (max m a + max n 0) * 65536 + (m + n) * 256 + (a + 0) → 0 < a
+    numbers w a m n less light = omega arith
 
 -- a number less another that is greater
 pub behind : (a w : ℕ) → a < w → (forth (pos a -ℤ pos w) ≡ 0) × (back (pos a -ℤ pos w) ≡ w - a)
@@ -121,40 +119,18 @@ torus_ways w h a b aw bh ws hs =
     below : {k l n : ℕ} → k ≤ l → l ≤ n → k ≤ n
     below p q = omega arith
 
-    heavy_a : (y : ℤ) → a ≡ 0 → weight (disp (pos a -ℤ pos w) y) ≤ weight (disp (pos a) y) → ⊥
-    heavy_a y none light =
-        let bx = behind a w aw in
-        let whole : back (pos a -ℤ pos w) ≡ w = bx.1 ∙ omega arith in
-        let some : 0 < w = omega arith in
-        let less : weight (disp (pos 0) y) < weight (disp (pos a -ℤ pos w) y) = round_a w (pos a -ℤ pos w) y some bx.0 whole in
-        let same : weight (disp (pos a) y) ≡ weight (disp (pos 0) y) = ap (λ k. weight (disp (pos k) y)) none in
-        omega arith
+    back_a : (y : ℤ) (r : Disp) → r ≡ disp (pos a -ℤ pos w) y → weight r ≤ weight (disp (pos a) y) → AheadOrBack w a r.a
+    back_a y r is light =
+        inr (ap (λ (d : Disp). d.a) is, some_a w a (pos a -ℤ pos w) y aw (behind a w aw).0 (behind a w aw).1 (subst (λ (d : Disp). weight d ≤ weight (disp (pos a) y)) is light))
 
-    heavy_b : (y : ℤ) → b ≡ 0 → weight (disp y (pos b -ℤ pos h)) ≤ weight (disp y (pos b)) → ⊥
-    heavy_b y none light =
-        let by = behind b h bh in
-        let whole : back (pos b -ℤ pos h) ≡ h = by.1 ∙ omega arith in
-        let some : 0 < h = omega arith in
-        let less : weight (disp y (pos 0)) < weight (disp y (pos b -ℤ pos h)) = round_b h (pos b -ℤ pos h) y some by.0 whole in
-        let same : weight (disp y (pos b)) ≡ weight (disp y (pos 0)) = ap (λ k. weight (disp y (pos k))) none in
-        omega arith
+    back_b : (y : ℤ) (r : Disp) → r ≡ disp y (pos b -ℤ pos h) → weight r ≤ weight (disp y (pos b)) → AheadOrBack h b r.b
+    back_b y r is light =
+        inr (ap (λ (d : Disp). d.b) is, some_b h b (pos b -ℤ pos h) y bh (behind b h bh).0 (behind b h bh).1 (subst (λ (d : Disp). weight d ≤ weight (disp y (pos b))) is light))
 
     ways : (r : Disp) → (r ≡ disp (pos a) (pos b)) ⊎ ((r ≡ disp (pos a -ℤ pos w) (pos b)) ⊎ ((r ≡ disp (pos a) (pos b -ℤ pos h)) ⊎ (r ≡ disp (pos a -ℤ pos w) (pos b -ℤ pos h)))) →
         weight r ≤ weight (disp (pos a) (pos b)) → weight r ≤ weight (disp (pos a -ℤ pos w) (pos b)) → weight r ≤ weight (disp (pos a) (pos b -ℤ pos h)) →
         AheadOrBack w a r.a × AheadOrBack h b r.b
     ways r (inl one) p q s = (inl (ap (λ (d : Disp). d.a) one), inl (ap (λ (d : Disp). d.b) one))
-    ways r (inr (inl two)) p q s = elim (cases_eq a 0) [
-      | inl none ↦ absurd (heavy_a (pos b) none (subst (λ (d : Disp). weight d ≤ weight (disp (pos a) (pos b))) two p))
-      | inr some ↦ (inr (ap (λ (d : Disp). d.a) two, omega arith), inl (ap (λ (d : Disp). d.b) two))
-    ]
-    ways r (inr (inr (inl three))) p q s = elim (cases_eq b 0) [
-      | inl none ↦ absurd (heavy_b (pos a) none (subst (λ (d : Disp). weight d ≤ weight (disp (pos a) (pos b))) three p))
-      | inr some ↦ (inl (ap (λ (d : Disp). d.a) three), inr (ap (λ (d : Disp). d.b) three, omega arith))
-    ]
-    ways r (inr (inr (inr four))) p q s = elim (cases_eq a 0) [
-      | inl none ↦ absurd (heavy_a (pos b -ℤ pos h) none (subst (λ (d : Disp). weight d ≤ weight (disp (pos a) (pos b -ℤ pos h))) four s))
-      | inr some ↦ elim (cases_eq b 0) [
-        | inl none ↦ absurd (heavy_b (pos a -ℤ pos w) none (subst (λ (d : Disp). weight d ≤ weight (disp (pos a -ℤ pos w) (pos b))) four q))
-        | inr more ↦ (inr (ap (λ (d : Disp). d.a) four, omega arith), inr (ap (λ (d : Disp). d.b) four, omega arith))
-      ]
-    ]
+    ways r (inr (inl two)) p q s = (back_a (pos b) r two p, inl (ap (λ (d : Disp). d.b) two))
+    ways r (inr (inr (inl three))) p q s = (inl (ap (λ (d : Disp). d.a) three), back_b (pos a) r three p)
+    ways r (inr (inr (inr four))) p q s = (back_a (pos b -ℤ pos h) r four s, back_b (pos a -ℤ pos w) r four q)

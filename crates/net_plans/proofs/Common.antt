@@ -16,9 +16,9 @@ pub use Rattle.net_plans.specs.{Ways.HasTreeAndPlan, Ways.HaveWays, Ways.IsFirst
 pub use Rattle.net_plans.specs.declared.nets.{NetErr.TheVariants.CutOff, NetErr.TheVariants.Memory, RoutedNet.RoutedNet}
 pub use Rattle.rayon.proofs.{ListFacts.IfOk-then, ToStd.nat_range-All}
 pub use Rattle.rayon.specs.Numbers.{nat_range}
-pub use Rattle.spin_base.proofs.{Ascending.same_in_order, Equality.same_chip, Equality.same_spot, Members.Contains-first, Members.Contains-later, Members.Contains-map, Members.Contains-none}
-pub use Rattle.spin_base.proofs.{Members.Contains-unmap, Pairs.AllPairs-nil, Places.All-at, Places.All-each, Places.AllZip-at_second, Places.map_more_at, Places.slice_get-push_cases}
-pub use Rattle.spin_base.proofs.Places.{slice_get_there, take_more_at}
+pub use Rattle.spin_base.proofs.{Ascending.same_in_order, Equality.same_chip, Equality.same_spot, Members.Contains-at, Members.Contains-first, Members.Contains-later, Members.Contains-map}
+pub use Rattle.spin_base.proofs.{Members.Contains-none, Members.Contains-unmap, Pairs.AllPairs-nil, Places.All-at, Places.All-each, Places.AllZip-at_second, Places.map_more_at}
+pub use Rattle.spin_base.proofs.Places.{slice_get-push_cases, slice_get_there, take_more_at}
 pub use Rattle.spin_base.specs.{Links.dir_number, Links.opposite_of, declared.blocks.Block.Block, declared.chips.Chip.Chip, declared.chips.Dir.Dir, declared.chips.Spot.Spot}
 pub use Rattle.std.proofs.Common.{Equal, Err, Greater, IfErr, IfOk, Less, List, Ok, Ordering, Result, Some, [], ap, arith, drop, get_or, inl, inr, length, map, nat_cmp, refl, rules, set, subst, suc}
 pub use Rattle.std.proofs.Common.{sym, take, true, zero, ℕ, ◌%◌, ◌*◌, ◌++◌, ◌+◌, ◌-◌, ◌/◌, ◌<◌, ◌^◌, ◌∙◌, ◌∷◌, ◌≡◌, ◌≢◌, ◌≤◌, ◌⊎◌}
@@ -27,7 +27,7 @@ pub use Rattle.std.proofs.lemmas.List.Elements.{All-nil, Contains-append_cases, 
 pub use Rattle.std.proofs.lemmas.List.{Filters.dedup_is, FromFn.get_or-range_with_len, FromFn.length-range_with_len, Kept.AllPairs-cons, Kept.Any-dedup, Kept.Contains-from_dedup}
 pub use Rattle.std.proofs.lemmas.List.{Kept.IsStrictlySortedBy-dedup, Quantifiers.all_pairs_push, Sorted.Contains-permutation, Sorted.IsPermutation-sym, ext_get_or, get_or-set_other, get_or-set_same}
 pub use Rattle.std.proofs.lemmas.{List.length-append, List.length-set, List.map_push, Nat.Bits.bit_at-zero, Nat.Bits.bit_at_set_other, Nat.Bits.bit_at_set_same, Nat.Bits.shr_and_one}
-pub use Rattle.std.proofs.lemmas.{Option.get_or_from_slice_get, Option.same_Some, Option.slice_get-get_or, Option.slice_get_within, Result.IfErr-weaker, Result.IfOk-weaker}
+pub use Rattle.std.proofs.lemmas.{Option.get_or_from_slice_get, Option.same_Some, Option.slice_get-get_or, Option.slice_get_within, Result.IfErr-weaker, Result.IfOk-weaker, Slice.Zip.AllZip-long}
 pub use Rattle.std.specs.{Int.RustNames.bit_or, Int.bit_at, Int.w32, List.All, List.AllByRecursion, List.AllPairs, List.AllZip, List.Any, List.Contains, List.Sorted.IsStrictlySortedBy}
 pub use Rattle.std.specs.{List.range_with_len, List.slice_get, List.slice_index_or, Ordering.MatchOrdering, Ordering.is_eq, Ordering.ordering_then, Vec.Iter.into_iter_items}
 pub use mir.Val.{bits}

@@ -1,8 +1,8 @@
 -- Where a net has a plan, none of its targets is cut off; and at most one net and target are the first that are.
-use Rattle.net_plans.proofs.Common.{All, All-at, All-contains, AreTargetChips, AreTargets, Chip, Contains, Contains-map, Description, Edge, Err, HasNoneCutOff, IfErr, IfOk, IsBelow, IsCauseOne}
-use Rattle.net_plans.proofs.Common.{IsCutOffIn, IsFirstCutOffIn, IsFirstNetCutOff, IsFirstOfList, IsLiveLink, IsNetCause, IsPath, IsRefusedBy, IsRepairCause, IsRoutingTree, IsTreeChip, IsWalkTo, List}
-use Rattle.net_plans.proofs.Common.{Net, NetErr, Ok, RepairErr, Result, Some, Spot, [], ap, arith, cases_order, chip_key, far_of, get_or_from_slice_get, inl, inr, length, map, refl, slice_get}
-use Rattle.net_plans.proofs.Common.{slice_get-get_or, slice_get_within, slice_index_or, subst, sym, ℕ, ◌<◌, ◌∙◌, ◌∷◌, ◌≡◌}
+use Rattle.net_plans.proofs.Common.{All, All-at, All-contains, AreTargetChips, AreTargets, Chip, Contains, Contains-at, Contains-map, Description, Edge, Err, HasNoneCutOff, IfErr, IfOk, IsBelow}
+use Rattle.net_plans.proofs.Common.{IsCauseOne, IsCutOffIn, IsFirstCutOffIn, IsFirstNetCutOff, IsFirstOfList, IsLiveLink, IsNetCause, IsPath, IsRefusedBy, IsRepairCause, IsRoutingTree, IsTreeChip}
+use Rattle.net_plans.proofs.Common.{IsWalkTo, List, Net, NetErr, Ok, RepairErr, Result, Some, Spot, [], ap, arith, cases_order, chip_key, far_of, get_or_from_slice_get, inl, inr, length, map, refl}
+use Rattle.net_plans.proofs.Common.{slice_get, slice_get-get_or, slice_index_or, subst, sym, ℕ, ◌<◌, ◌∙◌, ◌∷◌, ◌≡◌}
 use Rattle.link_detours.specs.declared.repairs.RepairErr.TheVariants as repairs
 use Rattle.net_plans.specs.declared.nets.NetErr.TheVariants as nets
 use Rattle.net_plans.proofs.{Determined.same_source, Ordering.same_from_neither, Ordering.not_both}
@@ -16,12 +16,6 @@ path_walk m edges live (e ∷ path) from to (has, begins, (c, ends, rest)) =
     let link : IsLiveLink m from e.dir = subst (λ (x : Chip). IsLiveLink m x e.dir) begins (All-contains (λ (e : Edge). IsLiveLink m e.chip e.dir) edges e live has) in
     let far : far_of m from e.dir ≡ Some c = subst (λ (x : Chip). far_of m x e.dir ≡ Some c) begins ends in
     (c ∷ further.0, (((e.dir, link, far), further.1.0), further.1.1))
-
-same_net_there : (ns : List Net) (v : ℕ) (s t : Net) → slice_get ns v ≡ Some s → slice_get ns v ≡ Some t → s ≡ t
-same_net_there ns v s t at_s at_t = cc
-
-contains_at : (cs : List Chip) (j : ℕ) (c : Chip) → slice_get cs j ≡ Some c → Contains cs c
-contains_at cs j c at = (j, slice_get_within cs j c at, get_or_from_slice_get cs j c c at)
 
 module _ (m : Description) (spots : List Spot) (net : Net) where
   -- where a tree over live links leads to all targets of a net, none of them is cut off
@@ -42,7 +36,7 @@ module _ (m : Description) (spots : List Spot) (net : Net) where
   pub first_cut_off : (source : Spot) (targets : List Spot) (chips : List Chip) (chip : Chip) → slice_get spots net.source ≡ Some source → AreTargets spots net.targets targets →
       AreTargetChips m source.chip targets chips → IsFirstOfList m source.chip chips chip → IsFirstCutOffIn m spots net chip
   first_cut_off source targets chips chip at are are_chips found =
-      let target = are_chips.only chip (contains_at chips found.place chip found.at_place) in
+      let target = are_chips.only chip (Contains-at chips found.place chip found.at_place) in
       let vertex = are.only target.0 target.1 in
       record {
         source = source;
@@ -100,7 +94,8 @@ module _ (m : Description) (spots : List Spot) (ns : List Net) where
   pub one_first_net : (i j : ℕ) (a b : Chip) → IsFirstNetCutOff m spots ns i a → IsFirstNetCutOff m spots ns j b → (i ≡ j) × (a ≡ b)
   one_first_net i j a b first_a first_b = elim (cases_order i j) [
     | inl same ↦
-        let net : first_b.net ≡ first_a.net = same_net_there ns j first_b.net first_a.net first_b.is (subst (λ k. slice_get ns k ≡ Some first_a.net) same first_a.is) in
+        let there : slice_get ns j ≡ Some first_a.net = subst (λ k. slice_get ns k ≡ Some first_a.net) same first_a.is in
+        let net : first_b.net ≡ first_a.net = cc in
         (same, one_first_target m spots first_a.net a b first_a.target (subst (λ n. IsFirstCutOffIn m spots n b) net first_b.target))
     | inr (inl less) ↦ absurd (first_b.before i first_a.net less first_a.is first_a.target.source a first_a.target.is)
     | inr (inr more) ↦ absurd (first_a.before j first_b.net more first_b.is first_b.target.source b first_b.target.is)

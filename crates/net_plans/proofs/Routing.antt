@@ -1,8 +1,8 @@
 -- Nets that were routed side by side, and what is found of them in order.
-use Rattle.net_plans.proofs.Common.{All, AllZip, AllZip-at_second, ArePlanned, AreRoutedNets, Block, Chip, CutOff, Description, Err, HasNoneCutOff, HasTreeAndPlan, HaveWays, IfErr, IfOk, IsCauseOne}
-use Rattle.net_plans.proofs.Common.{IsFirstCut, IsFirstNetCutOff, IsFirstWithout, IsNetCause, IsPlannedNet, IsRoutedNet, IsRoutingAnswer, IsRoutingTree, List, Memory, Net, NetErr, NetPlan, Ok}
-use Rattle.net_plans.proofs.Common.{RepairErr, Result, RoutedNet, Some, Spot, [], ap, arith, drop, get_or, get_or-range_with_len, get_or_from_slice_get, length, length-range_with_len, range_with_len}
-use Rattle.net_plans.proofs.Common.{refl, slice_get, slice_get-get_or, slice_get-push_cases, slice_get_there, slice_get_within, subst, suc, sym, zero, ℕ, ◌++◌, ◌+◌, ◌<◌, ◌∙◌, ◌∷◌, ◌≡◌, ◌≤◌}
+use Rattle.net_plans.proofs.Common.{All, AllZip, AllZip-at_second, AllZip-long, ArePlanned, AreRoutedNets, Block, Chip, CutOff, Description, Err, HasNoneCutOff, HasTreeAndPlan, HaveWays, IfErr, IfOk}
+use Rattle.net_plans.proofs.Common.{IsCauseOne, IsFirstCut, IsFirstNetCutOff, IsFirstWithout, IsNetCause, IsPlannedNet, IsRoutedNet, IsRoutingAnswer, IsRoutingTree, List, Memory, Net, NetErr, NetPlan}
+use Rattle.net_plans.proofs.Common.{Ok, RepairErr, Result, RoutedNet, Some, Spot, [], ap, arith, drop, get_or, get_or-range_with_len, get_or_from_slice_get, length, length-range_with_len}
+use Rattle.net_plans.proofs.Common.{range_with_len, slice_get, slice_get-get_or, slice_get-push_cases, slice_get_there, slice_get_within, subst, suc, sym, zero, ℕ, ◌++◌, ◌+◌, ◌<◌, ◌∙◌, ◌∷◌, ◌≡◌, ◌≤◌}
 use Rattle.link_detours.specs.declared.repairs.RepairErr.TheVariants as repairs
 use Rattle.net_plans.proofs.Planning.{long_more}
 
@@ -44,28 +44,19 @@ pub way_of : (m : Description) (spots : List Spot) (net : Net) (block : Block) (
 way_of m spots net block (Ok p) planned routing reached cause = record { planned = planned; routing = routing; reached = reached }
 way_of m spots net block (Err e) planned routing reached cause = cause
 
-zero_more : (i : ℕ) → 0 + i ≡ i
-zero_more i = omega arith
-
 module _ (m : Description) (spots : List Spot) (nets : List Net) (blocks : List Block) (items : List RoutedNet) where
   -- the numbers of nets in order, each beside what came of it
   pub routed_all : (numbers : List ℕ) → numbers ≡ range_with_len 0 (length nets) → AllZip (IsRoutedNet m spots nets blocks) numbers items → AreRoutedNets m spots nets blocks items
   routed_all numbers are each = record {
-    one_each = long numbers items each ∙ (ap length are ∙ length-range_with_len 0 (length nets));
+    one_each = AllZip-long (IsRoutedNet m spots nets blocks) numbers items each ∙ (ap length are ∙ length-range_with_len 0 (length nets));
     each = λ i item at.
         let with = AllZip-at_second (IsRoutedNet m spots nets blocks) numbers items each i item at in
         let there : slice_get (range_with_len 0 (length nets)) i ≡ Some with.0 = subst (λ l. slice_get l i ≡ Some with.0) are with.1 in
         let small = slice_get_within (range_with_len 0 (length nets)) i with.0 there in
         let many = length-range_with_len 0 (length nets) in
-        let number : with.0 ≡ i = sym (get_or_from_slice_get (range_with_len 0 (length nets)) i with.0 0 there) ∙ (get_or-range_with_len 0 (length nets) i 0 (omega (arith, small, many)) ∙ zero_more i) in
+        let number : with.0 ≡ i = sym (get_or_from_slice_get (range_with_len 0 (length nets)) i with.0 0 there) ∙ (get_or-range_with_len 0 (length nets) i 0 (omega (arith, small, many)) ∙ omega arith) in
         subst (λ n. IsRoutedNet m spots nets blocks n item) number with.2;
   }
-    where
-      long : (ns : List ℕ) (is : List RoutedNet) → AllZip (IsRoutedNet m spots nets blocks) ns is → length is ≡ length ns
-      long [] [] h = refl
-      long [] (x ∷ is) h = absurd h
-      long (n ∷ ns) [] h = absurd h
-      long (n ∷ ns) (x ∷ is) h = ap suc (long ns is h.1)
 
   way_is : (net : Net) (block : Block) (w : Result NetPlan RepairErr) (p : NetPlan) → w ≡ Ok p → IsRoutingAnswer m spots net block w → HasTreeAndPlan m spots net block p
   way_is net block w p is way = subst (IsRoutingAnswer m spots net block) is way
