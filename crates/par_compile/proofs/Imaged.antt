@@ -3,7 +3,9 @@ use Rattle.par_compile.proofs.Common.{All, All-append, All-cons, All-head, All-n
 use Rattle.par_compile.proofs.Common.{Final, HasSize, Image, ImageErr, IsChipBefore, IsLoaded, IsRow, IsTable, IsValid, KeepsRows, List, MatchResult, NoMemory, Ok, Result, Some, Spells, [], ap}
 use Rattle.par_compile.proofs.Common.{append-nil, arith, cases_order, chip_of, chip_of-inside, cond-false, cond-true, eq-eqb, eqb-true, false, false_from_ne_true, gathered_more, get_or, image_in}
 use Rattle.par_compile.proofs.Common.{index_of, index_of-chip_of, inl, inr, inside_parts, length, length-append, length-map, listed, loaded, loaded_of, map, mod_below, mul-le, refl, rows_of_index}
-use Rattle.par_compile.proofs.Common.{slice_get, slice_get-get_or, slice_get-mapped, slice_get_there, slice_get_within, subst, suc, sym, tables_from, take, take_all, zero, ℕ, ◌%◌, ◌*◌, ◌++◌, ◌+◌, ◌/◌}
+use Rattle.par_compile.proofs.Common.{get_or_from_slice_get}
+use Rattle.std.proofs.lemmas.List.{same_lists}
+use Rattle.par_compile.proofs.Common.{slice_get, slice_get-get_or, slice_get-mapped, slice_get_there, subst, suc, sym, tables_from, take, take_all, zero, ℕ, ◌%◌, ◌*◌, ◌++◌, ◌+◌, ◌/◌}
 use Rattle.par_compile.proofs.Common.{◌<◌, ◌==◌, ◌∙◌, ◌∷◌, ◌≡◌, ◌≤◌}
 
 abbrev IsShort : Final → Type 0
@@ -88,18 +90,17 @@ module _ (m : Description) (some : 0 < m.height) where
           AllPairs-cons Ordered (record { chip = chip_of m n; entries = e ∷ es }) (tables_from m (n + 1) fs)
           (before_all n (n + 1) fs (omega arith)) rest
 
+  -- a chip's table is passed by where another chip is asked for
+  rows_past : (c : Chip) (es : List Entry) (rest : List ChipTable) (i : ℕ) → (index_of m c ≡ i → ⊥) → rows_of_index m.height (listed c es ++ rest) i ≡ rows_of_index m.height rest i
+  rows_past c [] rest i other = refl
+  rows_past c (e ∷ es) rest i other =
+      cond-false (index_of m c == i) (e ∷ es) (rows_of_index m.height rest i) (false_from_ne_true (index_of m c == i) (λ hit. other (eqb-true (index_of m c) i hit)))
+
   -- no table is of an earlier chip
   none_before : (i n : ℕ) (fs : List Final) → i < n → rows_of_index m.height (tables_from m n fs) i ≡ []
   none_before i n [] less = refl
-  none_before i n (f ∷ fs) less = by f.entries (none_before i (n + 1) fs (omega (arith, less)))
-    where
-      by : (es : List Entry) → rows_of_index m.height (tables_from m (n + 1) fs) i ≡ [] → rows_of_index m.height (listed (chip_of m n) es ++ tables_from m (n + 1) fs) i ≡ []
-      by [] rest = rest
-      by (e ∷ es) rest =
-          let at : index_of m (chip_of m n) ≡ n = index_of-chip_of m n in
-          let other : (index_of m (chip_of m n) == i) ≡ false =
-          false_from_ne_true (index_of m (chip_of m n) == i) (λ hit. let is : index_of m (chip_of m n) ≡ i = eqb-true (index_of m (chip_of m n)) i hit in omega (arith, at, is, less)) in
-          cond-false (index_of m (chip_of m n) == i) (e ∷ es) (rows_of_index m.height (tables_from m (n + 1) fs) i) other ∙ rest
+  none_before i n (f ∷ fs) less =
+      rows_past (chip_of m n) f.entries (tables_from m (n + 1) fs) i (λ is. absurd (omega (arith, index_of-chip_of m n, is, less))) ∙ none_before i (n + 1) fs (omega (arith, less))
 
   -- the rows of a chip are the entries of its final table
   rows_there : (n k i : ℕ) (fs : List Final) (g : Final) → n + k ≡ i → slice_get fs k ≡ Some g → rows_of_index m.height (tables_from m n fs) i ≡ g.entries
@@ -114,15 +115,8 @@ module _ (m : Description) (some : 0 < m.height) where
       by (e ∷ es) are =
           let place : index_of m (chip_of m n) ≡ i = index_of-chip_of m n ∙ omega (arith, at) in
           cond-true (index_of m (chip_of m n) == i) (e ∷ es) (rows_of_index m.height (tables_from m (n + 1) fs) i) (eq-eqb (index_of m (chip_of m n)) i place) ∙ are
-  rows_there n (suc k) i (f ∷ fs) g at is = by f.entries (rows_there (n + 1) k i fs g (omega (arith, at)) is)
-    where
-      by : (es : List Entry) → rows_of_index m.height (tables_from m (n + 1) fs) i ≡ g.entries → rows_of_index m.height (listed (chip_of m n) es ++ tables_from m (n + 1) fs) i ≡ g.entries
-      by [] rest = rest
-      by (e ∷ es) rest =
-          let place : index_of m (chip_of m n) ≡ n = index_of-chip_of m n in
-          let other : (index_of m (chip_of m n) == i) ≡ false =
-          false_from_ne_true (index_of m (chip_of m n) == i) (λ hit. let is_i : index_of m (chip_of m n) ≡ i = eqb-true (index_of m (chip_of m n)) i hit in omega (arith, place, is_i, at)) in
-          cond-false (index_of m (chip_of m n) == i) (e ∷ es) (rows_of_index m.height (tables_from m (n + 1) fs) i) other ∙ rest
+  rows_there n (suc k) i (f ∷ fs) g at is =
+      rows_past (chip_of m n) f.entries (tables_from m (n + 1) fs) i (λ here. absurd (omega (arith, index_of-chip_of m n, here, at))) ∙ rows_there (n + 1) k i fs g (omega (arith, at)) is
 
 -- ---- the image
 
@@ -161,55 +155,37 @@ image_more m finals i f c old new at chip so_far is =
 
 -- ---- what it loads
 
--- lists of one length with the same item at each place are the same
-same_lists : {X : Type 0} (xs ys : List X) → length xs ≡ length ys → ((i : ℕ) (y : X) → slice_get ys i ≡ Some y → slice_get xs i ≡ Some y) → xs ≡ ys
-same_lists [] [] long each = refl
-same_lists [] (y ∷ ys) long each = absurd (omega (arith, long))
-same_lists (x ∷ xs) [] long each = absurd (omega (arith, long))
-same_lists {X} (x ∷ xs) (y ∷ ys) long each =
-    let heads : Some x ≡ Some y = each 0 y refl in
-    let same : x ≡ y = cc in
-    ap (λ (z : X). z ∷ xs) same ∙ ap (λ (l : List X). y ∷ l) (same_lists xs ys (omega (arith, long)) (λ i. each (suc i)))
+-- an image loads one list of memories
+one_loaded : (v : Image) (xs ys : List (List Entry)) → IsLoaded v xs → IsLoaded v ys → xs ≡ ys
+one_loaded v xs ys a b = same_lists xs ys (a.count ∙ sym b.count) (λ k d below.
+    let inside : k < v.width * v.height = subst (λ n. k < n) a.count below in
+    get_or_from_slice_get xs k _ d (a.each k inside) ∙ sym (get_or_from_slice_get ys k _ d (b.each k inside)))
 
-pub all_loaded : (m : Description) (finals : List Final) (v : Image) (memories : List (List Entry)) → length finals ≡ m.width * m.height → v.width ≡ m.width → v.height ≡ m.height →
-    ((i : ℕ) (f : Final) → slice_get finals i ≡ Some f → rows_of_index v.height v.chips i ≡ f.entries) → IsLoaded v memories → memories ≡ map loaded_of finals
-all_loaded m finals v memories many width height rows is = same_lists memories (map loaded_of finals) long each
-  where
-    size : v.width * v.height ≡ length finals
-    size = ap (λ w. w * v.height) width ∙ (ap (λ h. m.width * h) height ∙ sym many)
+module _ (m : Description) (finals : List Final) (v : Image) (many : length finals ≡ m.width * m.height) (width : v.width ≡ m.width) (height : v.height ≡ m.height)
+    (rows : (i : ℕ) (f : Final) → slice_get finals i ≡ Some f → rows_of_index v.height v.chips i ≡ f.entries) where
+  -- an image with these rows loads them
+  has_loaded : IsLoaded v (map loaded_of finals)
+  has_loaded = record {
+    count = length-map finals loaded_of ∙ sym size;
+    each = λ i below.
+        let f = slice_get_there finals i (subst (λ n. i < n) size below) in
+        slice_get-mapped loaded_of finals i f.0 f.1 ∙ ap (λ (es : List Entry). Some (loaded es)) (sym (rows i f.0 f.1));
+  }
+    where
+      size : v.width * v.height ≡ length finals
+      size = ap (λ w. w * v.height) width ∙ (ap (λ h. m.width * h) height ∙ sym many)
 
-    long : length memories ≡ length (map loaded_of finals)
-    long = is.count ∙ (size ∙ sym (length-map finals loaded_of))
-
-    each : (i : ℕ) (y : List Entry) → slice_get (map loaded_of finals) i ≡ Some y → slice_get memories i ≡ Some y
-    each i y at =
-        let below : i < length finals = subst (λ n. i < n) (length-map finals loaded_of) (slice_get_within (map loaded_of finals) i y at) in
-        let f = slice_get_there finals i below in
-        is.each i (subst (λ n. i < n) (sym size) below)
-        ∙ (ap (λ (es : List Entry). Some (loaded es)) (rows i f.0 f.1)
-        ∙ (sym (slice_get-mapped loaded_of finals i f.0 f.1) ∙ at))
-
--- an image with these rows loads them
-has_loaded : (m : Description) (finals : List Final) (v : Image) → length finals ≡ m.width * m.height → v.width ≡ m.width → v.height ≡ m.height →
-    ((i : ℕ) (f : Final) → slice_get finals i ≡ Some f → rows_of_index v.height v.chips i ≡ f.entries) → IsLoaded v (map loaded_of finals)
-has_loaded m finals v many width height rows = record {
-  count = length-map finals loaded_of ∙ sym size;
-  each = λ i below.
-      let f = slice_get_there finals i (subst (λ n. i < n) size below) in
-      slice_get-mapped loaded_of finals i f.0 f.1 ∙ ap (λ (es : List Entry). Some (loaded es)) (sym (rows i f.0 f.1));
-}
-  where
-    size : v.width * v.height ≡ length finals
-    size = ap (λ w. w * v.height) width ∙ (ap (λ h. m.width * h) height ∙ sym many)
+  pub all_loaded : (memories : List (List Entry)) → IsLoaded v memories → memories ≡ map loaded_of finals
+  all_loaded memories is = one_loaded v memories (map loaded_of finals) is has_loaded
 
 -- from the bytes of the image of final tables their memories are filled, and no other ones, since bytes spell one image
 pub fill_tables : ((v w : Image) (bytes more : List ℕ) → Spells v bytes → Spells w (bytes ++ more) → (more ≡ []) × (v ≡ w)) →
     (m : Description) (finals : List Final) (bytes : List ℕ) → CanBeImaged m finals → Spells (image_in m finals) bytes → FillTables bytes finals
 fill_tables apart m finals bytes can spelled = record {
-  filled = record { image = image_in m finals; spelled = spelled; loaded = has_loaded m finals (image_in m finals) can.one_each refl refl rows };
+  filled = record { image = image_in m finals; spelled = spelled; loaded = loads };
   only = λ memories filled.
       let same : filled.image ≡ image_in m finals = (apart filled.image (image_in m finals) bytes [] filled.spelled (subst (Spells (image_in m finals)) (sym (append-nil bytes)) spelled)).1 in
-      all_loaded m finals (image_in m finals) memories can.one_each refl refl rows (subst (λ (v : Image). IsLoaded v memories) same filled.loaded);
+      one_loaded (image_in m finals) memories (map loaded_of finals) (subst (λ (v : Image). IsLoaded v memories) same filled.loaded) loads;
 }
   where
     size : HasSize m
@@ -220,8 +196,8 @@ fill_tables apart m finals bytes can spelled = record {
       height_to_64 = spelled.valid.down.1;
     }
 
-    rows : (i : ℕ) (f : Final) → slice_get finals i ≡ Some f → rows_of_index m.height (tables_from m 0 finals) i ≡ f.entries
-    rows = image_rows m size finals can.one_each (image_in m finals) refl refl refl
+    loads : IsLoaded (image_in m finals) (map loaded_of finals)
+    loads = has_loaded m finals (image_in m finals) can.one_each refl refl (image_rows m size finals can.one_each (image_in m finals) refl refl refl)
 
 -- ---- the loop over the chips
 

@@ -2,7 +2,7 @@
 use Rattle.par_compile.proofs.Common.{All, All-cons, All-head, All-nil, All-permutation, All-tail, AllPairs, AllPairs-cons, AllPairs-filter, AllPairs-from_map, AllPairs-head, AllPairs-map}
 use Rattle.par_compile.proofs.Common.{AllPairs-nil, AllPairs-tail, AreApart, AreBlocksFor, AreBlocksOf, AreRoutedApart, AreTurningBlocksOf, Bool, Contains-from_filter, Contains-get_or, Description}
 use Rattle.par_compile.proofs.Common.{Entry, Final, Intersects, IsFinalFor, IsFinalOf, IsPermutation, IsPermutation-append_right, IsPermutation-cons, IsPermutation-filter_both, IsPermutation-insert}
-use Rattle.par_compile.proofs.Common.{IsPermutation-refl, IsPermutation-trans, IsRowNotAfter, IsTableOf, List, Mark, NetPlan, Row, [], ap, arith, cases_lt, entry_of, few_marks, filter, generality}
+use Rattle.par_compile.proofs.Common.{IsPermutation-refl, IsPermutation-trans, IsRowNotAfter, IsTableOf, List, Mark, NetPlan, Row, [], ap, arith, cases_lt, cases_order, entry_of, few_marks, filter, generality}
 use Rattle.par_compile.proofs.Common.{get_or, goes_straight, if◌then◌else◌, inl, inr, kept_entries, length, length-filter_both, map, marks_apart, one_table, refl, row_of_mark, subst, sym}
 use Rattle.par_compile.proofs.Common.{table_of_sorted, true, turns, ℕ, ◌++◌, ◌+◌, ◌∙◌, ◌∷◌, ◌≡◌, ◌≤◌, ◌⊎◌}
 use Rattle.par_compile.proofs.ShortTables.{final_for, short_for}
@@ -15,18 +15,7 @@ NotAfter a b = IsRowNotAfter (row_of_mark a) (row_of_mark b)
 
 -- of two original blocks one is not after the other
 either : (a b : Mark) → NotAfter a b ⊎ NotAfter b a
-either a b = elim (cases_lt (generality a.block) (generality b.block)) [
-  | inl less ↦ inl (inl less)
-  | inr more ↦ elim (cases_lt (generality b.block) (generality a.block)) [
-    | inl less ↦ inr (inl less)
-    | inr no_more ↦
-        let same : generality a.block ≡ generality b.block = omega (arith, more, no_more) in
-        elim (cases_lt a.block.key b.block.key) [
-          | inl low ↦ inl (inr (same, omega (arith, low)))
-          | inr high ↦ inr (inr (sym same, high))
-        ]
-  ]
-]
+either a b = grind (arith, cases_order (generality a.block) (generality b.block), cases_lt a.block.key b.block.key)
 
 after_both : (a b d : Mark) → NotAfter a b → NotAfter b d → NotAfter a d
 after_both a b d (inl x) (inl y) = inl (omega (arith, x, y))

@@ -4,6 +4,8 @@ use Rattle.par_compile.proofs.Common.{AreRoutedApart, Block, Bool, Chip, Contain
 use Rattle.par_compile.proofs.Common.{Matches, MatchesNoKey, NetPlan, Original, Out, Port, Route, RoutesAlone, Row, Some, [], ap, arith, bit_and, chip_of, chip_of-inside, chips_inside, comes_in_tree}
 use Rattle.par_compile.proofs.Common.{entry_of, few_rows, get_or, get_or_from_slice_get, has, has_original, index_below, index_of, index_of-chip_of, is_plain, is_wanted, length, loaded_of, lookup}
 use Rattle.par_compile.proofs.Common.{map, mul-le, one_port, original_of, replicate, rows_at, rows_lead, served, serves_them, slice_get, slice_get-get_or, slice_get-mapped, slice_get_there}
+use Rattle.std.proofs.lemmas.List.{get_or-take, length-take}
+use Rattle.par_compile.proofs.Common.{slice_get_within}
 use Rattle.par_compile.proofs.Common.{slice_index_or, subst, suc, sym, take, unused, unused_matches, zero, ℕ, ◌*◌, ◌-◌, ◌<◌, ◌^◌, ◌∙◌, ◌∷◌, ◌≡◌, ◌≤◌}
 
 -- ---- unused entries
@@ -11,19 +13,6 @@ use Rattle.par_compile.proofs.Common.{slice_index_or, subst, suc, sym, take, unu
 all_unused : (n : ℕ) → All MatchesNoKey (replicate n unused)
 all_unused zero = All-nil MatchesNoKey
 all_unused (suc n) = All-cons MatchesNoKey unused (replicate n unused) unused_matches (all_unused n)
-
--- ---- the first lists
-
-slice_get-taken : {X : Type 0} (xs : List X) (n i : ℕ) (x : X) → slice_get (take n xs) i ≡ Some x → slice_get xs i ≡ Some x
-slice_get-taken xs zero i x at = cc
-slice_get-taken [] (suc n) i x at = at
-slice_get-taken (y ∷ ys) (suc n) zero x at = at
-slice_get-taken (y ∷ ys) (suc n) (suc i) x at = slice_get-taken ys n i x at
-
-taken_within : {X : Type 0} (n : ℕ) (xs : List X) → length (take n xs) ≤ length xs
-taken_within zero xs = omega arith
-taken_within (suc n) [] = omega arith
-taken_within (suc n) (x ∷ xs) = let rest = taken_within n xs in omega (arith, rest)
 
 -- ---- one lookup
 
@@ -50,14 +39,14 @@ module _ (m : Description) (nets : List NetPlan) (target : ℕ) (lists : List (L
   at_chip c f inside at =
       let k = AllZip-at_second (IsFinalFor target) (take (length finals) lists) finals each (index_of m c) f at in
       let is : slice_index_or lists (index_of m c) [] ≡ k.0 =
-      get_or_from_slice_get lists (index_of m c) k.0 [] (slice_get-taken lists (length finals) (index_of m c) k.0 k.1) in
+      sym (get_or-take (length finals) lists (index_of m c) [] (slice_get_within finals (index_of m c) f at)) ∙ get_or_from_slice_get (take (length finals) lists) (index_of m c) k.0 [] k.1 in
       let here = are.blocks c inside in
       (here.0, here.1, here.2 f (subst (λ (marks : List Mark). IsFinalFor target marks f) (sym is) k.2))
 
   pub finals_within : length finals ≤ m.width * m.height
   finals_within =
       let long : length finals ≡ length (take (length finals) lists) = AllZip-long (IsFinalFor target) (take (length finals) lists) finals each in
-      omega (arith, long, taken_within (length finals) lists, are.long)
+      omega (arith, long, length-take (length finals) lists, are.long)
 
   -- what holds of the final table of a chip's original blocks holds of each final table
   each_final : (P : Final → Type 0) → ((c : Chip) (f : Final) (marks : List Mark) → AreOriginals m c nets (map original_of marks) → IsFinalFor target marks f → P f) → All P finals

@@ -4,6 +4,7 @@ use Rattle.par_compile.proofs.Common.{Intersects-sym, IsFinalFor, IsPermutation,
 use Rattle.par_compile.proofs.Common.{ap, arith, cases_Bool, cons_option, drop, ends, entry_of, eq-eqb, eqb-true, false, false≢true, get_or, goes, goes_straight, if◌then◌else◌, inl, inr, kept_entries}
 use Rattle.par_compile.proofs.Common.{length, length-map, length_permutation, map, refl, row_of_mark, rows_at, same_route, short_final, short_routes, short_serves, slice_get, slice_get_within}
 use Rattle.par_compile.proofs.Common.{sound_table, stays, straight_on, subst, suc, sym, table_of_sorted, true, zero, ℕ, ◌++◌, ◌∙◌, ◌∷◌, ◌≡◌, ◌≤◌}
+use Rattle.std.proofs.lemmas.List.{length-drop}
 
 -- ---- one original block
 
@@ -45,12 +46,6 @@ head_there [] (suc i) r rest is = cc
 head_there (x ∷ xs) zero r rest is = (cc, cc)
 head_there (x ∷ xs) (suc i) r rest is = head_there xs i r rest is
 
-all_there : {X : Type 0} (rows : List X) (i : ℕ) → i ≤ length rows → drop i rows ≡ [] → i ≡ length rows
-all_there [] zero within is = refl
-all_there [] (suc i) within is = absurd (omega (arith, within))
-all_there (x ∷ xs) zero within is = cc
-all_there (x ∷ xs) (suc i) within is = ap suc (all_there xs i (omega (arith, within)) is)
-
 -- the places of the original blocks that do not go straight on, counted from i
 abbrev places_from : ℕ → List Mark → List ℕ
 places_from i [] = []
@@ -91,7 +86,9 @@ module _ (rows : List Row) where
 
   -- and the rows there are kept
   kept_at : (i : ℕ) (ks : List Mark) → i ≤ length rows → drop i rows ≡ map row_of_mark ks → AreApart ks → KeptFrom rows i (places_from i ks)
-  kept_at i [] within are apart = subst (λ n. KeptFrom rows n []) (sym (all_there rows i within are)) ends
+  kept_at i [] within are apart =
+      let none : length (drop i rows) ≡ 0 = ap length are in
+      subst (λ n. KeptFrom rows n []) (omega (arith, within, none, length-drop i rows)) ends
   kept_at i (k ∷ ks) within are apart =
       let there = head_there rows i (row_of_mark k) (map row_of_mark ks) are in
       let later : KeptFrom rows (suc i) (places_from (suc i) ks) =

@@ -46,18 +46,7 @@ module _ (m : Description) (spots : List Spot) where
         let b = slice_get_there bs k (omega (arith, below, plans_long, long)) in
         from n.0 b.0 (slice_index_or ps k d) (are.each k n.0 b.0 (slice_index_or ps k d) n.1 b.1 (slice_get-get_or ps k d below))
 
-    -- the nets are what plain tables ask for
-    pub routed : AllPairs (λ a b. Intersects a b → ⊥) (blocks_of ps) → All (λ (net : NetPlan). IsRoutingTree m net.tree.root net.tree.edges net.targets) ps → All (IsSite m) spots →
-        AreRoutedApart m ps
-    routed apart routing on_sites = record {
-      trees = routing;
-      roots = each_plan (λ net. IsInside m net.tree.root) (λ n b p plan.
-          subst (IsInside m) (sym plan.root) (live_inside m p.source.chip (site_parts m p.source (All-at (IsSite m) spots n.source p.source on_sites plan.source)).0));
-      cores = each_plan (λ net. All (λ (s : Spot). s.core < 24) net.targets) (λ n b p plan.
-          All-each (λ (s : Spot). s.core < 24) p.targets (λ s has. let from = plan.targets.only s has in (site_parts m s (All-at (IsSite m) spots from.0 s on_sites from.2)).1));
-      apart = blocks_apart ps apart;
-    }
-
+    -- the nets stand on the machine
     pub stands : AllPairs (λ a b. Intersects a b → ⊥) (blocks_of ps) → All (λ (net : NetPlan). IsRoutingTree m net.tree.root net.tree.edges net.targets) ps → AreNetsOn m spots ps
     stands apart routing = record {
       disjoint = disjoint ps apart;

@@ -4,6 +4,7 @@ use Rattle.par_compile.proofs.Common.{HasNoLegalPair, IsFinalOf, IsInside, IsPla
 use Rattle.par_compile.proofs.Common.{chip_of, chip_of-inside, common_steps, ended_where_long, fails_before_first, false, get_or, get_or_from_slice_get, index_below, index_of, index_of-chip_of, inl}
 use Rattle.par_compile.proofs.Common.{inr, is_long, length, live_inside, lt-ltb, ltb-true, nat_lt, one_list_of_plans, position, position-Some, position_or_len, same_index, same_places, site_parts}
 use Rattle.par_compile.proofs.Common.{slice_get, slice_get_there, slice_get_within, subst, sym, true, true≢false, ℕ, ◌<◌, ◌∙◌, ◌≡◌, ◌≤◌}
+use Rattle.std.proofs.lemmas.Bool.{ltb-false}
 use Rattle.place_fit.proofs.Determined as places
 use Rattle.key_alloc.proofs.Determined as keys
 use Rattle.net_tables.proofs.Determined as plain
@@ -38,18 +39,11 @@ one_final m nets routed target c f g a b =
     let rows : a.rows ≡ b.rows = plain.one_table m nets routed c a.rows b.rows a.plain b.plain in
     final.one_table target b.rows f g (subst (λ (rs : List Row). IsFinalOf target rs f) rows a.is_final) b.is_final
 
-le_from_ltb : (n : ℕ) → nat_lt 1024 n ≡ false → n ≤ 1024
-le_from_ltb n not = elim (cases_order n 1024) [
-  | inl same ↦ omega (arith, same)
-  | inr (inl less) ↦ omega (arith, less)
-  | inr (inr more) ↦ absurd (true≢false (sym (lt-ltb 1024 n more) ∙ not))
-]
-
 -- where none is long, each is short
 pub none_long : (fs : List Final) → position is_long fs ≡ None → All (λ (f : Final). length f.entries ≤ 1024) fs
 none_long fs none k d below =
     let past : length fs ≤ position_or_len is_long fs = grind (arith, common_steps) in
-    le_from_ltb (length (get_or fs k d).entries) (fails_before_first is_long fs k d (omega arith))
+    ltb-false 1024 (length (get_or fs k d).entries) (fails_before_first is_long fs k d (omega arith))
 
 -- the first table that is long is long: it has more entries than a router
 long_at : (fs : List Final) (i : ℕ) (t : Final) → position is_long fs ≡ Some i → slice_get fs i ≡ Some t → is_long t ≡ true

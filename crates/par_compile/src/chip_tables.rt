@@ -40,7 +40,8 @@ pub(crate) fn final_tables<R: Threads + Sync, G: Gate>(
     let blocks = blocks_for(alloc, request, nets)?;
     let chips = machine.chips();
     prove!(blocks.len() == chips);
-    finals(rt, alloc, blocks, request, gate)
+    let tables = finals(rt, alloc, blocks, request, gate)?;
+    Ok(tables)
 }
 
 // The original blocks of each chip that its final table asks for, by the chip's index. Where there are no more nets than the target

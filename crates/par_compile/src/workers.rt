@@ -42,7 +42,8 @@ pub(crate) fn finals<R: Threads + Sync, G: Gate>(
 {
     let mut works = works_of(alloc, blocks)?;
     cover_all(rt, alloc, &mut works, request, gate);
-    finals_of(alloc, works, request.target)
+    let tables = finals_of(alloc, works, request.target)?;
+    Ok(tables)
 }
 
 // The original blocks of each chip, as work to be done.

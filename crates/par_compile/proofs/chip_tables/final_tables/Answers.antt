@@ -1,4 +1,4 @@
-use Rattle.par_compile.proofs.Common.{All, AllZip, AreAllUnlessLong, AreFinals, AreRight, Final, IfOk-weaker, IsFinalFor, KeepsRows, List, arith, length, loaded_of, map, take, ◌*◌, ◌∙◌, ◌≡◌, ◌≤◌}
+use Rattle.par_compile.proofs.Common.{arith, length, ◌∙◌}
 use Rattle.par_compile.proofs.Righted.{all_final, all_keep, all_right, few_chips, few_entries, finals_within}
 use Rattle.par_compile.proofs.chip_tables.final_tables.Goals as goal
 
@@ -9,45 +9,22 @@ finals-requires-after_bounds g c κs within = record {
 }
 
 pub returns-clause-all : goal.returns-clause-all
-returns-clause-all g c =
-    IfOk-weaker c.finals.result (AreAllUnlessLong (length c.in_ok-blocks.blocks)) (AreAllUnlessLong (c.args.request.now.machine.now.width * c.args.request.now.machine.now.height))
-    (λ fs all none. all none ∙ c.in_ok-blocks.ensures.blocks.long) c.finals.ensures.all
+returns-clause-all g c none = c.in_ok-tables.ensures.all none ∙ c.in_ok-blocks.ensures.blocks.long
 
 pub returns-clause-within : goal.returns-clause-within
-returns-clause-within g c =
-    IfOk-weaker c.finals.result (λ (fs : List Final). AllZip (IsFinalFor c.args.request.now.target) (take (length fs) c.in_ok-blocks.blocks) fs)
-    (λ (fs : List Final). length fs ≤ c.args.request.now.machine.now.width * c.args.request.now.machine.now.height)
-    (λ fs each. finals_within c.args.request.now.machine.now c.args.nets.now c.args.request.now.target c.in_ok-blocks.blocks fs c.in_ok-blocks.ensures.blocks each) c.finals.ensures.finals
+returns-clause-within g c = finals_within _ _ _ _ _ c.in_ok-blocks.ensures.blocks c.in_ok-tables.ensures.finals
 
 pub returns-clause-few_chips : goal.returns-clause-few_chips
-returns-clause-few_chips g c =
-    IfOk-weaker c.finals.result (λ (fs : List Final). AllZip (IsFinalFor c.args.request.now.target) (take (length fs) c.in_ok-blocks.blocks) fs)
-    (λ (fs : List Final). length fs ≤ 4096)
-    (λ fs each.
-    let within = finals_within c.args.request.now.machine.now c.args.nets.now c.args.request.now.target c.in_ok-blocks.blocks fs c.in_ok-blocks.ensures.blocks each in
-    let total = c.chips-chips.ensures.total in let few = c.chips-chips.ensures.few in omega (arith, within, total, few)) c.finals.ensures.finals
+returns-clause-few_chips g c = omega (arith, returns-clause-within g c, c.chips-chips.ensures.total, c.chips-chips.ensures.few)
 
 pub returns-clause-finals : goal.returns-clause-finals
-returns-clause-finals g c =
-    IfOk-weaker c.finals.result (λ (fs : List Final). AllZip (IsFinalFor c.args.request.now.target) (take (length fs) c.in_ok-blocks.blocks) fs)
-    (AreFinals c.args.request.now.machine.now c.args.nets.now c.args.request.now.target)
-    (λ fs each. all_final c.args.request.now.machine.now c.args.nets.now c.args.request.now.target c.in_ok-blocks.blocks fs c.in_ok-blocks.ensures.blocks each) c.finals.ensures.finals
+returns-clause-finals g c = all_final _ _ _ _ _ c.in_ok-blocks.ensures.blocks c.in_ok-tables.ensures.finals
 
 pub returns-clause-kept : goal.returns-clause-kept
-returns-clause-kept g c =
-    IfOk-weaker c.finals.result (λ (fs : List Final). AllZip (IsFinalFor c.args.request.now.target) (take (length fs) c.in_ok-blocks.blocks) fs)
-    (All KeepsRows)
-    (λ fs each. all_keep c.args.request.now.machine.now c.args.nets.now c.args.request.now.target c.in_ok-blocks.blocks fs c.in_ok-blocks.ensures.blocks each c.requires.routed) c.finals.ensures.finals
+returns-clause-kept g c = all_keep _ _ _ _ _ c.in_ok-blocks.ensures.blocks c.in_ok-tables.ensures.finals c.requires.routed
 
 pub returns-clause-few_rows : goal.returns-clause-few_rows
-returns-clause-few_rows g c =
-    IfOk-weaker c.finals.result (λ (fs : List Final). AllZip (IsFinalFor c.args.request.now.target) (take (length fs) c.in_ok-blocks.blocks) fs)
-    (All (λ (f : Final). length f.entries ≤ length c.args.nets.now))
-    (λ fs each. few_entries c.args.request.now.machine.now c.args.nets.now c.args.request.now.target c.in_ok-blocks.blocks fs c.in_ok-blocks.ensures.blocks each) c.finals.ensures.finals
+returns-clause-few_rows g c = few_entries _ _ _ _ _ c.in_ok-blocks.ensures.blocks c.in_ok-tables.ensures.finals
 
 pub returns-clause-right : goal.returns-clause-right
-returns-clause-right g c =
-    IfOk-weaker c.finals.result (λ (fs : List Final). AllZip (IsFinalFor c.args.request.now.target) (take (length fs) c.in_ok-blocks.blocks) fs)
-    (λ (fs : List Final). length fs ≡ c.args.request.now.machine.now.width * c.args.request.now.machine.now.height → AreRight c.args.request.now.machine.now (map loaded_of fs) c.args.nets.now)
-    (λ fs each. all_right c.args.request.now.machine.now c.args.nets.now c.args.request.now.target c.in_ok-blocks.blocks fs c.in_ok-blocks.ensures.blocks each c.requires.routed)
-    c.finals.ensures.finals
+returns-clause-right g c = all_right _ _ _ _ _ c.in_ok-blocks.ensures.blocks c.in_ok-tables.ensures.finals c.requires.routed
