@@ -4,15 +4,9 @@ use Rattle.par_compile.proofs.Common.{AreRoutedApart, Block, Bool, Chip, Contain
 use Rattle.par_compile.proofs.Common.{Matches, MatchesNoKey, NetPlan, Original, Out, Port, Route, RoutesAlone, Row, Some, [], ap, arith, bit_and, chip_of, chip_of-inside, chips_inside, comes_in_tree}
 use Rattle.par_compile.proofs.Common.{entry_of, few_rows, get_or, get_or_from_slice_get, has, has_original, index_below, index_of, index_of-chip_of, is_plain, is_wanted, length, loaded_of, lookup}
 use Rattle.par_compile.proofs.Common.{map, mul-le, one_port, original_of, replicate, rows_at, rows_lead, served, serves_them, slice_get, slice_get-get_or, slice_get-mapped, slice_get_there}
-use Rattle.std.proofs.lemmas.List.{get_or-take, length-take}
+use Rattle.std.proofs.lemmas.List.{Elements.All-replicate, get_or-take, length-take}
 use Rattle.par_compile.proofs.Common.{slice_get_within}
 use Rattle.par_compile.proofs.Common.{slice_index_or, subst, suc, sym, take, unused, unused_matches, zero, ℕ, ◌*◌, ◌-◌, ◌<◌, ◌^◌, ◌∙◌, ◌∷◌, ◌≡◌, ◌≤◌}
-
--- ---- unused entries
-
-all_unused : (n : ℕ) → All MatchesNoKey (replicate n unused)
-all_unused zero = All-nil MatchesNoKey
-all_unused (suc n) = All-cons MatchesNoKey unused (replicate n unused) unused_matches (all_unused n)
 
 -- ---- one lookup
 
@@ -20,7 +14,7 @@ all_unused (suc n) = All-cons MatchesNoKey unused (replicate n unused) unused_ma
 gives_route : (rows : List Row) (f : Final) (x : Original) → All (RoutesAlone f.entries) (served rows) → Contains (served rows) x → (key : ℕ) → key < 2 ^ 32 → Matches x.block key →
     lookup (loaded_of f) key x.port ≡ x.route
 gives_route rows f x serves there key small matching =
-    All-contains (RoutesAlone f.entries) (served rows) x serves there (replicate (1024 - length f.entries) unused) (all_unused (1024 - length f.entries)) key small matching
+    All-contains (RoutesAlone f.entries) (served rows) x serves there (replicate (1024 - length f.entries) unused) (All-replicate MatchesNoKey (1024 - length f.entries) unused unused_matches) key small matching
 
 same_output : (es fs : List Entry) (p q : Port) (key : ℕ) (r : Route) (o : Out) (wanted : Bool) → es ≡ fs → p ≡ q → lookup fs key q ≡ r → has r o ≡ wanted → has (lookup es key p) o ≡ wanted
 same_output es fs p q key r o wanted table ports routes is =

@@ -46,6 +46,7 @@ pub(crate) fn final_tables<R: Threads + Sync, G: Gate>(
 
 // The original blocks of each chip that its final table asks for, by the chip's index. Where there are no more nets than the target
 // no table is covered, and blocks that go straight on are not held.
+#[tactic(auto, using(crate::proofs::Left::blocks_all, crate::proofs::Left::blocks_turning, crate::proofs::Righted::coverable))]
 fn blocks_for(
     alloc: Global,
     request: &CompileRequest<'_>,

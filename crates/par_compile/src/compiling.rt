@@ -69,6 +69,7 @@ impl From<Memory> for CompileErr {
 /// chip whose final table has more entries than a router where no target is cut off, with that table; no two rows of the covered
 /// table can be merged. Each comes exactly where there is such a vertex, net or chip, unless memory runs out before, which
 /// `Memory` says.
+#[tactic(auto, using(crate::proofs::Refusing::refused_where))]
 pub fn compile<R: Threads + Sync, G: Gate>(
     rt: &R,
     alloc: Global,

@@ -1,4 +1,4 @@
-use Rattle.par_compile.proofs.Common.{All, All-weaker, HasEndsAmong, HasLongTable, IsValidNet, Some, ap, arith, is_long, length, position, rules, slice_get, subst, sym, ◌∙◌, ◌≡◌}
+use Rattle.par_compile.proofs.Common.{All, All-weaker, HasEndsAmong, HasLongTable, IsValidNet, Some, ap, arith, is_long, length, position, slice_get, subst, sym, ◌∙◌, ◌≡◌}
 use Rattle.par_compile.proofs.{Refusing.refused_where, Standing.routing_is, Unique.long_has_many, Unique.long_has_no_pair, Unique.none_long, Unique.one_plan, Unique.routed_of}
 use Rattle.par_compile.proofs.compiling.compile.Goals as goal
 
@@ -67,12 +67,3 @@ returns-in-Some-clause-cause g c =
 
 pub returns-in-Some-clause-refused : goal.returns-in-Some-clause-refused
 returns-in-Some-clause-refused g c = refused_where c.args.request.now.machine.now c.args.request.now.graph.now c.args.request.now.target _ tt (returns-in-Some-clause-cause g c)
-
-pub returns-in-Err-NoRoom-clause-refused : goal.returns-in-Err-NoRoom-clause-refused
-returns-in-Err-NoRoom-clause-refused g c = refused_where c.args.request.now.machine.now c.args.request.now.graph.now c.args.request.now.target _ tt (search rules)
-
-pub returns-in-Err-KeysOut-clause-refused : goal.returns-in-Err-KeysOut-clause-refused
-returns-in-Err-KeysOut-clause-refused g c = refused_where c.args.request.now.machine.now c.args.request.now.graph.now c.args.request.now.target _ tt (search rules)
-
-pub returns-in-Err-CutOff-clause-refused : goal.returns-in-Err-CutOff-clause-refused
-returns-in-Err-CutOff-clause-refused g c = refused_where c.args.request.now.machine.now c.args.request.now.graph.now c.args.request.now.target _ tt (search rules)

@@ -1,4 +1,4 @@
-use Rattle.par_compile.proofs.Common.{AreApart, IsTableOf, List, Mark, subst, sym}
+use Rattle.par_compile.proofs.Common.{AreApart, IsTableOf, List, Mark, rules, subst, sym}
 use Rattle.par_compile.proofs.workers.covered_table.Goals as goal
 
 pub shorten-requires-clause-sound : goal.shorten-requires-clause-sound
@@ -8,9 +8,5 @@ pub returns : goal.returns
 returns c = record {
   table = c.in_ok-table.table;
   plain = subst (λ (marks : List Mark). IsTableOf marks c.in_ok-table.table) c.as_slice.ensures c.in_ok-table.ensures.table;
-  stands = record {
-    shortened = c.in_ok-done.ensures.table;
-    routes = c.in_ok-done.ensures.routes;
-    serves = c.in_ok-done.ensures.serves;
-  };
+  stands = search rules;
 }
