@@ -4,6 +4,8 @@ use Rattle.spin_apps.proofs.Common.{IfOk, IfSome, IsAnsweredBy, IsLoadAnswer, Is
 use Rattle.spin_apps.proofs.Common.{NotLoaded, Ok, OnOk, Option, Refused, Result, RowsOut, Run, Some, Step, Unload, UnloadAnswer, Waiting, [], ap, append-nil, append_assoc, arith, bare_host, drop}
 use Rattle.spin_apps.proofs.Common.{drop_all, false≢true, host_at, is_load, is_some, length, list_any, load_line, option_map, or-false, or-true, or_assoc, packet_count_of, refl, same_Some, slice_get}
 use Rattle.spin_apps.proofs.Common.{subst, suc, sym, true, zero, ℕ, ◌++◌, ◌+◌, ◌||◌, ◌∙◌, ◌∷◌, ◌≡◌, ◌≤◌}
+use Rattle.spin_apps.proofs.Common.{Bool, IsDone, false, inl, inr}
+use Rattle.std.proofs.Common.{◌⊎◌}
 
 -- What the steps that are left are answered, behind the text so far, is what all steps are answered.
 abbrev pub GoesOn : List Step → Option Host → List Step → List ℕ → Type 0
@@ -117,16 +119,33 @@ at_load None job h on = bare job.machine on
     bare (Some m) is = ap (λ (x : Host). x.packets) (sym (same_Some (bare_host m job.run.queue) h is))
 at_load (Some g) job h on = ap (λ (x : Host). x.packets) (sym (same_Some g h on))
 
+-- whether a load has changed the machine
+abbrev pub is_done : LoadAnswer → Bool
+is_done Done = true
+is_done (NoRoom vertex) = false
+is_done (CutOff net target) = false
+is_done (Refused refusal) = false
+
+-- what an answer leaves: what it tells was done, or nothing has changed
+abbrev pub LeftBy : Bool → Type 0 → Host → Host → Type 0
+LeftBy is_done Did h new = ((is_done ≡ true) × Did) ⊎ ((is_done ≡ false) × (new ≡ h))
+
+pub left_by_load : (h : Host) (n : ℕ) (job : AppJob) (a : LoadAnswer) (new : Host) → IsLoadAnswer h n job a new → LeftBy (is_done a) (IsDone h n job new) h new
+left_by_load h n job Done new is = inl (refl, is)
+left_by_load h n job (Refused Loaded) new is = inr (refl, is.1)
+left_by_load h n job (NoRoom vertex) new is = inr (refl, is.2)
+left_by_load h n job (CutOff net target) new is = inr (refl, is.2)
+left_by_load h n job (Refused (MemoryOut vertex)) new is = inr (refl, is.same)
+left_by_load h n job (Refused (KeysOut net)) new is = inr (refl, is.same)
+left_by_load h n job (Refused (RowsOut chip)) new is = inr (refl, is.same)
+
 load_packets : (h : Host) (number : ℕ) (job : AppJob) (answer : LoadAnswer) (new : Host) → IsValidJob job → IsLoadAnswer h number job answer new → new.packets ≤ h.packets + 65536
-load_packets h number job Done new valid is =
-    let same : length is.plan.packets ≡ length job.run.packets = ap length is.is.packets in
-    omega (arith, is.loaded.packets, same, valid.run.few_packets)
-load_packets h number job (Refused Loaded) new valid is = let same = ap (λ (x : Host). x.packets) is.1 in omega (arith, same)
-load_packets h number job (NoRoom vertex) new valid is = let same = ap (λ (x : Host). x.packets) is.2 in omega (arith, same)
-load_packets h number job (CutOff net target) new valid is = let same = ap (λ (x : Host). x.packets) is.2 in omega (arith, same)
-load_packets h number job (Refused (MemoryOut vertex)) new valid is = let same = ap (λ (x : Host). x.packets) is.same in omega (arith, same)
-load_packets h number job (Refused (KeysOut net)) new valid is = let same = ap (λ (x : Host). x.packets) is.same in omega (arith, same)
-load_packets h number job (Refused (RowsOut chip)) new valid is = let same = ap (λ (x : Host). x.packets) is.same in omega (arith, same)
+load_packets h number job answer new valid is = elim (left_by_load h number job answer new is) [
+  | inl did ↦
+      let same : length did.1.plan.packets ≡ length job.run.packets = ap length did.1.is.packets in
+      omega (arith, did.1.loaded.packets, same, valid.run.few_packets)
+  | inr left ↦ let same = ap (λ (x : Host). x.packets) left.1 in omega (arith, same)
+]
 
 unload_packets : (h : Host) (number : ℕ) (answer : UnloadAnswer) (new : Host) → IsUnloadAnswer h number answer new → new.packets ≡ h.packets
 unload_packets h number (Got delivered dumped) new is = is.unloaded.packets

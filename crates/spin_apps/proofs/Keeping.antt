@@ -1,6 +1,6 @@
 -- The board of free cores, where cores are taken and given back.
 use Rattle.spin_apps.proofs.Common.{All, AppPlan, AreApps, AreFreeOn, Board, Bool, Description, Ended, HasLoaded, HasUnloaded, HaveOneGrid, Host, IsUsable, IsWith, IsWithout, List, LoadedApp, Spot}
-use Rattle.spin_apps.proofs.Common.{State, [], all_spots, and-true, any_usable, ap, append-nil, append_assoc, ap₂, arith, bare_host, cond, core_spot, false, free_but, free_machine, is_live_chip}
+use Rattle.spin_apps.proofs.Common.{State, [], all_spots, and-true, any_usable, ap, append-nil, append_assoc, ap₂, arith, bare_host, cases_Bool, cond, core_spot, false, free_but, free_machine, is_live_chip}
 use Rattle.spin_apps.proofs.Common.{is_spot_taken, is_usable, list_any, list_any-append, nat_le, not, others_than, refl, spot_eq, spots_beside, spots_usable, sym, true, unusable_spots, ℕ, ◌&&◌, ◌++◌}
 use Rattle.spin_apps.proofs.Common.{◌||◌, ◌∙◌, ◌∷◌, ◌≡◌}
 use Rattle.spin_apps.proofs.FreeSpots.{free_is}
@@ -25,10 +25,7 @@ free_bare m queue b free =
 -- ---- cores taken and given back
 
 shared : (a b c d : Bool) → (a && (b && not (c || d))) ≡ ((a && (b && not c)) && not d)
-shared false b c d = refl
-shared true false c d = refl
-shared true true true d = refl
-shared true true false d = refl
+shared a b c d = grind (arith, cases_Bool a, cases_Bool b, cases_Bool c)
 
 but_is : (h : Host) (spots : List Spot) (s : Spot) → is_usable (free_but h spots) s ≡ (is_usable (free_machine h) s && not (list_any (spot_eq s) spots))
 but_is h spots s =
@@ -41,13 +38,7 @@ pub without_spots : (h : Host) (spots : List Spot) → IsWithout spots (free_mac
 without_spots h spots = record { grid = record { width = refl; height = refl; sdram = refl }; usable = but_is h spots }
 
 back : (f b a : Bool) → b ≡ (f && not a) → (a ≡ true → f ≡ true) → f ≡ (b || a)
-back f b a is has = by_cases f a has ∙ ap (λ x. x || a) (sym is)
-  where
-    by_cases : (f a : Bool) → (a ≡ true → f ≡ true) → f ≡ ((f && not a) || a)
-    by_cases true true has = refl
-    by_cases true false has = refl
-    by_cases false true has = has refl
-    by_cases false false has = refl
+back f b a is has = grind (arith, cases_Bool f, cases_Bool a)
 
 pub with_spots : (h : Host) (spots : List Spot) → All (IsUsable (free_machine h)) spots → IsWith spots (free_but h spots) (free_machine h)
 with_spots h spots usable = record {
@@ -93,15 +84,7 @@ loaded_free old new number plan loaded =
 -- ---- after an unload
 
 without_app : (u n a o : Bool) → o ≡ (n || a) → (a ≡ true → n ≡ false) → (a ≡ true → u ≡ true) → (u && not n) ≡ ((u && not o) || a)
-without_app u n a o is apart usable = by_cases u n a apart usable ∙ ap (λ x. (u && not x) || a) (sym is)
-  where
-    by_cases : (u n a : Bool) → (a ≡ true → n ≡ false) → (a ≡ true → u ≡ true) → (u && not n) ≡ ((u && not (n || a)) || a)
-    by_cases true true true apart usable = sym (apart refl)
-    by_cases true true false apart usable = refl
-    by_cases true false true apart usable = refl
-    by_cases true false false apart usable = refl
-    by_cases false n true apart usable = usable refl
-    by_cases false n false apart usable = refl
+without_app u n a o is apart usable = grind (arith, cases_Bool u, cases_Bool n, cases_Bool a)
 
 pub unloaded_with : (old new : Host) (number : ℕ) (ended : Ended) → AreApps old → (unloaded : HasUnloaded old number ended new)
     → IsWith unloaded.app.plan.spots (free_machine old) (free_machine new)

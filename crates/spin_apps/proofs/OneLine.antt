@@ -2,12 +2,12 @@
 use Rattle.spin_apps.proofs.Common.{All, AllZip, AllZip-at_first, AllZip-at_second, AllZip-long, AppJob, AppNet, AppPlan, AreAlike, AreApps, AreServed, Block, Chip, Contains, CutOff, Description}
 use Rattle.spin_apps.proofs.Common.{Done, Got, HasCutOffOnHost, HasNoRoom, Host, IsFirstNetCutOff, IsLoadAnswer, IsNetFor, IsPlacement, IsPlanFor, IsRefusalDue, IsSite, IsUnloadAnswer, IsValidJob}
 use Rattle.spin_apps.proofs.Common.{KeysOut, List, LoadAnswer, LoadRefusal, Loaded, LoadedApp, MemoryOut, Net, NetPlan, NoRoom, NoneUnderWay, NotLoaded, Range, Refused, RowsOut, Some, Spot}
-use Rattle.spin_apps.proofs.Common.{UnloadAnswer, Waiting, WaitsFor, [], alike_too, all_ranges, all_spots, among_any, ap, arith, cases_Bool, cases_order, claims_of, contains_among, eq-eqb, false}
+use Rattle.spin_apps.proofs.Common.{UnloadAnswer, Waiting, WaitsFor, [], alike_too, all_ranges, among_any, ap, arith, cases_Bool, cases_order, claims_of, contains_among, eq-eqb, false}
 use Rattle.spin_apps.proofs.Common.{filter, free_machine, get_or, get_or_default, inl, inr, is_delivery_of, is_loaded, is_record_of, length, net_with, one_first_net, one_item_at, refl, slice_get}
-use Rattle.spin_apps.proofs.Common.{slice_get-get_or, subst, sym, true, true≢false, unusable_spots, waits_too, ℕ, ◌++◌, ◌==◌, ◌∙◌, ◌≡◌, ◌≤◌}
+use Rattle.spin_apps.proofs.Common.{slice_get-get_or, subst, sym, true, true≢false, waits_too, ℕ, ◌++◌, ◌==◌, ◌∙◌, ◌≡◌, ◌≤◌}
 use Rattle.net_plans.proofs.Determined as plans
 use Rattle.place_fit.proofs.Determined as places
-use Rattle.spin_apps.proofs.{FreeSpots.free_sites, FreeSpots.placed_free, Joined.planned_joined, OneRefusal.one_refusal, OneRefusal.served_not_refused}
+use Rattle.spin_apps.proofs.{FreeSpots.free_sites, FreeSpots.placed_free, Joined.planned_joined, Keeping.same_free, OneRefusal.one_refusal, OneRefusal.served_not_refused}
 
 same_net : (a b : AppNet) → a.source ≡ b.source → a.targets ≡ b.targets → a.tree ≡ b.tree → a.keys ≡ b.keys → a.fixed ≡ b.fixed → a ≡ b
 same_net a b source targets tree keys fixed = λ i. record { source = source i; targets = targets i; tree = tree i; keys = keys i; fixed = fixed i }
@@ -131,26 +131,11 @@ module _ (h : Host) (job : AppJob) (valid : IsValidJob job) where
 
 -- ---- machines with the same applications
 
--- the cores that are free beside applications
-abbrev free_on : Description → List LoadedApp → Description
-free_on m loaded = record {
-  width = m.width;
-  height = m.height;
-  wrap = m.wrap;
-  sdram = m.sdram;
-  dead_chips = [];
-  dead_cores = unusable_spots m ++ all_spots loaded;
-  dead_links = [];
-}
-
 module _ (h g : Host) (machine : h.mesh.setup.machine ≡ g.mesh.setup.machine) (apps : h.apps ≡ g.apps) (job : AppJob) (valid : IsValidJob job) where
-  same_free : free_machine h ≡ free_machine g
-  same_free = λ i. free_on (machine i) (apps i)
-
   pub plan_there : (p : AppPlan) → IsPlanFor g job p → IsPlanFor h job p
   plan_there p is = record {
     memory = is.memory;
-    placed = subst (λ (m : Description). IsPlacement m job.graph.vertices p.spots is.memory) (sym same_free) is.placed;
+    placed = subst (λ (m : Description). IsPlacement m job.graph.vertices p.spots is.memory) (sym (same_free h g machine apps)) is.placed;
     sdram = is.sdram;
     nets = subst (λ (m : Description). AllZip (IsNetFor m p.spots) job.graph.nets p.nets) (sym machine) is.nets;
     packets = is.packets;
@@ -160,7 +145,7 @@ module _ (h g : Host) (machine : h.mesh.setup.machine ≡ g.mesh.setup.machine) 
   cut_there i t is = record {
     spots = is.spots;
     memory = is.memory;
-    placed = subst (λ (m : Description). IsPlacement m job.graph.vertices is.spots is.memory) (sym same_free) is.placed;
+    placed = subst (λ (m : Description). IsPlacement m job.graph.vertices is.spots is.memory) (sym (same_free h g machine apps)) is.placed;
     first = subst (λ (m : Description). IsFirstNetCutOff m is.spots job.graph.nets i t) (sym machine) is.first;
   }
 
@@ -175,7 +160,7 @@ module _ (h g : Host) (machine : h.mesh.setup.machine ≡ g.mesh.setup.machine) 
       (subst (λ (l : List LoadedApp). IsRefusalDue g.mesh.setup.machine (all_ranges l) (claims_of g.mesh.setup.machine p) e) (sym apps) is)
 
   why_there : (a : LoadAnswer) → Why g job valid a → Why h job valid a
-  why_there a (without_room v none is) = without_room v (subst (λ (m : Description). HasNoRoom m job.graph.vertices v) (sym same_free) none) is
+  why_there a (without_room v none is) = without_room v (subst (λ (m : Description). HasNoRoom m job.graph.vertices v) (sym (same_free h g machine apps)) none) is
   why_there a (cut i t off is) = cut i t (cut_there i t off) is
   why_there a (loads p ranges planned served is) = loads p ranges (plan_there p planned) (served_there p ranges served) is
   why_there a (refused p e planned due is) = refused p e (plan_there p planned) (asked_there p e due) is

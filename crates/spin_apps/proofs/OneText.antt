@@ -2,33 +2,22 @@
 use Rattle.spin_apps.proofs.Common.{All, All-cons, All-contains, All-head, All-nil, All-tail, Answers, AppJob, AppPlan, AreAlike, AreAnswered, AreAnsweredFrom, AreApps, AreBlocks, AreServed, Bool}
 use Rattle.spin_apps.proofs.Common.{Contains, CutOff, Description, Done, Got, Hand, HasGot, Host, IfSome, IsDone, IsLoadAnswer, IsLoadedOn, IsQuiet, IsUnloadAnswer, IsValidJob, IsValidStep, KeysOut}
 use Rattle.spin_apps.proofs.Common.{List, Load, LoadAnswer, Loaded, LoadedApp, McCopy, MemoryOut, NoRoom, None, NotLoaded, Option, Range, Refused, RowsOut, Run, Some, Spot, State, Step, Unload}
-use Rattle.spin_apps.proofs.Common.{UnloadAnswer, Waiting, [], alike_moved, alike_unloaded, all_ranges, among_contains, among_right, ap, arith, bare_host, claims_of, false, host_at, inl, length}
+use Rattle.spin_apps.proofs.Common.{UnloadAnswer, Waiting, [], alike_moved, alike_unloaded, all_ranges, among_contains, among_right, ap, arith, bare_host, claims_of, false, host_at, inl, inr, length}
 use Rattle.spin_apps.proofs.Common.{length-replicate, load_line, one_block, option_map, refl, replicate, same_Some, same_places, same_spots, sent_by_vertex, slice_get, slice_get_there}
 use Rattle.spin_apps.proofs.Common.{slice_get_within, subst, suc, sym, true, true≢false, unload_line, zero, ℕ, ◌++◌, ◌<◌, ◌∙◌, ◌∷◌, ◌≡◌}
+use Rattle.std.proofs.Common.{◌⊎◌}
+use Rattle.spin_apps.proofs.Chain.{LeftBy, is_done, left_by_load}
 use Rattle.spin_apps.proofs.{OneLine.HaveAsManyDeliveries, OneLine.one_load, OneLine.one_plan, OneLine.one_unload, OneLine.plan_there, OneLine.served_there, OneRefusal.one_served}
 
 -- ---- loads
 
--- whether a load has changed the machine
-abbrev is_done : LoadAnswer → Bool
-is_done Done = true
-is_done (NoRoom vertex) = false
-is_done (CutOff net target) = false
-is_done (Refused refusal) = false
-
--- what a load leaves: a plan of the job was loaded, or nothing has changed
-data LeftByLoad (h : Host) (n : ℕ) (job : AppJob) (a : LoadAnswer) (new : Host) : Type 0 where
-  changed : is_done a ≡ true → IsDone h n job new → LeftByLoad h n job a new
-  unchanged : is_done a ≡ false → new ≡ h → LeftByLoad h n job a new
-
-left_by_load : (h : Host) (n : ℕ) (job : AppJob) (a : LoadAnswer) (new : Host) → IsLoadAnswer h n job a new → LeftByLoad h n job a new
-left_by_load h n job Done new is = changed refl is
-left_by_load h n job (Refused Loaded) new is = unchanged refl is.1
-left_by_load h n job (NoRoom vertex) new is = unchanged refl is.2
-left_by_load h n job (CutOff net target) new is = unchanged refl is.2
-left_by_load h n job (Refused (MemoryOut vertex)) new is = unchanged refl is.same
-left_by_load h n job (Refused (KeysOut net)) new is = unchanged refl is.same
-left_by_load h n job (Refused (RowsOut chip)) new is = unchanged refl is.same
+-- one answer of both leaves them alike, where what it tells does
+alike_after : (h g new other : Host) (b c : Bool) (P Q : Type 0) → AreAlike h g → b ≡ c → (P → Q → AreAlike new other) → LeftBy b P h new → LeftBy c Q g other → AreAlike new other
+alike_after h g new other b c P Q alike same did (inl x) (inl y) = did x.1 y.1
+alike_after h g new other b c P Q alike same did (inl x) (inr y) = absurd (true≢false (sym x.0 ∙ (same ∙ y.0)))
+alike_after h g new other b c P Q alike same did (inr x) (inl y) = absurd (true≢false (sym y.0 ∙ (sym same ∙ x.0)))
+alike_after h g new other b c P Q alike same did (inr x) (inr y) =
+    subst (λ (k : Host). AreAlike k other) (sym x.1) (subst (λ (k : Host). AreAlike h k) (sym y.1) alike)
 
 same_quiet : (s t : State) → t.inputs ≡ s.inputs → t.hands ≡ s.hands → t.cores ≡ s.cores → t.dumped ≡ s.dumped → IsQuiet s → IsQuiet t
 same_quiet s t inputs hands cores dumped quiet = record {
@@ -126,14 +115,6 @@ module _ (h g new other : Host) (n : ℕ) (job : AppJob) (valid : IsValidJob job
         (ap (λ (m : State). m.cores) b.loaded.mesh) (ap (λ (m : State). m.dumped) b.loaded.mesh) alike.other_quiet;
   }
 
-alike_after_load : (h g new other : Host) (n : ℕ) (job : AppJob) (a b : LoadAnswer) → IsValidJob job → AreAlike h g → length h.mesh.unsent ≡ length h.mesh.setup.spots → a ≡ b →
-    AreApps new → AreApps other → LeftByLoad h n job a new → LeftByLoad g n job b other → AreAlike new other
-alike_after_load h g new other n job a b valid alike lists same apps also (changed x is) (changed y be) = alike_loaded h g new other n job valid alike lists is be apps also
-alike_after_load h g new other n job a b valid alike lists same apps also (changed x is) (unchanged y be) = absurd (true≢false (sym x ∙ (ap is_done same ∙ y)))
-alike_after_load h g new other n job a b valid alike lists same apps also (unchanged x is) (changed y be) = absurd (true≢false (sym y ∙ (ap is_done (sym same) ∙ x)))
-alike_after_load h g new other n job a b valid alike lists same apps also (unchanged x is) (unchanged y be) =
-    subst (λ (k : Host). AreAlike k other) (sym is) (subst (λ (k : Host). AreAlike h k) (sym be) alike)
-
 -- ---- unloads
 
 abbrev is_got : UnloadAnswer → Bool
@@ -141,21 +122,11 @@ is_got (Got delivered dumped) = true
 is_got NotLoaded = false
 is_got (Waiting packet) = false
 
-data LeftByUnload (h : Host) (n : ℕ) (a : UnloadAnswer) (new : Host) : Type 0 where
-  gone : is_got a ≡ true → (delivered dumped : ℕ) → HasGot h n delivered dumped new → LeftByUnload h n a new
-  stayed : is_got a ≡ false → new ≡ h → LeftByUnload h n a new
-
-left_by_unload : (h : Host) (n : ℕ) (a : UnloadAnswer) (new : Host) → IsUnloadAnswer h n a new → LeftByUnload h n a new
-left_by_unload h n (Got delivered dumped) new is = gone refl delivered dumped is
-left_by_unload h n NotLoaded new is = stayed refl is.1
-left_by_unload h n (Waiting packet) new is = stayed refl is.1
-
-alike_after_unload : (h g new other : Host) (n : ℕ) (a b : UnloadAnswer) → AreAlike h g → a ≡ b → LeftByUnload h n a new → LeftByUnload g n b other → AreAlike new other
-alike_after_unload h g new other n a b alike same (gone x d r is) (gone y e s be) = alike_unloaded h g new other n is.ended be.ended alike is.unloaded be.unloaded
-alike_after_unload h g new other n a b alike same (gone x d r is) (stayed y be) = absurd (true≢false (sym x ∙ (ap is_got same ∙ y)))
-alike_after_unload h g new other n a b alike same (stayed x is) (gone y e s be) = absurd (true≢false (sym y ∙ (ap is_got (sym same) ∙ x)))
-alike_after_unload h g new other n a b alike same (stayed x is) (stayed y be) =
-    subst (λ (k : Host). AreAlike k other) (sym is) (subst (λ (k : Host). AreAlike h k) (sym be) alike)
+left_by_unload : (h : Host) (n : ℕ) (a : UnloadAnswer) (new : Host) → IsUnloadAnswer h n a new →
+    LeftBy (is_got a) ((delivered : ℕ) × (dumped : ℕ) × HasGot h n delivered dumped new) h new
+left_by_unload h n (Got delivered dumped) new is = inl (refl, delivered, dumped, is)
+left_by_unload h n NotLoaded new is = inr (refl, is.1)
+left_by_unload h n (Waiting packet) new is = inr (refl, is.1)
 
 -- ---- states
 
@@ -222,8 +193,9 @@ module _ (counted : HaveAsManyDeliveries) where
       let answer = one_load x.host y.host at.alike.machine at.alike.apps job valid n x.answer y.answer x.new y.new x.is y.is in (
         x.told ∙ (ap (load_line n job.graph) answer ∙ sym y.told),
         both_left after last x.new y.new x.left y.left
-            (alike_after_load x.host y.host x.new y.new n job x.answer y.answer valid at.alike at.lists answer new_apps other_apps (left_by_load x.host n job x.answer x.new x.is)
-            (left_by_load y.host n job y.answer y.new y.is)) new_apps other_apps,
+            (alike_after x.host y.host x.new y.new (is_done x.answer) (is_done y.answer) (IsDone x.host n job x.new) (IsDone y.host n job y.new) at.alike (ap is_done answer)
+            (λ is be. alike_loaded x.host y.host x.new y.new n job valid at.alike at.lists is be new_apps other_apps)
+            (left_by_load x.host n job x.answer x.new x.is) (left_by_load y.host n job y.answer y.new y.is)) new_apps other_apps,
       )
   one_step (Unload n) None None told other after last valid are x y apps also = (x.0 ∙ sym y.0, none_left after last x.1 y.1)
   one_step (Unload n) None (Some g) told other after last valid are x y apps also = absurd are
@@ -234,7 +206,9 @@ module _ (counted : HaveAsManyDeliveries) where
       let answer = one_unload counted h g are.1 are.2 are.0 n x.answer y.answer x.new y.new x.is y.is in (
         x.told ∙ (ap (unload_line n) answer ∙ sym y.told),
         both_left after last x.new y.new x.left y.left
-            (alike_after_unload h g x.new y.new n x.answer y.answer are.0 answer (left_by_unload h n x.answer x.new x.is) (left_by_unload g n y.answer y.new y.is)) new_apps other_apps,
+            (alike_after h g x.new y.new (is_got x.answer) (is_got y.answer) _ _ are.0 (ap is_got answer)
+            (λ is be. alike_unloaded h g x.new y.new n is.2.ended be.2.ended are.0 is.2.unloaded be.2.unloaded)
+            (left_by_unload h n x.answer x.new x.is) (left_by_unload g n y.answer y.new y.is)) new_apps other_apps,
       )
   one_step Run None None told other after last valid are x y apps also = (x.0 ∙ sym y.0, none_left after last x.1 y.1)
   one_step Run None (Some g) told other after last valid are x y apps also = absurd are

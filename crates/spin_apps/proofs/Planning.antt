@@ -1,11 +1,10 @@
 -- The plan of a job on free cores.
-use Rattle.spin_apps.proofs.Common.{All, All-each, All-push, All-weaker, AllZip, AllZip-at_first, AllZip-long, AppJob, AppNet, AppPlan, AreFreeOn, Block, Board, Contains, Contains-at, CutOff}
-use Rattle.spin_apps.proofs.Common.{Description, Done, Err, HasNoneCutOff, Host, IfOk, IsAppNet, IsCauseOne, IsFirstNetCutOff, IsLoadAnswer, IsNetCause, IsNetFor, IsNoPlanOn, IsPacketOfApp}
+use Rattle.spin_apps.proofs.Common.{All, All-each, All-push, All-weaker, AllZip, AllZip-at_first, AllZip-long, AppJob, AppNet, AppPlan, Block, Contains, Contains-at, CutOff}
+use Rattle.spin_apps.proofs.Common.{Description, Done, Err, HasNoneCutOff, Host, IfOk, IsAppNet, IsCauseOne, IsFirstNetCutOff, IsLoadAnswer, IsNetCause, IsNetFor, IsPacketOfApp}
 use Rattle.spin_apps.proofs.Common.{IsPlaceCause, IsPlaced, IsPlan, IsPlanFor, IsPlannedNet, IsRoutingTree, IsRunPacket, IsTaken, IsValidJob, IsValidNet, IsWhyUnplanned, KeysOut, List, LoadAnswer}
-use Rattle.spin_apps.proofs.Common.{Loaded, MayLoad, MemoryOut, Net, NetErr, NetPlan, NoRoom, Ok, Packet, PlaceErr, PlanErr, Refused, RepairErr, Result, RowsOut, Some, Spot, Vertex, []}
+use Rattle.spin_apps.proofs.Common.{Loaded, MayLoad, MemoryOut, Net, NetErr, NetPlan, NoRoom, Ok, Packet, PlaceErr, Refused, RepairErr, Result, RowsOut, Some, Spot, Vertex, []}
 use Rattle.spin_apps.proofs.Common.{all_zipped_more, ap, arith, cases_lt, false, free_machine, inl, inr, is_spot_taken, key_count_of, keys_of-at, length, length-map, map, one_item_at, refl, slice_get}
 use Rattle.spin_apps.proofs.Common.{slice_get_there, subst, sym, take, take_more_at, unplaced, unrouted, unrouted_net, ℕ, ◌++◌, ◌+◌, ◌<◌, ◌^◌, ◌∙◌, ◌∷◌, ◌≡◌}
-use Rattle.spin_apps.specs.declared.plans.PlanErr.TheVariants as plans
 use Rattle.spin_apps.proofs.FreeSpots.{free_usable, placed_free}
 use Rattle.link_detours.specs.declared.repairs.RepairErr.TheVariants as repairs
 use Rattle.net_plans.specs.declared.nets.NetErr.TheVariants as nets
@@ -117,10 +116,6 @@ module _ {h : Host} {m : Description} {job : AppJob} {spots : List Spot} {sdram 
 pub why_unplaced : (h : Host) (job : AppJob) (e : PlaceErr) → IsPlaceCause (free_machine h) job.graph.vertices e → IsWhyUnplanned h job (unplaced e)
 why_unplaced h job (places.NoRoom vertex) none = none
 why_unplaced h job places.Memory none = tt
-
--- want of memory, where the board is as it was
-pub no_memory : (h : Host) (job : AppJob) (free : Board) (e : PlanErr) → e ≡ plans.Memory → AreFreeOn (free_machine h) free → IsNoPlanOn h job free e
-no_memory h job free e is same = record { why = subst (IsWhyUnplanned h job) (sym is) tt; free = same }
 
 pub why_unrouted : {h : Host} {m : Description} {job : AppJob} {spots : List Spot} (e : NetErr) → h.mesh.setup.machine ≡ m → IsPlaced h job spots → IsNetCause m spots job.graph.nets e →
     IsWhyUnplanned h job (unrouted e)
