@@ -6,6 +6,7 @@ use Rattle.spin_apps.proofs.Common.{UnloadAnswer, Waiting, [], alike_moved, alik
 use Rattle.spin_apps.proofs.Common.{length-replicate, load_line, one_block, option_map, refl, replicate, same_Some, same_places, same_spots, sent_by_vertex, slice_get, slice_get_there}
 use Rattle.spin_apps.proofs.Common.{slice_get_within, subst, suc, sym, true, true≢false, unload_line, zero, ℕ, ◌++◌, ◌<◌, ◌∙◌, ◌∷◌, ◌≡◌}
 use Rattle.std.proofs.Common.{◌⊎◌}
+use Rattle.std.proofs.lemmas.List.Elements.{All-replicate}
 use Rattle.spin_apps.proofs.Chain.{LeftBy, is_done, left_by_load}
 use Rattle.spin_apps.proofs.{OneLine.HaveAsManyDeliveries, OneLine.one_load, OneLine.one_plan, OneLine.one_unload, OneLine.plan_there, OneLine.served_there, OneRefusal.one_served}
 
@@ -122,8 +123,10 @@ is_got (Got delivered dumped) = true
 is_got NotLoaded = false
 is_got (Waiting packet) = false
 
-left_by_unload : (h : Host) (n : ℕ) (a : UnloadAnswer) (new : Host) → IsUnloadAnswer h n a new →
-    LeftBy (is_got a) ((delivered : ℕ) × (dumped : ℕ) × HasGot h n delivered dumped new) h new
+abbrev HasGone : Host → ℕ → Host → Type 0
+HasGone h n new = (delivered : ℕ) × (dumped : ℕ) × HasGot h n delivered dumped new
+
+left_by_unload : (h : Host) (n : ℕ) (a : UnloadAnswer) (new : Host) → IsUnloadAnswer h n a new → LeftBy (is_got a) (HasGone h n new) h new
 left_by_unload h n (Got delivered dumped) new is = inl (refl, delivered, dumped, is)
 left_by_unload h n NotLoaded new is = inr (refl, is.1)
 left_by_unload h n (Waiting packet) new is = inr (refl, is.1)
@@ -137,13 +140,13 @@ AlikeStates None (Some g) = ⊥
 AlikeStates (Some h) None = ⊥
 AlikeStates (Some h) (Some g) = AreAlike h g × AreApps h × AreApps g
 
-all_same : {X : Type 0} (x : X) (n : ℕ) → All (λ y. y ≡ x) (replicate n x)
-all_same x zero = All-nil (λ y. y ≡ x)
-all_same x (suc n) = All-cons (λ y. y ≡ x) x (replicate n x) refl (all_same x n)
-
 quiet_bare : (m : Description) (queue : ℕ) → IsQuiet (bare_host m queue).mesh
 quiet_bare m queue = record {
-  waits = record { inputs_empty = all_same [] _; hands_empty = all_same None _; cores_empty = all_same [] _ };
+  waits = record {
+    inputs_empty = All-replicate (λ (q : List McCopy). q ≡ []) _ [] refl;
+    hands_empty = All-replicate (λ (x : Option Hand). x ≡ None) _ None refl;
+    cores_empty = All-replicate (λ (q : List McCopy). q ≡ []) _ [] refl;
+  };
   no_record = refl;
 }
 
@@ -206,7 +209,7 @@ module _ (counted : HaveAsManyDeliveries) where
       let answer = one_unload counted h g are.1 are.2 are.0 n x.answer y.answer x.new y.new x.is y.is in (
         x.told ∙ (ap (unload_line n) answer ∙ sym y.told),
         both_left after last x.new y.new x.left y.left
-            (alike_after h g x.new y.new (is_got x.answer) (is_got y.answer) _ _ are.0 (ap is_got answer)
+            (alike_after h g x.new y.new (is_got x.answer) (is_got y.answer) (HasGone h n x.new) (HasGone g n y.new) are.0 (ap is_got answer)
             (λ is be. alike_unloaded h g x.new y.new n is.2.ended be.2.ended are.0 is.2.unloaded be.2.unloaded)
             (left_by_unload h n x.answer x.new x.is) (left_by_unload g n y.answer y.new y.is)) new_apps other_apps,
       )
