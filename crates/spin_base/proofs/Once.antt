@@ -1,7 +1,7 @@
 -- How often an output stands in what a route names: once where the route has it, else not.
 use Rattle.std.proofs.Common.{◌≡◌, ℕ, ◌+◌, ◌<◌, ◌≤◌, List, [], ◌∷◌, map, filter, Bool, true, false, ◌==◌, arith, ◌∙◌, refl, cond, if◌then◌else◌, count_by, suc, zero}
 use Rattle.std.specs.List.{range_with_len}
-use Rattle.std.proofs.lemmas.{Bool.eqb-true, Bool.ne_eqb, List.Sums.sum_by-append, List.Sums.sum_by-cons}
+use Rattle.std.proofs.lemmas.{Bool.cases_Bool, Bool.eqb-true, Bool.ne_eqb, List.Sums.sum_by-append, List.Sums.sum_by-cons}
 use Rattle.spin_base.specs.declared.chips.Dir.{Dir, TheVariants.East, TheVariants.NorthEast, TheVariants.North, TheVariants.West, TheVariants.SouthWest, TheVariants.South}
 use Rattle.spin_base.specs.{declared.routes.Out.Out, declared.routes.Out.TheVariants.Link, declared.routes.Out.TheVariants.Core, declared.routes.Route.Route, Equality.out_eq, Outputs.has}
 use Rattle.spin_base.specs.Outputs.{outs_of, all_outs, link_outs, core_outs, IsOutput}
@@ -11,22 +11,12 @@ use Rattle.spin_base.proofs.{Outputs.dir_number_below, Equality.out_eq_true, Equ
 count_by-cons : (q : Out → Bool) (x : Out) (xs : List Out) → count_by q (x ∷ xs) ≡ cond (q x) 1 0 + count_by q xs
 count_by-cons q x xs = sum_by-cons (λ y. cond (q y) 1 0) x xs
 
-count_step : (p q : Out → Bool) (b : Bool) (x : Out) (xs ys : List Out) → (q x ≡ true → p x ≡ b) → count_by q ys ≡ cond b (count_by q xs) 0 → (px qx : Bool) → p x ≡ px → q x ≡ qx → count_by q (cond px (x ∷ ys) ys) ≡ cond b (cond qx 1 0 + count_by q xs) 0
-count_step p q true x xs ys same rest true true epx eqx = rw (count_by-cons q x ys, eqx) (omega (arith, rest))
-count_step p q false x xs ys same rest true true epx eqx = let no = same eqx in cc
-count_step p q true x xs ys same rest true false epx eqx = rw (count_by-cons q x ys, eqx) (omega (arith, rest))
-count_step p q false x xs ys same rest true false epx eqx = rw (count_by-cons q x ys, eqx) (omega (arith, rest))
-count_step p q true x xs ys same rest false true epx eqx = let no = same eqx in cc
-count_step p q false x xs ys same rest false true epx eqx = rest
-count_step p q true x xs ys same rest false false epx eqx = omega (arith, rest)
-count_step p q false x xs ys same rest false false epx eqx = rest
-
 -- a count of what passes a test, where the test says one thing of all that are counted
 pub count_by-filter_same : (p q : Out → Bool) (b : Bool) (xs : List Out) → ((x : Out) → q x ≡ true → p x ≡ b) → count_by q (filter p xs) ≡ cond b (count_by q xs) 0
 count_by-filter_same p q true [] same = refl
 count_by-filter_same p q false [] same = refl
 count_by-filter_same p q b (x ∷ xs) same =
-    grind (arith, count_step p q b x xs (filter p xs) (same x) (count_by-filter_same p q b xs same) (p x) (q x) refl refl, count_by-filter_same p q b xs same, count_by-cons q x xs)
+    grind (arith, cases_Bool (p x), cases_Bool (q x), cases_Bool b, same x, count_by-filter_same p q b xs same, count_by-cons q x xs, count_by-cons q x (filter p xs))
 
 cores_none : (d : Dir) (a n : ℕ) → count_by (out_eq (Link d)) (map Core (range_with_len a n)) ≡ 0
 cores_none d a zero = refl

@@ -125,15 +125,7 @@ moved l i j k d il jl kl = elim (cases_eq k j) [
 
 differ : (i j p q m n : ℕ) → p < q → (((p ≡ j) × (m ≡ i)) ⊎ (((p ≡ i) × (m ≡ j)) ⊎ ((p ≢ j) × (p ≢ i) × (m ≡ p)))) →
     (((q ≡ j) × (n ≡ i)) ⊎ (((q ≡ i) × (n ≡ j)) ⊎ ((q ≢ j) × (q ≢ i) × (n ≡ q)))) → m ≡ n → ⊥
-differ i j p q m n less (inl a) (inl b) e = omega arith
-differ i j p q m n less (inl a) (inr (inl b)) e = omega arith
-differ i j p q m n less (inl a) (inr (inr b)) e = b.1 (sym b.2 ∙ (sym e ∙ a.1))
-differ i j p q m n less (inr (inl a)) (inl b) e = omega arith
-differ i j p q m n less (inr (inl a)) (inr (inl b)) e = omega arith
-differ i j p q m n less (inr (inl a)) (inr (inr b)) e = b.0 (sym b.2 ∙ (sym e ∙ a.1))
-differ i j p q m n less (inr (inr a)) (inl b) e = a.1 (sym a.2 ∙ (e ∙ b.1))
-differ i j p q m n less (inr (inr a)) (inr (inl b)) e = a.0 (sym a.2 ∙ (e ∙ b.1))
-differ i j p q m n less (inr (inr a)) (inr (inr b)) e = (let x : m ≡ p = a.2 in let y : n ≡ q = b.2 in omega arith)
+differ i j p q m n less a b e = grind arith
 
 pub AllPairs-permutation : {X : Type 0} (R : X → X → Type 0) → ((x y : X) → R x y → R y x) → (xs ys : List X) → IsPermutation xs ys → AllPairs R xs → AllPairs R ys
 AllPairs-permutation {X} R turn xs ys perm all = IsPermutation-keeps xs (λ l. AllPairs R l) all (λ l i j il jl pairs p q d less short.
