@@ -74,14 +74,20 @@ fn run_value(alloc: Global, packets: &[DrawnPacket]) -> Result<Value, AllocError
     json!(in alloc; {"packets": packets, "patience": 16u32, "queue": 1200u32, "target": 0u32, "turns": 64u32, "workers": 4u32})
 }
 
+#[tactic(auto, unfolding(crate::specs::Values::dead_pairs))]
 fn dead_chips_value(alloc: Global) -> Result<Value, AllocError>
     ensures { IfOk result (λ v. view v ≡ array (items_of (map pair_data dead_pairs))) }
 {
-    let mut values = Vec::new(alloc);
-    for (x, y) in DEAD_CHIPS {
-        let value = chip_value(alloc, x, y)?;
-        values.push(value)?;
-    }
+    chips_value(alloc, &DEAD_CHIPS)
+}
+
+fn chips_value(alloc: Global, chips: &[(u8, u8)]) -> Result<Value, AllocError>
+    ensures { IfOk result (λ v. view v ≡ array (items_of (map pair_data chips.now))) }
+{
+    let values: Vec<Value> = chips
+        .iter()
+        .map(|chip| chip_value(alloc, chip.0, chip.1))
+        .try_collect(alloc)?;
     Ok(Value::Array(values))
 }
 
@@ -94,11 +100,11 @@ fn chip_value(alloc: Global, x: u8, y: u8) -> Result<Value, AllocError>
 fn vertices_value(alloc: Global, sdrams: &[u32]) -> Result<Value, AllocError>
     ensures { IfOk result (λ v. view v ≡ array (items_of (numbered vertex_data 0 sdrams.now))) }
 {
-    let mut values = Vec::new(alloc);
-    for (i, sdram) in sdrams.iter().enumerate() {
-        let value = vertex_value(alloc, i, *sdram)?;
-        values.push(value)?;
-    }
+    let values: Vec<Value> = sdrams
+        .iter()
+        .enumerate()
+        .map(|(i, sdram)| vertex_value(alloc, i, *sdram))
+        .try_collect(alloc)?;
     Ok(Value::Array(values))
 }
 
@@ -113,11 +119,11 @@ fn vertex_value(alloc: Global, i: usize, sdram: u32) -> Result<Value, AllocError
 fn nets_value(alloc: Global, nets: &[DrawnNet]) -> Result<Value, AllocError>
     ensures { IfOk result (λ v. view v ≡ array (items_of (numbered net_data 0 nets.now))) }
 {
-    let mut values = Vec::new(alloc);
-    for (i, net) in nets.iter().enumerate() {
-        let value = net_value(alloc, i, net)?;
-        values.push(value)?;
-    }
+    let values: Vec<Value> = nets
+        .iter()
+        .enumerate()
+        .map(|(i, net)| net_value(alloc, i, net))
+        .try_collect(alloc)?;
     Ok(Value::Array(values))
 }
 
@@ -136,11 +142,10 @@ fn net_value(alloc: Global, i: usize, net: &DrawnNet) -> Result<Value, AllocErro
 fn targets_value(alloc: Global, targets: &[u32]) -> Result<Value, AllocError>
     ensures { IfOk result (λ v. view v ≡ array (items_of (map name_data targets.now))) }
 {
-    let mut values = Vec::new(alloc);
-    for target in targets {
-        let value = vertex_named(alloc, *target)?;
-        values.push(value)?;
-    }
+    let values: Vec<Value> = targets
+        .iter()
+        .map(|target| vertex_named(alloc, *target))
+        .try_collect(alloc)?;
     Ok(Value::Array(values))
 }
 
@@ -156,11 +161,10 @@ fn vertex_named(alloc: Global, i: u32) -> Result<Value, AllocError>
 fn packets_value(alloc: Global, packets: &[DrawnPacket]) -> Result<Value, AllocError>
     ensures { IfOk result (λ v. view v ≡ array (items_of (map packet_data packets.now))) }
 {
-    let mut values = Vec::new(alloc);
-    for packet in packets {
-        let value = packet_value(alloc, *packet)?;
-        values.push(value)?;
-    }
+    let values: Vec<Value> = packets
+        .iter()
+        .map(|packet| packet_value(alloc, *packet))
+        .try_collect(alloc)?;
     Ok(Value::Array(values))
 }
 

@@ -1,5 +1,5 @@
 -- The laws, as the lemmas say them.
-use Rattle.job_gen.proofs.{DrawnLaws.is_drawn, JobReading.generated_clean, JobReading.generated_is, TextReading.generated_text_is_read}
+use Rattle.job_gen.proofs.{DrawnLaws.is_drawn, JobReading.generated_clean, JobReading.generated_is, Written.generated_text_is_read}
 use Rattle.job_gen.proofs.laws.generated_jobs_are_read.Goals as goal
 
 pub returns : goal.returns

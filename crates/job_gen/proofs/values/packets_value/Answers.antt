@@ -1,9 +1,6 @@
-use Rattle.job_gen.proofs.Common.{arith, view-Array}
-use Rattle.job_gen.proofs.ValueLemmas.{mapped_push, mapped_all}
+use Rattle.job_gen.proofs.Common.{ap, array, chains, items_of, packet_data, rules, view-Array, ◌∙◌}
+use Rattle.job_gen.proofs.ValueLemmas.{mapped_values}
 use Rattle.job_gen.proofs.values.packets_value.Goals as goal
 
-pub loop-packet-preserved : goal.loop-packet-preserved
-loop-packet-preserved c = grind (arith, mapped_push)
-
 pub returns : goal.returns
-returns c = grind (arith, view-Array, mapped_all)
+returns c = view-Array c.in_ok-values.values ∙ ap (λ l. array (items_of l)) (mapped_values packet_data c.args.packets.now c.in_ok-values.values.items (search (rules, chains)) (λ k d v below. search (rules, chains)))

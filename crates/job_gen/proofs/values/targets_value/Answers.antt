@@ -1,9 +1,6 @@
-use Rattle.job_gen.proofs.Common.{ap, arith, array, name_data, view-Array, ◌∙◌}
-use Rattle.job_gen.proofs.ValueLemmas.{mapped_push, mapped_all}
+use Rattle.job_gen.proofs.Common.{ap, array, chains, items_of, name_data, rules, view-Array, ◌∙◌}
+use Rattle.job_gen.proofs.ValueLemmas.{mapped_values}
 use Rattle.job_gen.proofs.values.targets_value.Goals as goal
 
-pub loop-target-preserved : goal.loop-target-preserved
-loop-target-preserved c = grind (arith, mapped_push)
-
 pub returns : goal.returns
-returns c = view-Array c.loop-target.values ∙ ap array (mapped_all name_data c.loop-target.target-index c.args.targets.now c.loop-target.values.items c.loop-target-test.false c.loop-target.invariant)
+returns c = view-Array c.in_ok-values.values ∙ ap (λ l. array (items_of l)) (mapped_values name_data c.args.targets.now c.in_ok-values.values.items (search (rules, chains)) (λ k d v below. search (rules, chains)))

@@ -1,12 +1,6 @@
-use Rattle.job_gen.proofs.Common.{ap, arith, array, vertex_data, view-Array, ◌∙◌}
-use Rattle.job_gen.proofs.ValueLemmas.{numbered_none, numbered_push, numbered_all}
+use Rattle.job_gen.proofs.Common.{ap, array, chains, items_of, vertex_data, rules, view-Array, ◌∙◌}
+use Rattle.job_gen.proofs.ValueLemmas.{numbered_values}
 use Rattle.job_gen.proofs.values.vertices_value.Goals as goal
 
-pub loop-i-init : goal.loop-i-init
-loop-i-init c = numbered_none vertex_data c.args.sdrams.now c.new-values.result.items c.new-values.ensures.items
-
-pub loop-i-preserved : goal.loop-i-preserved
-loop-i-preserved c = grind (arith, numbered_push)
-
 pub returns : goal.returns
-returns c = view-Array c.loop-i.values ∙ ap array (numbered_all vertex_data c.loop-i.i c.args.sdrams.now c.loop-i.values.items c.loop-i-test.false c.loop-i.invariant)
+returns c = view-Array c.in_ok-values.values ∙ ap (λ l. array (items_of l)) (numbered_values vertex_data c.args.sdrams.now c.in_ok-values.values.items (search (rules, chains)) (λ k d v below. search (rules, chains)))

@@ -1,0 +1,6 @@
+use Rattle.job_gen.proofs.Common.{ap, array, chains, items_of, pair_data, rules, view-Array, ◌∙◌}
+use Rattle.job_gen.proofs.ValueLemmas.{mapped_values}
+use Rattle.job_gen.proofs.values.chips_value.Goals as goal
+
+pub returns : goal.returns
+returns c = view-Array c.in_ok-values.values ∙ ap (λ l. array (items_of l)) (mapped_values pair_data c.args.chips.now c.in_ok-values.values.items (search (rules, chains)) (λ k d v below. search (rules, chains)))
