@@ -1,18 +1,10 @@
 -- Vertices that were read have names, so a text that is found among these is a name.
-use Rattle.job_readers.proofs.Common.{Bool, Data, JobFault, List, None, Option, Some, Vertex, [], ap, arith, as_str, both_true, bytes_eq, bytes_eq-Decides, codes, double_faults, false, if◌then◌else◌}
+use Rattle.job_readers.proofs.Common.{Bool, Data, JobFault, List, None, Option, Some, Vertex, [], and_parts, ap, arith, as_str, both_true, bytes_eq, bytes_eq-Decides, codes, double_faults, false, if◌then◌else◌}
 use Rattle.job_readers.proofs.Common.{is_name, item_at, list_all, map, member_at, member_of, name_place_in, next_vertex_faults, object_faults, option_and_then, option_map, range_unless, refl}
-use Rattle.job_readers.proofs.Common.{sender_at, subst, sym, text_faults, text_value, true, typed_faults, unknown_faults, unwrap_or, ℕ, ◌&&◌, ◌++◌, ◌+◌, ◌∙◌, ◌∷◌, ◌≡◌, ◌▹◌}
+use Rattle.job_readers.proofs.Common.{sender_at, subst, sym, text_faults, text_value, true, typed_faults, unknown_faults, unwrap_or, ℕ, ◌++◌, ◌+◌, ◌∙◌, ◌∷◌, ◌≡◌, ◌▹◌}
 use Rattle.job_readers.specs.{GraphPart.name_faults, GraphPart.name_value, Items.following_faults, Places.new_name_faults}
 use Rattle.job_readers.specs.GraphPart.{sender_in, vertex_faults, vertex_names_of, vertex_value, vertices_faults, vertices_value}
 use Rattle.job_readers.proofs.NoFaults.{none_first, none_inside, none_second}
-
-pub and_first : (a b : Bool) → (a && b) ≡ true → a ≡ true
-and_first true b both = refl
-and_first false b both = absurd cc
-
-pub and_second : (a b : Bool) → (a && b) ≡ true → b ≡ true
-and_second true b both = both
-and_second false b both = absurd cc
 
 -- ---- a text that has a place is a name
 
@@ -22,11 +14,11 @@ unmapped (Some k) i e = (k, refl)
 
 pub placed_is_name : (names : List (List ℕ)) (s : List ℕ) (i : ℕ) → name_place_in names s ≡ Some i → list_all is_name names ≡ true → is_name s ≡ true
 placed_is_name [] s i at all = absurd cc
-placed_is_name (n ∷ names) s i at all = by_first (bytes_eq n s) refl at (λ k there. placed_is_name names s k there (and_second (is_name n) (list_all is_name names) all))
+placed_is_name (n ∷ names) s i at all = by_first (bytes_eq n s) refl at (λ k there. placed_is_name names s k there (and_parts (is_name n) (list_all is_name names) all).1)
   where
     by_first : (b : Bool) → bytes_eq n s ≡ b → (if b then Some 0 else option_map (λ j. j + 1) (name_place_in names s)) ≡ Some i
         → ((k : ℕ) → name_place_in names s ≡ Some k → is_name s ≡ true) → is_name s ≡ true
-    by_first true same here rest = subst (λ t. is_name t ≡ true) ((bytes_eq-Decides n s).0 same) (and_first (is_name n) (list_all is_name names) all)
+    by_first true same here rest = subst (λ t. is_name t ≡ true) ((bytes_eq-Decides n s).0 same) (and_parts (is_name n) (list_all is_name names) all).0
     by_first false other later rest = let k = unmapped (name_place_in names s) i later in rest k.0 k.1
 
 taken : (o : Option ℕ) (f : ℕ → Option ℕ) (i : ℕ) → option_and_then f o ≡ Some i → (k : ℕ) × (o ≡ Some k)

@@ -3,7 +3,7 @@ use Rattle.job_readers.proofs.Common.{Bool, List, None, Option, Some, [], ap, ar
 use Rattle.job_readers.proofs.Common.{true, ℕ, ◌++◌, ◌+◌, ◌<◌, ◌∙◌, ◌∷◌, ◌≡◌}
 
 -- the first of two places
-abbrev or_else : Option ℕ → Option ℕ → Option ℕ
+abbrev pub or_else : Option ℕ → Option ℕ → Option ℕ
 or_else (Some i) p = Some i
 or_else None p = p
 
@@ -52,17 +52,12 @@ new_place names s q absent false same (Some i) at = refl
 pub place_in-new : (names : List (List ℕ)) (s : List ℕ) → name_place_in names s ≡ None → (q : List ℕ) → cond (bytes_eq s q) (Some (length names)) (name_place_in names q) ≡ name_place_in (names ++ s ∷ []) q
 place_in-new names s absent q = grind (arith, new_place names s q absent (bytes_eq s q) refl (name_place_in names q) refl, place_in-push names s q)
 
-some_is : (o : Option ℕ) → is_some o ≡ true → (j : ℕ) × (o ≡ Some j)
+pub some_is : (o : Option ℕ) → is_some o ≡ true → (j : ℕ) × (o ≡ Some j)
 some_is None e = absurd cc
 some_is (Some j) e = (j, refl)
 
 pub none_is : (o : Option ℕ) → is_some o ≡ false → o ≡ None
 none_is None e = refl
 none_is (Some j) e = absurd cc
-
--- the same, by what a look-up answered
-module _ (names : List (List ℕ)) (s : List ℕ) (o : Option ℕ) (b : Bool) (at : o ≡ name_place_in names s) (tested : b ≡ is_some o) where
-  pub known_stays : b ≡ true → (q : List ℕ) → name_place_in names q ≡ name_place_in (names ++ s ∷ []) q
-  known_stays yes_it_is = let j = some_is o (sym tested ∙ yes_it_is) in place_in-old names s j.0 (sym at ∙ j.1)
 
 pub ruleset bounds = (place_in-below)

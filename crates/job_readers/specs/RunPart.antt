@@ -25,11 +25,14 @@ use Rattle.job_text.specs.Reading.{◌▹◌}
 use Rattle.job_text.specs.Members.{member_of, whole_number, list_of, is_object}
 use Rattle.job_text.specs.Paths.{member_at}
 use Rattle.job_text.specs.Fields.{typed_faults, shape_unless, object_faults, object_value, count_faults, is_name}
+use Rattle.job_readers.specs.declared.events.Verb.{Verb}
+use Rattle.job_readers.specs.declared.events.Verb.TheVariants as verbs
 use Rattle.job_readers.specs.Items.{items_faults}
 use Rattle.job_readers.specs.Places.{name_place_in, unknown_faults, reference_faults, reference_value}
 use Rattle.job_readers.specs.Members.{number_member_faults, number_member, optional_number, list_member_faults, long_list_member_faults, list_member}
 use Rattle.job_readers.specs.Entries.{chip_of_numbers, link_of}
 use Rattle.job_readers.specs.GraphPart.{vertex_names_of, net_names}
+use Rattle.job_readers.specs.Verbs.{verb_named}
 
 -- ---- packets
 
@@ -152,22 +155,27 @@ after_head [] = []
 after_head (w ∷ ds) = ds
 
 -- What must follow the word of an event. Range where the word is none.
+abbrev pub verb_faults : List (List ℕ) → List ℕ → Option Verb → List Data → List JobFault
+verb_faults vertices path (Some verbs.Inject) ds = at_vertex_faults vertices path ds
+verb_faults vertices path (Some verbs.Take) ds = at_chip_faults port_named path ds
+verb_faults vertices path (Some verbs.Send) ds = at_chip_faults out_named path ds
+verb_faults vertices path (Some verbs.Dump) ds = at_chip_faults out_named path ds
+verb_faults vertices path (Some verbs.Collect) ds = at_vertex_faults vertices path ds
+verb_faults vertices path None ds = Range path ∷ []
+
+abbrev pub verb_event : List (List ℕ) → Option Verb → List Data → Event
+verb_event vertices (Some verbs.Inject) ds = Inject (at_vertex vertices ds)
+verb_event vertices (Some verbs.Take) ds = Take (chip_of_event ds) (port_of_event ds)
+verb_event vertices (Some verbs.Send) ds = Send (chip_of_event ds) (out_of_event ds)
+verb_event vertices (Some verbs.Dump) ds = Dump (chip_of_event ds) (out_of_event ds)
+verb_event vertices (Some verbs.Collect) ds = Collect (at_vertex vertices ds)
+verb_event vertices None ds = Collect (at_vertex vertices ds)
+
 unfoldable pub event_word_faults : List (List ℕ) → List ℕ → List ℕ → List Data → List JobFault
-event_word_faults vertices path w ds =
-    if bytes_eq w (codes "inject") then at_vertex_faults vertices path ds
-    else (if bytes_eq w (codes "take") then at_chip_faults port_named path ds
-    else (if bytes_eq w (codes "send") then at_chip_faults out_named path ds
-    else (if bytes_eq w (codes "dump") then at_chip_faults out_named path ds
-    else (if bytes_eq w (codes "collect") then at_vertex_faults vertices path ds
-    else Range path ∷ []))))
+event_word_faults vertices path w ds = verb_faults vertices path (verb_named w) ds
 
 unfoldable pub worded_event : List (List ℕ) → List ℕ → List Data → Event
-worded_event vertices w ds =
-    if bytes_eq w (codes "inject") then Inject (at_vertex vertices ds)
-    else (if bytes_eq w (codes "take") then Take (chip_of_event ds) (port_of_event ds)
-    else (if bytes_eq w (codes "send") then Send (chip_of_event ds) (out_of_event ds)
-    else (if bytes_eq w (codes "dump") then Dump (chip_of_event ds) (out_of_event ds)
-    else Collect (at_vertex vertices ds))))
+worded_event vertices w ds = verb_event vertices (verb_named w) ds
 
 abbrev pub event_head_faults : List (List ℕ) → List ℕ → Option (List ℕ) → List Data → List JobFault
 event_head_faults vertices path None ds = Shape path ∷ []

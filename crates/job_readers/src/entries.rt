@@ -1,10 +1,11 @@
 // Reads entries of lists: pairs and triples of whole numbers, and chips, cores and links inside a grid.
-ghost use Rattle.std.specs.Prelude.{◌≡◌, ◌<◌, IfOk, Some};
+ghost use Rattle.std.specs.Prelude.{◌≡◌, ◌<◌, IfOk, Some, map};
 ghost use Rattle.serde_json.specs.View.{view};
 ghost use Rattle.job_text.specs.Reading.{GivesOrFaults};
-ghost use Rattle.job_readers.specs.Entries.{pair_of, triple_of, link_of, chip_faults, chip_value, numbered_faults, core_faults, core_value, link_faults, link_value};
+ghost use Rattle.job_readers.specs.Entries.{two_of, pair_of, three_of, triple_of, link_of, chip_faults, chip_value, numbered_faults, core_faults, core_value, link_faults, link_value};
 ghost use Rattle.job_text.specs.Paths.{path_text};
 
+use crate::events::items_in;
 use job_text::{Path, TextErr, range, shape};
 use machine_desc::Edge;
 use serde_json::Value;
@@ -12,20 +13,39 @@ use spin_base::{Chip, Dir, Spot};
 use std::alloc::Global;
 
 // A list of exactly two whole numbers.
+#[tactic(auto, using(crate::proofs::ListedItems::listed))]
 pub(crate) fn pair(item: &Value) -> Option<(u64, u64)>
     ensures { result ≡ pair_of (view item.now) }
 {
-    match item.as_array()?.as_slice() {
-        [x, y] => Some((x.as_u64()?, y.as_u64()?)),
+    two(items_in(item))
+}
+
+fn two(items: &[Value]) -> Option<(u64, u64)>
+    ensures { result ≡ two_of (map view items.now) }
+{
+    match items {
+        [x, y] => {
+            match (x.as_u64(), y.as_u64()) {
+                (Some(x), Some(y)) => Some((x, y)),
+                _ => None,
+            }
+        }
         _ => None,
     }
 }
 
 // A list of exactly three whole numbers.
+#[tactic(auto, using(crate::proofs::ListedItems::listed))]
 pub(crate) fn triple(item: &Value) -> Option<(u64, u64, u64)>
     ensures { result ≡ triple_of (view item.now) }
 {
-    match item.as_array()?.as_slice() {
+    three(items_in(item))
+}
+
+fn three(items: &[Value]) -> Option<(u64, u64, u64)>
+    ensures { result ≡ three_of (map view items.now) }
+{
+    match items {
         [x, y, z] => {
             match (x.as_u64(), y.as_u64(), z.as_u64()) {
                 (Some(x), Some(y), Some(z)) => Some((x, y, z)),

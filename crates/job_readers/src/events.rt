@@ -225,7 +225,7 @@ fn verb_named(word: &str) -> Option<Verb>
 }
 
 // The event that begins with a word.
-#[tactic(none)]
+#[tactic(auto, unfolding(crate::specs::RunPart::event_word_faults, crate::specs::RunPart::worded_event, crate::specs::RunPart::port_of_event, crate::specs::RunPart::out_of_event))]
 fn worded(
     alloc: Global,
     word: &str,

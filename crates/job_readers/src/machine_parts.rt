@@ -110,7 +110,7 @@ fn listed<R: ItemReader>(
 /// Bytes of shared memory of a chip (SpiNNaker datasheet).
 const CHIP_MEMORY: u64 = 134217728;
 
-#[tactic(auto, unfolding(crate::specs::MachinePart::machine_members_faults, crate::specs::MachinePart::machine_members))]
+#[tactic(auto, using(crate::proofs::Firsts::firsts), unfolding(crate::specs::MachinePart::machine_members_faults, crate::specs::MachinePart::machine_members))]
 fn machine_members(alloc: Global, machine: &Value, path: &Path<'_>) -> Result<Machine, TextErr>
     ensures { GivesOrFaults (λ m. m) result
         (machine_members_faults (path_text path.now) (view machine.now))

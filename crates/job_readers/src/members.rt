@@ -72,7 +72,7 @@ pub(crate) fn flag_of(
 }
 
 // A list of at most `limit` items, whose path is given.
-#[tactic(auto, unfolding(crate::specs::Members::list_member_faults, crate::specs::Members::list_member))]
+#[tactic(auto, using(crate::proofs::Firsts::firsts), unfolding(crate::specs::Members::list_member_faults, crate::specs::Members::list_member))]
 pub(crate) fn list_of<'a>(
     alloc: Global,
     object: &'a Value,

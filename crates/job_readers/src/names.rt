@@ -1,5 +1,5 @@
 // Names in the order of a list, looked up in a map.
-ghost use Rattle.std.specs.Prelude.{◌≡◌, ◌<◌, [], ◌∷◌, ◌++◌, None, length, option_map, option_and_then, unwrap_or, map, bytes_eq, IfOk};
+ghost use Rattle.std.specs.Prelude.{◌≡◌, ◌<◌, [], ◌∷◌, ◌++◌, None, length, option_map, option_and_then, unwrap_or, map, IfOk};
 ghost use Rattle.serde_json.specs.Find.{as_str};
 ghost use Rattle.serde_json.specs.View.{view};
 ghost use Rattle.job_text.specs.Reading.{GivesOrFaults, IsFirstFault, ◌▹◌};
@@ -7,7 +7,6 @@ ghost use Rattle.job_text.specs.Fields.{is_name, range_unless, text_value};
 ghost use Rattle.job_text.specs.declared.faults.JobFault.TheVariants.{UnknownName, DoubleName, Clash};
 ghost use Rattle.job_readers.specs.Places.{name_place_in, reference_faults, reference_value, new_name_faults};
 ghost use Rattle.job_readers.specs.GraphPart.{name_value};
-ghost use Rattle.job_readers.specs.Indexed.{slot_for, word_for};
 ghost use Rattle.job_text.specs.Paths.{path_text};
 
 use job_text::{JobFault, Path, TextErr, may_name, member, range, shape, text_in};
@@ -24,17 +23,13 @@ const SLOTS: usize = 16;
 // What short words are multiplied by, so that the slots of alike words are far apart: 2^64 by the golden ratio.
 const SPREAD: u64 = 0x9e37_79b9_7f4a_7c15;
 
-// A slot that no name has.
-const EMPTY: u32 = u32::MAX;
-
-// The names of a list, in its order, and their words. Contracts see the list. A name's word tells its slot, or a word of its bytes
-// where it is long. The first name of a slot has it; each later one stands in an ordered map. So names of one slot cost a logarithm.
+// The names of a list, in its order. A word of a name's bytes tells a slot, which has the place of the last name of this slot: most
+// names are found there. A map has the places of all of them, so names of one slot cost a logarithm.
 #[derive(Drop)]
 pub(crate) struct Names<'a> {
     said: Vec<&'a str>,
-    words: Vec<u64>,
     slots: Vec<u32>,
-    crowded: BTreeMap<&'a str, u32>,
+    places: BTreeMap<&'a str, u32>,
 }
 
 impl<'a> Model for Names<'a> {
@@ -56,9 +51,8 @@ impl<'a> Names<'a> {
         let slots = count.saturating_mul(SLOTS).saturating_add(1);
         Ok(Names {
             said: Vec::new(alloc),
-            words: Vec::new(alloc),
-            slots: vec![in alloc; EMPTY; slots]?,
-            crowded: BTreeMap::new(alloc),
+            slots: vec![in alloc; 0u32; slots]?,
+            places: BTreeMap::new(alloc),
         })
     }
 
@@ -66,13 +60,13 @@ impl<'a> Names<'a> {
     pub(crate) fn place(&self, name: &str) -> Option<u32>
         ensures { result ≡ name_place_in self.now name.now }
     {
-        let word = word_of(name);
-        let at = self.slots[slot_of(word, name, self.slots.len())];
-        let said = self.said.get(at as usize)?;
-        if is_same(self.words[at as usize], word, said, name) {
-            return Some(at);
+        let at = self.slots[slot_of(name, self.slots.len())];
+        if let Some(said) = self.said.get(at as usize) {
+            if *said == name {
+                return Some(at);
+            }
         }
-        self.crowded.get(name).copied()
+        self.places.get(name).copied()
     }
 
     // The names, and one more at the end.
@@ -84,17 +78,14 @@ impl<'a> Names<'a> {
         if known {
             let Names {
                 mut said,
-                mut words,
                 slots,
-                crowded,
+                places,
             } = self;
             said.push(name)?;
-            words.push(word_of(name))?;
             return Ok(Names {
                 said,
-                words,
                 slots,
-                crowded,
+                places,
             });
         }
         self.with_new(name)
@@ -108,40 +99,28 @@ impl<'a> Names<'a> {
     {
         let Names {
             mut said,
-            mut words,
             mut slots,
-            mut crowded,
+            mut places,
         } = self;
         let count = said.len() as u32;
-        let word = word_of(name);
         said.push(name)?;
-        words.push(word)?;
-        let slot = slot_of(word, name, slots.len());
-        if slots[slot] == EMPTY {
-            slots[slot] = count;
-            return Ok(Names {
-                said,
-                words,
-                slots,
-                crowded,
-            });
-        }
-        crowded.insert(name, count)?;
+        let slot = slot_of(name, slots.len());
+        slots[slot] = count;
+        places.insert(name, count)?;
         Ok(Names {
             said,
-            words,
             slots,
-            crowded,
+            places,
         })
     }
 }
 
-// A text of 1 to 7 bytes as one number that tells it from all others: its length, and then its bytes. 0 of any other text.
-#[tactic(auto, unfolding(crate::specs::Indexed::word_for))]
-fn word_of(name: &str) -> u64
-    ensures { result ≡ word_for name.now }
+// The slot of a text, by its bytes: of 1 to 7 bytes these are one number, and else a word is made of them.
+fn slot_of(name: &str, slots: usize) -> usize
+    requires { 0 < slots }
+    ensures { result < slots }
 {
-    match name.as_bytes() {
+    let word = match name.as_bytes() {
         [a] => u64::from_le_bytes([1, *a, 0, 0, 0, 0, 0, 0]),
         [a, b] => u64::from_le_bytes([2, *a, *b, 0, 0, 0, 0, 0]),
         [a, b, c] => u64::from_le_bytes([3, *a, *b, *c, 0, 0, 0, 0]),
@@ -149,39 +128,13 @@ fn word_of(name: &str) -> u64
         [a, b, c, d, e] => u64::from_le_bytes([5, *a, *b, *c, *d, *e, 0, 0]),
         [a, b, c, d, e, f] => u64::from_le_bytes([6, *a, *b, *c, *d, *e, *f, 0]),
         [a, b, c, d, e, f, g] => u64::from_le_bytes([7, *a, *b, *c, *d, *e, *f, *g]),
-        _ => 0,
-    }
-}
-
-// Whether two texts are the same, by their words where these tell.
-fn is_same(held: u64, word: u64, said: &str, name: &str) -> bool
-    requires held { held ≡ word_for said.now }
-    requires word { word ≡ word_for name.now }
-    ensures { result ≡ bytes_eq said.now name.now }
-{
-    if held != word {
-        return false;
-    }
-    if word != 0 {
-        return true;
-    }
-    said == name
-}
-
-// The slot of a text, by its word, or by a word of its bytes where it has none.
-#[tactic(auto, unfolding(crate::specs::Indexed::slot_for))]
-fn slot_of(word: u64, name: &str, slots: usize) -> usize
-    requires some { 0 < slots }
-    requires word { word ≡ word_for name.now }
-    ensures within { result < slots }
-    ensures slot { result ≡ slot_for slots name.now }
-{
-    if word != 0 {
-        return (word.wrapping_mul(SPREAD) >> 32) as usize % slots;
-    }
-    let mut hasher = FoldHasher::default();
-    hasher.write(name.as_bytes());
-    hasher.finish() as usize % slots
+        bytes => {
+            let mut hasher = FoldHasher::default();
+            hasher.write(bytes);
+            return hasher.finish() as usize % slots;
+        }
+    };
+    (word.wrapping_mul(SPREAD) >> 32) as usize % slots
 }
 
 // The error of a name that refers to nothing.

@@ -153,7 +153,7 @@ fn places_to(
     count_to(alloc, &path, MOST_PLACES, places)
 }
 
-#[tactic(auto, unfolding(crate::specs::RunPart::run_members_faults, crate::specs::RunPart::run_members))]
+#[tactic(auto, using(crate::proofs::Firsts::firsts), unfolding(crate::specs::RunPart::run_members_faults, crate::specs::RunPart::run_members))]
 fn run_members(
     alloc: Global,
     run: &Value,

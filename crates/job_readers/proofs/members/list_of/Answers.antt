@@ -1,11 +1,7 @@
 use Rattle.job_readers.proofs.Common.{arith, err_from_is_err_and, length-map}
 use Rattle.job_readers.specs.Members.{list_member, list_member_faults}
-use Rattle.job_readers.proofs.Firsts.{fails_before, fails_later}
+use Rattle.job_readers.proofs.Firsts.{fails_later}
 use Rattle.job_readers.proofs.members.list_of.Goals as goal
-
-pub returns-in_err-items-clause-read : goal.returns-in_err-items-clause-read
-unfolding list_member_faults
-returns-in_err-items-clause-read c = grind (arith, err_from_is_err_and c.from_residual.result c.from_residual.ensures.1, fails_before)
 
 pub returns-in_err-count_to-clause-read : goal.returns-in_err-count_to-clause-read
 unfolding list_member_faults
