@@ -16,11 +16,6 @@ abbrev Has : List Block → ℕ → Type 0
 Has [] k = ⊥
 Has (p ∷ ps) k = Matches p k ⊎ Has ps k
 
--- none of the blocks has it
-abbrev Free : List Block → ℕ → Type 0
-Free [] k = Unit {0}
-Free (e ∷ es) k = (Matches e k → ⊥) × Free es k
-
 -- no two pieces have one key
 abbrev Apart : List Block → Type 0
 Apart [] = Unit {0}
@@ -118,25 +113,7 @@ less_of_apart : (p e : Block) → Apart (less_of p e)
 unfolding less_of
 less_of_apart p e = less_apart 32 p e
 
--- ---- one piece less a block
-
-module _ (e p : Block) where
-  apart_met : meets p e ≡ true → apart_of e p ≡ less_of p e
-  apart_met met = ap (λ b. if b then less_of p e else p ∷ []) met
-
-  apart_unmet : meets p e ≡ false → apart_of e p ≡ p ∷ []
-  apart_unmet unmet = ap (λ b. if b then less_of p e else p ∷ []) unmet
-
-  apart_sub : (k : ℕ) → k < 2 ^ 32 → Has (apart_of e p) k → Matches p k × (Matches e k → ⊥)
-  apart_sub k small has = grind (arith, meets_tells p e, less_of_sub, apart_met, apart_unmet)
-
-  apart_whole : (k : ℕ) → Matches p k → (Matches e k → ⊥) → Has (apart_of e p) k
-  apart_whole k m miss = grind (arith, meets_tells p e, apart_met, less_of_whole, apart_unmet)
-
-  apart_apart : Apart (apart_of e p)
-  apart_apart = grind (arith, meets_tells p e, less_of_apart p e, apart_met, apart_unmet)
-
--- ---- all pieces less a block
+-- ---- pieces of several lists
 
 has_left : (xs ys : List Block) (k : ℕ) → Has xs k → Has (xs ++ ys) k
 has_left [] ys k has = absurd has
@@ -162,40 +139,61 @@ apart_both (x ∷ xs) ys left right across = (
   apart_both xs ys left.1 right (λ k small has other. across k small (inr has) other),
 )
 
+-- ---- what is left of pieces without the keys of a block
+
+record AreLeft (e : Block) (ps final : List Block) : Type 0 where
+  sub : (k : ℕ) → k < 2 ^ 32 → Has final k → Has ps k × (Matches e k → ⊥)
+  whole : (k : ℕ) → Has ps k → (Matches e k → ⊥) → Has final k
+  apart : Apart ps → Apart final
+
+of_one : (p : Block) (k : ℕ) → Has (p ∷ []) k → Matches p k
+of_one p k (inl has) = has
+of_one p k (inr none) = absurd none
+
+one_apart : (p : Block) → Apart (p ∷ [])
+one_apart p = (λ k small has none. none, tt)
+
 module _ (e : Block) where
-  each_sub : (ps : List Block) (k : ℕ) → k < 2 ^ 32 → Has (flat_map (apart_of e) ps) k → Has ps k × (Matches e k → ⊥)
-  each_sub [] k small has = absurd has
-  each_sub (p ∷ ps) k small has = elim (has_either (apart_of e p) (flat_map (apart_of e) ps) k has) [
-    | inl first ↦ let of_p = apart_sub e p k small first in (inl of_p.0, of_p.1)
-    | inr later ↦ let of_ps = each_sub ps k small later in (inr of_ps.0, of_ps.1)
+  -- pieces of which none has a key of the block
+  untouched : (ps : List Block) → ((k : ℕ) → k < 2 ^ 32 → Has ps k → Matches e k → ⊥) → AreLeft e ps ps
+  untouched ps none = record { sub = λ k small has. (has, none k small has); whole = λ k has miss. has; apart = λ apart. apart }
+
+  one_left : (p : Block) → AreLeft e (p ∷ []) (apart_of e p)
+  one_left p = elim (meets_tells p e) [
+    | inl met ↦ subst (AreLeft e (p ∷ [])) (sym (ap (λ b. if b then less_of p e else p ∷ []) met.0)) (record {
+      sub = λ k small has. (let of_p = less_of_sub p e k has in (inl of_p.0, of_p.1));
+      whole = λ k has miss. less_of_whole p e k met.1 (of_one p k has) miss;
+      apart = λ apart. less_of_apart p e;
+    })
+    | inr unmet ↦ subst (AreLeft e (p ∷ [])) (sym (ap (λ b. if b then less_of p e else p ∷ []) unmet.0))
+        (untouched (p ∷ []) (λ k small has hit. unmet.1 (record { key = k; small = small; first = of_one p k has; second = hit })))
   ]
 
-  each_whole : (ps : List Block) (k : ℕ) → Has ps k → (Matches e k → ⊥) → Has (flat_map (apart_of e) ps) k
-  each_whole [] k has miss = absurd has
-  each_whole (p ∷ ps) k (inl first) miss = has_left (apart_of e p) (flat_map (apart_of e) ps) k (apart_whole e p k first miss)
-  each_whole (p ∷ ps) k (inr later) miss = has_right (apart_of e p) (flat_map (apart_of e) ps) k (each_whole ps k later miss)
+  all_left : (ps : List Block) → AreLeft e ps (flat_map (apart_of e) ps)
+  all_left [] = record { sub = λ k small has. absurd has; whole = λ k has miss. has; apart = λ apart. apart }
+  all_left (p ∷ ps) =
+      let one = one_left p in
+      let rest = all_left ps in
+      record {
+        sub = λ k small has. elim (has_either (apart_of e p) (flat_map (apart_of e) ps) k has) [
+          | inl first ↦ let of_p = one.sub k small first in (inl (of_one p k of_p.0), of_p.1)
+          | inr later ↦ let of_ps = rest.sub k small later in (inr of_ps.0, of_ps.1)
+        ];
+        whole = λ k has miss. elim has [
+          | inl first ↦ has_left (apart_of e p) (flat_map (apart_of e) ps) k (one.whole k (inl first) miss)
+          | inr later ↦ has_right (apart_of e p) (flat_map (apart_of e) ps) k (rest.whole k later miss)
+        ];
+        apart = λ apart. apart_both (apart_of e p) (flat_map (apart_of e) ps) (one.apart (one_apart p)) (rest.apart apart.1)
+            (λ k small in_one in_rest. apart.0 k small (of_one p k (one.sub k small in_one).0) (rest.sub k small in_rest).0);
+      }
 
-  each_apart : (ps : List Block) → Apart ps → Apart (flat_map (apart_of e) ps)
-  each_apart [] apart = tt
-  each_apart (p ∷ ps) apart = grind (arith, apart_apart e p, each_apart ps apart.1, apart_both, apart_sub, each_sub)
-
--- ---- one block after another
-
-module _ (block e : Block) (ps : List Block) where
-  by_met : meets block e ≡ true → cut_by block e ps ≡ flat_map (apart_of e) ps
-  by_met met = ap (λ b. if b then flat_map (apart_of e) ps else ps) met
-
-  by_unmet : meets block e ≡ false → cut_by block e ps ≡ ps
-  by_unmet unmet = ap (λ b. if b then flat_map (apart_of e) ps else ps) unmet
-
-  by_sub : ((k : ℕ) → k < 2 ^ 32 → Has ps k → Matches block k) → (k : ℕ) → k < 2 ^ 32 → Has (cut_by block e ps) k → Has ps k × (Matches e k → ⊥)
-  by_sub inside k small has = grind (arith, meets_tells block e, each_sub, by_met, by_unmet)
-
-  by_whole : (k : ℕ) → Has ps k → (Matches e k → ⊥) → Has (cut_by block e ps) k
-  by_whole k has miss = grind (arith, meets_tells block e, each_whole e ps k has miss, by_met, by_unmet)
-
-  by_apart : Apart ps → Apart (cut_by block e ps)
-  by_apart apart = grind (arith, meets_tells block e, each_apart e ps apart, by_met, by_unmet)
+  -- the pieces of a block after it is cut by one more
+  cut_left : (block : Block) (ps : List Block) → ((k : ℕ) → k < 2 ^ 32 → Has ps k → Matches block k) → AreLeft e ps (cut_by block e ps)
+  cut_left block ps inside = elim (meets_tells block e) [
+    | inl met ↦ subst (AreLeft e ps) (sym (ap (λ b. if b then flat_map (apart_of e) ps else ps) met.0)) (all_left ps)
+    | inr unmet ↦ subst (AreLeft e ps) (sym (ap (λ b. if b then flat_map (apart_of e) ps else ps) unmet.0))
+        (untouched ps (λ k small has hit. unmet.1 (record { key = k; small = small; first = inside k small has; second = hit })))
+  ]
 
 -- where few pieces were asked for and given, they are few
 where_few : (b : Bool) (all : Option (List Block)) (final : List Block) → (if b then all else None) ≡ Some final → all ≡ Some final
@@ -204,37 +202,30 @@ where_few false all final same = absurd (none-some final same)
 
 -- what is cut from the pieces by all that follow
 record IsCut (ps es final : List Block) : Type 0 where
-  pub sub : (k : ℕ) → k < 2 ^ 32 → Has final k → Has ps k × Free es k
-  pub whole : (k : ℕ) → Has ps k → Free es k → Has final k
+  pub sub : (k : ℕ) → k < 2 ^ 32 → Has final k → Has ps k × NoneHas es k
+  pub whole : (k : ℕ) → Has ps k → NoneHas es k → Has final k
   pub apart : Apart ps → Apart final
 
 cut_from_is : (room : ℕ) (block : Block) (es ps final : List Block) → ((k : ℕ) → k < 2 ^ 32 → Has ps k → Matches block k) → cut_from room block ps es ≡ Some final → IsCut ps es final
 cut_from_is room block [] ps final inside same =
     let is : ps ≡ final = same_Some ps final (where_few (nat_le (length ps) room) (Some ps) final same) in record {
-      sub = λ k small has. (subst (λ xs. Has xs k) (sym is) has, tt);
+      sub = λ k small has. (subst (λ xs. Has xs k) (sym is) has, All-nil (λ (x : Block). Matches x k → ⊥));
       whole = λ k has free. subst (λ xs. Has xs k) is has;
       apart = λ apart. subst Apart is apart;
     }
 cut_from_is room block (e ∷ es) ps final inside same =
-    let rest = cut_from_is room block es (cut_by block e ps) final (λ k small has. inside k small (by_sub block e ps inside k small has).0)
+    let left = cut_left e block ps inside in
+    let rest = cut_from_is room block es (cut_by block e ps) final (λ k small has. inside k small (left.sub k small has).0)
     (where_few (nat_le (length ps) room) (cut_from room block (cut_by block e ps) es) final same) in record {
       sub = λ k small has.
           let after = rest.sub k small has in
-          let before = by_sub block e ps inside k small after.0 in
-          (before.0, (before.1, after.1));
-      whole = λ k has free. rest.whole k (by_whole block e ps k has free.0) free.1;
-      apart = λ apart. rest.apart (by_apart block e ps apart);
+          let before = left.sub k small after.0 in
+          (before.0, All-cons (λ (x : Block). Matches x k → ⊥) e es before.1 after.1);
+      whole = λ k has free. rest.whole k (left.whole k has (All-head (λ (x : Block). Matches x k → ⊥) e es free)) (All-tail (λ (x : Block). Matches x k → ⊥) e es free);
+      apart = λ apart. rest.apart (left.apart apart);
     }
 
 -- ---- the same, of all items of a list
-
-free_all : (es : List Block) (k : ℕ) → Free es k → NoneHas es k
-free_all [] k free = All-nil (λ (e : Block). Matches e k → ⊥)
-free_all (e ∷ es) k free = All-cons (λ (x : Block). Matches x k → ⊥) e es free.0 (free_all es k free.1)
-
-all_free : (es : List Block) (k : ℕ) → NoneHas es k → Free es k
-all_free [] k none = tt
-all_free (e ∷ es) k none = (All-head (λ (x : Block). Matches x k → ⊥) e es none, all_free es k (All-tail (λ (x : Block). Matches x k → ⊥) e es none))
 
 has_piece : (ps : List Block) (k : ℕ) → Has ps k → HasPiece ps k
 has_piece [] k has = absurd has
@@ -255,18 +246,14 @@ apart_pairs (p ∷ ps) apart =
 
 pieces_of : (room : ℕ) (block : Block) (others final : List Block) → cut room block others ≡ Some final → ArePieces block others final
 pieces_of room block others final same = record {
-  inside = λ i d within k small m. of_block k (cut_is.sub k small (has_at final i d k within m)).0;
-  clear = λ i d within k small m. free_all others k (cut_is.sub k small (has_at final i d k within m)).1;
-  whole = λ k small m none. has_piece final k (cut_is.whole k (inl m) (all_free others k none));
-  apart = apart_pairs final (cut_is.apart (λ k small m none. none, tt));
+  inside = λ i d within k small m. of_one block k (cut_is.sub k small (has_at final i d k within m)).0;
+  clear = λ i d within k small m. (cut_is.sub k small (has_at final i d k within m)).1;
+  whole = λ k small m none. has_piece final k (cut_is.whole k (inl m) none);
+  apart = apart_pairs final (cut_is.apart (one_apart block));
 }
   where
-    of_block : (k : ℕ) → Has (block ∷ []) k → Matches block k
-    of_block k (inl m) = m
-    of_block k (inr none) = absurd none
-
     cut_is : IsCut (block ∷ []) others final
-    cut_is = cut_from_is room block others (block ∷ []) final (λ k small has. of_block k has) same
+    cut_is = cut_from_is room block others (block ∷ []) final (λ k small has. of_one block k has) same
 
 pub are_pieces : (room : ℕ) (block : Block) (others : List Block) (given : Option (List Block)) → given ≡ cut room block others → IfSome given (ArePieces block others)
 are_pieces room block others None same = tt

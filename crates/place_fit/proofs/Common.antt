@@ -10,7 +10,7 @@ pub use Rattle.place_fit.specs.{Placement.memory_of, Placement.need_of, Placemen
 pub use Rattle.place_fit.specs.{Standing.ArePlaced, Standing.IsChipTold, Standing.Stands, declared.boards.Board.Board, declared.boards.Placed.Placed}
 pub use Rattle.spin_base.proofs.{Determined.EachFollows, Determined.determined_begins, Equality.chip_eq_same, Equality.chip_eq_true, Equality.spot_eq_same, Equality.spot_eq_true}
 pub use Rattle.spin_base.proofs.{Members.among_contains, Members.any_among, Places.All-at, Places.slice_get-append_left, Places.slice_get-push_cases, Places.slice_get-pushed, Places.slice_get_there}
-pub use Rattle.spin_base.proofs.{Spots.dir_at-dir_number, Tests.or_neither}
+pub use Rattle.spin_base.proofs.{Places.slice_get-mapped, Places.unmapped, Spots.dir_at-dir_number, Tests.or_neither}
 pub use Rattle.spin_base.specs.{Equality.chip_eq, Equality.spot_eq, Links.dir_at, Links.dir_number, declared.chips.Chip.Chip, declared.chips.Dir.Dir, declared.chips.Spot.Spot}
 pub use Rattle.std.proofs.Common.{All, AllPairs, Bool, List, MatchOption, None, Option, Some, [], ap, ap₂, arith, cond, drop, eqb, false, filter, get_or, inl, inr, is_none, leb, length, ltb, map, max}
 pub use Rattle.std.proofs.Common.{not, refl, replicate, rules, set, slice_get, slice_index, slice_set, subst, suc, sym, take, true, zero, ℕ, ◌%◌, ◌&&◌, ◌*◌, ◌++◌, ◌+◌, ◌-◌, ◌/◌, ◌<◌, ◌==◌, ◌^◌, ◌||◌}

@@ -1,7 +1,7 @@
 -- The curve of a level has each chip of its square at one place.
 use Rattle.place_fit.proofs.Common.{All, All-append, All-cons, All-map, All-nil, All-weaker, Chip, List, Some, [], ap, ap₂, arith, cases_lt, four_quarters, get_or_from_slice_get, inl, inr, le_trans}
-use Rattle.place_fit.proofs.Common.{length, length-append, length-map, lowered, map, moved, moved_back, mul-le-mul_left, mul-le-mul_right, nat_tests, pow_mono, pow_more, raised, refl, slice_get}
-use Rattle.place_fit.proofs.Common.{slice_get_within, subst, suc, swapped, sym, turned, turned_back, zero, ℕ, ◌*◌, ◌++◌, ◌+◌, ◌-◌, ◌<◌, ◌^◌, ◌∙◌, ◌∷◌, ◌≡◌, ◌≢◌, ◌≤◌, ◌⊎◌}
+use Rattle.place_fit.proofs.Common.{length, length-append, length-map, lowered, map, moved, moved_back, mul-le-mul_left, mul-le-mul_right, nat_tests, pow_mono, pow_more, raised, refl}
+use Rattle.place_fit.proofs.Common.{slice_get, slice_get-append_left, slice_get-mapped, slice_get_within, subst, suc, swapped, sym, turned, turned_back, unmapped, zero, ℕ, ◌*◌, ◌++◌, ◌+◌, ◌-◌, ◌<◌, ◌^◌, ◌∙◌, ◌∷◌, ◌≡◌, ◌≢◌, ◌≤◌, ◌⊎◌}
 use Rattle.place_fit.specs.{Curve.hilbert, Quarters.curve_place}
 
 -- the chip is in a square of that side
@@ -49,11 +49,6 @@ hilbert_length (suc k) = ap length (hilbert-suc k) ∙ (quarters_length (2 ^ k) 
 
 -- ---- items of joined and mapped lists
 
-get_left : (xs ys : List Chip) (i : ℕ) (c : Chip) → slice_get xs i ≡ Some c → slice_get (xs ++ ys) i ≡ Some c
-get_left [] ys i c e = cc
-get_left (x ∷ xs) ys zero c e = e
-get_left (x ∷ xs) ys (suc i) c e = get_left xs ys i c e
-
 get_right : (xs ys : List Chip) (i j : ℕ) → j ≡ length xs + i → slice_get (xs ++ ys) j ≡ slice_get ys i
 get_right [] ys i j e = let s : j ≡ i = omega arith in ap (slice_get ys) s
 get_right (x ∷ xs) ys i zero e = absurd (omega arith)
@@ -64,16 +59,6 @@ get_joined : (xs ys : List Chip) (i : ℕ) (c : Chip) → slice_get (xs ++ ys) i
 get_joined [] ys i c e = inr (i, omega arith, e)
 get_joined (x ∷ xs) ys zero c e = inl e
 get_joined (x ∷ xs) ys (suc i) c e = grind (arith, get_joined xs ys i c e)
-
-get_map : (f : Chip → Chip) (xs : List Chip) (i : ℕ) (c : Chip) → slice_get xs i ≡ Some c → slice_get (map f xs) i ≡ Some (f c)
-get_map f [] i c e = cc
-get_map f (x ∷ xs) zero c e = let s : x ≡ c = cc in ap (λ z. Some (f z)) s
-get_map f (x ∷ xs) (suc i) c e = get_map f xs i c e
-
-get_mapped : (f : Chip → Chip) (xs : List Chip) (i : ℕ) (c : Chip) → slice_get (map f xs) i ≡ Some c → (b : Chip) × (slice_get xs i ≡ Some b) × (f b ≡ c)
-get_mapped f [] i c e = cc
-get_mapped f (x ∷ xs) zero c e = (x, refl, cc)
-get_mapped f (x ∷ xs) (suc i) c e = get_mapped f xs i c e
 
 -- ---- the place of a chip by its quarter
 
@@ -119,15 +104,15 @@ at_place (suc k) c inside =
       | inl left ↦ elim (cases_lt c.y s) [
         | inl low ↦ (
             ap (slice_get (four_quarters s h)) (lower_left k c left low)
-            ∙ get_left (map swapped h) upper (curve_place k (swapped c)) c (get_map swapped h (curve_place k (swapped c)) (swapped c) (at_place k (swapped c) (low, left)))
+            ∙ slice_get-append_left (map swapped h) upper (curve_place k (swapped c)) c (slice_get-mapped swapped h (curve_place k (swapped c)) (swapped c) (at_place k (swapped c) (low, left)))
             )
         | inr high ↦ (
             let b = lowered s c in
             let back : raised s b ≡ c = chip_is c.x (c.y - s + s) c refl (omega arith) in
             ap (slice_get (four_quarters s h)) (upper_left k c left high)
             ∙ get_right (map swapped h) upper (curve_place k b) (s * s + curve_place k b) (omega (arith, run_of k swapped))
-            ∙ get_left (map (raised s) h) right (curve_place k b) c
-            (get_map (raised s) h (curve_place k b) b (at_place k b (left, omega (arith, inside.1, sides))) ∙ ap Some back)
+            ∙ slice_get-append_left (map (raised s) h) right (curve_place k b) c
+            (slice_get-mapped (raised s) h (curve_place k b) b (at_place k b (left, omega (arith, inside.1, sides))) ∙ ap Some back)
             )
       ]
       | inr far ↦ elim (cases_lt c.y s) [
@@ -138,7 +123,7 @@ at_place (suc k) c inside =
             ∙ get_right (map swapped h) upper (2 * (s * s) + curve_place k b) (3 * (s * s) + curve_place k b) (omega (arith, run_of k swapped))
             ∙ get_right (map (raised s) h) right (s * s + curve_place k b) (2 * (s * s) + curve_place k b) (omega (arith, run_of k (raised s)))
             ∙ get_right (map (moved s) h) (map (turned s) h) (curve_place k b) (s * s + curve_place k b) (omega (arith, run_of k (moved s)))
-            ∙ get_map (turned s) h (curve_place k b) b (at_place k b (omega (arith, low), omega (arith, far, inside.0, sides)))
+            ∙ slice_get-mapped (turned s) h (curve_place k b) b (at_place k b (omega (arith, low), omega (arith, far, inside.0, sides)))
             ∙ ap Some back
             )
         | inr high ↦ (
@@ -147,8 +132,8 @@ at_place (suc k) c inside =
             ap (slice_get (four_quarters s h)) (upper_right k c far high)
             ∙ get_right (map swapped h) upper (s * s + curve_place k b) (2 * (s * s) + curve_place k b) (omega (arith, run_of k swapped))
             ∙ get_right (map (raised s) h) right (curve_place k b) (s * s + curve_place k b) (omega (arith, run_of k (raised s)))
-            ∙ get_left (map (moved s) h) (map (turned s) h) (curve_place k b) c
-            (get_map (moved s) h (curve_place k b) b (at_place k b (omega (arith, inside.0, sides, far), omega (arith, inside.1, sides, high))) ∙ ap Some back)
+            ∙ slice_get-append_left (map (moved s) h) (map (turned s) h) (curve_place k b) c
+            (slice_get-mapped (moved s) h (curve_place k b) b (at_place k b (omega (arith, inside.0, sides, far), omega (arith, inside.1, sides, high))) ∙ ap Some back)
             )
       ]
     ]
@@ -168,13 +153,13 @@ place_at (suc k) i c e =
     let whole : slice_get (four_quarters s h) i ≡ Some c = sym (ap (λ l. slice_get l i) (hilbert-suc k)) ∙ e in
     elim (get_joined (map swapped h) upper i c whole) [
       | inl first ↦ (
-          let (b, here, is) = get_mapped swapped h i c first in
+          let (b, here, is) = unmapped swapped h i c first in
           let in_b = inside_at k i b here in
           subst (λ z. curve_place (suc k) z ≡ i) is (lower_left k (swapped b) in_b.1 in_b.0 ∙ place_at k i b here)
           )
       | inr (j, i_is, later) ↦ elim (get_joined (map (raised s) h) right j c later) [
         | inl second ↦ (
-            let (b, here, is) = get_mapped (raised s) h j c second in
+            let (b, here, is) = unmapped (raised s) h j c second in
             let in_b = inside_at k j b here in
             let back : lowered s (raised s b) ≡ b = chip_is b.x (b.y + s - s) b refl (omega arith) in
             subst (λ z. curve_place (suc k) z ≡ i) is
@@ -183,14 +168,14 @@ place_at (suc k) i c e =
             )
         | inr (n, j_is, last) ↦ elim (get_joined (map (moved s) h) (map (turned s) h) n c last) [
           | inl third ↦ (
-              let (b, here, is) = get_mapped (moved s) h n c third in
+              let (b, here, is) = unmapped (moved s) h n c third in
               let back : moved_back s (moved s b) ≡ b = chip_is (b.x + s - s) (b.y + s - s) b (omega arith) (omega arith) in
               subst (λ z. curve_place (suc k) z ≡ i) is
               (upper_right k (moved s b) (omega arith) (omega arith) ∙ ap (λ z. 2 * (s * s) + curve_place k z) back
               ∙ omega (arith, place_at k n b here, i_is, j_is, run_of k swapped, run_of k (raised s)))
               )
           | inr (p, n_is, fourth) ↦ (
-              let (b, here, is) = get_mapped (turned s) h p c fourth in
+              let (b, here, is) = unmapped (turned s) h p c fourth in
               let in_b = inside_at k p b here in
               let back : turned_back s (turned s b) ≡ b = chip_is (s - 1 - (s - 1 - b.x)) (2 * s - 1 - (2 * s - 1 - b.y)) b (omega (arith, in_b.0)) (omega (arith, in_b.1)) in
               subst (λ z. curve_place (suc k) z ≡ i) is
