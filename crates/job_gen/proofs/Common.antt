@@ -31,7 +31,8 @@ pub use Rattle.spin_base.specs.declared.chips.{Dir.TheVariants.South, Dir.TheVar
 pub use Rattle.std.proofs.Common.{All, Bool, List, MatchOption, None, Option, Some, [], add-one, ap, arith, codes, decimal, false, filter, get_or, if◌then◌else◌, inl, inr, length, length-append, map}
 pub use Rattle.std.proofs.Common.{not, option_and_then, option_map, refl, slice_get, slice_index, subst, suc, sym, take, true, zero, ℕ, ◌%◌, ◌&&◌, ◌*◌, ◌++◌, ◌+◌, ◌-◌, ◌/◌, ◌<◌, ◌^◌, ◌||◌, ◌∙◌, ◌∷◌}
 pub use Rattle.std.proofs.Common.{◌≡◌, ◌≤◌, ◌⊎◌}
-pub use Rattle.std.proofs.{Common.rules, Math.Pow.pow_mono, iter.runs.Made.chains, lemmas.Bool.agree_below, lemmas.Bool.agree_below_at, lemmas.Bool.and_from, lemmas.Bool.and_parts, lemmas.Bool.cases_Bool, lemmas.Bool.cases_lt}
+pub use Rattle.std.proofs.{Common.rules, Math.Pow.pow_mono, iter.runs.Made.chains, lemmas.Bool.agree_below}
+pub use Rattle.std.proofs.{lemmas.Bool.agree_below_at, lemmas.Bool.and_from, lemmas.Bool.and_parts, lemmas.Bool.cases_Bool, lemmas.Bool.cases_lt}
 pub use Rattle.std.proofs.lemmas.Bool.{cond_both, false_from_ne_true, false≢true, le-leb, leb-true, lt-ltb, ltb-true, ne_eqb, not-true, not_from_false, or_cases, or_left, or_right, true≢false}
 pub use Rattle.std.proofs.lemmas.{Fmt.decimal_by_steps, Fmt.decimal_injective, Fmt.length-decimal-le, List.Elements.All-cons, List.Elements.All-get_or, List.Elements.All-head, List.Elements.All-map}
 pub use Rattle.std.proofs.lemmas.List.{Elements.All-nil, Elements.All-push, Elements.All-tail, Elements.All-take, Elements.filter_passes, Folds.list_all-append, Sorted.length_permutation, append-nil}

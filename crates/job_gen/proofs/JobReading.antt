@@ -4,14 +4,14 @@ use Rattle.job_gen.proofs.Common.{generated_net_name, generated_vertex, if◌the
 use Rattle.job_gen.proofs.Common.{slice_index, unwrap_or, vertex_data, vertex_value, ℕ, ◌+◌, ◌-◌, ◌<◌, ◌∙◌, ◌∷◌, ◌≡◌, ◌≤◌}
 use Rattle.app_graph.specs.RunPart.{key_count_of}
 use Rattle.job_readers.specs.{Items.items_faults, Members.flag_member, Members.flag_member_faults, Members.list_member, Members.number_member, Members.number_member_faults, Members.optional_number}
-use Rattle.job_readers.specs.{Entries.chip_faults, Entries.chip_value, Job.job_own_faults, Members.list_member_faults, Members.long_list_member_faults, Places.reference_faults, Places.reference_value}
-use Rattle.job_readers.specs.{Job.version_faults, Job.version_value, MachinePart.entries_faults, MachinePart.machine_faults, MachinePart.machine_members, MachinePart.machine_members_faults}
-use Rattle.job_readers.specs.{GraphPart.graph_faults, GraphPart.graph_members, GraphPart.graph_members_faults, GraphPart.graph_value, GraphPart.name_value, MachinePart.machine_value}
+use Rattle.job_readers.specs.{Members.list_member_faults, Members.long_list_member_faults, Entries.chip_faults, Entries.chip_value, Job.job_own_faults, Job.version_faults, Job.version_value}
+use Rattle.job_readers.specs.{Places.reference_faults, Places.reference_value, MachinePart.entries_faults, MachinePart.machine_faults, MachinePart.machine_members, MachinePart.machine_members_faults}
+use Rattle.job_readers.specs.{MachinePart.machine_value, GraphPart.graph_faults, GraphPart.graph_members, GraphPart.graph_members_faults, GraphPart.graph_value, GraphPart.name_value}
 use Rattle.job_readers.specs.{GraphPart.net_names, GraphPart.net_value, GraphPart.nets_faults, GraphPart.nets_value, GraphPart.vertices_faults, GraphPart.vertices_value, RunPart.events_faults}
 use Rattle.job_readers.specs.RunPart.{events_value, packet_faults, packet_net, packet_net_faults, packet_value, packets_faults, packets_value, places_faults, run_faults, run_members_faults}
 use Rattle.job_readers.specs.{RunPart.run_members, RunPart.run_value, WholeJob.job_faults, WholeJob.job_value}
 use Rattle.job_gen.specs.{Draws.keys_at, Values.dead_pairs, Values.gen_value, Values.graph_data, Values.job_data, Values.machine_data, Values.net_data, Values.numbered, Values.packet_data}
-use Rattle.job_gen.specs.{Board.generated_board, Generated.gen_job, Generated.generated_run, Generated.graph_of, Generated.job_of_drawn, Generated.net_of, Generated.packet_of, Values.run_data}
+use Rattle.job_gen.specs.{Values.run_data, Board.generated_board, Generated.gen_job, Generated.generated_run, Generated.graph_of, Generated.job_of_drawn, Generated.net_of, Generated.packet_of}
 use Rattle.job_gen.proofs.{NameLemmas.found, NameLemmas.named, ListReading.items_clean, ListReading.items_are, ListReading.numbered_are, ListReading.length-numbered, ListReading.following_clean}
 use Rattle.job_gen.proofs.GraphReading.{within, vertex_clean, vertex_is, vertex_named, net_clean, net_is, net_named}
 use Rattle.job_gen.proofs.{DrawnLaws.is_drawn, Joined.live_chips}

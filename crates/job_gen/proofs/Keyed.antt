@@ -1,7 +1,7 @@
 -- Nets that need at most 16 keys each, and have none fixed: the first i nets take keys below 16 * i, so a range is left.
 use Rattle.job_gen.proofs.Common.{AreFirstBlocks, AreKeysOut, Block, IsLeastBlock, IsOpenPlace, IsPowerOfTwo, IsSizeFor, List, MatchOption, MissesRange, Net, None, Some, [], and_parts, arith}
-use Rattle.job_gen.proofs.Common.{cases_lt, fixed_of, get_or, get_or-take, inl, inr, leb-true, length, length-take, ltb-true, pow_mono, refl, size_of, slice_get, slice_get-get_or, slice_get_there, slice_get_within}
-use Rattle.job_gen.proofs.Common.{subst, suc, sym, take, take_all, zero, ℕ, ◌%◌, ◌*◌, ◌++◌, ◌+◌, ◌<◌, ◌^◌, ◌∷◌, ◌≡◌, ◌≤◌, ◌⊎◌}
+use Rattle.job_gen.proofs.Common.{cases_lt, fixed_of, get_or, get_or-take, inl, inr, leb-true, length, length-take, ltb-true, pow_mono, refl, size_of, slice_get, slice_get-get_or, slice_get_there}
+use Rattle.job_gen.proofs.Common.{slice_get_within, subst, suc, sym, take, take_all, zero, ℕ, ◌%◌, ◌*◌, ◌++◌, ◌+◌, ◌<◌, ◌^◌, ◌≡◌, ◌≤◌}
 
 -- ---- sizes
 

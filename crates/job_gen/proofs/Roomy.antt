@@ -1,8 +1,8 @@
 -- Up to 200 vertices of at most 1,048,576 bytes find room on the board. West and east, twelve chips have 204 cores, so one of these is
 -- free; and no two chips are short of memory at once, since each would have at least 128 of the vertices.
-use Rattle.job_gen.proofs.Common.{All, All-cons, All-head, All-nil, All-tail, All-take, All-at, Bool, Chip, Edge, HasDeviceRoom, HasNoRoom, HasRoom, IsChipOrder, IsCurveLevel, List, MatchOption, None, Option}
-use Rattle.job_gen.proofs.Common.{Some, Spot, Vertex, [], and_from, and_parts, ap, arith, cases_Bool, cases_lt, chip_eq, chip_eq_true, choices, core_spot, false, filter, if◌then◌else◌, inl, inr}
-use Rattle.job_gen.proofs.Common.{is_live_chip, is_none, is_usable, length, list_all, list_any, nat_lt, need_of, not, not-true, not_from_false, refl, slice_get, slice_get_within, spot_eq, spot_eq_same}
+use Rattle.job_gen.proofs.Common.{All, All-cons, All-head, All-nil, All-tail, All-take, All-at, Bool, Chip, Edge, HasDeviceRoom, HasNoRoom, HasRoom, IsChipOrder, IsCurveLevel, List, MatchOption, None}
+use Rattle.job_gen.proofs.Common.{Option, Some, Spot, Vertex, [], and_from, and_parts, ap, arith, cases_Bool, cases_lt, chip_eq, chip_eq_true, choices, core_spot, false, filter, if◌then◌else◌, inl}
+use Rattle.job_gen.proofs.Common.{inr, is_live_chip, is_none, is_usable, length, list_all, list_any, nat_lt, need_of, not, not-true, not_from_false, refl, slice_get_within, spot_eq, spot_eq_same}
 use Rattle.job_gen.proofs.Common.{spot_eq_true, subst, suc, sym, take, true, true≢false, used_on, zero, ℕ, ◌&&◌, ◌*◌, ◌+◌, ◌<◌, ◌∙◌, ◌∷◌, ◌≡◌, ◌≤◌, ◌⊎◌}
 use Rattle.std.specs.{Cmp.IsEquivalence, List.IsDistinct, List.flat_map}
 use Rattle.std.proofs.lemmas.{Cmp.nat_eq_equiv, List.Elements.All-contains, List.Sums.AllPass-from_list_all, Map.Made.IsDistinct-from_count, Map.Made.length-le_from_is_member}

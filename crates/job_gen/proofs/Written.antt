@@ -1,20 +1,18 @@
 -- The text of a generated job is short, and is read as its value.
-use Rattle.job_gen.proofs.Common.{All, All-get_or, All-head, All-map, All-tail, ArePrintable-json_tokens, Data, Drawn, DrawnNet, DrawnPacket, IsDrawn, IsDrawnNet, IsDrawnPacket, IsNumber-decimal, IsUtf8}
-use Rattle.job_gen.proofs.Common.{Bool, IsUtf8-append, IsUtf8-are_ascii, IsUtf8-quoted, Items, List, Members, Some, [], and_parts, ap, append-nil, arith, array, codes, comma_if, compact_text, cond_both}
-use Rattle.job_gen.proofs.Common.{decimal, decimal_by_steps, drawn, escape, false, has_float, item, items_have_float, items_of, items_outline, items_text, json_of, json_of-utf8, length}
-use Rattle.job_gen.proofs.Common.{length-append, length-decimal-le, length-map, list_all, lt-ltb, ltb-true, map, member, members_outline, members_text, nat_lt, no_items, no_members}
-use Rattle.job_gen.proofs.Common.{number, number_of-decimal, object, of_items, of_json, of_members, option_and_then, option_map, outline, pair_data, print-outline, quoted, refl}
-use Rattle.job_gen.proofs.Common.{string, subst, suc, sym, tokens, tokens-print, true, unsigned, value-json_tokens, zero, ℕ, ◌%◌, ◌&&◌, ◌*◌, ◌++◌, ◌+◌, ◌<◌, ◌^◌, ◌∙◌, ◌∷◌, ◌≡◌, ◌≤◌}
+use Rattle.job_gen.proofs.Common.{All, All-get_or, All-head, All-map, All-tail, ArePrintable-json_tokens, Data, Drawn, DrawnNet, DrawnPacket, IsDrawn, IsDrawnNet, IsDrawnPacket, IsNumber-decimal}
+use Rattle.job_gen.proofs.Common.{IsUtf8, Bool, IsUtf8-append, IsUtf8-are_ascii, IsUtf8-quoted, Items, List, Members, Some, [], and_parts, ap, append-nil, arith, array, codes, comma_if, compact_text}
+use Rattle.job_gen.proofs.Common.{cond_both, decimal, decimal_by_steps, drawn, escape, false, has_float, item, items_have_float, items_of, items_outline, items_text, json_of, json_of-utf8, length}
+use Rattle.job_gen.proofs.Common.{length-append, length-decimal-le, length-map, list_all, lt-ltb, ltb-true, map, member, members_outline, members_text, nat_lt, no_items, no_members, number}
+use Rattle.job_gen.proofs.Common.{number_of-decimal, object, of_items, of_json, of_members, option_and_then, option_map, outline, pair_data, print-outline, quoted, refl, string, subst, suc, sym}
+use Rattle.job_gen.proofs.Common.{tokens, tokens-print, true, unsigned, value-json_tokens, ℕ, ◌%◌, ◌&&◌, ◌*◌, ◌++◌, ◌+◌, ◌<◌, ◌^◌, ◌∙◌, ◌∷◌, ◌≡◌, ◌≤◌}
 use Rattle.json.specs.Json as json
 use Rattle.json.specs.Tree as tree
 use Rattle.json.specs.Print.{escape_byte}
 use Rattle.json.proofs.Printed.Utf8.{are_ascii}
-use Rattle.serde_json.specs.Data.{put}
-use Rattle.serde_json.specs.Written.{members_have_float}
-use Rattle.std.proofs.Math.Nat.{suc-mul, zero-mul}
-use Rattle.std.proofs.lemmas.{List.Sums.AllPass-from_list_all, Str.IsUtf8-nil}
-use Rattle.job_gen.specs.Draws.{keys_at}
-use Rattle.job_gen.specs.Values.{dead_pairs, gen_text_of, gen_value, graph_data, job_data, machine_data, name_data, net_data, numbered, packet_data, run_data, vertex_data}
+use Rattle.serde_json.specs.{Data.put, Written.members_have_float}
+use Rattle.std.proofs.{Math.Nat.suc-mul, Math.Nat.zero-mul, lemmas.List.Sums.AllPass-from_list_all, lemmas.Str.IsUtf8-nil}
+use Rattle.job_gen.specs.{Draws.keys_at, Values.dead_pairs, Values.gen_text_of, Values.gen_value, Values.graph_data, Values.job_data, Values.machine_data, Values.name_data, Values.net_data}
+use Rattle.job_gen.specs.Values.{numbered, packet_data, run_data, vertex_data}
 use Rattle.job_gen.proofs.DrawnLaws.{is_drawn}
 
 -- ---- what a value has whose text is short and read as it

@@ -17,14 +17,16 @@ pub use Rattle.job_text.specs.declared.faults.TextErr.{TextErr}
 pub use Rattle.machine_desc.proofs.Same.{edge_eq_self}
 pub use Rattle.machine_desc.specs.{Equality.edge_eq, declared.trees.Edge.Edge}
 pub use Rattle.serde_json.specs.{Data.Data, Find.as_array, Find.as_str, View.items_of, View.view}
-pub use Rattle.spin_base.proofs.{Members.Among, Members.Contains-first, Members.among_left, Members.among_right, Members.map_among, Places.All-each, Places.slice_get-append_left, Places.slice_get-mapped}
+pub use Rattle.spin_base.proofs.{Members.Among, Members.Contains-first, Members.among_left, Members.among_right}
+pub use Rattle.spin_base.proofs.{Members.map_among, Places.All-each, Places.slice_get-append_left, Places.slice_get-mapped}
 pub use Rattle.spin_base.proofs.Places.{slice_get-pushed, slice_get_there}
 pub use Rattle.spin_base.specs.declared.{blocks.Block.Block, copies.Event.Event}
 pub use Rattle.std.proofs.Common.{Bool, List, None, Option, Some, [], add-one, ap, arith, codes, cond, drop, drop-cons, false, get_or, if◌then◌else◌, inl, inr, length, length-append, map, option_map}
 pub use Rattle.std.proofs.Common.{refl, replicate, rules, set, slice_get, subst, suc, sym, take, take_all, true, true≢false, zero, ℕ, ◌%◌, ◌*◌, ◌++◌, ◌+◌, ◌-◌, ◌/◌, ◌<◌, ◌^◌, ◌||◌, ◌↔◌, ◌∙◌, ◌∷◌, ◌≡◌}
 pub use Rattle.std.proofs.Common.{◌≢◌, ◌≤◌}
 pub use Rattle.std.proofs.Math.{Dec.ltb, Logic.∥∥₁_elim, Nat.mod-lt, Seq.take-append_seam, Utf8.encodes, Utf8.next, Utf8.scalar, Utf8.scalar_cases, Utf8.scalars}
-pub use Rattle.std.proofs.{Props.props, lemmas.Bool.and_parts, lemmas.Bool.cases_Bool, lemmas.Bool.cases_eq, lemmas.Bool.cases_lt, lemmas.Bool.cases_order, lemmas.Bool.eq-eqb, lemmas.Bool.eqb-true, lemmas.Bool.le-leb}
+pub use Rattle.std.proofs.{Props.props, lemmas.Bool.and_parts, lemmas.Bool.cases_Bool, lemmas.Bool.cases_eq}
+pub use Rattle.std.proofs.{lemmas.Bool.cases_lt, lemmas.Bool.cases_order, lemmas.Bool.eq-eqb, lemmas.Bool.eqb-true, lemmas.Bool.le-leb}
 pub use Rattle.std.proofs.lemmas.{Bool.leb-true, Bool.lt-leb, Bool.ltb-true, Bool.or_left, Bool.or_right, Grind.common_steps, Grind.pow_more, List.Elements.All-contains, List.Elements.All-push}
 pub use Rattle.std.proofs.lemmas.List.{Elements.Contains-append_left, Elements.Contains-append_right, Folds.list_any-append, Folds.list_any_at, Folds.list_any_none, Quantifiers.all_pairs_push}
 pub use Rattle.std.proofs.lemmas.List.{drop_all, flat_map_more, get_or-append_right, get_or-replicate, get_or-set_other, get_or-set_same, get_or_append_left, get_or_read, length-map, length-replicate}

@@ -3,8 +3,7 @@ use Rattle.job_readers.proofs.Common.{AllPairs, AreFixedApart, Block, Bool, Data
 use Rattle.job_readers.proofs.Common.{all_pairs_push, ap, arith, bit_and, edge_eq, edge_eq_self, eq-eqb, false, flat_map, flat_map_more, get_or, length, list_any, list_any-append, map_push}
 use Rattle.job_readers.proofs.Common.{name_value, net_faults, next_net_faults, next_vertex_faults, option_to_list, or_left, or_right, refl, shares_key, subst, suc, sym, true, true≢false}
 use Rattle.job_readers.proofs.Common.{vertex_faults, zero, ℕ, ◌++◌, ◌<◌, ◌^◌, ◌∙◌, ◌∷◌, ◌≡◌}
-use Rattle.job_readers.specs.{GraphPart.vertex_names_of, GraphPart.vertex_value, Hung.is_among}
-use Rattle.job_readers.specs.GraphPart.{devices_of, fixed_blocks_of, net_names, net_value}
+use Rattle.job_readers.specs.{GraphPart.vertex_names_of, GraphPart.vertex_value, GraphPart.devices_of, GraphPart.fixed_blocks_of, GraphPart.net_names, GraphPart.net_value, Hung.is_among}
 
 -- what one of the items has, is among what all have
 listed_any : {X A : Type 0} (f : X → Option A) (p : A → Bool) (xs : List X) (k : ℕ) (d : X) (a : A) → k < length xs → f (get_or xs k d) ≡ Some a → p a ≡ true → list_any p (flat_map (λ x. option_to_list (f x)) xs) ≡ true

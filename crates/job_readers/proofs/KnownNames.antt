@@ -1,9 +1,9 @@
 -- Vertices that were read have names, so a text that is found among these is a name.
-use Rattle.job_readers.proofs.Common.{Bool, Data, JobFault, List, None, Option, Some, Vertex, [], and_parts, ap, arith, as_str, both_true, bytes_eq, bytes_eq-Decides, codes, double_faults, false, if◌then◌else◌}
-use Rattle.job_readers.proofs.Common.{is_name, item_at, list_all, map, member_at, member_of, name_place_in, next_vertex_faults, object_faults, option_and_then, option_map, range_unless, refl}
-use Rattle.job_readers.proofs.Common.{sender_at, subst, sym, text_faults, text_value, true, typed_faults, unknown_faults, unwrap_or, ℕ, ◌++◌, ◌+◌, ◌∙◌, ◌∷◌, ◌≡◌, ◌▹◌}
-use Rattle.job_readers.specs.{GraphPart.name_faults, GraphPart.name_value, Items.following_faults, Places.new_name_faults}
-use Rattle.job_readers.specs.GraphPart.{sender_in, vertex_faults, vertex_names_of, vertex_value, vertices_faults, vertices_value}
+use Rattle.job_readers.proofs.Common.{Bool, Data, JobFault, List, None, Option, Some, Vertex, [], and_parts, ap, arith, as_str, both_true, bytes_eq, bytes_eq-Decides, codes, double_faults, false}
+use Rattle.job_readers.proofs.Common.{if◌then◌else◌, is_name, item_at, list_all, map, member_at, member_of, name_place_in, next_vertex_faults, object_faults, option_and_then, option_map, range_unless}
+use Rattle.job_readers.proofs.Common.{refl, sender_at, subst, sym, text_faults, text_value, true, typed_faults, unknown_faults, unwrap_or, ℕ, ◌++◌, ◌+◌, ◌∙◌, ◌∷◌, ◌≡◌, ◌▹◌}
+use Rattle.job_readers.specs.GraphPart.{name_faults, name_value, sender_in, vertex_faults, vertex_names_of, vertex_value, vertices_faults, vertices_value}
+use Rattle.job_readers.specs.{Items.following_faults, Places.new_name_faults}
 use Rattle.job_readers.proofs.NoFaults.{none_first, none_inside, none_second}
 
 -- ---- a text that has a place is a name

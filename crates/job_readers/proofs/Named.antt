@@ -3,9 +3,9 @@ use Rattle.job_readers.proofs.Common.{AllPairs, Among, Block, Bool, Data, Edge, 
 use Rattle.job_readers.proofs.Common.{bytes_eq-Decides, codes, devices_of, double_faults, false, fixed_blocks_of, get_or, if◌then◌else◌, inl, inr, item_at, length, list_member, list_member_faults}
 use Rattle.job_readers.proofs.Common.{map, map_among, member_at, member_of, name_place_in, next_net_faults, next_vertex_faults, object_faults, object_value, option_map, refl, subst, suc, sym}
 use Rattle.job_readers.proofs.Common.{text_faults, text_value, true, true≢false, zero, ℕ, ◌++◌, ◌+◌, ◌<◌, ◌∙◌, ◌∷◌, ◌≡◌, ◌≢◌, ◌▹◌}
-use Rattle.job_readers.specs.{GraphPart.graph_faults, Items.following_faults, Places.new_name_faults}
-use Rattle.job_readers.specs.GraphPart.{graph_members, graph_members_faults, graph_value, name_faults, name_value, net_faults, net_names, net_value, nets_faults}
-use Rattle.job_readers.specs.GraphPart.{nets_value, vertex_faults, vertex_names_of, vertex_value, vertices_faults, vertices_value}
+use Rattle.job_readers.specs.GraphPart.{graph_faults, graph_members, graph_members_faults, graph_value, name_faults, name_value, net_faults, net_names, net_value, nets_faults, nets_value}
+use Rattle.job_readers.specs.{GraphPart.vertex_faults, GraphPart.vertex_names_of, GraphPart.vertex_value, GraphPart.vertices_faults, GraphPart.vertices_value, Items.following_faults}
+use Rattle.job_readers.specs.Places.{new_name_faults}
 use Rattle.job_readers.proofs.NoFaults.{none_first, none_inside, none_second}
 
 unmapped : (o : Option ℕ) → option_map (λ i. i + 1) o ≡ None → o ≡ None

@@ -1,6 +1,6 @@
 -- Places of names in a list to which one is added.
-use Rattle.job_readers.proofs.Common.{Bool, List, None, Option, Some, [], ap, arith, bytes_eq, bytes_eq-Decides, cond, false, if◌then◌else◌, is_some, length, name_place_in, option_map, refl, suc, sym}
-use Rattle.job_readers.proofs.Common.{true, ℕ, ◌++◌, ◌+◌, ◌<◌, ◌∙◌, ◌∷◌, ◌≡◌}
+use Rattle.job_readers.proofs.Common.{Bool, List, None, Option, Some, [], ap, arith, bytes_eq, bytes_eq-Decides, cond, false, if◌then◌else◌, is_some, length, name_place_in, option_map, refl, suc}
+use Rattle.job_readers.proofs.Common.{true, ℕ, ◌++◌, ◌+◌, ◌<◌, ◌∷◌, ◌≡◌}
 
 -- the first of two places
 abbrev pub or_else : Option ℕ → Option ℕ → Option ℕ

@@ -1,7 +1,7 @@
 -- Places of names by slots and by a map, where one name more is put.
 use Rattle.job_readers.proofs.Common.{AreSlots, List, MaybePlace, None, Option, Some, [], ap, arith, bytes_eq, bytes_eq-Decides, cond, get_or, if◌then◌else◌, inl, inr, length, name_place_in}
-use Rattle.job_readers.proofs.Common.{length-set, refl, set, slice_get, slice_get-append_left, slice_get-pushed, subst, suc, sym, zero, ℕ, ◌++◌, ◌<◌, ◌∙◌, ◌∷◌, ◌≡◌}
-use Rattle.std.specs.{Prelude.All}
+use Rattle.job_readers.proofs.Common.{length-set, refl, set, slice_get, slice_get-append_left, slice_get-pushed, subst, sym, ℕ, ◌++◌, ◌∙◌, ◌∷◌, ◌≡◌}
+use Rattle.std.specs.Prelude.{All}
 use Rattle.std.proofs.lemmas.List.Elements.{All-set}
 use Rattle.job_readers.proofs.PlaceSteps.{or_else, place_in-push, place_in-old, place_in-new}
 

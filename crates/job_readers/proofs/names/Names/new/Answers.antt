@@ -1,4 +1,5 @@
-use Rattle.job_readers.proofs.Common.{All, AreSlots, MaybePlace, [], ap, arith, inl, is_at, length, length-replicate, lookup, map, nat_cmp, refl, replicate, rules, slice_cmp, subst, sym, told_of, ℕ, ◌≡◌}
+use Rattle.job_readers.proofs.Common.{All, AreSlots, MaybePlace, [], ap, arith, inl, is_at, length, length-replicate, lookup, map, nat_cmp, refl, replicate, rules, slice_cmp, subst, sym, told_of, ℕ}
+use Rattle.job_readers.proofs.Common.{◌≡◌}
 use Rattle.std.proofs.lemmas.List.Elements.{All-replicate}
 use Rattle.job_readers.proofs.names.Names.new.Goals as goal
 
