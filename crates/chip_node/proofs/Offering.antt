@@ -26,12 +26,4 @@ refuses_one cap v u r is = record { noted = r.noted; looked = λ _. r.looked; fu
 
 -- one offer more is refused
 pub refuses_more : (n : ℕ) (v w u : Known) → RefusesOffers n v w → RefusesOffers 1 w u → RefusesOffers (n + 1) v u
-refuses_more n v w u h r =
-    let entered = length (put_of v) in
-    let often : List ℕ → Known = λ l. record v { fulls = l } in
-    record {
-      noted = r.noted ∙ ap (full_noted_often 1) h.noted
-          ∙ ap often (append_assoc v.fulls (replicate n entered) (entered ∷ []) ∙ ap (λ l. v.fulls ++ l) (replicate_more n entered));
-      looked = λ _. sym (ap (λ (x : Known). x.held) h.noted) ∙ r.looked (omega arith) ∙ ap (λ (x : Known). x.cap) h.noted;
-      full = λ _. (let full = r.full (omega arith) in let same = ap (λ (x : Known). length (put_of x)) h.noted in let cap_is = ap (λ (x : Known). x.cap) h.noted in omega arith);
-    }
+refuses_more n v w u h r = grind (arith, append_assoc, replicate_more)

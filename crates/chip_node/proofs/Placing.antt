@@ -158,27 +158,13 @@ sent_goes cap patience tries i v k rest a b old new w sends below first unsent d
 -- where no queue stands behind the output, or one
 served_nowhere : (cap patience i : ℕ) (c : Chip) (s : Service) (a b : Holdings) → b.ends.items ≡ a.ends.items → b.unsent.items ≡ a.unsent.items → b.deliveries ≡ a.deliveries
     → b.dumps.items ≡ a.dumps.items ++ recorded c s s.fate → b.dumps.spare + length (recorded c s s.fate) ≡ a.dumps.spare → Goes cap patience a (served i c None s ∷ []) b
-served_nowhere cap patience i c s a b ends unsent deliveries dumped spare = record {
-  ends_long = ap length ends;
-  ends = λ q x y at also. (let same : x ≡ y = same_Some x y (sym at ∙ (ap (λ (l : List End). slice_get l q) (sym ends) ∙ also)) in end_goes_none cap patience x y
-      (subst (EndStays x) same (end_stays_same x)));
-  unsent_long = ap length unsent;
-  unsent = same_unsent a b unsent;
-  delivered = ap (λ (l : WithRoom Delivery). l.items) deliveries ∙ sym (append-nil a.deliveries.items);
-  dumped = dumped ∙ ap (λ l. a.dumps.items ++ l) (sym (append-nil (recorded c s s.fate)));
-  deliveries_room = ap (λ (l : WithRoom Delivery). l.spare + length l.items) deliveries;
-  dumps_room = grown a.dumps b.dumps (recorded c s s.fate) dumped spare;
-}
+served_nowhere cap patience i c s a b ends unsent deliveries dumped spare = grind (arith, same_Some, end_goes_none, end_stays_same, same_unsent, append-nil, grown)
 
 served_end : (cap patience i : ℕ) (c : Chip) (q : ℕ) (o : Out) (k : McCopy) (fate : Served) (old new : End) → EndServes cap patience (onward k) fate old new
     → EndGoes cap patience (entered q (served i c (Some q) (record { out = o; copy = k; fate = fate }) ∷ [])) (left q (served i c (Some q) (record { out = o; copy = k; fate = fate }) ∷ []))
     (lost_at q (served i c (Some q) (record { out = o; copy = k; fate = fate }) ∷ [])) old new
-served_end cap patience i c q o k Sent old new h =
-    subst (λ (l : List McCopy). EndGoes cap patience l [] (lost_at q (served i c (Some q) (record { out = o; copy = k; fate = Sent }) ∷ [])) old new) (sym (only_here q (onward k ∷ [])))
-    (subst (λ (l : List McCopy). EndGoes cap patience (onward k ∷ []) [] l old new) (sym (only_here q [])) (end_goes_sends cap patience patience (onward k) old new h))
-served_end cap patience i c q o k Dumped old new h =
-    subst (λ (l : List McCopy). EndGoes cap patience l [] (lost_at q (served i c (Some q) (record { out = o; copy = k; fate = Dumped }) ∷ [])) old new) (sym (only_here q []))
-    (subst (λ (l : List McCopy). EndGoes cap patience [] [] l old new) (sym (only_here q (k ∷ []))) (end_goes_refuses cap patience k old new h))
+served_end cap patience i c q o k Sent old new h = grind (arith, only_here, end_goes_sends)
+served_end cap patience i c q o k Dumped old new h = grind (arith, only_here, end_goes_refuses)
 
 served_there : (cap patience i : ℕ) (c : Chip) (q : ℕ) (o : Out) (k : McCopy) (fate : Served) (a b : Holdings) → SendsThere cap patience q (onward k) fate a.ends.items b.ends.items
     → b.unsent.items ≡ a.unsent.items → b.deliveries ≡ a.deliveries → b.dumps.items ≡ a.dumps.items ++ recorded c (record { out = o; copy = k; fate = fate }) fate

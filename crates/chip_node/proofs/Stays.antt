@@ -9,17 +9,7 @@ pub patient_on : (p d e m n : ℕ) → p * d ≤ m → p * e ≤ n → p * (d + 
 patient_on p d e m n h k = omega (arith, h, k)
 
 pub sender_on : (patience : ℕ) (c d : List McCopy) (e f : List McCopy) (x y z : OutEnd) → SenderGoes patience c d x y → SenderGoes patience e f y z → SenderGoes patience (c ++ e) (d ++ f) x z
-sender_on patience c d e f x y z h k = record {
-  link = k.link ∙ h.link;
-  first = k.first ∙ h.first;
-  sent = k.sent ∙ (ap (λ l. l ++ e) h.sent ∙ append_assoc (sending x.tx).sent c e);
-  notes = h.notes ++ k.notes;
-  fulls = k.fulls ∙ (ap (λ l. l ++ k.notes) h.fulls ∙ append_assoc (sending x.tx).fulls h.notes k.notes);
-  patient =
-      let both = patient_on patience (length d) (length f) (length h.notes) (length k.notes) h.patient k.patient in
-      let noted = length-append h.notes k.notes in
-      subst (λ n. patience * n ≤ length (h.notes ++ k.notes)) (sym (length-append d f)) (subst (λ n. patience * (length d + length f) ≤ n) (sym noted) both);
-}
+sender_on patience c d e f x y z h k = grind (arith, append_assoc, patient_on, length-append)
 
 pub taker_on : (w v : List McCopy) (x y z : InEnd) → TakerGoes w x y → TakerGoes v y z → TakerGoes (w ++ v) x z
 taker_on w v x y z h k = grind (arith, append_assoc (taking x.rx).took w v)

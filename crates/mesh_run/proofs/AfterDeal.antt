@@ -5,12 +5,7 @@ use Rattle.mesh_run.proofs.Common.{get_or_from_slice_get, grid_size, injection_p
 use Rattle.mesh_run.proofs.Common.{same_Some, slice_get, slice_get-get_or, slice_get-mapped, slice_get_there, slice_get_within, slice_index_or, subst, suc, sym, zero, ℕ, ◌*◌, ◌++◌, ◌<◌, ◌∙◌, ◌≡◌, ◌≢◌}
 use Rattle.mesh_run.proofs.Common.{◌≤◌}
 use Rattle.spin_base.specs.declared.routes.Out.TheVariants.{Link as ByLink}
-use Rattle.mesh_run.proofs.{Feeding.LeadsTo, Feeding.by_link, Feeding.leads, Feeding.place_below, Feeding.to_vertex, FloorLaws.live_below}
-
--- an output that leads somewhere has a bit
-has_bit : (u : Setup) (i : ℕ) (o : Out) (q : ℕ) → LeadsTo u (chip_of u.machine i) o q → IsOutput o
-has_bit u i o q (by_link d e out far at) = let link : IsOutput (ByLink d) = tt in subst IsOutput (sym out) link
-has_bit u i o q (to_vertex v t stands here out at) = subst IsOutput out (out_of-has_bit t.core)
+use Rattle.mesh_run.proofs.{Apart.leads_bit, Apart.place_below, FloorLaws.live_below}
 
 -- no run ends past the last place
 run_within : (count : ℕ) (ends : List ℕ) (k : ℕ) → AreShareRuns count ends → k < length ends → slice_index_or ends k 0 ≤ count
@@ -51,7 +46,7 @@ by_sender ends dealt k q sender s at same (sends l e of stands) = grind (arith, 
 by_sender ends dealt k q sender s at same (takes other l e of stands) = absurd (other same)
 by_sender ends dealt k q sender s at same (none other stands) = absurd (other same)
 
-module _ (m : State) (is_mesh : IsMesh m) (more : ℕ) (r : RaisedMesh) (raised : IsRaisedFrom m more r) where
+module _ {m : State} {more : ℕ} {r : RaisedMesh} (raised : IsRaisedFrom m more r) where
   abbrev u : Setup
   u = m.setup
 
@@ -92,7 +87,7 @@ module _ (m : State) (is_mesh : IsMesh m) (more : ℕ) (r : RaisedMesh) (raised 
       let up = raised.up.each l [] e (omega (arith, slice_get_within raised.ends l e at, raised.up.long)) in
       subst (WasUp u.capacity) (get_or_from_slice_get raised.ends l e e at) (record { ends = up.ends; few = up.holds.few })
 
-  module _ (dealt : List Share) (deals : Deals raised.ends r.layout.now.cuts.items r.shares.items dealt) where
+  module _ {dealt : List Share} (deals : Deals raised.ends r.layout.now.cuts.items r.shares.items dealt) where
     many_dealt : length dealt ≡ length r.shares.items
     many_dealt = deals.same.0
 
@@ -134,7 +129,7 @@ module _ (m : State) (is_mesh : IsMesh m) (more : ℕ) (r : RaisedMesh) (raised 
           (subst (λ (x : Home). Holds raised.ends dealt k c.queue x.sender) home (of_cut cut.0 c k cut.2 below))
     ]
 
-    module _ (links : List Link) (same_links : map (λ (e : LinkEnds). e.link) raised.ends ≡ links) where
+    module _ {links : List Link} (same_links : map (λ (e : LinkEnds). e.link) raised.ends ≡ links) where
       pub link_at : (l : ℕ) (e : LinkEnds) → slice_get raised.ends l ≡ Some e → slice_get links l ≡ Some e.link
       link_at l e at = ap (λ (x : List Link). slice_get x l) (sym same_links) ∙ slice_get-mapped (λ (x : LinkEnds). x.link) raised.ends l e at
 
@@ -179,10 +174,10 @@ module _ (m : State) (is_mesh : IsMesh m) (more : ℕ) (r : RaisedMesh) (raised 
           unsent_long = ap (λ v. length v.items) (deals.same.1 k was.0 t was.1 at).unsent ∙ raised.shared.unsent_long k was.0 was.1;
           within = let to = run_to in let most = run_within (2 * grid_size u) r.layout.now.runs.items k raised.laid.runs has_run in omega (arith, to, most);
           routers = λ i o q live in_run behind.
-              let led = leads u (chip_of u.machine i) o q behind in
-              let place = place_below u (chip_of u.machine i) o q (live_inside u.machine (chip_of u.machine i) live.live) led in
+              let inside = live_inside u.machine (chip_of u.machine i) live.live in
+              let place = place_below u (chip_of u.machine i) o q inside behind in
               let h = slice_get_there r.layout.now.homes.items q (omega (arith, place, raised.laid.homes.long)) in
-              sender_of q h.0 h.1 (raised.laid.homes.routers i o q k h.0 live (has_bit u i o q led) behind (numbered (router_place i) in_run) h.1);
+              sender_of q h.0 h.1 (raised.laid.homes.routers i o q k h.0 live (leads_bit u (chip_of u.machine i) o q inside behind) behind (numbered (router_place i) in_run) h.1);
           banks = λ i live in_run.
               let h = slice_get_there r.layout.now.homes.items (injection_place i) (omega (arith, live_below u i live, raised.laid.homes.long)) in
               sender_of (injection_place i) h.0 h.1 (raised.laid.homes.banks i k h.0 live (numbered (bank_place i) in_run) h.1);

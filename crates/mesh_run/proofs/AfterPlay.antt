@@ -3,7 +3,7 @@ use Rattle.mesh_run.proofs.Common.{All, All-at, AreLaid, Deals, End, FitsLogs, G
 use Rattle.mesh_run.proofs.Common.{MeshLogs, OutEnd, PlaysAndStays, RaisedMesh, Sends, Share, Some, Standing, State, Takes, WasUp, [], ap, arith, cap_of, end_at, get_or, get_or_default}
 use Rattle.mesh_run.proofs.Common.{get_or_from_slice_get, length, map, same_Some, slice_get, slice_get-get_or, slice_get-mapped, slice_get_there, slice_get_within, subst, suc, sum_by, sum_by-cons}
 use Rattle.mesh_run.proofs.Common.{sym, ℕ, ◌<◌, ◌∙◌, ◌∷◌, ◌≡◌, ◌≤◌}
-use Rattle.mesh_run.proofs.{AfterDeal.link_at, AfterDeal.link_up_at, AfterDeal.links_many, Together.PlayedParts, Together.listed, Together.sender_passes, Together.stood, Together.taker_passes}
+use Rattle.mesh_run.proofs.{AfterDeal.link_at, AfterDeal.link_up_at, AfterDeal.links_many, CrossingLaws.stood, Together.PlayedParts, Together.listed, Together.sender_passes, Together.taker_passes}
 
 -- a sum of terms each of which is at most another one is at most the sum of these
 sum_within : {X Y : Type 0} (f : X → ℕ) (g : Y → ℕ) (xs : List X) (ys : List Y) → length xs ≡ length ys →
@@ -30,10 +30,8 @@ end_of shares links k q e all at =
     let s = stood (slice_get shares k) q e at in
     All-at (IsEndOf links) s.0.hold.ends.items q e (all s.0 s.1) s.2
 
-module _ (m : State) (is_mesh : IsMesh m) (more : ℕ) (r : RaisedMesh) (raised : IsRaisedFrom m more r)
-    (dealt : List Share) (deals : Deals raised.ends r.layout.now.cuts.items r.shares.items dealt)
-    (links : List Link) (same_links : map (λ (e : LinkEnds). e.link) raised.ends ≡ links)
-    (patience turns : ℕ) (played : List Share) (long : length played ≡ length dealt)
+module _ {m : State} {more : ℕ} {r : RaisedMesh} (raised : IsRaisedFrom m more r) {dealt : List Share} (deals : Deals raised.ends r.layout.now.cuts.items r.shares.items dealt)
+    {links : List Link} (same_links : map (λ (e : LinkEnds). e.link) raised.ends ≡ links) {patience turns : ℕ} {played : List Share} (long : length played ≡ length dealt)
     (plays : (k : ℕ) (s : Share) → k < length dealt → PlaysAndStays m.setup links patience turns (get_or dealt k s) (get_or played k s)) where
   -- what one share did
   abbrev Did : ℕ → List Item → Type 0
@@ -61,10 +59,10 @@ module _ (m : State) (is_mesh : IsMesh m) (more : ℕ) (r : RaisedMesh) (raised 
   -- both ends of each link are where its cut says
   pub ends_laid : AreLaid links played r.layout.now.cuts.items
   ends_laid = λ l c at.
-      let e = slice_get_there raised.ends l (omega (arith, slice_get_within r.layout.now.cuts.items l c at, links_many m is_mesh more r raised)) in
+      let e = slice_get_there raised.ends l (omega (arith, slice_get_within r.layout.now.cuts.items l c at, links_many raised)) in
       let is = deals.dealt l c e.0 at e.1 in
-      let sends = sender_passes m.setup.capacity patience dealt played some_parts.0 some_played c.sender c.queue (record { link = l; tx = e.0.tx }) is.0 in
-      let takes = taker_passes m.setup.capacity patience dealt played some_parts.0 some_played c.receiver c.queue (record { link = l; rx = e.0.rx }) is.1 in
+      let sends = sender_passes some_played c.sender c.queue (record { link = l; tx = e.0.tx }) is.0 in
+      let takes = taker_passes some_played c.receiver c.queue (record { link = l; rx = e.0.rx }) is.1 in
       record {
         tx = sends.sender.tx;
         rx = takes.taker.rx;
@@ -84,14 +82,14 @@ module _ (m : State) (is_mesh : IsMesh m) (more : ℕ) (r : RaisedMesh) (raised 
       let at = slice_get-get_or collects.ends l d below in
       let as_long = collects.long in
       let old = slice_get_there raised.ends l (omega (arith, below, as_long)) in
-      let c = slice_get_there r.layout.now.cuts.items l (omega (arith, below, as_long, links_many m is_mesh more r raised)) in
+      let c = slice_get_there r.layout.now.cuts.items l (omega (arith, below, as_long, links_many raised)) in
       let is = collects.collects.dealt l c.0 e c.1 at in
-      let up = link_up_at m is_mesh more r raised l old.0 old.1 in
+      let up = link_up_at raised l old.0 old.1 in
       let link : e.link ≡ old.0.link = same_Some e.link old.0.link (sym (slice_get-mapped (λ (x : LinkEnds). x.link) collects.ends l e at)
       ∙ (ap (λ (x : List Link). slice_get x l) collects.links ∙ slice_get-mapped (λ (x : LinkEnds). x.link) raised.ends l old.0 old.1)) in
       let room : e.room ≡ old.0.room = same_Some e.room old.0.room (sym (slice_get-mapped (λ (x : LinkEnds). x.room) collects.ends l e at)
       ∙ (ap (λ x. slice_get x l) collects.rooms ∙ slice_get-mapped (λ (x : LinkEnds). x.room) raised.ends l old.0 old.1)) in
-      let here : slice_get links l ≡ Some e.link = link_at m is_mesh more r raised dealt deals links same_links l old.0 old.1 ∙ ap Some (sym link) in
+      let here : slice_get links l ≡ Some e.link = link_at raised deals same_links l old.0 old.1 ∙ ap Some (sym link) in
       let sends = end_of played links c.0.sender c.0.queue (Sends (record { link = l; tx = e.tx })) (played_ends c.0.sender) is.0 in
       let takes = end_of played links c.0.receiver c.0.queue (Takes (record { link = l; rx = e.rx })) (played_ends c.0.receiver) is.1 in
       record {

@@ -1,13 +1,8 @@
 -- The mesh to which a whole round leads is split as it was: lanes, and what is unsent, stand in the shares of their homes.
 use Rattle.mesh_run.proofs.Common.{Away, Cut, HoldLanes, HoldUnsent, Home, IsUncut, List, None, Option, Share, Some, [], ap, arith, cases_eq, cases_lt, end_at, inl, inr, length, refl, slice_get}
-use Rattle.mesh_run.proofs.Common.{slice_get_within, subst, suc, sym, unsent_in, vertex_place, zero, ℕ, ◌++◌, ◌<◌, ◌∙◌, ◌∷◌, ◌≡◌, ◌≢◌, ◌≤◌, ◌⊎◌}
+use Rattle.mesh_run.proofs.Common.{slice_get_past, slice_get_within, subst, suc, sym, unsent_in, vertex_place, zero, ℕ, ◌++◌, ◌<◌, ◌∙◌, ◌∷◌, ◌≡◌, ◌≢◌, ◌≤◌, ◌⊎◌}
 use Rattle.mesh_run.proofs.{AfterMesh.after_unsent, AfterMesh.mesh, AfterMesh.queue_there, EachQueue.cleared_end, EachQueue.elsewhere, Together.none_passes, WholeRound.Whole, WholeRound.dealt_long}
 use Rattle.mesh_run.proofs.WholeRound.{parts, played_parts, uncut}
-
-past_none : (xs : List Share) (i : ℕ) → length xs ≤ i → slice_get xs i ≡ None
-past_none [] i past = refl
-past_none (x ∷ xs) zero past = absurd (omega (arith, past))
-past_none (x ∷ xs) (suc i) past = past_none xs i (omega (arith, past))
 
 module _ (w : Whole) where
   cleared_long : length w.cleared ≡ length w.dealt
@@ -17,7 +12,7 @@ module _ (w : Whole) where
   stays_away : (s q : ℕ) → IsUncut w.r.layout.now.cuts.items s q → end_at w.r.shares.items s q ≡ Some Away → end_at w.cleared s q ≡ Some Away
   stays_away s q uncut_here away =
       let dealt = w.deals.others s q uncut_here ∙ away in
-      let none = none_passes w.m.setup.capacity w.patience w.dealt w.played (parts w) (played_parts w) s q dealt in
+      let none = none_passes (played_parts w) s q dealt in
       cleared_end w s q Away (w.collects.collects.others s q uncut_here ∙ none.stays)
 
   away_after : (q : ℕ) (h : Home) (s : ℕ) → slice_get w.r.layout.now.homes.items q ≡ Some h → s < length w.cleared → (s ≢ h.sender) ⊎ (h.sender ≢ h.receiver) → end_at w.cleared s q ≡ Some Away
@@ -51,7 +46,7 @@ module _ (w : Whole) where
     here = λ v h at. ((after_unsent w).2 v [] (there v h at)).here h at;
     nowhere_else = λ v h s at other. elim (cases_lt s (length w.dealt)) [
       | inl less ↦ ((after_unsent w).2 v [] (there v h at)).nowhere_else h s at less other
-      | inr more ↦ ap (λ (x : Option Share). unsent_in x v) (past_none w.cleared s (let long = cleared_long in omega (arith, more, long)))
+      | inr more ↦ ap (λ (x : Option Share). unsent_in x v) (slice_get_past w.cleared s (let long = cleared_long in omega (arith, more, long)))
     ];
   }
     where

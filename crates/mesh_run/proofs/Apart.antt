@@ -1,10 +1,9 @@
 -- Places of queues: behind an output of a chip stands a queue that no other output leads to, and that no chip injects into.
-use Rattle.mesh_run.proofs.Common.{Among, ByLink, Chip, Dir, IsInside, IsLiveLink, List, Local, None, Option, Out, Port, Setup, Some, [], ap, arith, behind, chip_eq, chip_eq_same, core, false}
-use Rattle.mesh_run.proofs.Common.{far_inside, far_of, far_parts, inl, input, length, live_back, opposite_of, out_of, place_behind, queue_at, queue_place_of, refl, same_Some, slice_get_within, subst}
+use Rattle.mesh_run.proofs.Common.{Among, ByLink, Chip, Dir, IsInside, IsOutput, IsLiveLink, List, Local, None, Option, Out, Port, Setup, Some, [], ap, arith, behind, chip_eq, chip_eq_same, core, false}
+use Rattle.mesh_run.proofs.Common.{far_inside, far_of, far_parts, inl, input, length, live_back, opposite_of, out_of, out_of-has_bit, place_behind, queue_at, queue_at-below, queue_place_of, refl, same_Some, slice_get_within, subst}
 use Rattle.mesh_run.proofs.Common.{sym, true, vertex_behind_stands, vertex_place, where_same, where_there, ℕ, ◌<◌, ◌∙◌, ◌∷◌, ◌≡◌}
 use Rattle.spin_base.specs.declared.routes.Out.TheVariants.{Link}
 pub use Rattle.chip_node.proofs.Placing.{where_here as here, where_other as elsewhere}
-pub use Rattle.mesh_run.proofs.Feeding.{port_is_no_vertex}
 use Rattle.mesh_run.proofs.Ends.{leads, by_link, to_vertex, to_none, one_end, one_link, one_port}
 
 -- ---- where two places are the same
@@ -20,6 +19,10 @@ not_there None q xs other = refl
 not_there (Some p) q xs other = elsewhere p q xs (λ e. other (ap Some e))
 
 -- ---- behind outputs
+
+-- a port's queue is no vertex's
+pub port_is_no_vertex : (u : Setup) (c : Chip) (port : Port) (v : ℕ) → IsInside u.machine c → queue_at u.machine c port ≡ vertex_place u v → ⊥
+port_is_no_vertex u c port v inside same = let below = queue_at-below u.machine c port inside in omega (arith, below, same)
 
 module _ (u : Setup) where
   -- the queue at a place behind an output is that of a port at the far end of a live link, or of a vertex
@@ -42,6 +45,20 @@ module _ (u : Setup) where
     where
       nothing : {n : ℕ} → None ≡ Some n → ⊥
       nothing same = cc
+
+  -- an output that leads somewhere has a bit
+  pub leads_bit : (c : Chip) (o : Out) (q : ℕ) → IsInside u.machine c → place_behind u c o ≡ Some q → IsOutput o
+  leads_bit c o q inside is = elim (behind_at c o q inside is) [
+    | to_port d e out live far in_e at place ↦ let link : IsOutput (Link d) = tt in subst IsOutput (sym out) link
+    | to_core v below at place ↦ let end = one_end u c o v at in subst IsOutput end.3 (out_of-has_bit end.0.core)
+  ]
+
+  -- a place behind an output is one of all places
+  pub place_below : (c : Chip) (o : Out) (q : ℕ) → IsInside u.machine c → place_behind u c o ≡ Some q → q < vertex_place u (length u.spots)
+  place_below c o q inside is = elim (behind_at c o q inside is) [
+    | to_port d e out live far in_e at place ↦ let below = queue_at-below u.machine e (ByLink (opposite_of d)) in_e in omega (arith, below, place)
+    | to_core v below at place ↦ omega (arith, below, place)
+  ]
 
   -- two outputs of chips of the grid that lead to one queue are one
   pub one_output : (a c : Chip) (p o : Out) (q : ℕ) → IsInside u.machine a → IsInside u.machine c → place_behind u a p ≡ Some q → place_behind u c o ≡ Some q → (a ≡ c) × (p ≡ o)

@@ -1,7 +1,7 @@
 -- Ends of links, dealt to shares and collected from them.
 use Rattle.mesh_run.proofs.Common.{AreCuts, AreLaid, AreSameButEnds, Away, Cut, Deals, End, HoldsAll, HoldsCollected, HoldsNoEnds, IsLaid, IsOfCut, LinkEnds, List, None, Option, PutsEnd, Rx}
-use Rattle.mesh_run.proofs.Common.{SameButEnds, Sends, Share, Some, Standing, Takes, Tx, ap, arith, cases_eq, end_at, end_in, get_or, get_or_from_slice_get, inl, inr, length, length-map, length-set}
-use Rattle.mesh_run.proofs.Common.{map, map-set, none-some, refl, same_Some, same_lists, set, set-slice_get, slice_get, slice_get-mapped, slice_get-set_other, slice_get-set_same, slice_get_there}
+use Rattle.mesh_run.proofs.Common.{SameButEnds, Sends, Share, Some, Standing, Takes, Tx, ap, arith, cases_eq, cases_lt, end_at, end_in, get_or, get_or_from_slice_get, inl, inr, length, length-map, length-set}
+use Rattle.mesh_run.proofs.Common.{map, map-set, none-some, refl, same_Some, same_lists, set, set-slice_get, slice_get, slice_get-mapped, slice_get-set_other, slice_get-set_same, slice_get_past, slice_get_there}
 use Rattle.mesh_run.proofs.Common.{slice_get_within, subst, sym, ℕ, ◌+◌, ◌<◌, ◌∙◌, ◌≡◌, ◌≤◌}
 use Rattle.mesh_run.proofs.Holding.{only_ends}
 
@@ -25,6 +25,17 @@ each_on R on a b c first second = (
 pub each_set : {X : Type 0} (R : X → X → Type 0) → ((x : X) → R x x) → (xs : List X) (i : ℕ) (s t : X) → slice_get xs i ≡ Some s → R s t → AreEach R xs (set xs i t)
 each_set {X} R self xs i s t stands new = grind (arith, length-set xs i t, slice_get-set_same xs i s t stands, cases_eq, same_Some, slice_get-set_other)
 
+-- what lists of shares tell at a place is the same, where the shares there tell the same
+pub told_same : {X : Type 0} (tell : Option Share → X) (a b : List Share) (k : ℕ) → length b ≡ length a →
+    ((x y : Share) → slice_get a k ≡ Some x → slice_get b k ≡ Some y → tell (Some y) ≡ tell (Some x)) → tell (slice_get b k) ≡ tell (slice_get a k)
+told_same tell a b k long each = elim (cases_lt k (length a)) [
+  | inl inside ↦
+      let x = slice_get_there a k inside in
+      let y = slice_get_there b k (omega (arith, inside, long)) in
+      ap tell y.1 ∙ (each x.0 y.0 x.1 y.1 ∙ ap tell (sym x.1))
+  | inr past ↦ ap tell (slice_get_past b k (omega (arith, past, long)) ∙ sym (slice_get_past a k past))
+]
+
 -- ---- all but ends is the same
 
 pub ends_self : (s : Share) → SameButEnds s s
@@ -42,17 +53,9 @@ same_on a b c first second = each_on SameButEnds ends_on a b c first second
 -- ---- one end of one share
 
 -- a share whose end is there is there
-pub record EndThere (shares : List Share) (s q : ℕ) (e : End) : Type 0 where
-  pub share : Share
-  pub stands : slice_get shares s ≡ Some share
-  pub holds : slice_get share.hold.ends.items q ≡ Some e
-
-pub end_there : (shares : List Share) (s q : ℕ) (e : End) → end_at shares s q ≡ Some e → EndThere shares s q e
-end_there shares s q e is = by (slice_get shares s) refl
-  where
-    by : (found : Option Share) → slice_get shares s ≡ found → EndThere shares s q e
-    by None at = absurd (none-some e (sym (ap (λ (o : Option Share). end_in o q) at) ∙ is))
-    by (Some x) at = record { share = x; stands = at; holds = sym (ap (λ (o : Option Share). end_in o q) at) ∙ is }
+pub stood : (x : Option Share) (q : ℕ) (a : End) → end_in x q ≡ Some a → (s : Share) × (x ≡ Some s) × (slice_get s.hold.ends.items q ≡ Some a)
+stood None q a at = absurd (none-some a at)
+stood (Some s) q a at = (s, refl, at)
 
 -- what is read at its place
 pub read_end : (shares : List Share) (s q : ℕ) (e found : End) (share : Share) → end_at shares s q ≡ Some e → share ≡ get_or shares s share → found ≡ get_or share.hold.ends.items q found →
@@ -60,7 +63,7 @@ pub read_end : (shares : List Share) (s q : ℕ) (e found : End) (share : Share)
 read_end shares s q e found share is read read_found = grind (arith, get_or_from_slice_get)
 
 pub share_inside : (shares : List Share) (s q : ℕ) (e : End) → end_at shares s q ≡ Some e → s < length shares
-share_inside shares s q e is = let at = end_there shares s q e is in slice_get_within shares s at.share at.stands
+share_inside shares s q e is = let at = stood (slice_get shares s) q e is in slice_get_within shares s at.0 at.1
 
 pub end_inside : (shares : List Share) (s q : ℕ) (e : End) (share : Share) → end_at shares s q ≡ Some e → share ≡ get_or shares s share → q < length share.hold.ends.items
 end_inside shares s q e share is read = grind (arith, get_or_from_slice_get, slice_get_within)
@@ -75,10 +78,9 @@ end_set before after share queue s t old end stands holds is from to moved unsen
 -- an end's place stays
 pub end_still : (a b : List Share) (s q : ℕ) (e : End) → AreSameButEnds a b → end_at a s q ≡ Some e → (f : End) × (end_at b s q ≡ Some f)
 end_still a b s q e same is =
-    let at = end_there a s q e is in
-    let y = slice_get_there b s (omega (arith, slice_get_within a s at.share at.stands, same.0)) in
-    let ends = (same.1 s at.share y.0 at.stands y.1).ends_long in
-    let f = slice_get_there y.0.hold.ends.items q (omega (arith, ends, slice_get_within at.share.hold.ends.items q e at.holds)) in
+    let at = stood (slice_get a s) q e is in
+    let y = slice_get_there b s (omega (arith, slice_get_within a s at.0 at.1, same.0)) in
+    let f = slice_get_there y.0.hold.ends.items q (omega (arith, (same.1 s at.0 y.0 at.1 y.1).ends_long, slice_get_within at.0.hold.ends.items q e at.2)) in
     (f.0, ap (λ (o : Option Share). end_in o q) y.1 ∙ f.1)
 
 -- ---- both ends of a cut's link

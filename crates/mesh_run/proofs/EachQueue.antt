@@ -2,8 +2,8 @@
 use Rattle.mesh_run.proofs.Common.{All-append, Cut, End, FitsQueue, Home, InEnd, IsDown, IsUncut, IsUp, Link, LinkEnds, List, McCopy, Option, OutEnd, Own, QueueGoes, Sends, Share, Some, Takes}
 use Rattle.mesh_run.proofs.Common.{WithRoom, [], ap, arith, cap_of, cases_eq, cut_queues, end_at, end_in, get_or, get_or_from_slice_get, held_at, inl, inr, length, length-map, map, min, queue_of_link}
 use Rattle.mesh_run.proofs.Common.{refl, same_Some, slice_get, slice_get-mapped, slice_get_there, slice_get_within, subst, sym, ℕ, ◌++◌, ◌+◌, ◌<◌, ◌∙◌, ◌≡◌, ◌≢◌, ◌≤◌}
-use Rattle.mesh_run.proofs.{AfterDeal.homes_below, AfterDeal.no_end_of_cut, Filling.few_entered, Passing.lane_queue, Passing.link_queue, PlanLaws.fits_at, Together.joined, Together.lane_passes}
-use Rattle.mesh_run.proofs.{Together.sender_passes, Together.stood, Together.taker_passes, WholeRound.Whole, WholeRound.collected_same, WholeRound.dealt_long, WholeRound.dealt_same, WholeRound.parts}
+use Rattle.mesh_run.proofs.{AfterDeal.homes_below, AfterDeal.no_end_of_cut, CrossingLaws.told_same, Filling.few_entered, Passing.lane_queue, Passing.link_queue, PlanLaws.fits_at, Together.joined, Together.lane_passes}
+use Rattle.mesh_run.proofs.{Together.sender_passes, Together.taker_passes, WholeRound.Whole, WholeRound.collected_same, WholeRound.dealt_long, WholeRound.dealt_same, WholeRound.parts}
 use Rattle.mesh_run.proofs.WholeRound.{played_parts, uncut, whole_turns}
 
 same_sends : (a b : OutEnd) → Some (Sends a) ≡ Some (Sends b) → a ≡ b
@@ -11,9 +11,6 @@ same_sends a b same = cc
 
 same_takes : (a b : InEnd) → Some (Takes a) ≡ Some (Takes b) → a ≡ b
 same_takes a b same = cc
-
-same_end : (s t : Share) (q : ℕ) → t.hold.ends ≡ s.hold.ends → slice_get t.hold.ends.items q ≡ slice_get s.hold.ends.items q
-same_end s t q same = cc
 
 module _ (w : Whole) where
   -- what holds of the queue at a place after a round, with what it holds then
@@ -23,7 +20,7 @@ module _ (w : Whole) where
     pub link : (l : ℕ) (c : Cut) → slice_get w.r.layout.now.cuts.items l ≡ Some c → c.queue ≡ q → get_or (map queue_of_link w.rests.now) l [] ≡ after
 
   pub home_below : (q : ℕ) (h : Home) → slice_get w.r.layout.now.homes.items q ≡ Some h → (h.sender < length w.dealt) × (h.receiver < length w.dealt)
-  home_below q h at = grind (arith, homes_below w.m w.is_mesh (w.turns + 1) w.r w.roomy.raised q h at, dealt_long w)
+  home_below q h at = grind (arith, homes_below w.roomy.raised q h at, dealt_long w)
 
   held_fits : (q : ℕ) → length (held_at w.m q) ≤ w.m.setup.capacity
   held_fits q = fits_at w.m.setup.capacity (w.m.inputs ++ w.m.cores) q (All-append (FitsQueue w.m.setup.capacity) w.m.inputs w.m.cores w.is_mesh.inputs_within w.is_mesh.cores_within)
@@ -31,22 +28,19 @@ module _ (w : Whole) where
   -- clearing of logs leaves all ends
   pub cleared_end : (s q : ℕ) (b : End) → end_at w.collected s q ≡ Some b → end_at w.cleared s q ≡ Some b
   cleared_end s q b at =
-      let was = stood (slice_get w.collected s) q b at in
-      let is = slice_get_there w.cleared s (let long = w.clears.0 in omega (arith, slice_get_within w.collected s was.0 was.1, long)) in
-      ap (λ (x : Option Share). end_in x q) is.1 ∙ (same_end was.0 is.0 q (w.clears.1 s was.0 is.0 was.1 is.1).ends ∙ was.2)
+      told_same (λ (o : Option Share). end_in o q) w.collected w.cleared s w.clears.0 (λ x y before after. ap (λ e. slice_get e.items q) (w.clears.1 s x y before after).ends) ∙ at
 
   -- a queue that is a lane of one share
   lane_after : (q : ℕ) (h : Home) → slice_get w.r.layout.now.homes.items q ≡ Some h → h.sender ≡ h.receiver → (after : List McCopy) × AfterRound q after
   lane_after q h at same =
-      let cap = w.m.setup.capacity in
       let lanes = w.roomy.raised.lanes in
       let was = lanes.lanes q h at same in
       let dealt = dealt_same w q h at same h.sender ∙ was.1 in
-      let p = lane_passes cap w.patience w.dealt w.played (parts w) (played_parts w) h.sender q was.0 dealt in
+      let p = lane_passes (played_parts w) h.sender q was.0 dealt in
       let now : end_at w.cleared h.sender q ≡ Some (Own p.lane) = cleared_end h.sender q (Own p.lane) (collected_same w q h at same h.sender ∙ p.stays) in (
         p.lane.items,
         record {
-          goes = lane_queue cap w.patience w.dealt w.played (parts w) (played_parts w) q h.sender was.0 (held_at w.m q) (home_below q h at).0 was.2 (held_fits q)
+          goes = lane_queue (played_parts w) q h.sender was.0 (held_at w.m q) (home_below q h at).0 was.2 (held_fits q)
               (λ k below other. dealt_same w q h at same k ∙ lanes.away q h k at (omega (arith, below, dealt_long w)) (inl other)) p;
           lane = λ g stands one. (p.lane, subst (λ (x : Home). end_at w.cleared x.sender q ≡ Some (Own p.lane)) (same_Some h g (sym at ∙ stands)) now, refl);
           link = λ l c stands is. absurd (uncut w q h at same c.sender l c stands (sym is, inl refl));
@@ -65,7 +59,7 @@ module _ (w : Whole) where
     two = (w.roomy.raised.laid.cuts.cut l c stands).1
 
     pub elsewhere : (k : ℕ) → k ≢ c.sender → k ≢ c.receiver → IsUncut w.r.layout.now.cuts.items k c.queue
-    elsewhere = no_end_of_cut w.m w.is_mesh (w.turns + 1) w.r w.roomy.raised l c stands
+    elsewhere = no_end_of_cut w.roomy.raised l c stands
 
     queues : List (List McCopy)
     queues = cut_queues (w.m.inputs ++ w.m.cores) w.r.layout.now.cuts.items
@@ -109,12 +103,12 @@ module _ (w : Whole) where
         let collected = w.collects.collects.dealt l c after stands now.1 in
         let a : OutEnd = record { link = l; tx = before.tx } in
         let b : InEnd = record { link = l; rx = before.rx } in
-        let sends = sender_passes cap w.patience w.dealt w.played (parts w) (played_parts w) c.sender c.queue a dealt.0 in
-        let takes = taker_passes cap w.patience w.dealt w.played (parts w) (played_parts w) c.receiver c.queue b dealt.1 in
+        let sends = sender_passes (played_parts w) c.sender c.queue a dealt.0 in
+        let takes = taker_passes (played_parts w) c.receiver c.queue b dealt.1 in
         let below = home_below c.queue (record { sender = c.sender; receiver = c.receiver }) between in
         let as_dealt = dealt_long w in
         record {
-          goes = link_queue cap w.patience w.dealt w.played (parts w) (played_parts w) c.queue c.sender c.receiver a b (held_at w.m c.queue) after
+          goes = link_queue (played_parts w) c.queue c.sender c.receiver a b (held_at w.m c.queue) after
               (get_or (map queue_of_link w.rests.now) l []) w.turns (record {
                 sender_in = below.0;
                 receiver_in = below.1;

@@ -1,7 +1,8 @@
 -- Links with all their ends, seen as a list, and brought down from the last one on.
-use Rattle.mesh_run.proofs.Common.{All, AreEnds, DownTo, HoldsAll, IsDown, LinkEnds, List, McCopy, Option, Rx, Some, Standing, Tx, [], ap, arith, cases_eq, get_or, get_or-set_other, get_or-set_same}
-use Rattle.mesh_run.proofs.Common.{inl, inr, length, length-map, map, map-append, refl, same_Some, same_from_push, set, subst, suc, sym, take, take_all, take_more, zero, ℕ, ◌++◌, ◌+◌, ◌-◌, ◌<◌, ◌∙◌}
+use Rattle.mesh_run.proofs.Common.{All, AreEnds, DownTo, HoldsAll, IsDown, LinkEnds, List, McCopy, Option, Rx, Some, Standing, Tx, [], ap, arith, cases_eq, get_or, get_or_from_slice_get, get_or-set_other, get_or-set_same}
+use Rattle.mesh_run.proofs.Common.{inl, inr, length, length-map, map, map-append, refl, same_Some, same_from_push, set, slice_get_there, subst, suc, sym, take, take_all, take_more, zero, ℕ, ◌++◌, ◌+◌, ◌-◌, ◌<◌, ◌∙◌}
 use Rattle.mesh_run.proofs.Common.{◌∷◌, ◌≡◌, ◌≤◌}
+use Rattle.spin_base.proofs.Places.{take_more_at}
 use Rattle.std.proofs.Math.ListN.{length-set}
 
 -- ---- the list is the only one
@@ -73,12 +74,6 @@ none_less n = omega arith
 pub down_none : (all : List LinkEnds) (s : Standing) (qs : List (List McCopy)) → HoldsAll all s → DownFrom all 0 s qs qs
 down_none all s qs holds = grind (arith, none_less (length all), take_all (length all) all (omega arith))
 
--- an item within a list
-there : {X : Type 0} (xs : List X) (i : ℕ) → i < length xs → (x : X) × ((d : X) → get_or xs i d ≡ x)
-there [] i below = absurd (omega arith)
-there (x ∷ xs) zero below = (x, λ d. refl)
-there (x ∷ xs) (suc i) below = there xs i (omega (arith, below))
-
 -- what stands has the next one at its end
 pub record Next (all : List LinkEnds) (gone : ℕ) (s : Standing) : Type 0 where
   pub ends : LinkEnds
@@ -90,11 +85,11 @@ stands_next all gone s before after so_far below =
     let place : ℕ = length all - gone - 1 in
     let within : place < length all = omega (arith, below) in
     let next : place + 1 ≡ length all - gone = omega (arith, below) in
-    let x = there all place within in
+    let x = slice_get_there all place within in
     record {
       ends = x.0;
-      is = x.1;
-      stands = subst (λ l. HoldsAll l s) (ap (λ n. take n all) (sym next) ∙ (take_more all place x.0 within ∙ ap (λ e. take place all ++ e ∷ []) (x.1 x.0))) so_far.stand;
+      is = λ d. get_or_from_slice_get all place x.0 d x.1;
+      stands = subst (λ l. HoldsAll l s) (ap (λ n. take n all) (sym next) ∙ take_more_at all place x.0 x.1) so_far.stand;
     }
 
 -- its ends are ends of its link

@@ -6,7 +6,7 @@ use Rattle.mesh_run.proofs.Common.{length-append, length-set, length_push, live_
 use Rattle.mesh_run.proofs.Common.{run_start, same_Some, set, slice_get, slice_get-append_left, slice_get-get_or, slice_get-push_cases, slice_get-pushed, slice_get-set_other, slice_get-set_same}
 use Rattle.mesh_run.proofs.Common.{slice_get_within, subst, suc, sym, zero, ℕ, ◌*◌, ◌++◌, ◌+◌, ◌-◌, ◌<◌, ◌^◌, ◌∙◌, ◌∷◌, ◌≡◌, ◌≢◌, ◌≤◌, ◌⊎◌}
 use Rattle.spin_base.specs.declared.routes.Out.TheVariants.{Link}
-use Rattle.mesh_run.proofs.{FloorLaws.live_below, FloorLaws.slice_get-first, FloorLaws.slice_get-second, Feeding.leads, Feeding.no_injection, Feeding.one_output}
+use Rattle.mesh_run.proofs.{Apart.no_injection, Apart.one_output, FloorLaws.live_below, FloorLaws.slice_get-first, FloorLaws.slice_get-second}
 
 -- ---- runs
 
@@ -149,7 +149,7 @@ senders_more u table n m sender place p homes new so_far live below_n output num
   routers = λ i o q k h before on out behind at_k at_h. elim (same_place q) [
     | inl here ↦
         let one = one_output u (chip_of u.machine i) (chip_of u.machine n) o p q (live_inside u.machine (chip_of u.machine i) on.live) (live_inside u.machine (chip_of u.machine n) live.live)
-        (leads u (chip_of u.machine i) o q behind) (leads u (chip_of u.machine n) p q (sym is_place ∙ here)) in
+        behind (sym is_place ∙ here) in
         let index : i ≡ n = same_chip u i n on live one.0 in
         sets.here q h here at_h ∙ same_Some sender k (sym at_sender ∙ (ap (λ (j : ℕ). slice_get table (router_place j)) (sym index) ∙ at_k))
     | inr elsewhere ↦ so_far.routers i o q k h (earlier i o q before behind elsewhere) on out behind at_k (sets.others q h elsewhere at_h)
@@ -177,8 +177,8 @@ senders_more u table n m sender place p homes new so_far live below_n output num
 
     never : (i : ℕ) → i < grid_size u → place_behind u (chip_of u.machine n) p ≡ Some (injection_place i) → ⊥
     never i below e =
-        no_injection u (chip_of u.machine n) (chip_of u.machine i) p (injection_place i) (live_inside u.machine (chip_of u.machine n) live.live) (chip_of-inside u.machine i below)
-        (leads u (chip_of u.machine n) p (injection_place i) e) (ap (λ (k : ℕ). 7 * k + 6) (sym (index_of-chip_of u.machine i)))
+        no_injection u (chip_of u.machine n) (chip_of u.machine i) p (live_inside u.machine (chip_of u.machine n) live.live) (chip_of-inside u.machine i below)
+        (e ∙ ap (λ (k : ℕ). Some (7 * k + 6)) (sym (index_of-chip_of u.machine i)))
 
     listed : (h : Home) (q : ℕ) → slice_get new q ≡ Some h → IsInTable table h
     listed h q at =

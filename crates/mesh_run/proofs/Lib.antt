@@ -14,7 +14,6 @@ mod CrossingLaws
 mod EachQueue
 mod EachVertex
 pub mod Ends
-pub mod Feeding
 mod Filling
 mod FloorLaws
 mod GatheringLaws

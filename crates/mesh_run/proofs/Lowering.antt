@@ -1,37 +1,18 @@
 -- A split mesh put together again.
 use Rattle.mesh_run.proofs.Common.{All, AreEnds, AreUp, Cut, DownTo, FitHomes, HoldVertices, Home, IsDown, IsMesh, IsRaisedFrom, IsUp, LinkEnds, List, McCopy, MovesOut, RaisedMesh, SameButCopies}
-use Rattle.mesh_run.proofs.Common.{SetsQueue, Some, State, [], ap, arith, cases_eq, cut_queues, get_or, get_or-map, get_or-set_other, get_or-set_same, get_or_from_slice_get, inl, inr, length}
+use Rattle.mesh_run.proofs.Common.{SetsQueue, Some, State, [], ap, append-nil, arith, cases_eq, cut_queues, get_or, get_or-map, get_or-set_other, get_or-set_same, get_or_from_slice_get, inl, inr, length}
 use Rattle.mesh_run.proofs.Common.{length-append, length-map, length-set, port_count, refl, same_Some, same_lists, set, slice_get, slice_get-get_or, slice_get_there, slice_get_within, subst, sym, ℕ}
 use Rattle.mesh_run.proofs.Common.{◌++◌, ◌+◌, ◌<◌, ◌∙◌, ◌∷◌, ◌≡◌, ◌≢◌, ◌≤◌}
-use Rattle.mesh_run.proofs.{Holding.both_same, Holding.first_same, Holding.rest_same, SplitLaws.default_at, SplitLaws.same_state, SplitLaws.state_on}
+use Rattle.std.proofs.Math.Seq.{drop-append_seam, take-append_seam}
+use Rattle.mesh_run.proofs.{PlanLaws.homes_fit, SplitLaws.default_at, SplitLaws.same_state, SplitLaws.state_on}
 
 -- ---- what the calls ask for
 
 -- each queue has its homes, and each share its places
 pub fits_raised : (m : State) (more : ℕ) (r : RaisedMesh) → IsMesh m → IsRaisedFrom m more r → FitHomes r.parts r.layout.now.homes.items r.shares.items
 fits_raised m more r mesh raised =
-    let shared = raised.shared in
-    let long = raised.laid.homes.long in
-    let cores = mesh.core_lists in
-    let unsent = mesh.unsent_lists in
-    let cores_long = raised.cores_long in
-    let unsent_long = raised.unsent_long in
-    record {
-      long = omega (arith, long, mesh.input_lists, cores, raised.inputs_long, cores_long);
-      vertices = omega (arith, cores, unsent, cores_long, unsent_long);
-      senders = λ i d below. (both i d below).0;
-      receivers = λ i d below. (both i d below).1;
-      ends_long = λ k d below. shared.ends_long k (get_or r.shares.items k d) (slice_get-get_or r.shares.items k d below) ∙ sym long;
-      unsent_long = λ k d below.
-          let here = shared.unsent_long k (get_or r.shares.items k d) (slice_get-get_or r.shares.items k d below) in
-          omega (arith, here, unsent, unsent_long);
-    }
-  where
-    both : (i : ℕ) (d : Home) → i < length r.layout.now.homes.items →
-        ((get_or r.layout.now.homes.items i d).sender < length r.shares.items) × ((get_or r.layout.now.homes.items i d).receiver < length r.shares.items)
-    both i d below =
-        raised.laid.homes.below i (get_or r.layout.now.homes.items i d) (length r.shares.items) (slice_get-get_or r.layout.now.homes.items i d below)
-        (λ a k at. subst (λ (n : ℕ). k < n) (sym raised.shared.long) (raised.laid.numbers.below a k at))
+    homes_fit m r.parts r.layout.now.runs.items raised.laid.table r.layout.now.homes.items r.shares.items mesh raised.inputs_long raised.cores_long raised.unsent_long
+    raised.laid.numbers raised.laid.homes raised.shared
 
 -- links that are up have their ends
 pub all_are_ends : (cap more : ℕ) (queues : List (List McCopy)) (ends : List LinkEnds) → AreUp cap more queues ends → All AreEnds ends
@@ -42,13 +23,9 @@ no_more_links m more r raised = grind (arith, length-map, get_or)
 
 -- ---- a link that is down
 
-none_behind : (copies : List McCopy) → copies ++ [] ≡ copies
-none_behind [] = refl
-none_behind (c ∷ copies) = ap (λ l. c ∷ l) (none_behind copies)
-
 -- a link that is up and then down gives its queue back
 pub same_queue : (cap more : ℕ) (queue after : List McCopy) (e : LinkEnds) → IsUp cap more queue e → IsDown e after → after ≡ queue
-same_queue cap more queue after e up down = grind (arith, none_behind queue)
+same_queue cap more queue after e up down = grind (arith, append-nil queue)
 
 pub down_at : (m : State) (more : ℕ) (r : RaisedMesh) (down : List (List McCopy)) → (raised : IsRaisedFrom m more r) → DownTo raised.ends down → (l : ℕ) (c : Cut) →
     slice_get r.layout.now.cuts.items l ≡ Some c → get_or down l [] ≡ get_or (m.inputs ++ m.cores) c.queue []
@@ -105,12 +82,7 @@ cut_inside m more n r mid now down left c mesh raised same so_far at =
 
 -- two lists in a row, of which the first are as long
 two_lists : {X : Type 0} (a c b d : List X) → a ++ b ≡ c ++ d → length a ≡ length c → (a ≡ c) × (b ≡ d)
-two_lists [] [] b d e long = (refl, e)
-two_lists [] (y ∷ c) b d e long = absurd (omega (arith, long))
-two_lists (x ∷ a) [] b d e long = absurd (omega (arith, long))
-two_lists (x ∷ a) (y ∷ c) b d e long =
-    let rest = two_lists a c b d (rest_same x y (a ++ b) (c ++ d) e) (omega (arith, long)) in
-    (both_same x y a c (first_same x y (a ++ b) (c ++ d) e) rest.0, rest.1)
+two_lists a c b d e long = grind (arith, take-append_seam a b, take-append_seam c d, drop-append_seam a b, drop-append_seam c d)
 
 equal_states : (s t : State) → s.setup ≡ t.setup → s.unsent ≡ t.unsent → s.inputs ≡ t.inputs → s.hands ≡ t.hands → s.cores ≡ t.cores → s.delivered ≡ t.delivered → s.dumped ≡ t.dumped → s ≡ t
 equal_states s t setup unsent inputs hands cores delivered dumped = grind arith

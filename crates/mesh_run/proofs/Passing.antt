@@ -4,7 +4,7 @@ use Rattle.mesh_run.proofs.Common.{arith, cap_of, cases_eq, end_at, entered, ent
 use Rattle.mesh_run.proofs.Common.{sending, subst, sym, taking, ℕ, ◌*◌, ◌++◌, ◌+◌, ◌-◌, ◌<◌, ◌∙◌, ◌≡◌, ◌≢◌, ◌≤◌}
 use Rattle.mesh_run.proofs.Together.{LanePasses, PlayedParts, SenderPasses, TakerPasses, joined, none_passes, told_by_one}
 
-module _ (cap patience : ℕ) (before after : List Share) (parts : List (List Item)) (h : PlayedParts cap patience before after parts) where
+module _ {cap patience : ℕ} {before after : List Share} {parts : List (List Item)} (h : PlayedParts cap patience before after parts) where
   abbrev items : List Item
   items = joined parts
 
@@ -13,7 +13,7 @@ module _ (cap patience : ℕ) (before after : List Share) (parts : List (List It
 
   -- a queue that is a lane of one share
   pub lane_queue : (q s : ℕ) (a : WithRoom McCopy) (held : List McCopy) → s < length before → a.items ≡ held → length held ≤ cap →
-      ((k : ℕ) → k < length before → k ≢ s → end_at before k q ≡ Some Away) → (p : LanePasses cap patience before after parts h s q a) → QueueGoes cap patience (joined parts) q held p.lane.items
+      ((k : ℕ) → k < length before → k ≢ s → end_at before k q ≡ Some Away) → (p : LanePasses h s q a) → QueueGoes cap patience (joined parts) q held p.lane.items
   lane_queue q s a held below is fits others p = record {
     in_order = ap (λ (l : List McCopy). held ++ l) came ∙ (ap (λ (l : List McCopy). l ++ entered q (part s)) (sym is) ∙ (p.goes.in_order ∙ ap (λ (l : List McCopy). l ++ p.lane.items) (sym went)));
     within = p.goes.within begins;
@@ -26,13 +26,13 @@ module _ (cap patience : ℕ) (before after : List Share) (parts : List (List It
   }
     where
       came : entered q items ≡ entered q (part s)
-      came = told_by_one cap patience before after parts h (entered_by q) s below (λ j inside other. (none_passes cap patience before after parts h j q (others j inside other)).came)
+      came = told_by_one h (entered_by q) s below (λ j inside other. (none_passes h j q (others j inside other)).came)
 
       went : left q items ≡ left q (part s)
-      went = told_by_one cap patience before after parts h (left_by q) s below (λ j inside other. (none_passes cap patience before after parts h j q (others j inside other)).went)
+      went = told_by_one h (left_by q) s below (λ j inside other. (none_passes h j q (others j inside other)).went)
 
       lost : lost_at q items ≡ lost_at q (part s)
-      lost = told_by_one cap patience before after parts h (lost_by q) s below (λ j inside other. (none_passes cap patience before after parts h j q (others j inside other)).lost)
+      lost = told_by_one h (lost_by q) s below (λ j inside other. (none_passes h j q (others j inside other)).lost)
 
       begins : length a.items ≤ cap
       begins = subst (λ (l : List McCopy). length l ≤ cap) (sym is) fits
@@ -45,8 +45,8 @@ module _ (cap patience : ℕ) (before after : List Share) (parts : List (List It
     pub others : (k : ℕ) → k < length before → k ≢ s → k ≢ r → end_at before k q ≡ Some Away
     pub sender_new : NoNotes held (sending a.tx)
     pub receiver_new : NoNotes held (taking b.rx)
-    pub sends : SenderPasses cap patience before after parts h s q a
-    pub takes : TakerPasses cap patience before after parts h r q b
+    pub sends : SenderPasses h s q a
+    pub takes : TakerPasses h r q b
     pub tx : sends.sender.tx ≡ e.tx
     pub rx : takes.taker.rx ≡ e.rx
     pub down : IsDown e rest
@@ -57,21 +57,21 @@ module _ (cap patience : ℕ) (before after : List Share) (parts : List (List It
 
   module _ (q s r : ℕ) (a : OutEnd) (b : InEnd) (held : List McCopy) (e : LinkEnds) (rest : List McCopy) (turns : ℕ) (l : LinkPasses q s r a b held e rest turns) where
     came : entered q items ≡ entered q (part s)
-    came = told_by_one cap patience before after parts h (entered_by q) s l.sender_in (λ j inside other. elim (cases_eq j r) [
+    came = told_by_one h (entered_by q) s l.sender_in (λ j inside other. elim (cases_eq j r) [
       | inl here ↦ subst (λ k. entered q (part k) ≡ []) (sym here) l.takes.came
-      | inr away ↦ (none_passes cap patience before after parts h j q (l.others j inside other away)).came
+      | inr away ↦ (none_passes h j q (l.others j inside other away)).came
     ])
 
     lost : lost_at q items ≡ lost_at q (part s)
-    lost = told_by_one cap patience before after parts h (lost_by q) s l.sender_in (λ j inside other. elim (cases_eq j r) [
+    lost = told_by_one h (lost_by q) s l.sender_in (λ j inside other. elim (cases_eq j r) [
       | inl here ↦ subst (λ k. lost_at q (part k) ≡ []) (sym here) l.takes.lost
-      | inr away ↦ (none_passes cap patience before after parts h j q (l.others j inside other away)).lost
+      | inr away ↦ (none_passes h j q (l.others j inside other away)).lost
     ])
 
     went : left q items ≡ left q (part r)
-    went = told_by_one cap patience before after parts h (left_by q) r l.receiver_in (λ j inside other. elim (cases_eq j s) [
+    went = told_by_one h (left_by q) r l.receiver_in (λ j inside other. elim (cases_eq j s) [
       | inl here ↦ subst (λ k. left q (part k) ≡ []) (sym here) l.sends.went
-      | inr away ↦ (none_passes cap patience before after parts h j q (l.others j inside away other)).went
+      | inr away ↦ (none_passes h j q (l.others j inside away other)).went
     ])
 
     put : put_of (sending e.tx) ≡ held ++ entered q items

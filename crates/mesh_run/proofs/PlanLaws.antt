@@ -5,40 +5,33 @@ use Rattle.mesh_run.proofs.Common.{slice_get, slice_get-get_or, slice_get_within
 use Rattle.mesh_run.proofs.FloorLaws.{few_chips, few_vertices}
 
 -- each share has a place for each queue, and for each vertex
-hand_at : (runs : List ℕ) (queues vertices : ℕ) (shares : List Share) (k : ℕ) (s : Share) → HoldNothing runs queues vertices shares → slice_get shares k ≡ Some s → IsEmptyHand queues vertices s.hold
-hand_at runs queues vertices shares k s nothing at = All-at (λ (x : Share). IsEmptyHand queues vertices x.hold) shares k s nothing.hands at
-
-ends_many : (runs : List ℕ) (queues vertices : ℕ) (shares : List Share) (k : ℕ) (s : Share) → HoldNothing runs queues vertices shares → slice_get shares k ≡ Some s → length s.hold.ends.items ≡ queues
-ends_many runs queues vertices shares k s nothing at = ap length (hand_at runs queues vertices shares k s nothing at).ends ∙ length-replicate queues Away
-
-unsent_many : (runs : List ℕ) (queues vertices : ℕ) (shares : List Share) (k : ℕ) (s : Share) → HoldNothing runs queues vertices shares → slice_get shares k ≡ Some s →
-    length s.hold.unsent.items ≡ vertices
-unsent_many runs queues vertices shares k s nothing at = ap length (hand_at runs queues vertices shares k s nothing at).unsent ∙ length-replicate vertices []
-
 pub plan_shared : (u : Setup) (ends : List ℕ) (queues vertices : ℕ) (shares : List Share) → HoldNothing ends queues vertices shares → queues ≡ port_count u + length u.spots →
     vertices ≡ length u.spots → AreShared u ends shares
 plan_shared u ends queues vertices shares nothing places all = record {
   long = nothing.long;
   from = nothing.from;
   to = nothing.to;
-  ends_long = λ k s at. ends_many ends queues vertices shares k s nothing at ∙ places;
-  unsent_long = λ k s at. unsent_many ends queues vertices shares k s nothing at ∙ all;
+  ends_long = λ k s at. ap length (hand k s at).ends ∙ (length-replicate queues Away ∙ places);
+  unsent_long = λ k s at. ap length (hand k s at).unsent ∙ (length-replicate vertices [] ∙ all);
 }
+  where
+    hand : (k : ℕ) (s : Share) → slice_get shares k ≡ Some s → IsEmptyHand queues vertices s.hold
+    hand k s at = All-at (λ (x : Share). IsEmptyHand queues vertices x.hold) shares k s nothing.hands at
 
-pub plan_fits : (m : State) (ends table : List ℕ) (homes : List Home) (shares : List Share) → IsMesh m → IsShareTable (2 * grid_size m.setup) ends table → AreHomesOf m.setup table homes →
-    HoldNothing ends (length homes) (length m.unsent) shares → FitHomes m homes shares
-plan_fits m ends table homes shares mesh numbers homes_are nothing =
-    record {
-      long = omega (arith, homes_are.long, mesh.input_lists, mesh.core_lists);
-      vertices = mesh.unsent_lists ∙ sym mesh.core_lists;
-      senders = λ i d below. (both i d below).0;
-      receivers = λ i d below. (both i d below).1;
-      ends_long = λ i d below. ends_many ends (length homes) (length m.unsent) shares i (get_or shares i d) nothing (slice_get-get_or shares i d below);
-      unsent_long = λ i d below. unsent_many ends (length homes) (length m.unsent) shares i (get_or shares i d) nothing (slice_get-get_or shares i d below);
-    }
+-- each queue of a mesh, with as many queues and vertices as another, has its homes, and each share its places
+pub homes_fit : (m s : State) (ends table : List ℕ) (homes : List Home) (shares : List Share) → IsMesh m → length s.inputs ≡ length m.inputs → length s.cores ≡ length m.cores →
+    length s.unsent ≡ length m.unsent → IsShareTable (2 * grid_size m.setup) ends table → AreHomesOf m.setup table homes → AreShared m.setup ends shares → FitHomes s homes shares
+homes_fit m s ends table homes shares mesh inputs cores unsent numbers are shared = record {
+  long = omega (arith, are.long, mesh.input_lists, mesh.core_lists, inputs, cores);
+  vertices = omega (arith, mesh.core_lists, mesh.unsent_lists, cores, unsent);
+  senders = λ i d below. (both i d below).0;
+  receivers = λ i d below. (both i d below).1;
+  ends_long = λ k d below. shared.ends_long k (get_or shares k d) (slice_get-get_or shares k d below) ∙ sym are.long;
+  unsent_long = λ k d below. shared.unsent_long k (get_or shares k d) (slice_get-get_or shares k d below) ∙ sym (unsent ∙ mesh.unsent_lists);
+}
   where
     both : (i : ℕ) (d : Home) → i < length homes → ((get_or homes i d).sender < length shares) × ((get_or homes i d).receiver < length shares)
-    both i d below = homes_are.below i (get_or homes i d) (length shares) (slice_get-get_or homes i d below) (λ a k at. subst (λ (n : ℕ). k < n) (sym nothing.long) (numbers.below a k at))
+    both i d below = are.below i (get_or homes i d) (length shares) (slice_get-get_or homes i d below) (λ a k at. subst (λ (n : ℕ). k < n) (sym shared.long) (numbers.below a k at))
 
 pub cuts_inside : (homes : List Home) (cuts : List Cut) (n : ℕ) → AreCutsOf homes cuts → length homes ≡ n → AreInside n cuts
 cuts_inside homes cuts n are long = λ i d below.

@@ -1,9 +1,9 @@
 -- A mesh that is split, and a split mesh with more room.
-use Rattle.mesh_run.proofs.Common.{All-at, AreSameCopies, AreSameRuns, AreShared, AreUp, Away, End, HaveNoLogs, HoldLanes, HoldUnsent, HoldVertices, HoldsAll, Home, IsLayoutOf, IsMesh, IsRaisedFrom}
-use Rattle.mesh_run.proofs.Common.{Layout, LinkEnds, List, McCopy, MovesIn, None, Option, Own, RaisedMesh, SameCopies, SameEnd, Setup, Share, Some, State, StayUp, [], ap, arith, cases_lt, cut_queues}
+use Rattle.mesh_run.proofs.Common.{All-at, AreSameCopies, AreSameRuns, AreShared, AreUp, Away, End, HasRoomForLogs, HaveNoLogs, HoldLanes, HoldUnsent, HoldVertices, HoldsAll, Home, IsLayoutOf, IsMesh, IsRaisedFrom, IsRoomyFrom, MeshLogs}
+use Rattle.mesh_run.proofs.Common.{Layout, LinkEnds, List, McCopy, MovesIn, None, Option, Own, RaisedMesh, SameCopies, SameEnd, Setup, Share, Some, Standing, State, StayUp, Vec, [], ap, arith, cases_lt, cut_queues}
 use Rattle.mesh_run.proofs.Common.{end_at, end_in, get_or, get_or-map, get_or_from_slice_get, inl, inr, length, length-map, map, none-some, port_count, queue_of_link, refl, same_Some, same_lists}
-use Rattle.mesh_run.proofs.Common.{slice_get, slice_get-get_or, slice_get_there, slice_get_within, subst, sym, unsent_at, unsent_in, ℕ, ◌++◌, ◌<◌, ◌∙◌, ◌≡◌, ◌≤◌}
-use Rattle.mesh_run.proofs.{BringingUp.fewer_up, CrossingLaws.end_there, Going.GoneTo, RoomLaws.copies_same}
+use Rattle.mesh_run.proofs.Common.{slice_get, slice_get-get_or, slice_get_there, slice_get_within, subst, sym, unsent_at, unsent_in, ℕ, ◌++◌, ◌+◌, ◌<◌, ◌∙◌, ◌≡◌, ◌≤◌}
+use Rattle.mesh_run.proofs.{BringingUp.fewer_up, CrossingLaws.stood, CrossingLaws.told_same, Going.GoneTo, RoomLaws.copies_same}
 
 -- ---- the same runs
 
@@ -54,11 +54,11 @@ same_runs before after same = grind arith
 -- an end stands where it stood, with the same copies
 same_end_at : (before after : List Share) (s q : ℕ) (a : End) → AreSameCopies before after → end_at before s q ≡ Some a → (b : End) × (end_at after s q ≡ Some b) × SameEnd a b
 same_end_at before after s q a same is =
-    let at = end_there before s q a is in
-    let y = slice_get_there after s (omega (arith, slice_get_within before s at.share at.stands, same.0)) in
-    let pair = same.1 s at.share y.0 at.stands y.1 in
-    let b = slice_get_there y.0.hold.ends.items q (omega (arith, slice_get_within at.share.hold.ends.items q a at.holds, pair.ends_long)) in
-    (b.0, ap (λ (o : Option Share). end_in o q) y.1 ∙ b.1, pair.ends q a b.0 at.holds b.1)
+    let at = stood (slice_get before s) q a is in
+    let y = slice_get_there after s (omega (arith, slice_get_within before s at.0 at.1, same.0)) in
+    let pair = same.1 s at.0 y.0 at.1 y.1 in
+    let b = slice_get_there y.0.hold.ends.items q (omega (arith, slice_get_within at.0.hold.ends.items q a at.2, pair.ends_long)) in
+    (b.0, ap (λ (o : Option Share). end_in o q) y.1 ∙ b.1, pair.ends q a b.0 at.2 b.1)
 
 pub lanes_still : (queues : List (List McCopy)) (homes : List Home) (before after : List Share) → AreSameCopies before after → HoldLanes queues homes before → HoldLanes queues homes after
 lanes_still queues homes before after same held = record {
@@ -72,19 +72,8 @@ lanes_still queues homes before after same held = record {
 }
 
 unsent_same : (before after : List Share) (s v : ℕ) → AreSameCopies before after → unsent_at after s v ≡ unsent_at before s v
-unsent_same before after s v same = by (slice_get after s) refl
-  where
-    none_too : (o : Option Share) → slice_get after s ≡ None → slice_get before s ≡ o → unsent_at after s v ≡ unsent_at before s v
-    none_too None at also = ap (λ (z : Option Share). unsent_in z v) (at ∙ sym also)
-    none_too (Some x) at also =
-        let y = slice_get_there after s (omega (arith, slice_get_within before s x also, same.0)) in
-        absurd (none-some y.0 (sym at ∙ y.1))
-
-    by : (o : Option Share) → slice_get after s ≡ o → unsent_at after s v ≡ unsent_at before s v
-    by (Some y) at =
-        let x = was_there before after s y same.0 at in
-        ap (λ (z : Option Share). unsent_in z v) at ∙ (ap (λ l. get_or l.items v []) (same.1 s x.0 y x.1 at).unsent ∙ ap (λ (z : Option Share). unsent_in z v) (sym x.1))
-    by None at = none_too (slice_get before s) at refl
+unsent_same before after s v same =
+    told_same (λ (o : Option Share). unsent_in o v) before after s same.0 (λ x y at also. ap (λ l. get_or l.items v []) (same.1 s x y at also).unsent)
 
 pub unsent_still : (u : Setup) (unsent : List (List McCopy)) (homes : List Home) (before after : List Share) → AreSameCopies before after → HoldUnsent u unsent homes before →
     HoldUnsent u unsent homes after
@@ -103,40 +92,6 @@ no_logs_still before after same none = λ i d below.
 
 -- ---- more room
 
--- all of a split mesh but its links, its shares and its logs is the same
-pub record SameFrame (r s : RaisedMesh) : Type 0 where
-  pub parts : s.parts ≡ r.parts
-  pub pace : s.pace ≡ r.pace
-  pub layout : s.layout.now ≡ r.layout.now
-  pub crossing : length s.crossing.items ≡ length r.crossing.items
-  pub delivered : s.logs.delivered.items ≡ r.logs.delivered.items
-  pub dumped : s.logs.dumped.items ≡ r.logs.dumped.items
-
--- a split mesh with other links for the same queues, and with shares with the same copies
-pub roomier : (m : State) (less more : ℕ) (r s : RaisedMesh) (ends : List LinkEnds) → IsRaisedFrom m less r → SameFrame r s → HoldsAll ends s.standing →
-    AreUp m.setup.capacity more (cut_queues (m.inputs ++ m.cores) r.layout.now.cuts.items) ends → AreSameCopies r.shares.items s.shares.items → IsRaisedFrom m more s
-roomier m less more r s ends was same holds up copies = record {
-  setup = ap (λ (p : State). p.setup) same.parts ∙ was.setup;
-  hands = ap (λ (p : State). p.hands) same.parts ∙ was.hands;
-  inputs_long = ap (λ (p : State). length p.inputs) same.parts ∙ was.inputs_long;
-  cores_long = ap (λ (p : State). length p.cores) same.parts ∙ was.cores_long;
-  unsent_long = ap (λ (p : State). length p.unsent) same.parts ∙ was.unsent_long;
-  laid = subst (IsLayoutOf m.setup) (sym same.layout) was.laid;
-  shared = subst (λ (l : Layout). AreShared m.setup l.runs.items s.shares.items) (sym same.layout)
-      (shared_still m.setup r.layout.now.runs.items r.shares.items s.shares.items (same_runs r.shares.items s.shares.items copies) was.shared);
-  lanes = subst (λ (l : Layout). HoldLanes (m.inputs ++ m.cores) l.homes.items s.shares.items) (sym same.layout)
-      (lanes_still (m.inputs ++ m.cores) r.layout.now.homes.items r.shares.items s.shares.items copies was.lanes);
-  unsent = subst (λ (l : Layout). HoldUnsent m.setup m.unsent l.homes.items s.shares.items) (sym same.layout)
-      (unsent_still m.setup m.unsent r.layout.now.homes.items r.shares.items s.shares.items copies was.unsent);
-  ends = ends;
-  holds = holds;
-  up = subst (λ (l : Layout). AreUp m.setup.capacity more (cut_queues (m.inputs ++ m.cores) l.cuts.items) ends) (sym same.layout) up;
-  crossing = same.crossing ∙ (was.crossing ∙ ap (λ (l : Layout). length l.cuts.items) (sym same.layout));
-  no_logs = no_logs_still r.shares.items s.shares.items copies was.no_logs;
-  delivered = same.delivered ∙ was.delivered;
-  dumped = same.dumped ∙ was.dumped;
-}
-
 -- links that are up know their queues
 pub known_queues : (cap more : ℕ) (queues : List (List McCopy)) (ends : List LinkEnds) → AreUp cap more queues ends → queues ≡ map queue_of_link ends
 known_queues cap more queues ends up =
@@ -154,14 +109,41 @@ still_for cap more less queues ends now was up = subst (λ (qs : List (List McCo
 pub known_up : (m : State) (r : RaisedMesh) (cap : ℕ) → (raised : IsRaisedFrom m 0 r) → cap ≡ r.parts.setup.capacity → AreUp cap 0 (map queue_of_link raised.ends) raised.ends
 known_up m r cap raised is = grind (arith, known_queues m.setup.capacity 0 (cut_queues (m.inputs ++ m.cores) r.layout.now.cuts.items) raised.ends raised.up)
 
--- a split mesh of which the links have places for more copies, and the shares the same ones
-pub with_links : (m : State) (more less : ℕ) (r s : RaisedMesh) (cap : ℕ) → (raised : IsRaisedFrom m 0 r) → less ≤ more → cap ≡ r.parts.setup.capacity →
-    StayUp cap more raised.ends s.standing → SameFrame r s → AreSameCopies r.shares.items s.shares.items → IsRaisedFrom m less s
-with_links m more less r s cap raised fewer is stay same copies =
+-- a split mesh with other links for the same queues, with shares with the same copies, and with logs with the same items
+pub with_links : (m : State) (more less : ℕ) (r : RaisedMesh) (standing : Standing) (shares : Vec Share) (logs : MeshLogs) (cap : ℕ) → (raised : IsRaisedFrom m 0 r) → less ≤ more →
+    cap ≡ r.parts.setup.capacity → StayUp cap more raised.ends standing → AreSameCopies r.shares.items shares.items → logs.delivered.items ≡ r.logs.delivered.items →
+    logs.dumped.items ≡ r.logs.dumped.items → IsRaisedFrom m less (record r { standing = standing; shares = shares; logs = logs })
+with_links m more less r standing shares logs cap raised fewer is stay copies delivered dumped =
     let queues : List (List McCopy) = cut_queues (m.inputs ++ m.cores) r.layout.now.cuts.items in
     let up = subst (λ (n : ℕ). AreUp n more (map queue_of_link raised.ends) stay.now) (is ∙ ap (λ (u : Setup). u.capacity) raised.setup) stay.up in
-    roomier m 0 less r s stay.now raised same stay.holds
-    (fewer_up m.setup.capacity more less queues stay.now fewer (still_for m.setup.capacity more 0 queues raised.ends stay.now raised.up up)) copies
+    record {
+      setup = raised.setup;
+      hands = raised.hands;
+      inputs_long = raised.inputs_long;
+      cores_long = raised.cores_long;
+      unsent_long = raised.unsent_long;
+      laid = raised.laid;
+      shared = shared_still m.setup r.layout.now.runs.items r.shares.items shares.items (same_runs r.shares.items shares.items copies) raised.shared;
+      lanes = lanes_still (m.inputs ++ m.cores) r.layout.now.homes.items r.shares.items shares.items copies raised.lanes;
+      unsent = unsent_still m.setup m.unsent r.layout.now.homes.items r.shares.items shares.items copies raised.unsent;
+      ends = stay.now;
+      holds = stay.holds;
+      up = fewer_up m.setup.capacity more less queues stay.now fewer (still_for m.setup.capacity more 0 queues raised.ends stay.now raised.up up);
+      crossing = raised.crossing;
+      no_logs = no_logs_still r.shares.items shares.items copies raised.no_logs;
+      delivered = delivered ∙ raised.delivered;
+      dumped = dumped ∙ raised.dumped;
+    }
+
+-- the same with room for a round
+pub roomy_with : (m : State) (r : RaisedMesh) (standing : Standing) (shares : Vec Share) (logs : MeshLogs) (cap turns : ℕ) (seen : List Share) → IsRaisedFrom m 0 r → cap ≡ r.parts.setup.capacity →
+    turns ≡ r.pace.turns → ((ends : List LinkEnds) → HoldsAll ends r.standing → StayUp cap (turns + 1) ends standing) → AreSameCopies r.shares.items shares.items →
+    logs.delivered.items ≡ r.logs.delivered.items → logs.dumped.items ≡ r.logs.dumped.items → seen ≡ shares.items → HasRoomForLogs seen logs →
+    IsRoomyFrom m (r.pace.turns + 1) (record r { standing = standing; shares = shares; logs = logs })
+roomy_with m r standing shares logs cap turns seen raised is turns_are stay copies delivered dumped seen_is room = record {
+  raised = with_links m (turns + 1) (r.pace.turns + 1) r standing shares logs cap raised (omega (arith, turns_are)) is (stay raised.ends raised.holds) copies delivered dumped;
+  room = subst (λ (l : List Share). HasRoomForLogs l logs) seen_is room;
+}
 
 -- ---- share by share
 

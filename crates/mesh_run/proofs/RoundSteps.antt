@@ -43,7 +43,7 @@ module _ {m : State} {r : RaisedMesh} {lent : Standing} {dealt : List Share} whe
 
   -- all are shares of the mesh
   pub shares_of_mesh : IsDealt m r lent dealt → All (IsShareOf r.parts.setup lent.links.items) dealt
-  shares_of_mesh d = grind (arith, dealt_shares m d.is_mesh (r.pace.turns + 1) r d.roomy.raised dealt d.deals lent.links.items d.none_left.links)
+  shares_of_mesh d = grind (arith, dealt_shares d.roomy.raised d.deals d.none_left.links)
 
   module _ {played : List Share} where
     -- what the turns of all shares promise
@@ -54,14 +54,13 @@ module _ {m : State} {r : RaisedMesh} {lent : Standing} {dealt : List Share} whe
     pub cuts_laid : IsTurned m r lent dealt played → AreLaid lent.links.items played r.layout.now.cuts.items
     cuts_laid t =
         let d = t.before in
-        ends_laid m d.is_mesh (r.pace.turns + 1) r d.roomy.raised dealt d.deals lent.links.items d.none_left.links
-        r.pace.patience r.pace.turns played t.long t.plays
+        ends_laid d.roomy.raised d.deals d.none_left.links t.long t.plays
 
     -- so the cuts lie between the shares that played
     pub still_cuts : IsTurned m r lent dealt played → AreCuts r.layout.now.cuts.items played
     still_cuts t =
         let laid = cuts_laid t in
-        let apart = cuts_apart m t.before.is_mesh (r.pace.turns + 1) r t.before.roomy.raised in
+        let apart = cuts_apart t.before.roomy.raised in
         record {
           two = apart.two;
           senders = λ l c at. (_, (laid l c at).sends);
@@ -74,7 +73,7 @@ module _ {m : State} {r : RaisedMesh} {lent : Standing} {dealt : List Share} whe
     abbrev pub no_ends : IsTurned m r lent dealt played → (ends : List LinkEnds) × HoldsNoEnds ends lent × (length ends ≡ length r.layout.now.cuts.items)
     no_ends t =
         let d = t.before in
-        (d.roomy.raised.ends, d.none_left, links_many m d.is_mesh (r.pace.turns + 1) r d.roomy.raised)
+        (d.roomy.raised.ends, d.none_left, links_many d.roomy.raised)
 
     module _ {brought : Standing} {collected : List Share} where
       -- what collecting promises for any ends, for those of the mesh
@@ -94,8 +93,7 @@ module _ {m : State} {r : RaisedMesh} {lent : Standing} {dealt : List Share} whe
       can_rest h =
           let t = h.turned in
           let d = t.before in
-          let up = links_were_up m d.is_mesh (r.pace.turns + 1) r d.roomy.raised dealt d.deals lent.links.items d.none_left.links
-          r.pace.patience r.pace.turns played t.long t.plays brought collected h.collects in
+          let up = links_were_up d.roomy.raised d.deals d.none_left.links t.long t.plays brought collected h.collects in
           (h.collects.ends, h.collects.holds, subst (λ (u : Setup). All (WasUp u.capacity) h.collects.ends) (sym d.roomy.raised.setup) up)
 
       -- there is room for what was logged
@@ -103,8 +101,7 @@ module _ {m : State} {r : RaisedMesh} {lent : Standing} {dealt : List Share} whe
       room_for_logs h =
           let t = h.turned in
           let d = t.before in
-          logs_fit m d.is_mesh (r.pace.turns + 1) r d.roomy.raised dealt d.deals lent.links.items d.none_left.links
-          r.pace.patience r.pace.turns played t.long t.plays brought collected r.logs h.collects d.roomy.room
+          logs_fit d.roomy.raised d.deals d.none_left.links t.long t.plays brought collected r.logs h.collects d.roomy.room
 
       -- The whole round, with links at rest and logs gathered.
       pub round_plays : {rested : Rested} (standing : Standing) (shares : Vec Share) (logs : MeshLogs) (moved : Bool) →

@@ -5,7 +5,7 @@ use Rattle.mesh_run.proofs.Common.{cases_eq, cases_lt, end_at, end_in, get_or, g
 use Rattle.mesh_run.proofs.Common.{get_or_past, inl, inr, length, length-append, length-replicate, length-set, length_push, none-some, refl, replicate, run_start, same_Some, same_lists, set}
 use Rattle.mesh_run.proofs.Common.{set-append_left, set-append_right, slice_get, slice_get-get_or, slice_get-push_cases, slice_get-set_other, slice_get-set_same, slice_get_there, slice_get_within}
 use Rattle.mesh_run.proofs.Common.{subst, sym, unsent_at, unsent_in, ℕ, ◌++◌, ◌+◌, ◌-◌, ◌<◌, ◌∙◌, ◌∷◌, ◌≡◌, ◌≢◌, ◌≤◌, ◌⊎◌}
-use Rattle.mesh_run.proofs.{CrossingLaws.each_on, CrossingLaws.each_self, CrossingLaws.each_set, CrossingLaws.same_on, CrossingLaws.same_self, HomeLaws.start_more}
+use Rattle.mesh_run.proofs.{CrossingLaws.each_on, CrossingLaws.each_self, CrossingLaws.each_set, CrossingLaws.same_on, CrossingLaws.same_self, CrossingLaws.told_same, HomeLaws.start_more}
 
 -- ---- one queue of a mesh
 
@@ -163,22 +163,9 @@ vertex_there m homes start second now ports v fits ends unsent is below =
     ∙ All-at (λ (y : Share). length y.hold.unsent.items ≡ length m.unsent) start k s.0 fits.unsent_long s.1) in
     (t.0, t.1, omega (arith, below, wide))
 
--- where the same is unsent in each share, it is at each place
-by_unsent : (a b : List Share) (s v : ℕ) → length b ≡ length a → ((k : ℕ) (x y : Share) → slice_get a k ≡ Some x → slice_get b k ≡ Some y → y.hold.unsent ≡ x.hold.unsent) →
-    unsent_at b s v ≡ unsent_at a s v
-by_unsent a b s v long each = by (slice_get b s) refl
-  where
-    by : (o : Option Share) → slice_get b s ≡ o → unsent_at b s v ≡ unsent_at a s v
-    by (Some y) at =
-        let x = slice_get_there a s (omega (arith, slice_get_within b s y at, long)) in
-        ap (λ (z : Option Share). unsent_in z v) at ∙ (ap (λ e. get_or e.items v []) (each s x.0 y x.1 at) ∙ ap (λ (z : Option Share). unsent_in z v) (sym x.1))
-    by None at = none_too (slice_get a s) refl
-      where
-        none_too : (o : Option Share) → slice_get a s ≡ o → unsent_at b s v ≡ unsent_at a s v
-        none_too None also = ap (λ (z : Option Share). unsent_in z v) (at ∙ sym also)
-        none_too (Some x) also =
-            let y = slice_get_there b s (omega (arith, slice_get_within a s x also, long)) in
-            absurd (none-some y.0 (sym at ∙ y.1))
+-- where all but ends is the same, the same is unsent
+ends_unsent : (a b : List Share) (s v : ℕ) → AreSameButEnds a b → unsent_at b s v ≡ unsent_at a s v
+ends_unsent a b s v same = told_same (λ (o : Option Share). unsent_in o v) a b s same.0 (λ x y at also. ap (λ l. get_or l.items v []) (same.1 s x y at also).unsent)
 
 pub default_at : (xs : List (List McCopy)) (v : ℕ) (d : List McCopy) → v < length xs → get_or xs v d ≡ get_or xs v []
 default_at xs v d below = let x = slice_get_there xs v below in get_or_from_slice_get xs v x.0 d x.1 ∙ sym (get_or_from_slice_get xs v x.0 [] x.1)
@@ -255,31 +242,16 @@ moved_in m mid left homes runs queues vertices n k start second third after noth
         let p = all j s.0 t s.1 also in
         (ap (λ l. l.items) p.dumps ∙ hand.dumps, ap (λ l. l.items) p.deliveries ∙ hand.deliveries)
 
-    by_ends : (a b : List Share) (s q : ℕ) → length b ≡ length a → ((k : ℕ) (x y : Share) → slice_get a k ≡ Some x → slice_get b k ≡ Some y → y.hold.ends ≡ x.hold.ends) → end_at b s q ≡ end_at a s q
-    by_ends a b s q long each = by (slice_get b s) refl
-      where
-        by : (o : Option Share) → slice_get b s ≡ o → end_at b s q ≡ end_at a s q
-        by (Some y) at =
-            let x = slice_get_there a s (omega (arith, slice_get_within b s y at, long)) in
-            ap (λ (z : Option Share). end_in z q) at ∙ (ap (λ e. slice_get e.items q) (each s x.0 y x.1 at) ∙ ap (λ (z : Option Share). end_in z q) (sym x.1))
-        by None at = none_too (slice_get a s) refl
-          where
-            none_too : (o : Option Share) → slice_get a s ≡ o → end_at b s q ≡ end_at a s q
-            none_too None also = ap (λ (z : Option Share). end_in z q) (at ∙ sym also)
-            none_too (Some x) also =
-                let y = slice_get_there b s (omega (arith, slice_get_within a s x also, long)) in
-                absurd (none-some y.0 (sym at ∙ y.1))
-
     ends_still : (s q : ℕ) → end_at after s q ≡ end_at second s q
     ends_still s q =
-        by_ends third after s q same.0 (λ k x y at also. ap (λ h. h.ends) (same.1 k x y at also).2)
-        ∙ by_ends second third s q unsent.shares_same.0 (λ k x y at also. (unsent.shares_same.1 k x y at also).ends)
+        told_same (λ (o : Option Share). end_in o q) third after s same.0 (λ x y at also. ap (λ h. slice_get h.ends.items q) (same.1 s x y at also).2)
+        ∙ told_same (λ (o : Option Share). end_in o q) second third s unsent.shares_same.0 (λ x y at also. ap (λ e. slice_get e.items q) (unsent.shares_same.1 s x y at also).ends)
 
     unsent_still : (s v : ℕ) → unsent_at after s v ≡ unsent_at third s v
-    unsent_still s v = by_unsent third after s v same.0 (λ k x y at also. ap (λ h. h.unsent) (same.1 k x y at also).2)
+    unsent_still s v = told_same (λ (o : Option Share). unsent_in o v) third after s same.0 (λ x y at also. ap (λ h. get_or h.unsent.items v []) (same.1 s x y at also).2)
 
     unsent_before : (s v : ℕ) → unsent_at second s v ≡ unsent_at start s v
-    unsent_before s v = by_unsent start second s v lanes.shares_same.0 (λ k x y at also. (lanes.shares_same.1 k x y at also).unsent)
+    unsent_before s v = ends_unsent start second s v lanes.shares_same
 
     not_there : (q : ℕ) (h g : Home) (s : ℕ) → slice_get homes q ≡ Some h → slice_get homes q ≡ Some g → g.sender ≡ g.receiver → s ≡ g.sender → (s ≢ h.sender) ⊎ (h.sender ≢ h.receiver) → ⊥
     not_there q h g s at at_g one here (inl differs) = differs (here ∙ ap (λ (x : Home). x.sender) (same_Some g h (sym at_g ∙ at)))
@@ -385,7 +357,7 @@ moved_out left mid m homes n k start second third fits past past_k lanes unsent 
     queues_still q = ap (λ l. get_or (l ++ m.cores) q []) unsent.inputs ∙ ap (λ l. get_or (mid.inputs ++ l) q []) unsent.cores
 
     unsent_before : (s v : ℕ) → unsent_at second s v ≡ unsent_at start s v
-    unsent_before s v = by_unsent start second s v lanes.shares_same.0 (λ k x y at also. (lanes.shares_same.1 k x y at also).unsent)
+    unsent_before s v = ends_unsent start second s v lanes.shares_same
 
 -- ---- shares of the runs so far
 

@@ -4,6 +4,7 @@ use Rattle.mesh_run.proofs.Common.{Option, OutEnd, Own, SenderGoes, Sends, Setup
 use Rattle.mesh_run.proofs.Common.{end_in, entered, false, flat_map, flat_map-append, get_or, get_or_default, get_or_from_slice_get, inl, inr, left, length, list_any, lost_at, refl, run_start}
 use Rattle.mesh_run.proofs.Common.{slice_get, slice_get-get_or, slice_get_within, slice_index_or, subst, suc, sym, take, take_all, take_more, true, zero, ℕ, ◌++◌, ◌+◌, ◌<◌, ◌||◌, ◌∙◌, ◌∷◌, ◌≡◌, ◌≢◌}
 use Rattle.mesh_run.proofs.Common.{◌≤◌, ◌⊎◌}
+use Rattle.mesh_run.proofs.CrossingLaws.{stood}
 use Rattle.mesh_run.proofs.Turns.{IsNotOf, flat_map_none, turns_beside, turns_none}
 
 -- ---- lists of all shares
@@ -96,20 +97,13 @@ noted_joined (s ∷ shares) (p ∷ parts) long each =
 
 -- ---- what each share holds of a queue
 
-pub stood : (x : Option Share) (q : ℕ) (a : End) → end_in x q ≡ Some a → (s : Share) × (x ≡ Some s) × (slice_get s.hold.ends.items q ≡ Some a)
-stood None q a at = absurd (nothing at)
-  where
-    nothing : None ≡ Some a → ⊥
-    nothing same = cc
-stood (Some s) q a at = (s, refl, at)
-
 -- each share did its part
 pub record PlayedParts (cap patience : ℕ) (before after : List Share) (parts : List (List Item)) : Type 0 where
   pub long : length after ≡ length before
   pub parts_long : length parts ≡ length before
   pub goes : (k : ℕ) (s : Share) → k < length before → Goes cap patience (get_or before k s).hold (get_or parts k []) (get_or after k s).hold
 
-module _ (cap patience : ℕ) (before after : List Share) (parts : List (List Item)) (h : PlayedParts cap patience before after parts) where
+module _ {cap patience : ℕ} {before after : List Share} {parts : List (List Item)} (h : PlayedParts cap patience before after parts) where
   abbrev part : ℕ → List Item
   part k = get_or parts k []
 

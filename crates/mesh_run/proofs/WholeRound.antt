@@ -80,7 +80,7 @@ module _ (w : Whole) where
 
   module _ (q : ℕ) (h : Home) (at : slice_get w.r.layout.now.homes.items q ≡ Some h) (same : h.sender ≡ h.receiver) where
     pub uncut : (s : ℕ) → IsUncut w.r.layout.now.cuts.items s q
-    uncut = lane_uncut w.m w.is_mesh (w.turns + 1) w.r w.roomy.raised q h at same
+    uncut = lane_uncut w.roomy.raised q h at same
 
     pub dealt_same : (s : ℕ) → end_at w.dealt s q ≡ end_at w.r.shares.items s q
     dealt_same s = w.deals.others s q (uncut s)

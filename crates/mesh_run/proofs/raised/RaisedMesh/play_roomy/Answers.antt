@@ -10,7 +10,7 @@ deal-requires-clause-cuts g c =
     let q = c.requires in
     subst (λ (x : RaisedMesh). AreCuts c.deref.result.now x.shares.items) (sym c.self.view_is)
     (subst (λ (l : List Cut). AreCuts l c.args.self.now.shares.items) (sym (c.deref.ensures.value ∙ ap (λ (x : RaisedMesh). x.layout.now.cuts.items) c.self.view_is))
-    (cuts_apart q.0 q.1 (c.args.self.now.pace.turns + 1) c.args.self.now q.2.raised))
+    (cuts_apart q.2.raised))
 
 -- what was dealt to the shares
 dealt : (g : Over) (c : After-deal g) (m : State) → IsMesh m → IsRoomyFrom m (c.args.self.now.pace.turns + 1) c.args.self.now →
