@@ -1,10 +1,8 @@
 -- The shares of a split mesh, with the ends of the links between them dealt: each share holds what its actors need.
-use Rattle.mesh_run.proofs.Common.{All, AreCuts, AreShareRuns, Away, Cut, Deals, End, HoldsSender, Home, IsEndOf, IsInRun, IsMesh, IsOutput, IsRaisedFrom, IsShareOf, IsUncut, Link, LinkEnds, List}
-use Rattle.mesh_run.proofs.Common.{McCopy, Option, Out, Own, RaisedMesh, Sends, Setup, Share, Some, State, Takes, WasUp, WithRoom, [], ap, arith, bank_place, cases_eq, chip_of, end_at, end_in, get_or}
-use Rattle.mesh_run.proofs.Common.{get_or_from_slice_get, grid_size, injection_place, inl, inr, length, length-map, live_inside, map, one_item_at, out_of-has_bit, refl, router_place, run_start}
-use Rattle.mesh_run.proofs.Common.{same_Some, slice_get, slice_get-get_or, slice_get-mapped, slice_get_there, slice_get_within, slice_index_or, subst, suc, sym, zero, ℕ, ◌*◌, ◌++◌, ◌<◌, ◌∙◌, ◌≡◌, ◌≢◌}
-use Rattle.mesh_run.proofs.Common.{◌≤◌}
-use Rattle.spin_base.specs.declared.routes.Out.TheVariants.{Link as ByLink}
+use Rattle.mesh_run.proofs.Common.{All, AreCuts, AreShareRuns, Away, Cut, Deals, End, HoldsSender, Home, IsEndOf, IsInRun, IsRaisedFrom, IsShareOf, IsUncut, Link, LinkEnds, List, McCopy, Option, Own}
+use Rattle.mesh_run.proofs.Common.{RaisedMesh, Sends, Setup, Share, Some, State, Takes, WasUp, WithRoom, [], ap, arith, bank_place, cases_eq, chip_of, cut_queues, end_at, end_in, get_or}
+use Rattle.mesh_run.proofs.Common.{get_or_from_slice_get, grid_size, injection_place, inl, inr, length, length-map, live_inside, map, one_item_at, refl, router_place, run_start, same_Some, slice_get}
+use Rattle.mesh_run.proofs.Common.{slice_get-get_or, slice_get-mapped, slice_get_there, slice_get_within, slice_index_or, subst, suc, sym, zero, ℕ, ◌*◌, ◌++◌, ◌<◌, ◌∙◌, ◌≡◌, ◌≢◌, ◌≤◌}
 use Rattle.mesh_run.proofs.{Apart.leads_bit, Apart.place_below, FloorLaws.live_below}
 
 -- no run ends past the last place
@@ -84,8 +82,10 @@ module _ {m : State} {more : ℕ} {r : RaisedMesh} (raised : IsRaisedFrom m more
   -- a link that is up, at its place
   pub link_up_at : (l : ℕ) (e : LinkEnds) → slice_get raised.ends l ≡ Some e → WasUp u.capacity e
   link_up_at l e at =
-      let up = raised.up.each l [] e (omega (arith, slice_get_within raised.ends l e at, raised.up.long)) in
-      subst (WasUp u.capacity) (get_or_from_slice_get raised.ends l e e at) (record { ends = up.ends; few = up.holds.few })
+      let queues : List (List McCopy) = cut_queues (m.inputs ++ m.cores) r.layout.now.cuts.items in
+      let q = slice_get_there queues l (omega (arith, slice_get_within raised.ends l e at, raised.up.long)) in
+      let up = raised.up.each l q.0 e q.1 at in
+      record { ends = up.ends; few = up.holds.few }
 
   module _ {dealt : List Share} (deals : Deals raised.ends r.layout.now.cuts.items r.shares.items dealt) where
     many_dealt : length dealt ≡ length r.shares.items

@@ -1,9 +1,9 @@
 -- The shares after the turns of a round: the ends that they hold can be collected, and there is room for what they logged.
-use Rattle.mesh_run.proofs.Common.{All, All-at, AreLaid, Deals, End, FitsLogs, Goes, HasRoomForLogs, HoldsCollected, InEnd, IsEndOf, IsMesh, IsRaisedFrom, IsRx, IsTx, Item, Link, LinkEnds, List}
-use Rattle.mesh_run.proofs.Common.{MeshLogs, OutEnd, PlaysAndStays, RaisedMesh, Sends, Share, Some, Standing, State, Takes, WasUp, [], ap, arith, cap_of, end_at, get_or, get_or_default}
-use Rattle.mesh_run.proofs.Common.{get_or_from_slice_get, length, map, same_Some, slice_get, slice_get-get_or, slice_get-mapped, slice_get_there, slice_get_within, subst, suc, sum_by, sum_by-cons}
-use Rattle.mesh_run.proofs.Common.{sym, ℕ, ◌<◌, ◌∙◌, ◌∷◌, ◌≡◌, ◌≤◌}
-use Rattle.mesh_run.proofs.{AfterDeal.link_at, AfterDeal.link_up_at, AfterDeal.links_many, CrossingLaws.stood, Together.PlayedParts, Together.listed, Together.sender_passes, Together.taker_passes}
+use Rattle.mesh_run.proofs.Common.{All, All-at, AreLaid, Deals, End, FitsLogs, Goes, HasRoomForLogs, HoldsCollected, InEnd, IsEndOf, IsRaisedFrom, IsRx, IsTx, Item, Link, LinkEnds, List, MeshLogs}
+use Rattle.mesh_run.proofs.Common.{OutEnd, PlaysAndStays, RaisedMesh, Sends, Share, Some, Standing, State, Takes, WasUp, [], ap, arith, cap_of, end_at, get_or, get_or_default, get_or_from_slice_get}
+use Rattle.mesh_run.proofs.Common.{length, map, same_Some, slice_get, slice_get-get_or, slice_get_there, slice_get_within, subst, suc, sum_by, sum_by-cons, sym, ℕ, ◌<◌, ◌∙◌, ◌∷◌, ◌≡◌, ◌≤◌}
+use Rattle.mesh_run.proofs.{AfterDeal.link_at, AfterDeal.link_up_at, AfterDeal.links_many, CrossingLaws.stood, Slots.same_mapped, Together.PlayedParts, Together.listed, Together.sender_passes}
+use Rattle.mesh_run.proofs.Together.{taker_passes}
 
 -- a sum of terms each of which is at most another one is at most the sum of these
 sum_within : {X Y : Type 0} (f : X → ℕ) (g : Y → ℕ) (xs : List X) (ys : List Y) → length xs ≡ length ys →
@@ -85,10 +85,8 @@ module _ {m : State} {more : ℕ} {r : RaisedMesh} (raised : IsRaisedFrom m more
       let c = slice_get_there r.layout.now.cuts.items l (omega (arith, below, as_long, links_many raised)) in
       let is = collects.collects.dealt l c.0 e c.1 at in
       let up = link_up_at raised l old.0 old.1 in
-      let link : e.link ≡ old.0.link = same_Some e.link old.0.link (sym (slice_get-mapped (λ (x : LinkEnds). x.link) collects.ends l e at)
-      ∙ (ap (λ (x : List Link). slice_get x l) collects.links ∙ slice_get-mapped (λ (x : LinkEnds). x.link) raised.ends l old.0 old.1)) in
-      let room : e.room ≡ old.0.room = same_Some e.room old.0.room (sym (slice_get-mapped (λ (x : LinkEnds). x.room) collects.ends l e at)
-      ∙ (ap (λ x. slice_get x l) collects.rooms ∙ slice_get-mapped (λ (x : LinkEnds). x.room) raised.ends l old.0 old.1)) in
+      let link = same_mapped (λ (x : LinkEnds). x.link) collects.ends raised.ends l e old.0 collects.links at old.1 in
+      let room = same_mapped (λ (x : LinkEnds). x.room) collects.ends raised.ends l e old.0 collects.rooms at old.1 in
       let here : slice_get links l ≡ Some e.link = link_at raised deals same_links l old.0 old.1 ∙ ap Some (sym link) in
       let sends = end_of played links c.0.sender c.0.queue (Sends (record { link = l; tx = e.tx })) (played_ends c.0.sender) is.0 in
       let takes = end_of played links c.0.receiver c.0.queue (Takes (record { link = l; rx = e.rx })) (played_ends c.0.receiver) is.1 in

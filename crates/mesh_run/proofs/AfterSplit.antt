@@ -1,8 +1,8 @@
 -- The mesh to which a whole round leads is split as it was: lanes, and what is unsent, stand in the shares of their homes.
-use Rattle.mesh_run.proofs.Common.{Away, Cut, HoldLanes, HoldUnsent, Home, IsUncut, List, None, Option, Share, Some, [], ap, arith, cases_eq, cases_lt, end_at, inl, inr, length, refl, slice_get}
-use Rattle.mesh_run.proofs.Common.{slice_get_past, slice_get_within, subst, suc, sym, unsent_in, vertex_place, zero, ℕ, ◌++◌, ◌<◌, ◌∙◌, ◌∷◌, ◌≡◌, ◌≢◌, ◌≤◌, ◌⊎◌}
+use Rattle.mesh_run.proofs.Common.{Away, Cut, HoldLanes, HoldUnsent, Home, IsUncut, Option, Share, Some, [], ap, arith, cases_eq, cases_lt, end_at, inl, inr, length, slice_get, slice_get_past}
+use Rattle.mesh_run.proofs.Common.{slice_get_within, subst, sym, unsent_in, vertex_place, ℕ, ◌++◌, ◌<◌, ◌∙◌, ◌≡◌, ◌≢◌, ◌⊎◌}
 use Rattle.mesh_run.proofs.{AfterMesh.after_unsent, AfterMesh.mesh, AfterMesh.queue_there, EachQueue.cleared_end, EachQueue.elsewhere, Together.none_passes, WholeRound.Whole, WholeRound.dealt_long}
-use Rattle.mesh_run.proofs.WholeRound.{parts, played_parts, uncut}
+use Rattle.mesh_run.proofs.WholeRound.{played_parts, uncut}
 
 module _ (w : Whole) where
   cleared_long : length w.cleared ≡ length w.dealt

@@ -1,6 +1,6 @@
 -- Links brought up, from the first list on.
-use Rattle.mesh_run.proofs.Common.{AreUp, HasPlaces, IsUp, LinkEnds, List, McCopy, RisenTo, Rising, [], ap, arith, cases_eq, get_or, get_or_append_left, get_or_default, get_or_push, inl, inr, length}
-use Rattle.mesh_run.proofs.Common.{length-append, places_for, subst, sym, ℕ, ◌++◌, ◌+◌, ◌-◌, ◌<◌, ◌∙◌, ◌∷◌, ◌≡◌, ◌≤◌}
+use Rattle.mesh_run.proofs.Common.{AreUp, HasPlaces, IsUp, LinkEnds, List, McCopy, RisenTo, Rising, Some, [], ap, arith, get_or, inl, inr, length, length-append, none-some, places_for, same_Some}
+use Rattle.mesh_run.proofs.Common.{slice_get, slice_get-get_or, slice_get-push_cases, subst, sym, ℕ, ◌++◌, ◌+◌, ◌-◌, ◌<◌, ◌∙◌, ◌∷◌, ◌≡◌, ◌≤◌}
 
 -- a link has the places with which it is made
 pub made_with : (cap turns held places : ℕ) → held ≤ cap → places ≡ places_for cap turns held → HasPlaces cap (turns + 1) held places
@@ -13,8 +13,8 @@ fewer_fit cap more less held places fewer has = let enough = has.enough in recor
 pub fewer_up : (cap more less : ℕ) (queues : List (List McCopy)) (ends : List LinkEnds) → less ≤ more → AreUp cap more queues ends → AreUp cap less queues ends
 fewer_up cap more less queues ends fewer are = record {
   long = are.long;
-  each = λ i q e below.
-      let up = are.each i q e below in
+  each = λ i q e at_q at_e.
+      let up = are.each i q e at_q at_e in
       record { ends = up.ends; holds = fewer_fit cap more less _ _ fewer up.holds; tx_new = up.tx_new; rx_new = up.rx_new };
 }
 
@@ -23,10 +23,10 @@ pub record UpTo (cap more : ℕ) (lists : List (List McCopy)) (k : ℕ) (r : Ris
   pub ends : List LinkEnds
   pub many : length ends ≡ k
   pub risen : RisenTo ends (length lists - k) r
-  pub up : (j : ℕ) (q : List McCopy) (e : LinkEnds) → j < k → IsUp cap more (get_or lists j q) (get_or ends j e)
+  pub up : (j : ℕ) (q : List McCopy) (e : LinkEnds) → slice_get lists j ≡ Some q → slice_get ends j ≡ Some e → IsUp cap more q e
 
 pub up_none : (cap more n : ℕ) (lists : List (List McCopy)) (r : Rising) → n ≡ length lists → RisenTo [] n r → UpTo cap more lists 0 r
-up_none cap more n lists r is risen = grind arith
+up_none cap more n lists r is risen = grind (arith, none-some)
 
 -- there is room for one more
 pub may_rise : (cap more : ℕ) (lists : List (List McCopy)) (k : ℕ) (r : Rising) → (u : UpTo cap more lists k r) → k < length lists → RisenTo u.ends (length lists - (k + 1) + 1) r
@@ -38,16 +38,13 @@ up_more cap more lists k r s q e u below read up risen = record {
   ends = u.ends ++ e ∷ [];
   many = (let many = u.many in length-append u.ends (e ∷ []) ∙ omega (arith, many));
   risen = risen;
-  up = λ j p d before. elim (cases_eq j k) [
-    | inl here ↦
-        let first : get_or lists j p ≡ q = ap (λ n. get_or lists n p) here ∙ (get_or_default lists k p q below ∙ sym read) in
-        let last : get_or (u.ends ++ e ∷ []) j d ≡ e = get_or_push u.ends e d j (u.many ∙ sym here) in
-        subst (IsUp cap more (get_or lists j p)) (sym last) (subst (λ x. IsUp cap more x e) (sym first) up)
-    | inr other ↦
-        let many = u.many in
-        subst (IsUp cap more (get_or lists j p)) (sym (get_or_append_left u.ends (e ∷ []) d j (omega (arith, before, other, many)))) (u.up j p d (omega (arith, before, other)))
+  up = λ j p d at_p at_d. elim (slice_get-push_cases u.ends e d j at_d) [
+    | inl before ↦ u.up j p d at_p before.1
+    | inr last ↦
+        let is : q ≡ p = same_Some q p (ap Some read ∙ (sym (slice_get-get_or lists k q below) ∙ (ap (slice_get lists) (sym (last.0 ∙ u.many)) ∙ at_p))) in
+        subst (λ x. IsUp cap more p x) last.1 (subst (λ x. IsUp cap more x e) is up)
   ];
 }
 
 pub all_up : (cap more : ℕ) (lists : List (List McCopy)) (k : ℕ) (r : Rising) → (u : UpTo cap more lists k r) → k ≡ length lists → AreUp cap more lists u.ends
-all_up cap more lists k r u is = record { long = u.many ∙ is; each = λ i q e below. u.up i q e (omega (arith, below, is)) }
+all_up cap more lists k r u is = record { long = u.many ∙ is; each = u.up }

@@ -1,8 +1,8 @@
 -- Ends of links, dealt to shares and collected from them.
 use Rattle.mesh_run.proofs.Common.{AreCuts, AreLaid, AreSameButEnds, Away, Cut, Deals, End, HoldsAll, HoldsCollected, HoldsNoEnds, IsLaid, IsOfCut, LinkEnds, List, None, Option, PutsEnd, Rx}
-use Rattle.mesh_run.proofs.Common.{SameButEnds, Sends, Share, Some, Standing, Takes, Tx, ap, arith, cases_eq, cases_lt, end_at, end_in, get_or, get_or_from_slice_get, inl, inr, length, length-map, length-set}
-use Rattle.mesh_run.proofs.Common.{map, map-set, none-some, refl, same_Some, same_lists, set, set-slice_get, slice_get, slice_get-mapped, slice_get-set_other, slice_get-set_same, slice_get_past, slice_get_there}
-use Rattle.mesh_run.proofs.Common.{slice_get_within, subst, sym, ℕ, ◌+◌, ◌<◌, ◌∙◌, ◌≡◌, ◌≤◌}
+use Rattle.mesh_run.proofs.Common.{SameButEnds, Sends, Share, Some, Standing, Takes, Tx, ap, arith, cases_eq, cases_lt, end_at, end_in, get_or, get_or_from_slice_get, inl, inr, length, length-map}
+use Rattle.mesh_run.proofs.Common.{length-set, map, map-set, none-some, refl, same_Some, same_lists, set, set-slice_get, slice_get, slice_get-mapped, slice_get-set_other, slice_get-set_same}
+use Rattle.mesh_run.proofs.Common.{slice_get_past, slice_get_there, slice_get_within, subst, sym, ℕ, ◌+◌, ◌<◌, ◌∙◌, ◌≡◌, ◌≤◌}
 use Rattle.mesh_run.proofs.Holding.{only_ends}
 
 -- ---- lists of which each item is as the one at its place

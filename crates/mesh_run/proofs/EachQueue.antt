@@ -1,10 +1,10 @@
 -- What a whole round makes of each queue: a lane goes on in its share, and a link rests with what is left of its queue.
 use Rattle.mesh_run.proofs.Common.{All-append, Cut, End, FitsQueue, Home, InEnd, IsDown, IsUncut, IsUp, Link, LinkEnds, List, McCopy, Option, OutEnd, Own, QueueGoes, Sends, Share, Some, Takes}
-use Rattle.mesh_run.proofs.Common.{WithRoom, [], ap, arith, cap_of, cases_eq, cut_queues, end_at, end_in, get_or, get_or_from_slice_get, held_at, inl, inr, length, length-map, map, min, queue_of_link}
-use Rattle.mesh_run.proofs.Common.{refl, same_Some, slice_get, slice_get-mapped, slice_get_there, slice_get_within, subst, sym, ℕ, ◌++◌, ◌+◌, ◌<◌, ◌∙◌, ◌≡◌, ◌≢◌, ◌≤◌}
-use Rattle.mesh_run.proofs.{AfterDeal.homes_below, AfterDeal.no_end_of_cut, CrossingLaws.told_same, Filling.few_entered, Passing.lane_queue, Passing.link_queue, PlanLaws.fits_at, Together.joined, Together.lane_passes}
-use Rattle.mesh_run.proofs.{Together.sender_passes, Together.taker_passes, WholeRound.Whole, WholeRound.collected_same, WholeRound.dealt_long, WholeRound.dealt_same, WholeRound.parts}
-use Rattle.mesh_run.proofs.WholeRound.{played_parts, uncut, whole_turns}
+use Rattle.mesh_run.proofs.Common.{WithRoom, [], ap, arith, cap_of, cases_eq, end_at, end_in, get_or, held_at, inl, inr, length, map, min, queue_of_link, refl, same_Some, slice_get, slice_get-mapped}
+use Rattle.mesh_run.proofs.Common.{slice_get_there, slice_get_within, subst, sym, ℕ, ◌++◌, ◌+◌, ◌<◌, ◌∙◌, ◌≡◌, ◌≢◌, ◌≤◌}
+use Rattle.mesh_run.proofs.{AfterDeal.homes_below, AfterDeal.links_many, AfterDeal.no_end_of_cut, Slots.same_mapped, CrossingLaws.told_same, Filling.few_entered, Passing.lane_queue}
+use Rattle.mesh_run.proofs.{Passing.link_queue, PlanLaws.fits_at, Together.joined, Together.lane_passes, Together.sender_passes, Together.taker_passes, WholeRound.Whole, WholeRound.collected_same}
+use Rattle.mesh_run.proofs.WholeRound.{dealt_long, dealt_same, parts, played_parts, uncut, whole_turns}
 
 same_sends : (a b : OutEnd) → Some (Sends a) ≡ Some (Sends b) → a ≡ b
 same_sends a b same = cc
@@ -61,38 +61,17 @@ module _ (w : Whole) where
     pub elsewhere : (k : ℕ) → k ≢ c.sender → k ≢ c.receiver → IsUncut w.r.layout.now.cuts.items k c.queue
     elsewhere = no_end_of_cut w.roomy.raised l c stands
 
-    queues : List (List McCopy)
-    queues = cut_queues (w.m.inputs ++ w.m.cores) w.r.layout.now.cuts.items
-
     -- the link as it was dealt
     old : (e : LinkEnds) × (slice_get w.roomy.raised.ends l ≡ Some e) × IsUp w.m.setup.capacity (w.turns + 1) (held_at w.m c.queue) e
     old =
-        let up = w.roomy.raised.up in
-        let many = length-map w.r.layout.now.cuts.items (λ (d : Cut). held_at w.m d.queue) in
-        let below = slice_get_within w.r.layout.now.cuts.items l c stands in
-        let is = slice_get_there w.roomy.raised.ends l (omega (arith, many, below, up.long)) in
-        let queue : get_or (cut_queues (w.m.inputs ++ w.m.cores) w.r.layout.now.cuts.items) l [] ≡ held_at w.m c.queue =
-        get_or_from_slice_get (cut_queues (w.m.inputs ++ w.m.cores) w.r.layout.now.cuts.items) l (held_at w.m c.queue) []
-        (slice_get-mapped (λ (d : Cut). held_at w.m d.queue) w.r.layout.now.cuts.items l c stands) in (
-          is.0,
-          is.1,
-          subst (λ (x : List McCopy). IsUp w.m.setup.capacity (w.turns + 1) x is.0) queue
-              (subst (λ (x : LinkEnds). IsUp w.m.setup.capacity (w.turns + 1) (get_or (cut_queues (w.m.inputs ++ w.m.cores) w.r.layout.now.cuts.items) l []) x)
-              (get_or_from_slice_get w.roomy.raised.ends l is.0 is.0 is.1) (up.each l [] is.0 (omega (arith, many, below)))),
-        )
+        let is = slice_get_there w.roomy.raised.ends l (omega (arith, slice_get_within w.r.layout.now.cuts.items l c stands, links_many w.roomy.raised)) in
+        (is.0, is.1, w.roomy.raised.up.each l (held_at w.m c.queue) is.0 (slice_get-mapped (λ (d : Cut). held_at w.m d.queue) w.r.layout.now.cuts.items l c stands) is.1)
 
     -- the link as it was collected
     now : (e : LinkEnds) × (slice_get w.collects.ends l ≡ Some e) × (e.link ≡ old.0.link) × IsDown e (get_or (map queue_of_link w.rests.now) l [])
     now =
-        let below : l < length w.collects.ends = omega (arith, slice_get_within w.roomy.raised.ends l old.0 old.1, w.collects.long) in
-        let is = slice_get_there w.collects.ends l below in
-        let link = slice_get-mapped (λ (x : LinkEnds). x.link) w.collects.ends l is.0 is.1 in
-        let linked = slice_get-mapped (λ (x : LinkEnds). x.link) w.roomy.raised.ends l old.0 old.1 in (
-          is.0,
-          is.1,
-          same_Some is.0.link old.0.link (sym link ∙ (ap (λ (x : List Link). slice_get x l) w.collects.links ∙ linked)),
-          subst (λ (x : LinkEnds). IsDown x (get_or (map queue_of_link w.rests.now) l [])) (get_or_from_slice_get w.collects.ends l is.0 is.0 is.1) (w.rests.down l is.0 [] below),
-        )
+        let is = slice_get_there w.collects.ends l (omega (arith, slice_get_within w.roomy.raised.ends l old.0 old.1, w.collects.long)) in
+        (is.0, is.1, same_mapped (λ (x : LinkEnds). x.link) w.collects.ends w.roomy.raised.ends l is.0 old.0 w.collects.links is.1 old.1, w.rests.down l is.0 [] is.1)
 
     pub link_after : AfterRound c.queue (get_or (map queue_of_link w.rests.now) l [])
     link_after =

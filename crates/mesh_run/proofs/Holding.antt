@@ -1,7 +1,7 @@
 -- Links with all their ends, seen as a list, and brought down from the last one on.
-use Rattle.mesh_run.proofs.Common.{All, AreEnds, DownTo, HoldsAll, IsDown, LinkEnds, List, McCopy, Option, Rx, Some, Standing, Tx, [], ap, arith, cases_eq, get_or, get_or_from_slice_get, get_or-set_other, get_or-set_same}
-use Rattle.mesh_run.proofs.Common.{inl, inr, length, length-map, map, map-append, refl, same_Some, same_from_push, set, slice_get_there, subst, suc, sym, take, take_all, take_more, zero, ℕ, ◌++◌, ◌+◌, ◌-◌, ◌<◌, ◌∙◌}
-use Rattle.mesh_run.proofs.Common.{◌∷◌, ◌≡◌, ◌≤◌}
+use Rattle.mesh_run.proofs.Common.{All, All-at, AreEnds, DownTo, HoldsAll, IsDown, LinkEnds, List, McCopy, Option, Rx, Some, Standing, Tx, [], ap, arith, cases_eq, get_or, get_or-set_other}
+use Rattle.mesh_run.proofs.Common.{get_or-set_same, inl, inr, length, length-map, map, map-append, refl, same_Some, same_from_push, set, slice_get, slice_get_there, slice_get_within, subst, sym, take}
+use Rattle.mesh_run.proofs.Common.{take_all, ℕ, ◌++◌, ◌+◌, ◌-◌, ◌<◌, ◌∙◌, ◌∷◌, ◌≡◌, ◌≤◌}
 use Rattle.spin_base.proofs.Places.{take_more_at}
 use Rattle.std.proofs.Math.ListN.{length-set}
 
@@ -66,18 +66,18 @@ pub record DownFrom (all : List LinkEnds) (gone : ℕ) (s : Standing) (before af
   pub few : gone ≤ length all
   pub long : length after ≡ length before
   pub stand : HoldsAll (take (length all - gone) all) s
-  pub down : (i : ℕ) (e : LinkEnds) (q : List McCopy) → length all - gone ≤ i → i < length all → IsDown (get_or all i e) (get_or after i q)
+  pub down : (i : ℕ) (e : LinkEnds) (q : List McCopy) → length all - gone ≤ i → slice_get all i ≡ Some e → IsDown e (get_or after i q)
 
 none_less : (n : ℕ) → n - 0 ≡ n
 none_less n = omega arith
 
 pub down_none : (all : List LinkEnds) (s : Standing) (qs : List (List McCopy)) → HoldsAll all s → DownFrom all 0 s qs qs
-down_none all s qs holds = grind (arith, none_less (length all), take_all (length all) all (omega arith))
+down_none all s qs holds = grind (arith, none_less (length all), take_all (length all) all (omega arith), slice_get_within)
 
 -- what stands has the next one at its end
 pub record Next (all : List LinkEnds) (gone : ℕ) (s : Standing) : Type 0 where
   pub ends : LinkEnds
-  pub is : (d : LinkEnds) → get_or all (length all - gone - 1) d ≡ ends
+  pub was : slice_get all (length all - gone - 1) ≡ Some ends
   pub stands : HoldsAll (take (length all - gone - 1) all ++ ends ∷ []) s
 
 pub stands_next : (all : List LinkEnds) (gone : ℕ) (s : Standing) (before after : List (List McCopy)) → DownFrom all gone s before after → gone < length all → Next all gone s
@@ -88,13 +88,13 @@ stands_next all gone s before after so_far below =
     let x = slice_get_there all place within in
     record {
       ends = x.0;
-      is = λ d. get_or_from_slice_get all place x.0 d x.1;
+      was = x.1;
       stands = subst (λ l. HoldsAll l s) (ap (λ n. take n all) (sym next) ∙ take_more_at all place x.0 x.1) so_far.stand;
     }
 
 -- its ends are ends of its link
 pub next_are_ends : (all : List LinkEnds) (gone : ℕ) (s : Standing) (e : LinkEnds) → (n : Next all gone s) → gone < length all → All AreEnds all → e ≡ n.ends → AreEnds e
-next_are_ends all gone s e n below ends is = subst AreEnds (n.is e ∙ sym is) (ends (length all - gone - 1) e (omega (arith, below)))
+next_are_ends all gone s e n below ends is = subst AreEnds (sym is) (All-at AreEnds all (length all - gone - 1) n.ends ends n.was)
 
 pub down_more : (all : List LinkEnds) (gone : ℕ) (e : LinkEnds) (s t : Standing) (before after new : List (List McCopy)) (q : List McCopy) → DownFrom all gone s before after → gone < length all →
     length all ≤ length before → (n : Next all gone s) → e ≡ n.ends → HoldsAll (take (length all - gone - 1) all) t → IsDown e q → new ≡ set after (length all - gone - 1) q →
@@ -108,15 +108,14 @@ down_more all gone e s t before after new q so_far below fits n e_is stands is_d
       few = omega (arith, below);
       long = length-set after place q ∙ so_far.long;
       stand = subst (λ n. HoldsAll (take n all) t) (sym up_to) stands;
-      down = λ i d p from inside. elim (cases_eq i place) [
+      down = λ i d p from at. elim (cases_eq i place) [
         | inl same ↦
-            let ends : get_or all i d ≡ e = ap (λ n. get_or all n d) same ∙ (n.is d ∙ sym e_is) in
+            let ends : e ≡ d = e_is ∙ same_Some n.ends d (sym n.was ∙ (ap (slice_get all) (sym same) ∙ at)) in
             let now : get_or (set after place q) i p ≡ q = ap (λ n. get_or (set after place q) n p) same ∙ get_or-set_same after place q p here in
-            subst (IsDown (get_or all i d)) (sym now) (subst (λ x. IsDown x q) (sym ends) is_down)
-        | inr other ↦
-            subst (IsDown (get_or all i d)) (sym (get_or-set_other after place i q p other)) (so_far.down i d p (omega (arith, from, other, up_to)) inside)
+            subst (IsDown d) (sym now) (subst (λ x. IsDown x q) ends is_down)
+        | inr other ↦ subst (IsDown d) (sym (get_or-set_other after place i q p other)) (so_far.down i d p (omega (arith, from, other, up_to)) at)
       ];
     })
 
 pub down_all : (all : List LinkEnds) (gone : ℕ) (s : Standing) (before after : List (List McCopy)) → DownFrom all gone s before after → length all ≤ gone → DownTo all after
-down_all all gone s before after so_far past = λ i e q below. so_far.down i e q (omega (arith, past)) below
+down_all all gone s before after so_far past = λ i e q at. so_far.down i e q (omega (arith, past)) at

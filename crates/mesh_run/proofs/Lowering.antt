@@ -1,10 +1,9 @@
 -- A split mesh put together again.
 use Rattle.mesh_run.proofs.Common.{All, AreEnds, AreUp, Cut, DownTo, FitHomes, HoldVertices, Home, IsDown, IsMesh, IsRaisedFrom, IsUp, LinkEnds, List, McCopy, MovesOut, RaisedMesh, SameButCopies}
-use Rattle.mesh_run.proofs.Common.{SetsQueue, Some, State, [], ap, append-nil, arith, cases_eq, cut_queues, get_or, get_or-map, get_or-set_other, get_or-set_same, get_or_from_slice_get, inl, inr, length}
-use Rattle.mesh_run.proofs.Common.{length-append, length-map, length-set, port_count, refl, same_Some, same_lists, set, slice_get, slice_get-get_or, slice_get_there, slice_get_within, subst, sym, ℕ}
-use Rattle.mesh_run.proofs.Common.{◌++◌, ◌+◌, ◌<◌, ◌∙◌, ◌∷◌, ◌≡◌, ◌≢◌, ◌≤◌}
+use Rattle.mesh_run.proofs.Common.{SetsQueue, Some, State, [], ap, append-nil, arith, cases_eq, get_or, get_or-set_other, get_or-set_same, inl, inr, length, length-append, length-set, port_count}
+use Rattle.mesh_run.proofs.Common.{same_Some, same_lists, set, slice_get, slice_get-get_or, slice_get-mapped, slice_get_there, slice_get_within, subst, sym, ℕ, ◌++◌, ◌+◌, ◌<◌, ◌∙◌, ◌≡◌, ◌≢◌, ◌≤◌}
 use Rattle.std.proofs.Math.Seq.{drop-append_seam, take-append_seam}
-use Rattle.mesh_run.proofs.{PlanLaws.homes_fit, SplitLaws.default_at, SplitLaws.same_state, SplitLaws.state_on}
+use Rattle.mesh_run.proofs.{AfterDeal.links_many, PlanLaws.homes_fit, SplitLaws.default_at, SplitLaws.same_state, SplitLaws.state_on}
 
 -- ---- what the calls ask for
 
@@ -16,10 +15,12 @@ fits_raised m more r mesh raised =
 
 -- links that are up have their ends
 pub all_are_ends : (cap more : ℕ) (queues : List (List McCopy)) (ends : List LinkEnds) → AreUp cap more queues ends → All AreEnds ends
-all_are_ends cap more queues ends up = λ i e below. let long = up.long in (up.each i [] e (omega (arith, below, long))).ends
+all_are_ends cap more queues ends up = λ i e below.
+    let q = slice_get_there queues i (omega (arith, below, up.long)) in
+    (up.each i q.0 (get_or ends i e) q.1 (slice_get-get_or ends i e below)).ends
 
 pub no_more_links : (m : State) (more : ℕ) (r : RaisedMesh) → (raised : IsRaisedFrom m more r) → length raised.ends ≤ length r.crossing.items
-no_more_links m more r raised = grind (arith, length-map, get_or)
+no_more_links m more r raised = omega (arith, links_many raised, raised.crossing)
 
 -- ---- a link that is down
 
@@ -30,16 +31,10 @@ same_queue cap more queue after e up down = grind (arith, append-nil queue)
 pub down_at : (m : State) (more : ℕ) (r : RaisedMesh) (down : List (List McCopy)) → (raised : IsRaisedFrom m more r) → DownTo raised.ends down → (l : ℕ) (c : Cut) →
     slice_get r.layout.now.cuts.items l ≡ Some c → get_or down l [] ≡ get_or (m.inputs ++ m.cores) c.queue []
 down_at m more r down raised are l c at =
-    let queues : List (List McCopy) = cut_queues (m.inputs ++ m.cores) r.layout.now.cuts.items in
-    let below = slice_get_within r.layout.now.cuts.items l c at in
-    let mapped = length-map r.layout.now.cuts.items (λ (d : Cut). get_or (m.inputs ++ m.cores) d.queue []) in
-    let long = raised.up.long in
-    let e = slice_get_there raised.ends l (omega (arith, below, mapped, long)) in
-    let queue : get_or queues l [] ≡ get_or (m.inputs ++ m.cores) c.queue [] =
-    get_or-map (λ (d : Cut). get_or (m.inputs ++ m.cores) d.queue []) r.layout.now.cuts.items l c [] below
-    ∙ ap (λ (d : Cut). get_or (m.inputs ++ m.cores) d.queue []) (get_or_from_slice_get r.layout.now.cuts.items l c c at) in
-    same_queue m.setup.capacity more (get_or queues l []) (get_or down l []) (get_or raised.ends l e.0) (raised.up.each l [] e.0 (omega (arith, below, mapped)))
-    (are l e.0 [] (omega (arith, below, mapped, long))) ∙ queue
+    let held : List McCopy = get_or (m.inputs ++ m.cores) c.queue [] in
+    let e = slice_get_there raised.ends l (omega (arith, slice_get_within r.layout.now.cuts.items l c at, links_many raised)) in
+    same_queue m.setup.capacity more held (get_or down l []) e.0
+    (raised.up.each l held e.0 (slice_get-mapped (λ (d : Cut). get_or (m.inputs ++ m.cores) d.queue []) r.layout.now.cuts.items l c at) e.1) (are l e.0 [] e.1)
 
 -- ---- links' queues put back one after the other
 

@@ -1,8 +1,8 @@
 -- A mesh that is split, and a split mesh with more room.
-use Rattle.mesh_run.proofs.Common.{All-at, AreSameCopies, AreSameRuns, AreShared, AreUp, Away, End, HasRoomForLogs, HaveNoLogs, HoldLanes, HoldUnsent, HoldVertices, HoldsAll, Home, IsLayoutOf, IsMesh, IsRaisedFrom, IsRoomyFrom, MeshLogs}
-use Rattle.mesh_run.proofs.Common.{Layout, LinkEnds, List, McCopy, MovesIn, None, Option, Own, RaisedMesh, SameCopies, SameEnd, Setup, Share, Some, Standing, State, StayUp, Vec, [], ap, arith, cases_lt, cut_queues}
-use Rattle.mesh_run.proofs.Common.{end_at, end_in, get_or, get_or-map, get_or_from_slice_get, inl, inr, length, length-map, map, none-some, port_count, queue_of_link, refl, same_Some, same_lists}
-use Rattle.mesh_run.proofs.Common.{slice_get, slice_get-get_or, slice_get_there, slice_get_within, subst, sym, unsent_at, unsent_in, ℕ, ◌++◌, ◌+◌, ◌<◌, ◌∙◌, ◌≡◌, ◌≤◌}
+use Rattle.mesh_run.proofs.Common.{All-at, AreSameCopies, AreSameRuns, AreShared, AreUp, Away, End, HasRoomForLogs, HaveNoLogs, HoldLanes, HoldUnsent, HoldVertices, HoldsAll, Home, IsLayoutOf, IsMesh}
+use Rattle.mesh_run.proofs.Common.{IsRaisedFrom, IsRoomyFrom, LinkEnds, List, McCopy, MeshLogs, MovesIn, Option, Own, RaisedMesh, SameCopies, SameEnd, Setup, Share, Some, Standing, State, StayUp, Vec}
+use Rattle.mesh_run.proofs.Common.{[], ap, arith, cases_lt, cut_queues, end_at, end_in, get_or, get_or_from_slice_get, inl, inr, length, length-map, map, port_count, queue_of_link, refl, same_Some}
+use Rattle.mesh_run.proofs.Common.{same_lists, slice_get, slice_get-get_or, slice_get-mapped, slice_get_there, slice_get_within, subst, sym, unsent_at, unsent_in, ℕ, ◌++◌, ◌+◌, ◌∙◌, ◌≡◌, ◌≤◌}
 use Rattle.mesh_run.proofs.{BringingUp.fewer_up, CrossingLaws.stood, CrossingLaws.told_same, Going.GoneTo, RoomLaws.copies_same}
 
 -- ---- the same runs
@@ -97,9 +97,10 @@ pub known_queues : (cap more : ℕ) (queues : List (List McCopy)) (ends : List L
 known_queues cap more queues ends up =
     let long = up.long in
     same_lists queues (map queue_of_link ends) (omega (arith, length-map ends queue_of_link, long)) (λ i q below.
-    let inside : i < length ends = omega (arith, below, long) in
-    let e = slice_get_there ends i inside in
-    sym (get_or-map queue_of_link ends i e.0 q inside ∙ (up.each i q e.0 below).tx_new.first))
+    let at = slice_get_there queues i below in
+    let e = slice_get_there ends i (omega (arith, below, long)) in
+    get_or_from_slice_get queues i at.0 q at.1 ∙ (sym (up.each i at.0 e.0 at.1 e.1).tx_new.first
+    ∙ sym (get_or_from_slice_get (map queue_of_link ends) i (queue_of_link e.0) q (slice_get-mapped queue_of_link ends i e.0 e.1))))
 
 -- links that stay up are up for the queues of the cuts
 pub still_for : (cap more less : ℕ) (queues : List (List McCopy)) (ends now : List LinkEnds) → AreUp cap less queues ends → AreUp cap more (map queue_of_link ends) now → AreUp cap more queues now

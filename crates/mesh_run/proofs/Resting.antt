@@ -1,9 +1,9 @@
 -- Links that rest or are widened, one after the other.
 use Rattle.mesh_run.proofs.Common.{All, All-at, AreEnds, AreUp, Bool, Err, HasPlaces, HoldsAll, IsDown, IsRx, IsTx, IsUp, Known, LacksEnds, Link, LinkEnds, List, McCopy, NoNotes, Ok, OnErr, RestAll}
 use Rattle.mesh_run.proofs.Common.{Rested, Rests, RestsAt, Result, Rx, Some, Standing, StayUp, Tx, UpAt, WasUp, [], ap, append-nil, ap₂, arith, cap_of, cases_Bool, cases_eq, cases_lt, cond-false}
-use Rattle.mesh_run.proofs.Common.{eqb-true, free_places_of, get_or, get_or-map, get_or-set_other, get_or-set_same, get_or_from_slice_get, inl, inr, is_empty, length, length-map, length-set, list_all}
-use Rattle.mesh_run.proofs.Common.{list_all_more, map, map-set, min, nat_eq, places_for, queue_of_link, refl, same_Some, sending, set, slice_get, slice_get-set_same, slice_get_there, slice_get_within}
-use Rattle.mesh_run.proofs.Common.{subst, sym, take, take-set-le, take_all, taking, true, ℕ, ◌&&◌, ◌++◌, ◌+◌, ◌-◌, ◌<◌, ◌∙◌, ◌≡◌, ◌≤◌}
+use Rattle.mesh_run.proofs.Common.{eqb-true, free_places_of, get_or, get_or-set_same, get_or_from_slice_get, inl, inr, is_empty, length, length-map, length-set, list_all, list_all_more, map, map-set}
+use Rattle.mesh_run.proofs.Common.{min, nat_eq, places_for, queue_of_link, refl, same_Some, sending, set, slice_get, slice_get-mapped, slice_get-set_other, slice_get-set_same, slice_get_there}
+use Rattle.mesh_run.proofs.Common.{slice_get_within, subst, sym, take, take-set-le, take_all, taking, true, ℕ, ◌&&◌, ◌++◌, ◌+◌, ◌-◌, ◌<◌, ◌∙◌, ◌≡◌, ◌≤◌}
 use Rattle.mesh_run.proofs.{BringingUp.fewer_fit, BringingUp.made_with, Holding.as_many, Holding.only_ends, Slots.in_links, Slots.set_again, Slots.slot_is}
 
 -- ---- links, of which the first ones are done
@@ -13,63 +13,45 @@ pub record SoFar (P : LinkEnds → LinkEnds → Type 0) (back : List LinkEnds) (
   pub now : List LinkEnds
   pub long : length now ≡ length back
   pub holds : HoldsAll now s
-  pub done : (i : ℕ) (d e : LinkEnds) → i < k → P (get_or back i d) (get_or now i e)
-  pub left : (i : ℕ) (d : LinkEnds) → k ≤ i → get_or now i d ≡ get_or back i d
+  pub done : (i : ℕ) (d e : LinkEnds) → i < k → slice_get back i ≡ Some d → slice_get now i ≡ Some e → P d e
+  pub left : (i : ℕ) → k ≤ i → slice_get now i ≡ slice_get back i
 
 pub none_done : (P : LinkEnds → LinkEnds → Type 0) (back : List LinkEnds) (s : Standing) → HoldsAll back s → SoFar P back 0 s
-none_done P back s holds = record { now = back; long = refl; holds = holds; done = λ i d e before. absurd (omega (arith, before)); left = λ i d from. refl }
+none_done P back s holds = record { now = back; long = refl; holds = holds; done = λ i d e before. absurd (omega (arith, before)); left = λ i from. refl }
 
 -- the next link, as it was and as it stands
 pub record NextLink (back now : List LinkEnds) (k : ℕ) : Type 0 where
   pub old : LinkEnds
   pub was : slice_get back k ≡ Some old
   pub stands : slice_get now k ≡ Some old
-  pub is : (d : LinkEnds) → get_or back k d ≡ old
 
-next_link : (P : LinkEnds → LinkEnds → Type 0) (back : List LinkEnds) (k : ℕ) (s : Standing) → (f : SoFar P back k s) → k < length back → NextLink back f.now k
-next_link P back k s f below =
-    let long = f.long in
-    let old = slice_get_there back k below in
-    let new = slice_get_there f.now k (omega (arith, below, long)) in
-    let same : new.0 ≡ old.0 =
-    sym (get_or_from_slice_get f.now k new.0 old.0 new.1) ∙ (f.left k old.0 (omega arith) ∙ get_or_from_slice_get back k old.0 old.0 old.1) in
-    record {
-      old = old.0;
-      was = old.1;
-      stands = new.1 ∙ ap Some same;
-      is = λ d. get_or_from_slice_get back k old.0 d old.1;
-    }
-
--- the same of the links that stood at first, as many as were counted
+-- of the links that stood at first, as many as were counted
 module _ {P : LinkEnds → LinkEnds → Type 0} {back : List LinkEnds} {k count : ℕ} {s start : Standing} (f : SoFar P back k s) (holds : HoldsAll back start)
     (many : count ≡ length start.links.items) where
   pub next_at : k < count → NextLink back f.now k
-  next_at below = let all = as_many back start holds in next_link P back k s f (omega (arith, below, many, all))
+  next_at below = let old = slice_get_there back k (omega (arith, below, many, as_many back start holds)) in record { old = old.0; was = old.1; stands = f.left k (omega arith) ∙ old.1 }
 
   pub links_past : count ≤ k → length back ≤ k
   links_past past = let all = as_many back start holds in omega (arith, past, many, all)
 
+-- what stands at the place of a list that was set
+set_is : (ends : List LinkEnds) (k i : ℕ) (old new e : LinkEnds) → slice_get ends k ≡ Some old → i ≡ k → slice_get (set ends k new) i ≡ Some e → new ≡ e
+set_is ends k i old new e stands here at = same_Some new e (sym (slice_get-set_same ends k old new stands) ∙ (ap (slice_get (set ends k new)) (sym here) ∙ at))
+
 pub one_done : {P : LinkEnds → LinkEnds → Type 0} {back : List LinkEnds} {k : ℕ} {s t : Standing} (new : LinkEnds) → (f : SoFar P back k s) → (n : NextLink back f.now k) → P n.old new →
     HoldsAll (set f.now k new) t → SoFar P back (k + 1) t
-one_done {P} {back} {k} {s} {t} new f n is holds =
-    let below = slice_get_within back k n.old n.was in
-    let long = f.long in
-    record {
-      now = set f.now k new;
-      long = length-set f.now k new ∙ f.long;
-      holds = holds;
-      done = λ i d e before. elim (cases_eq i k) [
-        | inl here ↦
-            let was : get_or back i d ≡ n.old = ap (λ j. get_or back j d) here ∙ n.is d in
-            let now : get_or (set f.now k new) i e ≡ new = ap (λ j. get_or (set f.now k new) j e) here ∙ get_or-set_same f.now k new e (omega (arith, below, long)) in
-            subst (P (get_or back i d)) (sym now) (subst (λ (x : LinkEnds). P x new) (sym was) is)
-        | inr other ↦ subst (P (get_or back i d)) (sym (get_or-set_other f.now k i new e other)) (f.done i d e (omega (arith, before, other)))
-      ];
-      left = λ i d from. elim (cases_eq i k) [
-        | inl here ↦ absurd (omega (arith, from, here))
-        | inr other ↦ get_or-set_other f.now k i new d other ∙ f.left i d (omega (arith, from))
-      ];
-    }
+one_done {P} {back} {k} {s} {t} new f n is holds = record {
+  now = set f.now k new;
+  long = length-set f.now k new ∙ f.long;
+  holds = holds;
+  done = λ i d e before at_d at_e. elim (cases_eq i k) [
+    | inl here ↦
+        let was : n.old ≡ d = same_Some n.old d (sym n.was ∙ (ap (slice_get back) (sym here) ∙ at_d)) in
+        subst (P d) (set_is f.now k i n.old new e n.stands here at_e) (subst (λ (x : LinkEnds). P x new) was is)
+    | inr other ↦ f.done i d e (omega (arith, before, other)) at_d (sym (slice_get-set_other f.now k i new other) ∙ at_e)
+  ];
+  left = λ i from. slice_get-set_other f.now k i new (λ here. omega (arith, from, here)) ∙ f.left i (omega (arith, from));
+}
 
 -- ---- links that rest
 
@@ -105,7 +87,7 @@ free_fits cap places held free fits few within = elim (cases_Bool (nat_eq places
 -- The first links rest, each of them has so many places free, and whether they hold a copy is known.
 pub record RestSoFar (cap : ℕ) (back : List LinkEnds) (k : ℕ) (s : Standing) (quiet : Bool) (free : ℕ) : Type 0 where
   pub so_far : SoFar (RestsAs cap) back k s
-  pub fits : (i : ℕ) (e : LinkEnds) → i < k → HasPlaces cap free (length (queue_of_link (get_or so_far.now i e))) (cap_of (get_or so_far.now i e).link)
+  pub fits : (i : ℕ) (e : LinkEnds) → i < k → slice_get so_far.now i ≡ Some e → HasPlaces cap free (length (queue_of_link e)) (cap_of e.link)
   pub quiet_is : quiet ≡ list_all is_empty (take k (map queue_of_link so_far.now))
 
 pub none_rest : (cap : ℕ) (back : List LinkEnds) (s : Standing) (free : ℕ) → HoldsAll back s → RestSoFar cap back 0 s true free
@@ -141,13 +123,11 @@ one_rests {cap} {back} {k} {s} {t} {quiet} {more} {free} {less} {held} {places} 
     (ap is_empty (get_or-set_same qs k (queue_of_link r.now) [] (omega (arith, mapped, here))) ∙ ap (λ c. nat_eq c 0) (sym count)) in
     record {
       so_far = one_done r.now f.so_far n (rests_as was r) r.holds;
-      fits = λ i e before. elim (cases_eq i k) [
+      fits = λ i e before at. elim (cases_eq i k) [
         | inl is ↦
-            let new : get_or (set now k r.now) i e ≡ r.now = ap (λ j. get_or (set now k r.now) j e) is ∙ get_or-set_same now k r.now e here in
-            subst (λ (x : LinkEnds). HasPlaces cap less (length (queue_of_link x)) (cap_of x.link)) (sym new) (subst (λ (p : ℕ × ℕ). HasPlaces cap less p.0 p.1) (λ j. (count j, places_are j)) has)
-        | inr other ↦
-            subst (λ (x : LinkEnds). HasPlaces cap less (length (queue_of_link x)) (cap_of x.link)) (sym (get_or-set_other now k i r.now e other))
-            (fewer_fit cap free less _ _ (omega (arith, less_is)) (f.fits i e (omega (arith, before, other))))
+            subst (λ (x : LinkEnds). HasPlaces cap less (length (queue_of_link x)) (cap_of x.link)) (set_is now k i n.old r.now e n.stands is at)
+            (subst (λ (p : ℕ × ℕ). HasPlaces cap less p.0 p.1) (λ j. (count j, places_are j)) has)
+        | inr other ↦ fewer_fit cap free less _ _ (omega (arith, less_is)) (f.fits i e (omega (arith, before, other)) (sym (slice_get-set_other now k i r.now other) ∙ at))
       ];
       quiet_is = more_is ∙ (sym all ∙ ap (λ l. list_all is_empty (take (k + 1) l)) (sym (map-set queue_of_link now k r.now)));
     }
@@ -172,16 +152,18 @@ all_rest {cap} {back} {k} rested f past =
       long = long;
       up = record {
         long = sym mapped;
-        each = λ i q e below.
-            let inside : i < length now = omega (arith, below, mapped) in
+        each = λ i q e at_q at_e.
+            let inside = slice_get_within now i e at_e in
+            let old = slice_get_there back i (omega (arith, inside, long)) in
             let within : i < k = omega (arith, inside, long, past) in
-            subst (λ (l : List McCopy). IsUp cap rested.free l (get_or now i e)) (sym (get_or-map queue_of_link now i e q inside))
-            (rest_is_up cap rested.free (get_or back i e) (get_or now i e) (f.so_far.done i e e within) (f.fits i e within));
+            subst (λ (l : List McCopy). IsUp cap rested.free l e) (same_Some (queue_of_link e) q (sym (slice_get-mapped queue_of_link now i e at_e) ∙ at_q))
+            (rest_is_up cap rested.free old.0 e (f.so_far.done i old.0 e within old.1 at_e) (f.fits i e within at_e));
       };
-      down = λ i e q below.
-          let inside : i < length now = omega (arith, below, long) in
-          let r = f.so_far.done i e e (omega (arith, below, past)) in
-          subst (IsDown (get_or back i e)) (sym (get_or-map queue_of_link now i e q inside ∙ r.tx_new.first)) r.down;
+      down = λ i e q at.
+          let inside = slice_get_within back i e at in
+          let new = slice_get_there now i (omega (arith, inside, long)) in
+          let r = f.so_far.done i e new.0 (omega (arith, inside, past)) at new.1 in
+          subst (IsDown e) (sym (get_or_from_slice_get (map queue_of_link now) i (queue_of_link new.0) q (slice_get-mapped queue_of_link now i new.0 new.1) ∙ r.tx_new.first)) r.down;
       quiet = f.quiet_is ∙ ap (list_all is_empty) (take_all k (map queue_of_link now) (omega (arith, mapped, long, past)));
     }
 
@@ -191,16 +173,14 @@ all_rest {cap} {back} {k} rested f past =
 abbrev pub StaysAs : ℕ → ℕ → LinkEnds → LinkEnds → Type 0
 StaysAs cap more old new = IsUp cap more (queue_of_link old) new
 
-pub stay_up : (cap more : ℕ) (back now : List LinkEnds) → length now ≡ length back → ((i : ℕ) (d e : LinkEnds) → i < length back → StaysAs cap more (get_or back i d) (get_or now i e)) →
-    AreUp cap more (map queue_of_link back) now
-stay_up cap more back now long each =
-    let mapped = length-map back queue_of_link in
-    record {
-      long = omega (arith, long, mapped);
-      each = λ i q e below.
-          let inside : i < length back = omega (arith, below, mapped) in
-          subst (λ (l : List McCopy). IsUp cap more l (get_or now i e)) (sym (get_or-map queue_of_link back i e q inside)) (each i e e inside);
-    }
+pub stay_up : (cap more : ℕ) (back now : List LinkEnds) → length now ≡ length back →
+    ((i : ℕ) (d e : LinkEnds) → slice_get back i ≡ Some d → slice_get now i ≡ Some e → StaysAs cap more d e) → AreUp cap more (map queue_of_link back) now
+stay_up cap more back now long each = record {
+  long = omega (arith, long, length-map back queue_of_link);
+  each = λ i q e at_q at_e.
+      let old = slice_get_there back i (omega (arith, slice_get_within now i e at_e, long)) in
+      subst (λ (l : List McCopy). IsUp cap more l e) (same_Some (queue_of_link old.0) q (sym (slice_get-mapped queue_of_link back i old.0 old.1) ∙ at_q)) (each i old.0 e old.1 at_e);
+}
 
 pub fewer : (cap more : ℕ) (queue : List McCopy) (e : LinkEnds) → IsUp cap more queue e → IsUp cap 0 queue e
 fewer cap more queue e up = record { ends = up.ends; holds = fewer_fit cap more 0 _ _ (omega arith) up.holds; tx_new = up.tx_new; rx_new = up.rx_new }
@@ -210,46 +190,33 @@ pub all_stay : {cap more : ℕ} {back : List LinkEnds} {k : ℕ} {s : Standing} 
 all_stay {cap} {more} {back} f past = record {
   now = f.now;
   holds = f.holds;
-  up = stay_up cap more back f.now f.long (λ i d e below. f.done i d e (omega (arith, below, past)));
+  up = stay_up cap more back f.now f.long (λ i d e at. f.done i d e (omega (arith, slice_get_within back i d at, past)) at);
 }
 
 -- the first links are widened, the next one is not, and all hold what they held
 pub some_stay : {cap more : ℕ} {back : List LinkEnds} {k : ℕ} {s t : Standing} (f : SoFar (StaysAs cap more) back k s) → (n : NextLink back f.now k) → AreUp cap 0 (map queue_of_link back) back →
     UpAt cap 0 f.now k (queue_of_link n.old) t → StayUp cap 0 back t
 some_stay {cap} {more} {back} {k} f n up at =
-    let below = slice_get_within back k n.old n.was in
-    let long = f.long in
-    let mapped = length-map back queue_of_link in
+    let fewer_places : SoFar (StaysAs cap 0) back k _ = record {
+      now = f.now;
+      long = f.long;
+      holds = f.holds;
+      done = λ i d e before at_d at_e. fewer cap more (queue_of_link d) e (f.done i d e before at_d at_e);
+      left = f.left;
+    } in
+    let g = one_done at.now fewer_places n at.up at.holds in
     record {
-      now = set f.now k at.now;
-      holds = at.holds;
-      up = stay_up cap 0 back (set f.now k at.now) (length-set f.now k at.now ∙ f.long) (λ i d e inside. elim (cases_eq i k) [
-        | inl here ↦
-            let was : get_or back i d ≡ n.old = ap (λ j. get_or back j d) here ∙ n.is d in
-            let now : get_or (set f.now k at.now) i e ≡ at.now = ap (λ j. get_or (set f.now k at.now) j e) here ∙ get_or-set_same f.now k at.now e (omega (arith, below, long)) in
-            subst (StaysAs cap 0 (get_or back i d)) (sym now) (subst (λ (x : LinkEnds). StaysAs cap 0 x at.now) (sym was) at.up)
-        | inr other ↦
-            subst (StaysAs cap 0 (get_or back i d)) (sym (get_or-set_other f.now k i at.now e other))
-            (elim (cases_lt i k) [
-              | inl before ↦ fewer cap more (queue_of_link (get_or back i d)) (get_or f.now i e) (f.done i d e before)
-              | inr from ↦
-                  let same : get_or f.now i e ≡ get_or back i e = f.left i e from in
-                  let one : get_or back i d ≡ get_or back i e = (let x = slice_get_there back i inside in get_or_from_slice_get back i x.0 d x.1 ∙ sym (get_or_from_slice_get back i x.0 e x.1)) in
-                  let is : IsUp cap 0 (queue_of_link (get_or back i e)) (get_or back i e) =
-                  subst (λ (l : List McCopy). IsUp cap 0 l (get_or back i e)) (get_or-map queue_of_link back i e [] inside) (up.each i [] e (omega (arith, inside, mapped))) in
-                  subst (λ (x : LinkEnds). IsUp cap 0 (queue_of_link (get_or back i d)) x) (sym same) (subst (λ (x : LinkEnds). IsUp cap 0 (queue_of_link x) (get_or back i e)) (sym one) is)
-            ])
+      now = g.now;
+      holds = g.holds;
+      up = stay_up cap 0 back g.now g.long (λ i d e at_d at_e. elim (cases_lt i (k + 1)) [
+        | inl before ↦ g.done i d e before at_d at_e
+        | inr from ↦ subst (StaysAs cap 0 d) (same_Some d e (sym at_d ∙ (sym (g.left i from) ∙ at_e))) (up.each i (queue_of_link d) d (slice_get-mapped queue_of_link back i d at_d) at_d)
       ]);
     }
 
 -- the next link is up
 pub next_up : {cap : ℕ} {back now : List LinkEnds} {k : ℕ} (n : NextLink back now k) → AreUp cap 0 (map queue_of_link back) back → IsUp cap 0 (queue_of_link n.old) n.old
-next_up {cap} {back} {k = k} n up =
-    let below = slice_get_within back k n.old n.was in
-    let mapped = length-map back queue_of_link in
-    let is : IsUp cap 0 (queue_of_link (get_or back k n.old)) (get_or back k n.old) =
-    subst (λ (l : List McCopy). IsUp cap 0 l (get_or back k n.old)) (get_or-map queue_of_link back k n.old [] below) (up.each k [] n.old (omega (arith, below, mapped))) in
-    subst (λ (x : LinkEnds). IsUp cap 0 (queue_of_link x) x) (n.is n.old) is
+next_up {cap} {back} {k = k} n up = up.each k (queue_of_link n.old) n.old (slice_get-mapped queue_of_link back k n.old n.was) n.was
 
 -- ---- one link
 

@@ -10,6 +10,10 @@ pub slot_is : {X : Type 0} (f : LinkEnds → X) (ends : List LinkEnds) (slots : 
     get_or slots place d ≡ f old
 slot_is f ends slots place old d are at = grind (arith, get_or_from_slice_get (map f ends) place (f old) d (slice_get-mapped f ends place old at), slice_get-mapped f ends place old at, get_or)
 
+-- what two lists have at one place, where they are one list as far as f tells
+pub same_mapped : {X : Type 0} (f : LinkEnds → X) (es fs : List LinkEnds) (l : ℕ) (e o : LinkEnds) → map f es ≡ map f fs → slice_get es l ≡ Some e → slice_get fs l ≡ Some o → f e ≡ f o
+same_mapped f es fs l e o same at also = same_Some (f e) (f o) (sym (slice_get-mapped f es l e at) ∙ (ap (λ x. slice_get x l) same ∙ slice_get-mapped f fs l o also))
+
 pub slot_stands : {X : Type 0} (end : LinkEnds → X) (ends : List LinkEnds) (slots : List (Option X)) (place : ℕ) (old : LinkEnds) → slots ≡ map (λ (e : LinkEnds). Some (end e)) ends →
     slice_get ends place ≡ Some old → slice_get slots place ≡ Some (Some (end old))
 slot_stands end ends slots place old are at = ap (λ l. slice_get l place) are ∙ slice_get-mapped (λ (e : LinkEnds). Some (end e)) ends place old at

@@ -1,11 +1,9 @@
 -- What all shares did in a round, one share after the other.
-use Rattle.mesh_run.proofs.Common.{All, All-append, All-nil, All-weaker, AreOf, AreShareRuns, AreTurns, Away, Bool, End, EndGoes, Goes, InEnd, IsInRun, IsNoted, Item, LaneGoes, List, McCopy, None}
-use Rattle.mesh_run.proofs.Common.{Option, OutEnd, Own, SenderGoes, Sends, Setup, Share, Some, TakerGoes, Takes, WithRoom, [], actor_of, ap, append-nil, arith, both_none, cases_lt, end_at, end_before}
-use Rattle.mesh_run.proofs.Common.{end_in, entered, false, flat_map, flat_map-append, get_or, get_or_default, get_or_from_slice_get, inl, inr, left, length, list_any, lost_at, refl, run_start}
-use Rattle.mesh_run.proofs.Common.{slice_get, slice_get-get_or, slice_get_within, slice_index_or, subst, suc, sym, take, take_all, take_more, true, zero, ℕ, ◌++◌, ◌+◌, ◌<◌, ◌||◌, ◌∙◌, ◌∷◌, ◌≡◌, ◌≢◌}
-use Rattle.mesh_run.proofs.Common.{◌≤◌, ◌⊎◌}
-use Rattle.mesh_run.proofs.CrossingLaws.{stood}
-use Rattle.mesh_run.proofs.Turns.{IsNotOf, flat_map_none, turns_beside, turns_none}
+use Rattle.mesh_run.proofs.Common.{All, All-append, All-nil, All-weaker, AreOf, AreShareRuns, AreTurns, Away, Bool, End, EndGoes, Goes, InEnd, IsInRun, IsNoted, Item, LaneGoes, List, McCopy, Option}
+use Rattle.mesh_run.proofs.Common.{OutEnd, Own, SenderGoes, Sends, Setup, Share, Some, TakerGoes, Takes, WithRoom, [], actor_of, ap, append-nil, arith, both_none, cases_lt, end_at, end_before, end_in}
+use Rattle.mesh_run.proofs.Common.{entered, false, flat_map, flat_map-append, get_or, get_or_default, get_or_from_slice_get, inl, inr, left, length, list_any, lost_at, refl, run_start, slice_get}
+use Rattle.mesh_run.proofs.Common.{slice_get-get_or, slice_get_within, slice_index_or, subst, suc, sym, take, take_all, take_more, true, zero, ℕ, ◌++◌, ◌+◌, ◌<◌, ◌||◌, ◌∙◌, ◌∷◌, ◌≡◌, ◌≢◌, ◌≤◌, ◌⊎◌}
+use Rattle.mesh_run.proofs.{CrossingLaws.stood, Turns.IsNotOf, Turns.flat_map_none, Turns.turns_beside, Turns.turns_none}
 
 -- ---- lists of all shares
 

@@ -1,5 +1,5 @@
 -- A queue brought up as a link, at rest between rounds, and brought down.
-use Rattle.std.specs.Prelude.{◌≡◌, ℕ, ◌+◌, ◌*◌, ◌-◌, ◌==◌, ◌<◌, ◌≤◌, Bool, min, List, [], ◌++◌, map, length, All, if◌then◌else◌, slice_index_or, slice_set}
+use Rattle.std.specs.Prelude.{◌≡◌, ℕ, ◌+◌, ◌*◌, ◌-◌, ◌==◌, ◌≤◌, Bool, min, List, [], ◌++◌, map, length, All, Some, if◌then◌else◌, slice_get, slice_index_or, slice_set}
 use Rattle.std.specs.List.{list_all}
 use Rattle.spin_base.specs.declared.copies.McCopy.{McCopy}
 use Rattle.link_queue.specs.declared.links.LinkEnds.{LinkEnds}
@@ -45,7 +45,7 @@ pub record IsUp (cap more : ℕ) (queue : List McCopy) (e : LinkEnds) : Type 0 w
 -- a link for each queue, at the same places
 pub record AreUp (cap more : ℕ) (queues : List (List McCopy)) (ends : List LinkEnds) : Type 0 where
   pub long : length ends ≡ length queues
-  pub each : (i : ℕ) (q : List McCopy) (e : LinkEnds) → i < length queues → IsUp cap more (slice_index_or queues i q) (slice_index_or ends i e)
+  pub each : (i : ℕ) (q : List McCopy) (e : LinkEnds) → slice_get queues i ≡ Some q → slice_get ends i ≡ Some e → IsUp cap more q e
 
 -- ---- after a round
 
@@ -58,7 +58,7 @@ pub record IsDown (e : LinkEnds) (after : List McCopy) : Type 0 where
 
 -- at the places of these links stands what they hold
 abbrev pub DownTo : List LinkEnds → List (List McCopy) → Type 0
-DownTo ends after = (i : ℕ) (e : LinkEnds) (q : List McCopy) → i < length ends → IsDown (slice_index_or ends i e) (slice_index_or after i q)
+DownTo ends after = (i : ℕ) (e : LinkEnds) (q : List McCopy) → slice_get ends i ≡ Some e → IsDown e (slice_index_or after i q)
 
 -- the queue of which a link's ends know that it was there first
 abbrev pub queue_of_link : LinkEnds → List McCopy
