@@ -1,6 +1,7 @@
 -- Links brought up, from the first list on.
-use Rattle.mesh_run.proofs.Common.{AreUp, HasPlaces, IsUp, LinkEnds, List, McCopy, RisenTo, Rising, Some, [], ap, arith, get_or, inl, inr, length, length-append, none-some, places_for, same_Some}
-use Rattle.mesh_run.proofs.Common.{slice_get, slice_get-get_or, slice_get-push_cases, subst, sym, ℕ, ◌++◌, ◌+◌, ◌-◌, ◌<◌, ◌∙◌, ◌∷◌, ◌≡◌, ◌≤◌}
+use Rattle.mesh_run.proofs.Common.{AreUp, HasPlaces, IsUp, LinkEnds, List, McCopy, RisenTo, Rising, Some, [], ap, arith, get_or, length, length-append, none-some, places_for, refl, same_Some}
+use Rattle.mesh_run.proofs.Common.{slice_get, slice_get-get_or, subst, sym, ℕ, ◌++◌, ◌+◌, ◌-◌, ◌<◌, ◌∙◌, ◌∷◌, ◌≡◌, ◌≤◌}
+use Rattle.mesh_run.proofs.Going.{pushed}
 
 -- a link has the places with which it is made
 pub made_with : (cap turns held places : ℕ) → held ≤ cap → places ≡ places_for cap turns held → HasPlaces cap (turns + 1) held places
@@ -38,12 +39,9 @@ up_more cap more lists k r s q e u below read up risen = record {
   ends = u.ends ++ e ∷ [];
   many = (let many = u.many in length-append u.ends (e ∷ []) ∙ omega (arith, many));
   risen = risen;
-  up = λ j p d at_p at_d. elim (slice_get-push_cases u.ends e d j at_d) [
-    | inl before ↦ u.up j p d at_p before.1
-    | inr last ↦
-        let is : q ≡ p = same_Some q p (ap Some read ∙ (sym (slice_get-get_or lists k q below) ∙ (ap (slice_get lists) (sym (last.0 ∙ u.many)) ∙ at_p))) in
-        subst (λ x. IsUp cap more p x) last.1 (subst (λ x. IsUp cap more x e) is up)
-  ];
+  up = λ j p d at_p at_d.
+      pushed (λ j d. slice_get lists j ≡ Some p → IsUp cap more p d) u.ends e (u.ends ++ e ∷ []) refl (λ j d at there. u.up j p d there at)
+      (λ here. subst (λ x. IsUp cap more x e) (same_Some q p (ap Some read ∙ (sym (slice_get-get_or lists k q below) ∙ (ap (slice_get lists) (sym u.many) ∙ here)))) up) j d at_d at_p;
 }
 
 pub all_up : (cap more : ℕ) (lists : List (List McCopy)) (k : ℕ) (r : Rising) → (u : UpTo cap more lists k r) → k ≡ length lists → AreUp cap more lists u.ends

@@ -45,7 +45,7 @@ pub use Rattle.std.proofs.Common.{Bool, Err, List, None, Ok, OnErr, Option, Resu
 pub use Rattle.std.proofs.Common.{length-append, map, min, nat_eq, refl, replicate, set, subst, suc, sym, take, true, zero, ℕ, ◌%◌, ◌&&◌, ◌*◌, ◌++◌, ◌+◌, ◌-◌, ◌/◌, ◌<◌, ◌==◌, ◌^◌, ◌||◌, ◌∙◌, ◌∷◌, ◌≡◌}
 pub use Rattle.std.proofs.Common.{◌≢◌, ◌≤◌, ◌⊎◌}
 pub use Rattle.std.proofs.{Math.Nat.mul-le-mul_left, lemmas.Bool.cases_Bool, lemmas.Bool.cases_eq, lemmas.Bool.cases_lt, lemmas.Bool.cond-false, lemmas.Bool.cond_both, lemmas.Bool.eqb-true}
-pub use Rattle.std.proofs.lemmas.{Grind.flat_map-append, List.Elements.All-append, List.Elements.All-cons, List.Elements.All-contains, List.Elements.All-filter, List.Elements.All-head}
+pub use Rattle.std.proofs.lemmas.{Grind.flat_map-append, List.Elements.All-append, List.Elements.All-cons, List.Elements.All-contains, List.Elements.All-filter, List.Elements.All-head, List.Elements.All-replicate}
 pub use Rattle.std.proofs.lemmas.List.{Elements.All-map, Elements.All-nil, Elements.All-push, Elements.All-tail, Elements.All-weaker, Folds.list_all_more, FromFn.get_or-range_with_len}
 pub use Rattle.std.proofs.lemmas.List.{FromFn.length-range_with_len, Sums.sum_by-cons, get_or-append_right, get_or-map, get_or-replicate, get_or-set_other, get_or-set_same, get_or_append_left}
 pub use Rattle.std.proofs.lemmas.List.{get_or_default, get_or_past, get_or_push, length-map, length-replicate, length-set, length_push, map-append, map-set, same_from_push, same_lists}

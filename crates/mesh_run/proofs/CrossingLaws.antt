@@ -3,7 +3,7 @@ use Rattle.mesh_run.proofs.Common.{AreCuts, AreLaid, AreSameButEnds, Away, Cut, 
 use Rattle.mesh_run.proofs.Common.{SameButEnds, Sends, Share, Some, Standing, Takes, Tx, ap, arith, cases_eq, cases_lt, end_at, end_in, get_or, get_or_from_slice_get, inl, inr, length, length-map}
 use Rattle.mesh_run.proofs.Common.{length-set, map, map-set, none-some, refl, same_Some, same_lists, set, set-slice_get, slice_get, slice_get-mapped, slice_get-set_other, slice_get-set_same}
 use Rattle.mesh_run.proofs.Common.{slice_get_past, slice_get_there, slice_get_within, subst, sym, ℕ, ◌+◌, ◌<◌, ◌∙◌, ◌≡◌, ◌≤◌}
-use Rattle.mesh_run.proofs.Holding.{only_ends}
+use Rattle.mesh_run.proofs.{Going.next_too, Going.was_set, Holding.only_ends}
 
 -- ---- lists of which each item is as the one at its place
 
@@ -140,24 +140,19 @@ dealt_more cuts start standing after before now mid new n c tx rx are so_far at 
       txs = λ k e from there. ap (λ l. slice_get l k) txs ∙ (slice_get-set_other standing.txs.items n k None (λ same. omega (arith, same, from)) ∙ so_far.txs k e (omega (arith, from)) there);
       rxs = λ k e from there. ap (λ l. slice_get l k) rxs ∙ (slice_get-set_other standing.rxs.items n k None (λ same. omega (arith, same, from)) ∙ so_far.rxs k e (omega (arith, from)) there);
       same = same_on before mid new (same_on before now mid so_far.same one.same) two.same;
-      dealt = λ l d e less at_l there. elim (cases_eq l n) [
-        | inl here ↦
-            let is_c : c ≡ d = same_Some c d (sym at ∙ (ap (slice_get cuts) (sym here) ∙ at_l)) in
-            let here_e : slice_get so_far.ends n ≡ Some e = ap (slice_get so_far.ends) (sym here) ∙ there in
-            let is_tx : tx ≡ e.tx = same_Some tx e.tx (same_Some (Some tx) (Some e.tx) (sym tx_is ∙ so_far.txs n e (omega arith) here_e)) in
-            let is_rx : rx ≡ e.rx = same_Some rx e.rx (same_Some (Some rx) (Some e.rx) (sym rx_is ∙ so_far.rxs n e (omega arith) here_e)) in (
-              ap (λ (x : Cut). end_at new x.sender x.queue) (sym is_c)
-                  ∙ (both.0 ∙ (ap (λ (x : Tx). Some (Sends (record { link = n; tx = x }))) is_tx ∙ ap (λ (k : ℕ). Some (Sends (record { link = k; tx = e.tx }))) (sym here))),
-              ap (λ (x : Cut). end_at new x.receiver x.queue) (sym is_c)
-                  ∙ (both.1 ∙ (ap (λ (x : Rx). Some (Takes (record { link = n; rx = x }))) is_rx ∙ ap (λ (k : ℕ). Some (Takes (record { link = k; rx = e.rx }))) (sym here))),
-            )
-        | inr other ↦
-            let before_n : l < n = omega (arith, less, other) in
-            let was = so_far.dealt l d e before_n at_l there in (
-              both.2 d.sender d.queue (apart cuts before n l d.sender c d are at at_l before_n) ∙ was.0,
-              both.2 d.receiver d.queue (apart cuts before n l d.receiver c d are at at_l before_n) ∙ was.1,
-            )
-      ];
+      dealt = λ l d e less at_l there.
+          next_too (λ l d. (e : LinkEnds) → slice_get so_far.ends l ≡ Some e →
+              (end_at new d.sender d.queue ≡ Some (Sends (record { link = l; tx = e.tx }))) × (end_at new d.receiver d.queue ≡ Some (Takes (record { link = l; rx = e.rx })))) cuts n c at
+          (λ l d less at_l e there.
+          let was = so_far.dealt l d e less at_l there in (
+            both.2 d.sender d.queue (apart cuts before n l d.sender c d are at at_l less) ∙ was.0,
+            both.2 d.receiver d.queue (apart cuts before n l d.receiver c d are at at_l less) ∙ was.1,
+          ))
+          (λ e there.
+          let is_tx : tx ≡ e.tx = same_Some tx e.tx (same_Some (Some tx) (Some e.tx) (sym tx_is ∙ so_far.txs n e (omega arith) there)) in
+          let is_rx : rx ≡ e.rx = same_Some rx e.rx (same_Some (Some rx) (Some e.rx) (sym rx_is ∙ so_far.rxs n e (omega arith) there)) in
+          (both.0 ∙ ap (λ (x : Tx). Some (Sends (record { link = n; tx = x }))) is_tx, both.1 ∙ ap (λ (x : Rx). Some (Takes (record { link = n; rx = x }))) is_rx))
+          l d less at_l e there;
       others = λ s q uncut. both.2 s q (uncut n c (omega arith) at) ∙ so_far.others s q (λ l d less. uncut l d (omega (arith, less)));
     }
 
@@ -219,6 +214,15 @@ next_laid cuts start standing before now n c so_far are laid at =
 same_but : {X : Type 0} (f : LinkEnds → X) (ends : List LinkEnds) (n : ℕ) (old new : LinkEnds) → slice_get ends n ≡ Some old → f new ≡ f old → map f (set ends n new) ≡ map f ends
 same_but f ends n old new at same = map-set f ends n new ∙ (ap (set (map f ends) n) same ∙ set-slice_get (map f ends) n (f old) (slice_get-mapped f ends n old at))
 
+-- the ends that were set at a place stand there, and the others where they stood
+slot_set : {X : Type 0} (f : LinkEnds → X) (ends : List LinkEnds) (slots : List (Option X)) (n : ℕ) (new : LinkEnds) → n < length slots →
+    ((k : ℕ) (e : LinkEnds) → k < n → slice_get ends k ≡ Some e → slice_get slots k ≡ Some (Some (f e))) →
+    (k : ℕ) (e : LinkEnds) → slice_get (set ends n new) k ≡ Some e → k < n + 1 → slice_get (set slots n (Some (f new))) k ≡ Some (Some (f e))
+slot_set f ends slots n new below each =
+    let old = slice_get_there slots n below in
+    was_set (λ k e. k < n + 1 → slice_get (set slots n (Some (f new))) k ≡ Some (Some (f e))) ends n new
+    (λ k e other at less. slice_get-set_other slots n k (Some (f new)) other ∙ each k e (omega (arith, less, other)) at) (λ less. slice_get-set_same slots n old.0 (Some (f new)) old.1)
+
 pub collected_more : (cuts : List Cut) (start standing after : Standing) (before now mid new : List Share) (n : ℕ) (c : Cut) (tx : Tx) (rx : Rx) → AreCuts cuts before →
     CollectedTo cuts start before n standing now → slice_get cuts n ≡ Some c →
     end_at before c.sender c.queue ≡ Some (Sends (record { link = n; tx = tx })) → end_at before c.receiver c.queue ≡ Some (Takes (record { link = n; rx = rx })) →
@@ -231,11 +235,8 @@ collected_more cuts start standing after before now mid new n c tx rx are so_far
     let txs_long = so_far.txs_long in
     let rxs_long = so_far.rxs_long in
     let old = slice_get_there so_far.ends n (omega (arith, long, within)) in
-    let old_tx = slice_get_there standing.txs.items n (omega (arith, long, within, txs_long)) in
-    let old_rx = slice_get_there standing.rxs.items n (omega (arith, long, within, rxs_long)) in
     let e_new : LinkEnds = record old.0 { tx = tx; rx = rx } in
     let set_long = length-set so_far.ends n e_new in
-    let new_at : slice_get (set so_far.ends n e_new) n ≡ Some e_new = slice_get-set_same so_far.ends n old.0 e_new old.1 in
     record {
       ends = set so_far.ends n e_new;
       long = set_long ∙ so_far.long;
@@ -245,41 +246,21 @@ collected_more cuts start standing after before now mid new n c tx rx are so_far
       rooms_are = same_but (λ (e : LinkEnds). e.room) so_far.ends n old.0 e_new old.1 refl ∙ so_far.rooms_are;
       txs_long = ap length txs ∙ (length-set standing.txs.items n (Some tx) ∙ (so_far.txs_long ∙ sym set_long));
       rxs_long = ap length rxs ∙ (length-set standing.rxs.items n (Some rx) ∙ (so_far.rxs_long ∙ sym set_long));
-      txs = λ k e less there. ap (λ l. slice_get l k) txs ∙ elim (cases_eq k n) [
-        | inl here ↦
-            let is_e : e_new ≡ e = same_Some e_new e (sym new_at ∙ (ap (slice_get (set so_far.ends n e_new)) (sym here) ∙ there)) in
-            ap (slice_get (set standing.txs.items n (Some tx))) here ∙ (slice_get-set_same standing.txs.items n old_tx.0 (Some tx) old_tx.1 ∙ ap (λ (x : LinkEnds). Some (Some x.tx)) is_e)
-        | inr other ↦ slice_get-set_other standing.txs.items n k (Some tx) other ∙ so_far.txs k e (omega (arith, less, other)) (sym (slice_get-set_other so_far.ends n k e_new other) ∙ there)
-      ];
-      rxs = λ k e less there. ap (λ l. slice_get l k) rxs ∙ elim (cases_eq k n) [
-        | inl here ↦
-            let is_e : e_new ≡ e = same_Some e_new e (sym new_at ∙ (ap (slice_get (set so_far.ends n e_new)) (sym here) ∙ there)) in
-            ap (slice_get (set standing.rxs.items n (Some rx))) here ∙ (slice_get-set_same standing.rxs.items n old_rx.0 (Some rx) old_rx.1 ∙ ap (λ (x : LinkEnds). Some (Some x.rx)) is_e)
-        | inr other ↦ slice_get-set_other standing.rxs.items n k (Some rx) other ∙ so_far.rxs k e (omega (arith, less, other)) (sym (slice_get-set_other so_far.ends n k e_new other) ∙ there)
-      ];
+      txs = λ k e less there. ap (λ l. slice_get l k) txs ∙ slot_set (λ (e : LinkEnds). e.tx) so_far.ends standing.txs.items n e_new (omega (arith, long, within, txs_long)) so_far.txs k e there less;
+      rxs = λ k e less there. ap (λ l. slice_get l k) rxs ∙ slot_set (λ (e : LinkEnds). e.rx) so_far.ends standing.rxs.items n e_new (omega (arith, long, within, rxs_long)) so_far.rxs k e there less;
       same = same_on before mid new (same_on before now mid so_far.same one.same) two.same;
-      dealt = λ l d e less at_l there. elim (cases_eq l n) [
-        | inl here ↦
-            let is_c : c ≡ d = same_Some c d (sym at ∙ (ap (slice_get cuts) (sym here) ∙ at_l)) in
-            let is_e : e_new ≡ e = same_Some e_new e (sym new_at ∙ (ap (slice_get (set so_far.ends n e_new)) (sym here) ∙ there)) in (
-              ap (λ (x : Cut). end_at before x.sender x.queue) (sym is_c)
-                  ∙ (sends ∙ (ap (λ (x : LinkEnds). Some (Sends (record { link = n; tx = x.tx }))) is_e ∙ ap (λ (k : ℕ). Some (Sends (record { link = k; tx = e.tx }))) (sym here))),
-              ap (λ (x : Cut). end_at before x.receiver x.queue) (sym is_c)
-                  ∙ (takes ∙ (ap (λ (x : LinkEnds). Some (Takes (record { link = n; rx = x.rx }))) is_e ∙ ap (λ (k : ℕ). Some (Takes (record { link = k; rx = e.rx }))) (sym here))),
-            )
-        | inr other ↦ so_far.dealt l d e (omega (arith, less, other)) at_l (sym (slice_get-set_other so_far.ends n l e_new other) ∙ there)
-      ];
-      gone = λ l d less at_l. elim (cases_eq l n) [
-        | inl here ↦
-            let is_c : c ≡ d = same_Some c d (sym at ∙ (ap (slice_get cuts) (sym here) ∙ at_l)) in
-            (ap (λ (x : Cut). end_at new x.sender x.queue) (sym is_c) ∙ both.0, ap (λ (x : Cut). end_at new x.receiver x.queue) (sym is_c) ∙ both.1)
-        | inr other ↦
-            let before_n : l < n = omega (arith, less, other) in
-            let was = so_far.gone l d before_n at_l in (
-              both.2 d.sender d.queue (apart cuts before n l d.sender c d are at at_l before_n) ∙ was.0,
-              both.2 d.receiver d.queue (apart cuts before n l d.receiver c d are at at_l before_n) ∙ was.1,
-            )
-      ];
+      dealt = λ l d e less at_l there.
+          was_set (λ l e. l < n + 1 → slice_get cuts l ≡ Some d →
+              (end_at before d.sender d.queue ≡ Some (Sends (record { link = l; tx = e.tx }))) × (end_at before d.receiver d.queue ≡ Some (Takes (record { link = l; rx = e.rx }))))
+          so_far.ends n e_new (λ l e other stands less at_l. so_far.dealt l d e (omega (arith, less, other)) at_l stands)
+          (λ less at_l. subst (λ (x : Cut). (end_at before x.sender x.queue ≡ Some (Sends (record { link = n; tx = tx }))) × (end_at before x.receiver x.queue ≡ Some (Takes (record { link = n; rx = rx }))))
+          (same_Some c d (sym at ∙ at_l)) (sends, takes)) l e there less at_l;
+      gone = next_too (λ l d. (end_at new d.sender d.queue ≡ Some Away) × (end_at new d.receiver d.queue ≡ Some Away)) cuts n c at
+          (λ l d less at_l.
+          let was = so_far.gone l d less at_l in (
+            both.2 d.sender d.queue (apart cuts before n l d.sender c d are at at_l less) ∙ was.0,
+            both.2 d.receiver d.queue (apart cuts before n l d.receiver c d are at at_l less) ∙ was.1,
+          )) (both.0, both.1);
       others = λ s q uncut. both.2 s q (uncut n c (omega arith) at) ∙ so_far.others s q (λ l d less. uncut l d (omega (arith, less)));
     }
 

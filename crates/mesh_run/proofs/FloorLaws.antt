@@ -4,8 +4,9 @@ use Rattle.mesh_run.proofs.Common.{IsBankOf, IsFloorOf, IsFloorSoFar, IsLiveInde
 use Rattle.mesh_run.proofs.Common.{chip_of, get_or, get_or-map, get_or-range_with_len, get_or_from_slice_get, grid_size, index_below, inl, inr, length, length-append, length-map}
 use Rattle.mesh_run.proofs.Common.{length-range_with_len, length_le_from_apart, length_push, live_inside, live_one, map, mul-le-mul_left, none-some, out_number, out_number_below, out_number_injective}
 use Rattle.mesh_run.proofs.Common.{place_behind, place_in, place_of_slot, port_count, range_with_len, refl, same_spot_place, site_inside, slice_get, slice_get-append_left, slice_get-get_or}
-use Rattle.mesh_run.proofs.Common.{slice_get-push_cases, slice_get-pushed, slice_get_there, slice_get_within, spot_place, spot_place-below, subst, suc, sym, vertex_at_stands, vertex_on, vertex_there}
-use Rattle.mesh_run.proofs.Common.{vertices_by, ℕ, ◌*◌, ◌++◌, ◌+◌, ◌<◌, ◌∙◌, ◌∷◌, ◌≡◌, ◌≢◌, ◌≤◌}
+use Rattle.mesh_run.proofs.Common.{slice_get-pushed, slice_get_there, slice_get_within, spot_place, spot_place-below, subst, suc, sym, vertex_at_stands, vertex_on, vertex_there, vertices_by, ℕ, ◌*◌}
+use Rattle.mesh_run.proofs.Common.{◌++◌, ◌+◌, ◌<◌, ◌∙◌, ◌∷◌, ◌≡◌, ◌≢◌, ◌≤◌}
+use Rattle.mesh_run.proofs.Going.{pushed}
 
 -- ---- few vertices
 
@@ -155,10 +156,7 @@ floor_more u n f g chip bank so_far chips is_chip adds banks is_bank =
                 ∙ (ap place_in (slice_get-first f.behind.items adds.more (24 * i + out_number o) (omega (arith, below, other, few, behind_were)))
                 ∙ so_far.behind i o (omega (arith, below, other)) live output)
           ];
-      banks = λ i b at. elim (slice_get-push_cases f.banks.items bank b i (ap (λ l. slice_get l i) (sym banks) ∙ at)) [
-        | inl before ↦ so_far.banks i b before.1
-        | inr last ↦ subst (λ (x : CoreBank). IsBankOf u i x) last.1 (subst (λ k. IsBankOf u k bank) (sym (last.0 ∙ so_far.banks_long)) is_bank)
-      ];
+      banks = pushed (IsBankOf u) f.banks.items bank g.banks.items banks so_far.banks (subst (λ k. IsBankOf u k bank) (sym so_far.banks_long) is_bank);
     }
 
 -- ---- on a floor

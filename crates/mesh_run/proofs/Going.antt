@@ -1,6 +1,33 @@
 -- A loop that goes over the places of a list, and changes one after the other.
-use Rattle.mesh_run.proofs.Common.{List, arith, cases_eq, get_or, get_or-set_other, get_or-set_same, get_or_default, length, refl, set, ℕ, ◌+◌, ◌<◌, ◌≡◌, ◌≤◌}
-use Rattle.std.proofs.Math.ListN.{length-set}
+use Rattle.mesh_run.proofs.Common.{List, Some, [], ap, arith, cases_eq, get_or, get_or-set_other, get_or-set_same, get_or_default, inl, inr, length, length-set, refl, same_Some, set, slice_get}
+use Rattle.mesh_run.proofs.Common.{slice_get-push_cases, slice_get-set_other, slice_get-set_same, slice_get_there, slice_get_within, subst, sym, ℕ, ◌++◌, ◌+◌, ◌<◌, ◌∙◌, ◌∷◌, ◌≡◌, ◌≢◌, ◌≤◌}
+
+
+-- What holds of each item of a list and of one more holds of each where that one is put at the end.
+pub pushed : {X : Type 0} (P : ℕ → X → Type 0) (xs : List X) (x : X) (new : List X) → new ≡ xs ++ x ∷ [] → ((k : ℕ) (y : X) → slice_get xs k ≡ Some y → P k y) → P (length xs) x →
+    (k : ℕ) (y : X) → slice_get new k ≡ Some y → P k y
+pushed P xs x new is each last k y at = elim (slice_get-push_cases xs x y k (ap (λ l. slice_get l k) (sym is) ∙ at)) [
+  | inl before ↦ each k y before.1
+  | inr here ↦ subst (P k) here.1 (subst (λ j. P j x) (sym here.0) last)
+]
+
+-- what holds of all other items and of one that is set in a place
+pub was_set : {X : Type 0} (P : ℕ → X → Type 0) (xs : List X) (n : ℕ) (x : X) → ((k : ℕ) (y : X) → k ≢ n → slice_get xs k ≡ Some y → P k y) → P n x →
+    (k : ℕ) (y : X) → slice_get (set xs n x) k ≡ Some y → P k y
+was_set P xs n x others new k y at = elim (cases_eq k n) [
+  | inl here ↦
+      let old = slice_get_there xs n (omega (arith, slice_get_within (set xs n x) k y at, length-set xs n x, here)) in
+      subst (P k) (same_Some x y (sym (slice_get-set_same xs n old.0 x old.1) ∙ (ap (slice_get (set xs n x)) (sym here) ∙ at))) (subst (λ j. P j x) (sym here) new)
+  | inr other ↦ others k y other (sym (slice_get-set_other xs n k x other) ∙ at)
+]
+
+-- what holds of the items before a place and of the one there
+pub next_too : {X : Type 0} (P : ℕ → X → Type 0) (xs : List X) (n : ℕ) (x : X) → slice_get xs n ≡ Some x → ((k : ℕ) (y : X) → k < n → slice_get xs k ≡ Some y → P k y) → P n x →
+    (k : ℕ) (y : X) → k < n + 1 → slice_get xs k ≡ Some y → P k y
+next_too P xs n x stands before here k y less at = elim (cases_eq k n) [
+  | inl same ↦ subst (P k) (same_Some x y (sym stands ∙ (ap (slice_get xs) (sym same) ∙ at))) (subst (λ j. P j x) (sym same) here)
+  | inr other ↦ before k y (omega (arith, less, other)) at
+]
 
 module _ {X : Type 0} (R : X → X → Type 0) where
   -- the items before place k are changed, and the others are as they were

@@ -1,12 +1,12 @@
 -- Runs of actors, the numbers of their shares, homes of queues, and cuts.
-use Rattle.mesh_run.proofs.Common.{All, All-append, All-at, All-nil, All-push, AreCutsOf, AreHomesOf, AreHomesTo, AreShareRuns, Core, Cut, HaveSenders, Home, IsBefore, IsInRun, IsInTable, IsLiveIndex}
-use Rattle.mesh_run.proofs.Common.{IsOutput, IsShareTable, List, MayCut, MayGrow, None, Option, Out, SetsSender, Setup, Some, [], ap, arith, bank_place, cases_eq, cases_lt, chip_of, chip_of-inside}
-use Rattle.mesh_run.proofs.Common.{dir_at, dir_number-dir_at, get_or, get_or_append_left, get_or_push, grid_size, homes_of_ports, index_of, index_of-chip_of, injection_place, inl, inr, length}
-use Rattle.mesh_run.proofs.Common.{length-append, length-set, length_push, live_inside, none-some, out_number, out_number_below, out_number_injective, place_behind, refl, replicate, router_place}
-use Rattle.mesh_run.proofs.Common.{run_start, same_Some, set, slice_get, slice_get-append_left, slice_get-get_or, slice_get-push_cases, slice_get-pushed, slice_get-set_other, slice_get-set_same}
-use Rattle.mesh_run.proofs.Common.{slice_get_within, subst, suc, sym, zero, ℕ, ◌*◌, ◌++◌, ◌+◌, ◌-◌, ◌<◌, ◌^◌, ◌∙◌, ◌∷◌, ◌≡◌, ◌≢◌, ◌≤◌, ◌⊎◌}
+use Rattle.mesh_run.proofs.Common.{All-append, All-at, All-nil, All-push, All-replicate, AreCutsOf, AreHomesOf, AreHomesTo, AreShareRuns, Core, Cut, HaveSenders, Home, IsBefore, IsInRun, IsInTable}
+use Rattle.mesh_run.proofs.Common.{IsLiveIndex, IsOutput, IsShareTable, List, MayCut, MayGrow, None, Option, Out, SetsSender, Setup, Some, [], ap, arith, bank_place, cases_eq, cases_lt, chip_of}
+use Rattle.mesh_run.proofs.Common.{chip_of-inside, dir_at, dir_number-dir_at, get_or, get_or_append_left, get_or_push, grid_size, homes_of_ports, index_of, index_of-chip_of, injection_place, inl, inr}
+use Rattle.mesh_run.proofs.Common.{length, length-append, length-set, length_push, live_inside, none-some, out_number, out_number_below, out_number_injective, place_behind, refl, replicate}
+use Rattle.mesh_run.proofs.Common.{router_place, run_start, same_Some, set, slice_get, slice_get-append_left, slice_get-get_or, slice_get-pushed, slice_get-set_other, slice_get_within, subst, suc}
+use Rattle.mesh_run.proofs.Common.{sym, zero, ℕ, ◌*◌, ◌++◌, ◌+◌, ◌-◌, ◌<◌, ◌^◌, ◌∙◌, ◌∷◌, ◌≡◌, ◌≢◌, ◌≤◌, ◌⊎◌}
 use Rattle.spin_base.specs.declared.routes.Out.TheVariants.{Link}
-use Rattle.mesh_run.proofs.{Apart.no_injection, Apart.one_output, FloorLaws.live_below, FloorLaws.slice_get-first, FloorLaws.slice_get-second}
+use Rattle.mesh_run.proofs.{Apart.no_injection, Apart.one_output, Going.next_too, Going.pushed, Going.was_set, FloorLaws.live_below, FloorLaws.slice_get-first, FloorLaws.slice_get-second}
 
 -- ---- runs
 
@@ -58,18 +58,15 @@ pub table_none : (ends table : List ℕ) → table ≡ [] → TableTo ends 0 tab
 table_none ends table none = grind (arith, none-some)
 
 pub run_more : (ends : List ℕ) (n p : ℕ) (table new : List ℕ) → RunTo ends n p table → new ≡ table ++ n ∷ [] → RunTo ends n (p + 1) new
-run_more ends n p table new so_far is = subst (RunTo ends n (p + 1)) (sym is) (record {
-  long = length_push table n ∙ ap (λ k. k + 1) so_far.long;
-  done = λ a k less in_run. slice_get-append_left table (n ∷ []) a k (so_far.done a k less in_run);
-  here = λ a from to. elim (cases_eq a p) [
+run_more ends n p table new so_far is = record {
+  long = ap length is ∙ (length_push table n ∙ ap (λ k. k + 1) so_far.long);
+  done = λ a k less in_run. ap (λ l. slice_get l a) is ∙ slice_get-append_left table (n ∷ []) a k (so_far.done a k less in_run);
+  here = λ a from to. ap (λ l. slice_get l a) is ∙ elim (cases_eq a p) [
     | inl same ↦ slice_get-pushed table n a (same ∙ sym so_far.long)
     | inr other ↦ slice_get-append_left table (n ∷ []) a n (so_far.here a from (omega (arith, to, other)))
   ];
-  below = λ a k at. elim (slice_get-push_cases table n k a at) [
-    | inl before ↦ so_far.below a k before.1
-    | inr last ↦ let same = last.1 in omega (arith, same)
-  ];
-})
+  below = pushed (λ a k. k < n + 1) table n new is so_far.below (omega arith);
+}
 
 pub run_all : (ends : List ℕ) (n p : ℕ) (table : List ℕ) → RunTo ends n p table → p ≡ get_or ends n 0 → TableTo ends (n + 1) table
 run_all ends n p table so_far all = grind (arith, start_more ends n, get_or ends n 0, cases_eq)
@@ -100,8 +97,7 @@ ports_more table n router bank homes new so_far at_router at_bank is = subst (Ar
     record {
       long = omega (arith, long, added);
       listed = All-append (IsInTable table) homes (homes_of_ports router bank) so_far.listed (All-append (IsInTable table) (replicate 6 (record { sender = router; receiver = router }))
-          (record { sender = bank; receiver = router } ∷ [])
-          (All-append (IsInTable table) (replicate 3 (record { sender = router; receiver = router })) (replicate 3 (record { sender = router; receiver = router })) (three one) (three one))
+          (record { sender = bank; receiver = router } ∷ []) (All-replicate (IsInTable table) 6 (record { sender = router; receiver = router }) one)
           (All-push (IsInTable table) [] (record { sender = bank; receiver = router }) (All-nil (IsInTable table)) other));
       banks = λ i k h below at_k at_h. elim (cases_eq i n) [
         | inl same ↦
@@ -115,9 +111,6 @@ ports_more table n router bank homes new so_far at_router at_bank is = subst (Ar
             so_far.banks i k h (omega (arith, below, differs)) at_k (sym (slice_get-first homes (homes_of_ports router bank) (injection_place i) (omega (arith, below, differs, long))) ∙ at_h)
       ];
     })
-  where
-    three : {h : Home} → IsInTable table h → All (IsInTable table) (replicate 3 h)
-    three {h} one = All-push (IsInTable table) (h ∷ (h ∷ [])) h (All-push (IsInTable table) (h ∷ []) h (All-push (IsInTable table) [] h (All-nil (IsInTable table)) one) one) one
 
 pub vertex_more : (table : List ℕ) (chips m : ℕ) (home : Home) (homes new : List Home) → AreHomesTo table chips m homes → IsInTable table home → new ≡ homes ++ home ∷ [] →
     AreHomesTo table chips (m + 1) new
@@ -232,19 +225,14 @@ pub sets_past : (place sender : ℕ) (homes : List Home) → length homes ≤ pl
 sets_past place sender homes past = grind (arith, same_Some, slice_get_within)
 
 pub sets_one : (place sender : ℕ) (homes : List Home) (old : Home) → slice_get homes place ≡ Some old → SetsSender (Some place) sender homes (set homes place (record old { sender = sender }))
-sets_one place sender homes old stands = record {
-  long = length-set homes place (record old { sender = sender });
-  here = λ q h e at. sym (ap (λ (x : Home). x.sender) (is q h (same_Some place q e) at));
-  others = λ q h elsewhere at. sym (slice_get-set_other homes place q (record old { sender = sender }) (λ same. elsewhere (ap Some (sym same)))) ∙ at;
-  receivers = λ q h at. elim (cases_eq place q) [
-    | inl same ↦ (old, ap (slice_get homes) (sym same) ∙ stands, sym (ap (λ (x : Home). x.receiver) (is q h same at)))
-    | inr other ↦ (h, sym (slice_get-set_other homes place q (record old { sender = sender }) (λ same. other (sym same))) ∙ at, refl)
-  ];
-}
-  where
-    is : (q : ℕ) (h : Home) → place ≡ q → slice_get (set homes place (record old { sender = sender })) q ≡ Some h → record old { sender = sender } ≡ h
-    is q h same at = same_Some (record old { sender = sender }) h (sym (slice_get-set_same homes place old (record old { sender = sender }) stands)
-        ∙ (ap (slice_get (set homes place (record old { sender = sender }))) same ∙ at))
+sets_one place sender homes old stands =
+    let new : Home = record old { sender = sender } in
+    record {
+      long = length-set homes place new;
+      here = λ q h e at. was_set (λ q h. place ≡ q → h.sender ≡ sender) homes place new (λ q h other at same. absurd (other (sym same))) (λ same. refl) q h at (same_Some place q e);
+      others = λ q h elsewhere at. sym (slice_get-set_other homes place q new (λ same. elsewhere (ap Some (sym same)))) ∙ at;
+      receivers = was_set (λ q h. (g : Home) × (slice_get homes q ≡ Some g) × (h.receiver ≡ g.receiver)) homes place new (λ q h other at. (h, at, refl)) (old, stands, refl);
+    }
 
 -- ---- cuts
 
@@ -261,50 +249,28 @@ cuts_none homes cuts none = grind (arith, none-some)
 pub cuts_more : (homes : List Home) (n : ℕ) (home : Home) (cuts new : List Cut) → slice_get homes n ≡ Some home → CutsTo homes n cuts → MayCut n home cuts new → CutsTo homes (n + 1) new
 cuts_more homes n home cuts new at_n so_far (inl same) = subst (CutsTo homes (n + 1)) (sym same.1) (record {
   cut = so_far.cut;
-  all_cut = λ q h less at two. elim (cases_eq q n) [
-    | inl here ↦
-        let is : home ≡ h = same_Some home h (sym at_n ∙ (ap (slice_get homes) (sym here) ∙ at)) in
-        absurd (two (subst (λ (x : Home). x.sender ≡ x.receiver) is same.0))
-    | inr other ↦ so_far.all_cut q h (omega (arith, less, other)) at two
-  ];
+  all_cut = λ q h less at.
+      next_too (λ q h. h.sender ≢ h.receiver → (l : ℕ) × (c : Cut) × (slice_get cuts l ≡ Some c) × (c.queue ≡ q)) homes n home at_n so_far.all_cut (λ two. absurd (two same.0)) q h less at;
   apart = so_far.apart;
   below = λ l c at. let was = so_far.below l c at in omega (arith, was);
   few = omega (arith, so_far.few);
 })
-cuts_more homes n home cuts new at_n so_far (inr other) = subst (CutsTo homes (n + 1)) (sym other.1) (
+cuts_more homes n home cuts new at_n so_far (inr other) =
     let last : Cut = record { queue = n; sender = home.sender; receiver = home.receiver } in
+    let is = other.1 in
     record {
-      cut = λ l c at. elim (slice_get-push_cases cuts last c l at) [
-        | inl before ↦ so_far.cut l c before.1
-        | inr here ↦
-            subst (λ (x : Cut). (slice_get homes x.queue ≡ Some (record { sender = x.sender; receiver = x.receiver })) × (x.sender ≢ x.receiver)) here.1 (at_n, other.0)
-      ];
-      all_cut = λ q h less at two. elim (cases_eq q n) [
-        | inl here ↦ (length cuts, last, slice_get-pushed cuts last (length cuts) refl, sym here)
-        | inr differs ↦
-            let was = so_far.all_cut q h (omega (arith, less, differs)) at two in
-            (was.0, was.1, slice_get-append_left cuts (last ∷ []) was.0 was.1 was.2, was.3)
-      ];
-      apart = λ k l a b at_k at_l same. elim (slice_get-push_cases cuts last a k at_k) [
-        | inl one ↦ elim (slice_get-push_cases cuts last b l at_l) [
-          | inl two ↦ so_far.apart k l a b one.1 two.1 same
-          | inr two ↦
-              let queue : n ≡ b.queue = ap (λ (x : Cut). x.queue) two.1 in
-              absurd (omega (arith, so_far.below k a one.1, queue, same))
-        ]
-        | inr one ↦ elim (slice_get-push_cases cuts last b l at_l) [
-          | inl two ↦
-              let queue : n ≡ a.queue = ap (λ (x : Cut). x.queue) one.1 in
-              absurd (omega (arith, so_far.below l b two.1, queue, same))
-          | inr two ↦ one.0 ∙ sym two.0
-        ]
-      ];
-      below = λ l c at. elim (slice_get-push_cases cuts last c l at) [
-        | inl before ↦ let was = so_far.below l c before.1 in omega (arith, was)
-        | inr here ↦ let queue : n ≡ c.queue = ap (λ (x : Cut). x.queue) here.1 in omega (arith, queue)
-      ];
-      few = omega (arith, length_push cuts last, so_far.few);
-    })
+      cut = pushed (λ l c. (slice_get homes c.queue ≡ Some (record { sender = c.sender; receiver = c.receiver })) × (c.sender ≢ c.receiver)) cuts last new is so_far.cut (at_n, other.0);
+      all_cut = λ q h less at.
+          next_too (λ q h. h.sender ≢ h.receiver → (l : ℕ) × (c : Cut) × (slice_get new l ≡ Some c) × (c.queue ≡ q)) homes n home at_n
+          (λ q h less at two. let was = so_far.all_cut q h less at two in (was.0, was.1, ap (λ l. slice_get l was.0) is ∙ slice_get-append_left cuts (last ∷ []) was.0 was.1 was.2, was.3))
+          (λ two. (length cuts, last, ap (λ l. slice_get l (length cuts)) is ∙ slice_get-pushed cuts last (length cuts) refl, refl)) q h less at;
+      apart = λ k l a b at_k at_l.
+          pushed (λ k a. a.queue ≡ b.queue → k ≡ l) cuts last new is
+          (λ k a at. pushed (λ l b. a.queue ≡ b.queue → k ≡ l) cuts last new is (λ l b. so_far.apart k l a b at) (λ same. absurd (omega (arith, so_far.below k a at, same))) l b at_l)
+          (pushed (λ l b. n ≡ b.queue → length cuts ≡ l) cuts last new is (λ l b at same. absurd (omega (arith, so_far.below l b at, same))) (λ same. refl) l b at_l) k a at_k;
+      below = pushed (λ l c. c.queue < n + 1) cuts last new is (λ l c at. let was = so_far.below l c at in omega (arith, was)) (omega arith);
+      few = omega (arith, ap length is, length_push cuts last, so_far.few);
+    }
 
 pub cuts_all : (homes : List Home) (n : ℕ) (cuts : List Cut) → n ≡ length homes → length homes < 2 ^ 32 → CutsTo homes n cuts → AreCutsOf homes cuts
 cuts_all homes n cuts past small so_far = grind (arith, slice_get_within)

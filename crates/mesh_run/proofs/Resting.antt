@@ -1,10 +1,10 @@
 -- Links that rest or are widened, one after the other.
 use Rattle.mesh_run.proofs.Common.{All, All-at, AreEnds, AreUp, Bool, Err, HasPlaces, HoldsAll, IsDown, IsRx, IsTx, IsUp, Known, LacksEnds, Link, LinkEnds, List, McCopy, NoNotes, Ok, OnErr, RestAll}
-use Rattle.mesh_run.proofs.Common.{Rested, Rests, RestsAt, Result, Rx, Some, Standing, StayUp, Tx, UpAt, WasUp, [], ap, append-nil, ap₂, arith, cap_of, cases_Bool, cases_eq, cases_lt, cond-false}
-use Rattle.mesh_run.proofs.Common.{eqb-true, free_places_of, get_or, get_or-set_same, get_or_from_slice_get, inl, inr, is_empty, length, length-map, length-set, list_all, list_all_more, map, map-set}
-use Rattle.mesh_run.proofs.Common.{min, nat_eq, places_for, queue_of_link, refl, same_Some, sending, set, slice_get, slice_get-mapped, slice_get-set_other, slice_get-set_same, slice_get_there}
+use Rattle.mesh_run.proofs.Common.{Rested, Rests, RestsAt, Result, Rx, Some, Standing, StayUp, Tx, UpAt, WasUp, [], ap, append-nil, ap₂, arith, cap_of, cases_Bool, cases_lt, cond-false, eqb-true}
+use Rattle.mesh_run.proofs.Common.{free_places_of, get_or, get_or-set_same, get_or_from_slice_get, inl, inr, is_empty, length, length-map, length-set, list_all, list_all_more, map, map-set, min}
+use Rattle.mesh_run.proofs.Common.{nat_eq, places_for, queue_of_link, refl, same_Some, sending, set, slice_get, slice_get-mapped, slice_get-set_other, slice_get-set_same, slice_get_there}
 use Rattle.mesh_run.proofs.Common.{slice_get_within, subst, sym, take, take-set-le, take_all, taking, true, ℕ, ◌&&◌, ◌++◌, ◌+◌, ◌-◌, ◌<◌, ◌∙◌, ◌≡◌, ◌≤◌}
-use Rattle.mesh_run.proofs.{BringingUp.fewer_fit, BringingUp.made_with, Holding.as_many, Holding.only_ends, Slots.in_links, Slots.set_again, Slots.slot_is}
+use Rattle.mesh_run.proofs.{BringingUp.fewer_fit, BringingUp.made_with, Going.was_set, Holding.as_many, Holding.only_ends, Slots.in_links, Slots.set_again, Slots.slot_is}
 
 -- ---- links, of which the first ones are done
 
@@ -34,22 +34,15 @@ module _ {P : LinkEnds → LinkEnds → Type 0} {back : List LinkEnds} {k count 
   pub links_past : count ≤ k → length back ≤ k
   links_past past = let all = as_many back start holds in omega (arith, past, many, all)
 
--- what stands at the place of a list that was set
-set_is : (ends : List LinkEnds) (k i : ℕ) (old new e : LinkEnds) → slice_get ends k ≡ Some old → i ≡ k → slice_get (set ends k new) i ≡ Some e → new ≡ e
-set_is ends k i old new e stands here at = same_Some new e (sym (slice_get-set_same ends k old new stands) ∙ (ap (slice_get (set ends k new)) (sym here) ∙ at))
-
 pub one_done : {P : LinkEnds → LinkEnds → Type 0} {back : List LinkEnds} {k : ℕ} {s t : Standing} (new : LinkEnds) → (f : SoFar P back k s) → (n : NextLink back f.now k) → P n.old new →
     HoldsAll (set f.now k new) t → SoFar P back (k + 1) t
 one_done {P} {back} {k} {s} {t} new f n is holds = record {
   now = set f.now k new;
   long = length-set f.now k new ∙ f.long;
   holds = holds;
-  done = λ i d e before at_d at_e. elim (cases_eq i k) [
-    | inl here ↦
-        let was : n.old ≡ d = same_Some n.old d (sym n.was ∙ (ap (slice_get back) (sym here) ∙ at_d)) in
-        subst (P d) (set_is f.now k i n.old new e n.stands here at_e) (subst (λ (x : LinkEnds). P x new) was is)
-    | inr other ↦ f.done i d e (omega (arith, before, other)) at_d (sym (slice_get-set_other f.now k i new other) ∙ at_e)
-  ];
+  done = λ i d e before at_d at_e.
+      was_set (λ i e. i < k + 1 → slice_get back i ≡ Some d → P d e) f.now k new (λ i e other at less there. f.done i d e (omega (arith, less, other)) there at)
+      (λ less there. subst (λ (x : LinkEnds). P x new) (same_Some n.old d (sym n.was ∙ there)) is) i e at_e before at_d;
   left = λ i from. slice_get-set_other f.now k i new (λ here. omega (arith, from, here)) ∙ f.left i (omega (arith, from));
 }
 
@@ -123,12 +116,10 @@ one_rests {cap} {back} {k} {s} {t} {quiet} {more} {free} {less} {held} {places} 
     (ap is_empty (get_or-set_same qs k (queue_of_link r.now) [] (omega (arith, mapped, here))) ∙ ap (λ c. nat_eq c 0) (sym count)) in
     record {
       so_far = one_done r.now f.so_far n (rests_as was r) r.holds;
-      fits = λ i e before at. elim (cases_eq i k) [
-        | inl is ↦
-            subst (λ (x : LinkEnds). HasPlaces cap less (length (queue_of_link x)) (cap_of x.link)) (set_is now k i n.old r.now e n.stands is at)
-            (subst (λ (p : ℕ × ℕ). HasPlaces cap less p.0 p.1) (λ j. (count j, places_are j)) has)
-        | inr other ↦ fewer_fit cap free less _ _ (omega (arith, less_is)) (f.fits i e (omega (arith, before, other)) (sym (slice_get-set_other now k i r.now other) ∙ at))
-      ];
+      fits = λ i e before at.
+          was_set (λ i e. i < k + 1 → HasPlaces cap less (length (queue_of_link e)) (cap_of e.link)) now k r.now
+          (λ i e other at before. fewer_fit cap free less _ _ (omega (arith, less_is)) (f.fits i e (omega (arith, before, other)) at))
+          (λ before. subst (λ (p : ℕ × ℕ). HasPlaces cap less p.0 p.1) (λ j. (count j, places_are j)) has) i e at before;
       quiet_is = more_is ∙ (sym all ∙ ap (λ l. list_all is_empty (take (k + 1) l)) (sym (map-set queue_of_link now k r.now)));
     }
 

@@ -1,11 +1,12 @@
 -- Queues and unsent copies that move between a mesh and shares.
-use Rattle.mesh_run.proofs.Common.{All, All-at, All-nil, All-push, AreSameButEnds, AreSameButUnsent, AreSameHolds, Away, End, FitHomes, HoldNothing, Home, IsEmptyHand, List, MayPutLane, MayTakeLane}
-use Rattle.mesh_run.proofs.Common.{McCopy, MovesIn, MovesOut, None, Option, Own, PutsEnd, PutsUnsent, SameButCopies, SameButUnsent, SetsQueue, SetsUnsent, Share, Some, State, WithRoom, [], ap, arith}
-use Rattle.mesh_run.proofs.Common.{cases_eq, cases_lt, end_at, end_in, get_or, get_or-append_right, get_or-replicate, get_or-set_other, get_or-set_same, get_or_append_left, get_or_from_slice_get}
-use Rattle.mesh_run.proofs.Common.{get_or_past, inl, inr, length, length-append, length-replicate, length-set, length_push, none-some, refl, replicate, run_start, same_Some, same_lists, set}
-use Rattle.mesh_run.proofs.Common.{set-append_left, set-append_right, slice_get, slice_get-get_or, slice_get-push_cases, slice_get-set_other, slice_get-set_same, slice_get_there, slice_get_within}
-use Rattle.mesh_run.proofs.Common.{subst, sym, unsent_at, unsent_in, ℕ, ◌++◌, ◌+◌, ◌-◌, ◌<◌, ◌∙◌, ◌∷◌, ◌≡◌, ◌≢◌, ◌≤◌, ◌⊎◌}
-use Rattle.mesh_run.proofs.{CrossingLaws.each_on, CrossingLaws.each_self, CrossingLaws.each_set, CrossingLaws.same_on, CrossingLaws.same_self, CrossingLaws.told_same, HomeLaws.start_more}
+use Rattle.mesh_run.proofs.Common.{All, All-at, All-nil, All-push, All-replicate, AreSameButEnds, AreSameButUnsent, AreSameHolds, Away, End, FitHomes, HoldNothing, Home, IsEmptyHand, List, MayPutLane}
+use Rattle.mesh_run.proofs.Common.{MayTakeLane, McCopy, MovesIn, MovesOut, None, Option, Own, PutsEnd, PutsUnsent, SameButCopies, SameButUnsent, SetsQueue, SetsUnsent, Share, Some, State, WithRoom}
+use Rattle.mesh_run.proofs.Common.{[], ap, arith, cases_eq, cases_lt, end_at, end_in, get_or, get_or-append_right, get_or-replicate, get_or-set_other, get_or-set_same, get_or_append_left}
+use Rattle.mesh_run.proofs.Common.{get_or_from_slice_get, get_or_past, inl, inr, length, length-append, length-replicate, length-set, length_push, none-some, refl, replicate, run_start, same_Some}
+use Rattle.mesh_run.proofs.Common.{same_lists, set, set-append_left, set-append_right, slice_get, slice_get-get_or, slice_get-set_other, slice_get-set_same, slice_get_there, slice_get_within, subst}
+use Rattle.mesh_run.proofs.Common.{sym, unsent_at, unsent_in, ℕ, ◌++◌, ◌+◌, ◌-◌, ◌<◌, ◌∙◌, ◌∷◌, ◌≡◌, ◌≢◌, ◌≤◌, ◌⊎◌}
+use Rattle.mesh_run.proofs.{CrossingLaws.each_on, CrossingLaws.each_self, CrossingLaws.each_set, CrossingLaws.same_on, CrossingLaws.same_self, CrossingLaws.stood, CrossingLaws.told_same, Going.pushed}
+use Rattle.mesh_run.proofs.HomeLaws.{start_more}
 
 -- ---- one queue of a mesh
 
@@ -111,21 +112,13 @@ vertices_to_more ports m homes start n now next shares new home copies gone so_f
 
 -- ---- a share that holds nothing
 
-pub no_end : (runs : List ℕ) (queues vertices : ℕ) (shares : List Share) (s q : ℕ) → HoldNothing runs queues vertices shares → s < length shares → q < queues → end_at shares s q ≡ Some Away
-no_end runs queues vertices shares s q nothing below inside =
-    let x = slice_get_there shares s below in
-    let hand = All-at (λ (k : Share). IsEmptyHand queues vertices k.hold) shares s x.0 nothing.hands x.1 in
-    let long : length (replicate queues Away) ≡ queues = length-replicate queues Away in
-    ap (λ (o : Option Share). end_in o q) x.1
-    ∙ (ap (λ l. slice_get l q) hand.ends ∙ (slice_get-get_or (replicate queues Away) q Away (omega (arith, inside, long)) ∙ ap Some (get_or-replicate queues q Away Away inside)))
-
 pub no_unsent : (runs : List ℕ) (queues vertices : ℕ) (shares : List Share) (s v : ℕ) → HoldNothing runs queues vertices shares → unsent_at shares s v ≡ []
 no_unsent runs queues vertices shares s v nothing = by (slice_get shares s) refl
   where
     all_empty : (n v : ℕ) → get_or (replicate {A = List McCopy} n []) v [] ≡ []
     all_empty n v = elim (cases_lt v n) [
       | inl inside ↦ get_or-replicate n v [] [] inside
-      | inr past ↦ let long : length (replicate {A = List McCopy} n []) ≡ n = length-replicate n [] in get_or_past (replicate n []) v [] (omega (arith, past, long))
+      | inr past ↦ get_or_past (replicate n []) v [] (omega (arith, past, length-replicate {A = List McCopy} n []))
     ]
 
     by : (o : Option Share) → slice_get shares s ≡ o → unsent_at shares s v ≡ []
@@ -259,11 +252,11 @@ moved_in m mid left homes runs queues vertices n k start second third after noth
 
     nothing_there : (s q : ℕ) → s < length start → q < length homes → end_at start s q ≡ Some Away
     nothing_there s q below inside =
-        let x = slice_get_there start s below in
+        let e = place_there m homes start s q fits below inside in
+        let x = stood (slice_get start s) q e.0 e.1 in
         let hand = All-at (λ (k : Share). IsEmptyHand queues vertices k.hold) start s x.0 nothing.hands x.1 in
-        let long : length x.0.hold.ends.items ≡ length homes = All-at (λ (k : Share). length k.hold.ends.items ≡ length homes) start s x.0 fits.ends_long x.1 in
-        let many : length (replicate queues Away) ≡ queues = length-replicate queues Away in
-        no_end runs queues vertices start s q nothing below (omega (arith, inside, long, ap length hand.ends, many))
+        let none = subst (All (λ (y : End). y ≡ Away)) (sym hand.ends) (All-replicate (λ (y : End). y ≡ Away) queues Away refl) in
+        e.1 ∙ ap Some (All-at (λ (y : End). y ≡ Away) x.0.hold.ends.items q e.0 none x.2)
 
 -- ---- moving out
 
@@ -292,13 +285,13 @@ pub out_lane : (left : State) (homes : List Home) (start : List Share) (n : ℕ)
 out_lane left homes start n now next shares new home end copies so_far at together below stood put is sets = record {
   same = state_on left now next so_far.same sets.same;
   unsent = sets.unsent ∙ so_far.unsent;
-  lanes = λ q h a less at_q one stands. elim (cases_eq q n) [
+  lanes = λ q h a less at_q one stands. ap (λ l. get_or l q []) sets.queues ∙ elim (cases_eq q n) [
     | inl here ↦
         let is_h : home ≡ h = same_Some home h (sym at ∙ (ap (slice_get homes) (sym here) ∙ at_q)) in
         let own : end ≡ Own a = same_Some end (Own a)
         (sym stood ∙ (so_far.ends home.sender n (omega arith) ∙ (ap (λ (x : Home). end_at start x.sender n) is_h ∙ (ap (end_at start h.sender) (sym here) ∙ stands)))) in
-        ap (λ l. get_or l q []) sets.queues ∙ (ap (λ (j : ℕ). get_or (set (now.inputs ++ now.cores) n copies) j []) here ∙ (get_or-set_same (now.inputs ++ now.cores) n copies [] below ∙ is a own))
-    | inr other ↦ ap (λ l. get_or l q []) sets.queues ∙ (get_or-set_other (now.inputs ++ now.cores) n q copies [] other ∙ so_far.lanes q h a (omega (arith, less, other)) at_q one stands)
+        ap (λ (j : ℕ). get_or (set (now.inputs ++ now.cores) n copies) j []) here ∙ (get_or-set_same (now.inputs ++ now.cores) n copies [] below ∙ is a own)
+    | inr other ↦ get_or-set_other (now.inputs ++ now.cores) n q copies [] other ∙ so_far.lanes q h a (omega (arith, less, other)) at_q one stands
   ];
   others = λ q h at_q apart. elim (cases_eq q n) [
     | inl here ↦ absurd (apart (subst (λ (x : Home). x.sender ≡ x.receiver) (same_Some home h (sym at ∙ (ap (slice_get homes) (sym here) ∙ at_q))) together))
@@ -373,19 +366,13 @@ nothing_none runs queues vertices shares none = grind (arith, none-some, All-nil
 
 pub nothing_more : (runs : List ℕ) (queues vertices n from to : ℕ) (share : Share) (shares new : List Share) → NothingTo runs queues vertices n from shares → to ≡ get_or runs n 0 →
     share.from ≡ from → share.to ≡ to → IsEmptyHand queues vertices share.hold → new ≡ shares ++ share ∷ [] → NothingTo runs queues vertices (n + 1) to new
-nothing_more runs queues vertices n from to share shares new so_far at from_is to_is empty is = subst (NothingTo runs queues vertices (n + 1) to) (sym is) (record {
-  long = length_push shares share ∙ ap (λ k. k + 1) so_far.long;
+nothing_more runs queues vertices n from to share shares new so_far at from_is to_is empty is = record {
+  long = ap length is ∙ (length_push shares share ∙ ap (λ k. k + 1) so_far.long);
   next = at ∙ sym (start_more runs n);
-  from_are = λ k s there. elim (slice_get-push_cases shares share s k there) [
-    | inl before ↦ so_far.from_are k s before.1
-    | inr last ↦ ap (λ (x : Share). x.from) (sym last.1) ∙ (from_is ∙ (so_far.next ∙ ap (run_start runs) (sym (last.0 ∙ so_far.long))))
-  ];
-  to_are = λ k s there. elim (slice_get-push_cases shares share s k there) [
-    | inl before ↦ so_far.to_are k s before.1
-    | inr last ↦ ap (λ (x : Share). x.to) (sym last.1) ∙ (to_is ∙ (at ∙ ap (λ (j : ℕ). get_or runs j 0) (sym (last.0 ∙ so_far.long))))
-  ];
-  hands = All-push (λ s. IsEmptyHand queues vertices s.hold) shares share so_far.hands empty;
-})
+  from_are = pushed (λ k s. s.from ≡ run_start runs k) shares share new is so_far.from_are (from_is ∙ (so_far.next ∙ ap (run_start runs) (sym so_far.long)));
+  to_are = pushed (λ k s. s.to ≡ get_or runs k 0) shares share new is so_far.to_are (to_is ∙ (at ∙ ap (λ (j : ℕ). get_or runs j 0) (sym so_far.long)));
+  hands = subst (All (λ s. IsEmptyHand queues vertices s.hold)) (sym is) (All-push (λ s. IsEmptyHand queues vertices s.hold) shares share so_far.hands empty);
+}
 
 pub nothing_all : (runs : List ℕ) (queues vertices n from : ℕ) (shares : List Share) → NothingTo runs queues vertices n from shares → n ≡ length runs → HoldNothing runs queues vertices shares
 nothing_all runs queues vertices n from shares so_far all = record { long = so_far.long ∙ all; from = so_far.from_are; to = so_far.to_are; hands = so_far.hands }
