@@ -1,20 +1,15 @@
 -- The shares after the turns of a round: the ends that they hold can be collected, and there is room for what they logged.
 use Rattle.mesh_run.proofs.Common.{All, All-at, AreLaid, Deals, End, FitsLogs, Goes, HasRoomForLogs, HoldsCollected, InEnd, IsEndOf, IsRaisedFrom, IsRx, IsTx, Item, Link, LinkEnds, List, MeshLogs}
 use Rattle.mesh_run.proofs.Common.{OutEnd, PlaysAndStays, RaisedMesh, Sends, Share, Some, Standing, State, Takes, WasUp, [], ap, arith, cap_of, end_at, get_or, get_or_default, get_or_from_slice_get}
-use Rattle.mesh_run.proofs.Common.{length, map, same_Some, slice_get, slice_get-get_or, slice_get_there, slice_get_within, subst, suc, sum_by, sum_by-cons, sym, ℕ, ◌<◌, ◌∙◌, ◌∷◌, ◌≡◌, ◌≤◌}
-use Rattle.mesh_run.proofs.{AfterDeal.link_at, AfterDeal.link_up_at, AfterDeal.links_many, CrossingLaws.stood, Slots.same_mapped, Together.PlayedParts, Together.listed, Together.sender_passes}
-use Rattle.mesh_run.proofs.Together.{taker_passes}
+use Rattle.mesh_run.proofs.Common.{length, map, same_Some, slice_get, slice_get-get_or, slice_get_there, slice_get_within, subst, sum_by, sum_by-cons, sym, ℕ, ◌<◌, ◌∙◌, ◌≡◌, ◌≤◌}
+use Rattle.mesh_run.proofs.{AfterDeal.link_at, AfterDeal.link_up_at, AfterDeal.links_many, CrossingLaws.stood, Going.each_two, Slots.same_mapped, Together.PlayedParts, Together.listed}
+use Rattle.mesh_run.proofs.Together.{sender_passes, taker_passes}
 
 -- a sum of terms each of which is at most another one is at most the sum of these
 sum_within : {X Y : Type 0} (f : X → ℕ) (g : Y → ℕ) (xs : List X) (ys : List Y) → length xs ≡ length ys →
     ((i : ℕ) (x : X) (y : Y) → i < length xs → f (get_or xs i x) ≤ g (get_or ys i y)) → sum_by f xs ≤ sum_by g ys
-sum_within f g [] [] long each = omega arith
-sum_within f g [] (y ∷ ys) long each = absurd (omega (arith, long))
-sum_within f g (x ∷ xs) [] long each = absurd (omega (arith, long))
-sum_within f g (x ∷ xs) (y ∷ ys) long each =
-    let first = each 0 x y (omega arith) in
-    let rest = sum_within f g xs ys (omega (arith, long)) (λ i a b below. each (suc i) a b (omega (arith, below))) in
-    omega (arith, first, rest, sum_by-cons f x xs, sum_by-cons g y ys)
+sum_within {X} {Y} f g xs ys long each =
+    each_two (λ x y. f x ≤ g y) (λ xs ys. sum_by f xs ≤ sum_by g ys) (omega arith) (λ x y xs ys first rest. omega (arith, first, rest, sum_by-cons f x xs, sum_by-cons g y ys)) xs ys long each
 
 -- an end with the link of its place
 out_is : (a : OutEnd) (l : ℕ) → a.link ≡ l → Some (Sends a) ≡ Some (Sends (record { link = l; tx = a.tx }))

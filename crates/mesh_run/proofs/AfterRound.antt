@@ -1,18 +1,21 @@
 -- What a whole round logged is what its items tell, and the mesh to which it leads is split as it was.
 use Rattle.mesh_run.proofs.Common.{Bool, Goes, IsAnyMoved, IsRaisedFrom, Item, List, MeshLogs, PlaysTo, RaisedMesh, Share, Vec, [], ap, ap₂, arith, delivered_of, deliveries, dumped_of, flat_map}
-use Rattle.mesh_run.proofs.Common.{get_or, get_or_default, length, list_any, records, refl, slice_get-get_or, suc, sym, ℕ, ◌++◌, ◌<◌, ◌||◌, ◌∙◌, ◌∷◌, ◌≡◌}
-use Rattle.mesh_run.proofs.{AfterLinks.whole_no_logs, AfterLinks.whole_up, AfterLogs.flat_same, AfterMesh.mesh, AfterMesh.whole_played, AfterRuns.whole_shared, AfterSplit.whole_lanes}
+use Rattle.mesh_run.proofs.Common.{get_or, get_or_default, length, list_any, records, refl, slice_get-get_or, sym, ℕ, ◌++◌, ◌<◌, ◌||◌, ◌∙◌, ◌≡◌}
+use Rattle.mesh_run.proofs.{AfterLinks.whole_no_logs, AfterLinks.whole_up, Going.each_two, AfterMesh.mesh, AfterMesh.whole_played, AfterRuns.whole_shared, AfterSplit.whole_lanes}
 use Rattle.mesh_run.proofs.{AfterSplit.whole_unsent, Together.flat_map_joined, Together.joined, WholeRound.Whole, WholeRound.dealt_long, WholeRound.parts, WholeRound.played_parts}
 use Rattle.mesh_run.proofs.WholeRound.{whole_noted}
 
 -- a test that is the same at each place has the same answer
 any_same : {X Y : Type 0} (f : X → Bool) (g : Y → Bool) (xs : List X) (ys : List Y) → length xs ≡ length ys →
     ((i : ℕ) (x : X) (y : Y) → i < length xs → f (get_or xs i x) ≡ g (get_or ys i y)) → list_any f xs ≡ list_any g ys
-any_same f g [] [] long each = refl
-any_same f g [] (y ∷ ys) long each = absurd (omega (arith, long))
-any_same f g (x ∷ xs) [] long each = absurd (omega (arith, long))
-any_same f g (x ∷ xs) (y ∷ ys) long each =
-    ap₂ (λ a b. a || b) (each 0 x y (omega arith)) (any_same f g xs ys (omega (arith, long)) (λ i a b below. each (suc i) a b (omega (arith, below))))
+any_same f g xs ys long each =
+    each_two (λ x y. f x ≡ g y) (λ xs ys. list_any f xs ≡ list_any g ys) refl (λ x y xs ys first rest. ap₂ (λ a b. a || b) first rest) xs ys long each
+
+-- lists with the same at each place make the same list
+flat_same : {X Z Y : Type 0} (f : X → List Y) (g : Z → List Y) (xs : List X) (zs : List Z) → length xs ≡ length zs →
+    ((i : ℕ) (x : X) (z : Z) → i < length xs → f (get_or xs i x) ≡ g (get_or zs i z)) → flat_map f xs ≡ flat_map g zs
+flat_same f g xs zs long each =
+    each_two (λ x z. f x ≡ g z) (λ xs zs. flat_map f xs ≡ flat_map g zs) refl (λ x z xs zs first rest. ap₂ (λ a b. a ++ b) first rest) xs zs long each
 
 -- what one share logged
 share_logged : (cap patience : ℕ) (s d p c : Share) (items : List Item) → (d.hold.deliveries ≡ s.hold.deliveries) × (d.hold.dumps ≡ s.hold.dumps) →

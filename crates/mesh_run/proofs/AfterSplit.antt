@@ -1,6 +1,6 @@
 -- The mesh to which a whole round leads is split as it was: lanes, and what is unsent, stand in the shares of their homes.
-use Rattle.mesh_run.proofs.Common.{Away, Cut, HoldLanes, HoldUnsent, Home, IsUncut, Option, Share, Some, [], ap, arith, cases_eq, cases_lt, end_at, inl, inr, length, slice_get, slice_get_past}
-use Rattle.mesh_run.proofs.Common.{slice_get_within, subst, sym, unsent_in, vertex_place, ℕ, ◌++◌, ◌<◌, ◌∙◌, ◌≡◌, ◌≢◌, ◌⊎◌}
+use Rattle.mesh_run.proofs.Common.{Away, Cut, HoldLanes, HoldUnsent, Home, IsUncut, Option, Share, Some, [], ap, arith, cases_eq, cases_lt, end_at, inl, inr, length, port_count, slice_get}
+use Rattle.mesh_run.proofs.Common.{slice_get_past, slice_get_within, subst, sym, unsent_in, vertex_place, ℕ, ◌++◌, ◌<◌, ◌∙◌, ◌≡◌, ◌≢◌, ◌⊎◌}
 use Rattle.mesh_run.proofs.{AfterMesh.after_unsent, AfterMesh.mesh, AfterMesh.queue_there, EachQueue.cleared_end, EachQueue.elsewhere, Together.none_passes, WholeRound.Whole, WholeRound.dealt_long}
 use Rattle.mesh_run.proofs.WholeRound.{played_parts, uncut}
 
@@ -41,7 +41,7 @@ module _ (w : Whole) where
     away = away_after;
   }
 
-  pub whole_unsent : HoldUnsent w.m.setup (mesh w).unsent w.r.layout.now.homes.items w.cleared
+  pub whole_unsent : HoldUnsent (port_count w.m.setup) (mesh w).unsent w.r.layout.now.homes.items w.cleared
   whole_unsent = record {
     here = λ v h at. ((after_unsent w).2 v [] (there v h at)).here h at;
     nowhere_else = λ v h s at other. elim (cases_lt s (length w.dealt)) [

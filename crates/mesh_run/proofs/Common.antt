@@ -28,7 +28,7 @@ pub use Rattle.mesh_run.specs.{Queues.RestsAt, Queues.StayUp, Queues.UpAt, Queue
 pub use Rattle.mesh_run.specs.{Raised.IsRoomyFrom, Raised.PlaysTo, Rooms.AreSameCopies, Rooms.SameCopies, Rooms.SameEnd, Shares.ActsAt, Shares.AreOf, Shares.DoesAt, Shares.IsInRun, Shares.IsNoted}
 pub use Rattle.mesh_run.specs.Shares.{IsShareOf, MovesAt, PlaysAndStays, PlaysOne, PlaysRound, PlaysTurns, SharePlays, actor_of, bank_place, router_place}
 pub use Rattle.mesh_run.specs.Split.{AreShared, HaveNoLogs, HoldLanes, HoldUnsent, cut_queues, end_at, end_in, unsent_at, unsent_in}
-pub use Rattle.mesh_run.specs.Splitting.{AreInside, AreSameButUnsent, AreSameHolds, AreSameRuns, FitHomes, HoldNothing, HoldVertices, IsEmptyHand, MayPutLane, MayTakeLane, MovesIn, MovesOut}
+pub use Rattle.mesh_run.specs.Splitting.{AreInside, AreSameButUnsent, AreSameHolds, AreSameRuns, SameRun, FitHomes, HoldNothing, IsEmptyHand, MayPutLane, MayTakeLane, MovesIn, MovesOut}
 pub use Rattle.mesh_run.specs.{Splitting.PutsUnsent, Splitting.SameButCopies, Splitting.SameButUnsent, Splitting.SetsQueue, Splitting.SetsUnsent, Standing.HoldsAll, Standing.LacksEnds}
 pub use Rattle.mesh_run.specs.{Standing.RisenTo, declared.floors.Floor.Floor, declared.gathering.MeshLogs.MeshLogs, declared.homes.Cut.Cut, declared.homes.Home.Home, declared.layout.Layout.Layout}
 pub use Rattle.mesh_run.specs.declared.{queues.Rested.Rested, raised.RaisedMesh.RaisedMesh, shares.Share.Share, standing.Rising.Rising, standing.Standing.Standing}

@@ -21,6 +21,9 @@ each_on R on a b c first second = (
       on x y.0 z (first.1 k x y.0 at y.1) (second.1 k y.0 z y.1 also),
 )
 
+pub each_weaker : {X : Type 0} (R S : X → X → Type 0) → ((x y : X) → R x y → S x y) → (a b : List X) → AreEach R a b → AreEach S a b
+each_weaker R S weaker a b each = (each.0, λ k s t at also. weaker s t (each.1 k s t at also))
+
 -- one item is another
 pub each_set : {X : Type 0} (R : X → X → Type 0) → ((x : X) → R x x) → (xs : List X) (i : ℕ) (s t : X) → slice_get xs i ≡ Some s → R s t → AreEach R xs (set xs i t)
 each_set {X} R self xs i s t stands new = grind (arith, length-set xs i t, slice_get-set_same xs i s t stands, cases_eq, same_Some, slice_get-set_other)

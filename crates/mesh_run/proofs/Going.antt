@@ -1,6 +1,6 @@
 -- A loop that goes over the places of a list, and changes one after the other.
 use Rattle.mesh_run.proofs.Common.{List, Some, [], ap, arith, cases_eq, get_or, get_or-set_other, get_or-set_same, get_or_default, inl, inr, length, length-set, refl, same_Some, set, slice_get}
-use Rattle.mesh_run.proofs.Common.{slice_get-push_cases, slice_get-set_other, slice_get-set_same, slice_get_there, slice_get_within, subst, sym, ℕ, ◌++◌, ◌+◌, ◌<◌, ◌∙◌, ◌∷◌, ◌≡◌, ◌≢◌, ◌≤◌}
+use Rattle.mesh_run.proofs.Common.{slice_get-push_cases, slice_get-set_other, slice_get-set_same, slice_get_there, slice_get_within, subst, suc, sym, ℕ, ◌++◌, ◌+◌, ◌<◌, ◌∙◌, ◌∷◌, ◌≡◌, ◌≢◌, ◌≤◌}
 
 
 -- What holds of each item of a list and of one more holds of each where that one is put at the end.
@@ -28,6 +28,15 @@ next_too P xs n x stands before here k y less at = elim (cases_eq k n) [
   | inl same ↦ subst (P k) (same_Some x y (sym stands ∙ (ap (slice_get xs) (sym same) ∙ at))) (subst (λ j. P j x) (sym same) here)
   | inr other ↦ before k y (omega (arith, less, other)) at
 ]
+
+-- What goes on from item to item of two lists, where what the items at each place have to do with each other is known.
+pub each_two : {X Z : Type 0} (R : X → Z → Type 0) (P : List X → List Z → Type 0) → P [] [] → ((x : X) (z : Z) (xs : List X) (zs : List Z) → R x z → P xs zs → P (x ∷ xs) (z ∷ zs)) →
+    (xs : List X) (zs : List Z) → length xs ≡ length zs → ((i : ℕ) (x : X) (z : Z) → i < length xs → R (get_or xs i x) (get_or zs i z)) → P xs zs
+each_two R P none more [] [] long each = none
+each_two R P none more [] (z ∷ zs) long each = absurd (omega (arith, long))
+each_two R P none more (x ∷ xs) [] long each = absurd (omega (arith, long))
+each_two R P none more (x ∷ xs) (z ∷ zs) long each =
+    more x z xs zs (each 0 x z (omega arith)) (each_two R P none more xs zs (omega (arith, long)) (λ i y v below. each (suc i) y v (omega (arith, below))))
 
 module _ {X : Type 0} (R : X → X → Type 0) where
   -- the items before place k are changed, and the others are as they were

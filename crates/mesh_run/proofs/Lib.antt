@@ -7,7 +7,6 @@ mod AfterSplit
 mod AfterLinks
 mod AfterRound
 mod AfterRuns
-mod AfterLogs
 pub mod Apart
 mod BringingUp
 mod CrossingLaws

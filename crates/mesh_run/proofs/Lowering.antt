@@ -1,9 +1,9 @@
 -- A split mesh put together again.
-use Rattle.mesh_run.proofs.Common.{All, AreEnds, AreUp, Cut, DownTo, FitHomes, HoldVertices, Home, IsDown, IsMesh, IsRaisedFrom, IsUp, LinkEnds, List, McCopy, MovesOut, RaisedMesh, SameButCopies}
-use Rattle.mesh_run.proofs.Common.{SetsQueue, Some, State, [], ap, append-nil, arith, cases_eq, get_or, get_or-set_other, get_or-set_same, inl, inr, length, length-append, length-set, port_count}
-use Rattle.mesh_run.proofs.Common.{same_Some, same_lists, set, slice_get, slice_get-get_or, slice_get-mapped, slice_get_there, slice_get_within, subst, sym, ℕ, ◌++◌, ◌+◌, ◌<◌, ◌∙◌, ◌≡◌, ◌≢◌, ◌≤◌}
+use Rattle.mesh_run.proofs.Common.{All, AreEnds, AreUp, Cut, DownTo, FitHomes, HoldUnsent, Home, IsDown, IsMesh, IsRaisedFrom, IsUp, LinkEnds, List, McCopy, MovesOut, RaisedMesh, SameButCopies}
+use Rattle.mesh_run.proofs.Common.{SetsQueue, Some, State, [], ap, append-nil, arith, cases_eq, get_or, get_or-set_other, get_or-set_same, inl, inr, length, length-append, length-set, refl, same_Some}
+use Rattle.mesh_run.proofs.Common.{same_lists, set, slice_get, slice_get-get_or, slice_get-mapped, slice_get_there, slice_get_within, subst, sym, ℕ, ◌++◌, ◌+◌, ◌<◌, ◌∙◌, ◌≡◌, ◌≢◌, ◌≤◌}
 use Rattle.std.proofs.Math.Seq.{drop-append_seam, take-append_seam}
-use Rattle.mesh_run.proofs.{AfterDeal.links_many, PlanLaws.homes_fit, SplitLaws.default_at, SplitLaws.same_state, SplitLaws.state_on}
+use Rattle.mesh_run.proofs.{AfterDeal.lane_uncut, AfterDeal.links_many, PlanLaws.homes_fit, SplitLaws.default_at, SplitLaws.same_state, SplitLaws.state_on}
 
 -- ---- what the calls ask for
 
@@ -103,18 +103,12 @@ lowered m more n r mid now back down left mesh raised moves are so_far past setu
     cores_long : length now.cores ≡ length m.cores
     cores_long = so_far.same.cores_long ∙ (moves.same.cores_long ∙ raised.cores_long)
 
-    vertices : HoldVertices (length r.parts.inputs) m.unsent r.layout.now.homes.items r.shares.items
-    vertices =
-        let held : HoldVertices (port_count m.setup) m.unsent r.layout.now.homes.items r.shares.items = record { here = raised.unsent.here; nowhere_else = raised.unsent.nowhere_else } in
-        subst (λ (k : ℕ). HoldVertices k m.unsent r.layout.now.homes.items r.shares.items) (sym (raised.inputs_long ∙ mesh.input_lists)) held
+    vertices : HoldUnsent (length r.parts.inputs) m.unsent r.layout.now.homes.items r.shares.items
+    vertices = subst (λ (k : ℕ). HoldUnsent k m.unsent r.layout.now.homes.items r.shares.items) (sym (raised.inputs_long ∙ mesh.input_lists)) raised.unsent
 
     -- a queue that is in one share is of no cut
     uncut : (q : ℕ) (h : Home) → slice_get r.layout.now.homes.items q ≡ Some h → h.sender ≡ h.receiver → (l : ℕ) (c : Cut) → slice_get r.layout.now.cuts.items l ≡ Some c → c.queue ≢ q
-    uncut q h at one l c stands here =
-        let cut = raised.laid.cuts.cut l c stands in
-        let is : h ≡ record { sender = c.sender; receiver = c.receiver } = same_Some h (record { sender = c.sender; receiver = c.receiver })
-        (sym at ∙ (ap (slice_get r.layout.now.homes.items) (sym here) ∙ cut.0)) in
-        cut.1 (subst (λ (x : Home). x.sender ≡ x.receiver) is one)
+    uncut q h at one l c stands here = lane_uncut raised q h at one c.sender l c stands (sym here, inl refl)
 
     each : (q : ℕ) (h : Home) → slice_get r.layout.now.homes.items q ≡ Some h → get_or (now.inputs ++ now.cores) q [] ≡ get_or (m.inputs ++ m.cores) q []
     each q h at = elim (cases_eq h.sender h.receiver) [

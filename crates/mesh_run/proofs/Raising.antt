@@ -1,7 +1,7 @@
 -- A mesh that is split, and a split mesh with more room.
-use Rattle.mesh_run.proofs.Common.{All-at, AreSameCopies, AreSameRuns, AreShared, AreUp, Away, End, HasRoomForLogs, HaveNoLogs, HoldLanes, HoldUnsent, HoldVertices, HoldsAll, Home, IsLayoutOf, IsMesh}
-use Rattle.mesh_run.proofs.Common.{IsRaisedFrom, IsRoomyFrom, LinkEnds, List, McCopy, MeshLogs, MovesIn, Option, Own, RaisedMesh, SameCopies, SameEnd, Setup, Share, Some, Standing, State, StayUp, Vec}
-use Rattle.mesh_run.proofs.Common.{[], ap, arith, cases_lt, cut_queues, end_at, end_in, get_or, get_or_from_slice_get, inl, inr, length, length-map, map, port_count, queue_of_link, refl, same_Some}
+use Rattle.mesh_run.proofs.Common.{All-at, AreSameCopies, AreSameRuns, AreShared, AreUp, Away, End, HasRoomForLogs, HaveNoLogs, HoldLanes, HoldUnsent, HoldsAll, Home, IsLayoutOf, IsMesh, IsRaisedFrom}
+use Rattle.mesh_run.proofs.Common.{IsRoomyFrom, LinkEnds, List, McCopy, MeshLogs, MovesIn, Option, Own, RaisedMesh, SameCopies, SameEnd, Setup, Share, Some, Standing, State, StayUp, Vec, [], ap}
+use Rattle.mesh_run.proofs.Common.{arith, cases_lt, cut_queues, end_at, end_in, get_or, get_or_from_slice_get, inl, inr, length, length-map, map, port_count, queue_of_link, refl, same_Some}
 use Rattle.mesh_run.proofs.Common.{same_lists, slice_get, slice_get-get_or, slice_get-mapped, slice_get_there, slice_get_within, subst, sym, unsent_at, unsent_in, ℕ, ◌++◌, ◌+◌, ◌∙◌, ◌≡◌, ◌≤◌}
 use Rattle.mesh_run.proofs.{BringingUp.fewer_up, CrossingLaws.stood, CrossingLaws.told_same, Going.GoneTo, RoomLaws.copies_same}
 
@@ -15,11 +15,6 @@ pub shared_still : (u : Setup) (ends : List ℕ) (before after : List Share) →
 shared_still u ends before after same shared = grind (arith, was_there)
 
 -- ---- a mesh moved in
-
--- what vertices did not send, by the places that the setup tells
-pub unsent_held : (m : State) (homes : List Home) (shares : List Share) → length m.inputs ≡ port_count m.setup → HoldVertices (length m.inputs) m.unsent homes shares →
-    HoldUnsent m.setup m.unsent homes shares
-unsent_held m homes shares long held = grind arith
 
 pub raised_in : (m left : State) (more : ℕ) (start : List Share) (ends : List LinkEnds) (r : RaisedMesh) → IsMesh m → IsLayoutOf m.setup r.layout.now →
     AreShared m.setup r.layout.now.runs.items start → HoldsAll ends r.standing →
@@ -36,7 +31,7 @@ raised_in m left more start ends r mesh laid shared holds up crossing moves setu
   laid = laid;
   shared = shared_still m.setup r.layout.now.runs.items start r.shares.items moves.runs shared;
   lanes = moves.lanes;
-  unsent = unsent_held m r.layout.now.homes.items r.shares.items mesh.input_lists moves.vertices;
+  unsent = subst (λ (n : ℕ). HoldUnsent n m.unsent r.layout.now.homes.items r.shares.items) mesh.input_lists moves.vertices;
   ends = ends;
   holds = holds;
   up = fewer_up m.setup.capacity more 0 (cut_queues (m.inputs ++ m.cores) r.layout.now.cuts.items) ends (omega arith) up;
@@ -75,9 +70,9 @@ unsent_same : (before after : List Share) (s v : ℕ) → AreSameCopies before a
 unsent_same before after s v same =
     told_same (λ (o : Option Share). unsent_in o v) before after s same.0 (λ x y at also. ap (λ l. get_or l.items v []) (same.1 s x y at also).unsent)
 
-pub unsent_still : (u : Setup) (unsent : List (List McCopy)) (homes : List Home) (before after : List Share) → AreSameCopies before after → HoldUnsent u unsent homes before →
-    HoldUnsent u unsent homes after
-unsent_still u unsent homes before after same held = record {
+pub unsent_still : (ports : ℕ) (unsent : List (List McCopy)) (homes : List Home) (before after : List Share) → AreSameCopies before after → HoldUnsent ports unsent homes before →
+    HoldUnsent ports unsent homes after
+unsent_still ports unsent homes before after same held = record {
   here = λ v h at. unsent_same before after h.receiver v same ∙ held.here v h at;
   nowhere_else = λ v h s at other. unsent_same before after s v same ∙ held.nowhere_else v h s at other;
 }
@@ -126,7 +121,7 @@ with_links m more less r standing shares logs cap raised fewer is stay copies de
       laid = raised.laid;
       shared = shared_still m.setup r.layout.now.runs.items r.shares.items shares.items (same_runs r.shares.items shares.items copies) raised.shared;
       lanes = lanes_still (m.inputs ++ m.cores) r.layout.now.homes.items r.shares.items shares.items copies raised.lanes;
-      unsent = unsent_still m.setup m.unsent r.layout.now.homes.items r.shares.items shares.items copies raised.unsent;
+      unsent = unsent_still (port_count m.setup) m.unsent r.layout.now.homes.items r.shares.items shares.items copies raised.unsent;
       ends = stay.now;
       holds = stay.holds;
       up = fewer_up m.setup.capacity more less queues stay.now fewer (still_for m.setup.capacity more 0 queues raised.ends stay.now raised.up up);

@@ -1,12 +1,12 @@
 -- Queues and unsent copies that move between a mesh and shares.
 use Rattle.mesh_run.proofs.Common.{All, All-at, All-nil, All-push, All-replicate, AreSameButEnds, AreSameButUnsent, AreSameHolds, Away, End, FitHomes, HoldNothing, Home, IsEmptyHand, List, MayPutLane}
-use Rattle.mesh_run.proofs.Common.{MayTakeLane, McCopy, MovesIn, MovesOut, None, Option, Own, PutsEnd, PutsUnsent, SameButCopies, SameButUnsent, SetsQueue, SetsUnsent, Share, Some, State, WithRoom}
-use Rattle.mesh_run.proofs.Common.{[], ap, arith, cases_eq, cases_lt, end_at, end_in, get_or, get_or-append_right, get_or-replicate, get_or-set_other, get_or-set_same, get_or_append_left}
-use Rattle.mesh_run.proofs.Common.{get_or_from_slice_get, get_or_past, inl, inr, length, length-append, length-replicate, length-set, length_push, none-some, refl, replicate, run_start, same_Some}
-use Rattle.mesh_run.proofs.Common.{same_lists, set, set-append_left, set-append_right, slice_get, slice_get-get_or, slice_get-set_other, slice_get-set_same, slice_get_there, slice_get_within, subst}
-use Rattle.mesh_run.proofs.Common.{sym, unsent_at, unsent_in, ℕ, ◌++◌, ◌+◌, ◌-◌, ◌<◌, ◌∙◌, ◌∷◌, ◌≡◌, ◌≢◌, ◌≤◌, ◌⊎◌}
-use Rattle.mesh_run.proofs.{CrossingLaws.each_on, CrossingLaws.each_self, CrossingLaws.each_set, CrossingLaws.same_on, CrossingLaws.same_self, CrossingLaws.stood, CrossingLaws.told_same, Going.pushed}
-use Rattle.mesh_run.proofs.HomeLaws.{start_more}
+use Rattle.mesh_run.proofs.Common.{MayTakeLane, McCopy, MovesIn, MovesOut, None, Option, Own, PutsEnd, PutsUnsent, SameButCopies, SameButEnds, SameButUnsent, SameRun, SetsQueue, SetsUnsent, Share}
+use Rattle.mesh_run.proofs.Common.{Some, State, WithRoom, [], ap, arith, cases_eq, cases_lt, end_at, end_in, get_or, get_or-append_right, get_or-replicate, get_or-set_other, get_or-set_same}
+use Rattle.mesh_run.proofs.Common.{get_or_append_left, get_or_from_slice_get, get_or_past, inl, inr, length, length-append, length-replicate, length-set, length_push, none-some, refl, replicate}
+use Rattle.mesh_run.proofs.Common.{run_start, same_Some, same_lists, set, set-append_left, set-append_right, slice_get, slice_get-get_or, slice_get-set_other, slice_get-set_same, slice_get_there}
+use Rattle.mesh_run.proofs.Common.{slice_get_within, subst, sym, unsent_at, unsent_in, ℕ, ◌++◌, ◌+◌, ◌-◌, ◌<◌, ◌∙◌, ◌∷◌, ◌≡◌, ◌≢◌, ◌≤◌, ◌⊎◌}
+use Rattle.mesh_run.proofs.CrossingLaws.{AreEach, each_on, each_weaker, each_self, each_set, same_on, same_self, stood, told_same}
+use Rattle.mesh_run.proofs.{Going.pushed, HomeLaws.start_more}
 
 -- ---- one queue of a mesh
 
@@ -172,19 +172,25 @@ record Parts (s t : Share) : Type 0 where
   dumps : t.hold.dumps ≡ s.hold.dumps
   deliveries : t.hold.deliveries ≡ s.hold.deliveries
 
+parts_on : (x y z : Share) → Parts x y → Parts y z → Parts x z
+parts_on x y z p q = grind arith
+
+parts_of_ends : (s t : Share) → SameButEnds s t → Parts s t
+parts_of_ends s t p = grind arith
+
+parts_of_unsent : (s t : Share) → SameButUnsent s t → Parts s t
+parts_of_unsent s t p = grind arith
+
+parts_of_hold : (s t : Share) → SameHold s t → Parts s t
+parts_of_hold s t p = grind arith
+
 -- all that moved in
 pub moved_in : (m mid left : State) (homes : List Home) (runs : List ℕ) (queues vertices n k : ℕ) (start second third after : List Share) → HoldNothing runs queues vertices start →
     FitHomes m homes start → length homes ≤ n → length m.unsent ≤ k →
     LanesTo m homes start n mid second → VerticesTo (length m.inputs) m homes second k left third → AreSameHolds third after → MovesIn m homes start left after
 moved_in m mid left homes runs queues vertices n k start second third after nothing fits past past_k lanes unsent same = record {
   same = unsent.same;
-  runs = record {
-    long = same.0 ∙ (unsent.shares_same.0 ∙ lanes.shares_same.0);
-    from = λ j s t at also. let x = all j s t at also in x.from;
-    to = λ j s t at also. let x = all j s t at also in x.to;
-    ends_long = λ j s t at also. let x = all j s t at also in x.ends_long;
-    unsent_long = λ j s t at also. let x = all j s t at also in x.unsent_long;
-  };
+  runs = each_weaker Parts SameRun (λ s t p. record { from = p.from; to = p.to; ends_long = p.ends_long; unsent_long = p.unsent_long }) start after all;
   no_logs = λ j d below. no_logs j (get_or after j d) (slice_get-get_or after j d below);
   lanes = record {
     lanes = λ q h at one.
@@ -210,29 +216,15 @@ moved_in m mid left homes runs queues vertices n k start second third after noth
   };
 }
   where
-    all : (j : ℕ) (s t : Share) → slice_get start j ≡ Some s → slice_get after j ≡ Some t → Parts s t
-    all j s t at also =
-        let within = slice_get_within start j s at in
-        let long_c = lanes.shares_same.0 in
-        let x = slice_get_there second j (omega (arith, within, long_c)) in
-        let y = slice_get_there third j (omega (arith, within, long_c, unsent.shares_same.0)) in
-        let p = lanes.shares_same.1 j s x.0 at x.1 in
-        let q = unsent.shares_same.1 j x.0 y.0 x.1 y.1 in
-        let r = same.1 j y.0 t y.1 also in
-        record {
-          from = r.0 ∙ (q.from ∙ p.from);
-          to = r.1 ∙ (q.to ∙ p.to);
-          ends_long = ap (λ h. length h.ends.items) r.2 ∙ (ap (λ e. length e.items) q.ends ∙ p.ends_long);
-          unsent_long = ap (λ h. length h.unsent.items) r.2 ∙ (q.unsent_long ∙ ap (λ e. length e.items) p.unsent);
-          dumps = ap (λ h. h.dumps) r.2 ∙ (q.dumps ∙ p.dumps);
-          deliveries = ap (λ h. h.deliveries) r.2 ∙ (q.deliveries ∙ p.deliveries);
-        }
+    all : AreEach Parts start after
+    all = each_on Parts parts_on start second after (each_weaker SameButEnds Parts parts_of_ends start second lanes.shares_same) (each_on Parts parts_on second third after
+        (each_weaker SameButUnsent Parts parts_of_unsent second third unsent.shares_same) (each_weaker SameHold Parts parts_of_hold third after same))
 
     no_logs : (j : ℕ) (t : Share) → slice_get after j ≡ Some t → (t.hold.dumps.items ≡ []) × (t.hold.deliveries.items ≡ [])
     no_logs j t also =
         let s = slice_get_there start j (omega (arith, slice_get_within after j t also, same.0, unsent.shares_same.0, lanes.shares_same.0)) in
         let hand = All-at (λ (x : Share). IsEmptyHand queues vertices x.hold) start j s.0 nothing.hands s.1 in
-        let p = all j s.0 t s.1 also in
+        let p = all.1 j s.0 t s.1 also in
         (ap (λ l. l.items) p.dumps ∙ hand.dumps, ap (λ l. l.items) p.deliveries ∙ hand.deliveries)
 
     ends_still : (s q : ℕ) → end_at after s q ≡ end_at second s q

@@ -3,7 +3,7 @@ use Rattle.mesh_run.proofs.Common.{All, All-append, All-nil, All-weaker, AreOf, 
 use Rattle.mesh_run.proofs.Common.{OutEnd, Own, SenderGoes, Sends, Setup, Share, Some, TakerGoes, Takes, WithRoom, [], actor_of, ap, append-nil, arith, both_none, cases_lt, end_at, end_before, end_in}
 use Rattle.mesh_run.proofs.Common.{entered, false, flat_map, flat_map-append, get_or, get_or_default, get_or_from_slice_get, inl, inr, left, length, list_any, lost_at, refl, run_start, slice_get}
 use Rattle.mesh_run.proofs.Common.{slice_get-get_or, slice_get_within, slice_index_or, subst, suc, sym, take, take_all, take_more, true, zero, ℕ, ◌++◌, ◌+◌, ◌<◌, ◌||◌, ◌∙◌, ◌∷◌, ◌≡◌, ◌≢◌, ◌≤◌, ◌⊎◌}
-use Rattle.mesh_run.proofs.{CrossingLaws.stood, Turns.IsNotOf, Turns.flat_map_none, Turns.turns_beside, Turns.turns_none}
+use Rattle.mesh_run.proofs.{CrossingLaws.stood, Going.each_two, Turns.IsNotOf, Turns.flat_map_none, Turns.turns_beside, Turns.turns_none}
 
 -- ---- lists of all shares
 
@@ -86,12 +86,9 @@ noted_or xs ys false false h k = (refl, ap (λ l. l ++ ys) h.1 ∙ k.1)
 
 pub noted_joined : (shares : List Share) (parts : List (List Item)) → length parts ≡ length shares →
     ((k : ℕ) (s : Share) (p : List Item) → k < length shares → IsNoted false (get_or parts k p) (get_or shares k s).moved) → IsNoted false (joined parts) (list_any (λ s. s.moved) shares)
-noted_joined [] [] long each = (refl, refl)
-noted_joined [] (p ∷ parts) long each = absurd (omega (arith, long))
-noted_joined (s ∷ shares) [] long each = absurd (omega (arith, long))
-noted_joined (s ∷ shares) (p ∷ parts) long each =
-    noted_or p (joined parts) s.moved (list_any (λ t. t.moved) shares) (each 0 s p (omega arith))
-    (noted_joined shares parts (omega (arith, long)) (λ k t q below. each (suc k) t q (omega (arith, below))))
+noted_joined shares parts long each =
+    each_two (λ p s. IsNoted false p s.moved) (λ parts shares. IsNoted false (joined parts) (list_any (λ s. s.moved) shares)) (refl, refl)
+    (λ p s parts shares first rest. noted_or p (joined parts) s.moved (list_any (λ t. t.moved) shares) first rest) parts shares long (λ i p s below. each i s p (omega (arith, below, long)))
 
 -- ---- what each share holds of a queue
 

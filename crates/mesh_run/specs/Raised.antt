@@ -6,7 +6,7 @@ use Rattle.chip_node.specs.Items.{Item}
 use Rattle.mesh_run.specs.declared.raised.RaisedMesh.{RaisedMesh}
 use Rattle.mesh_run.specs.Gathering.{HasRoomForLogs}
 use Rattle.mesh_run.specs.Layouts.{IsLayoutOf}
-use Rattle.mesh_run.specs.Played.{IsPlayedBy}
+use Rattle.mesh_run.specs.Played.{IsPlayedBy, port_count}
 use Rattle.mesh_run.specs.Queues.{AreUp}
 use Rattle.mesh_run.specs.Shares.{IsNoted}
 use Rattle.mesh_run.specs.Split.{AreShared, HaveNoLogs, HoldLanes, HoldUnsent, cut_queues}
@@ -22,7 +22,7 @@ pub record IsRaisedFrom (m : State) (more : ℕ) (r : RaisedMesh) : Type 0 where
   pub laid : IsLayoutOf m.setup r.layout.now
   pub shared : AreShared m.setup r.layout.now.runs.items r.shares.items
   pub lanes : HoldLanes (m.inputs ++ m.cores) r.layout.now.homes.items r.shares.items
-  pub unsent : HoldUnsent m.setup m.unsent r.layout.now.homes.items r.shares.items
+  pub unsent : HoldUnsent (port_count m.setup) m.unsent r.layout.now.homes.items r.shares.items
   pub ends : List LinkEnds
   pub holds : HoldsAll ends r.standing
   pub up : AreUp m.setup.capacity more (cut_queues (m.inputs ++ m.cores) r.layout.now.cuts.items) ends

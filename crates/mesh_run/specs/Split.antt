@@ -9,7 +9,7 @@ use Rattle.mesh_run.specs.declared.homes.Cut.{Cut}
 use Rattle.mesh_run.specs.declared.homes.Home.{Home}
 use Rattle.mesh_run.specs.declared.shares.Share.{Share}
 use Rattle.mesh_run.specs.Homes.{run_start}
-use Rattle.mesh_run.specs.Played.{port_count, vertex_place}
+use Rattle.mesh_run.specs.Played.{port_count}
 
 -- what the share of a number holds of the queue at a place
 abbrev pub end_in : Option Share → ℕ → Option End
@@ -45,10 +45,10 @@ pub record HoldLanes (queues : List (List McCopy)) (homes : List Home) (shares :
       → (a : WithRoom McCopy) × (end_at shares h.sender q ≡ Some (Own a)) × (a.items ≡ slice_index_or queues q [])
   pub away : (q : ℕ) (h : Home) (s : ℕ) → slice_get homes q ≡ Some h → s < length shares → (s ≢ h.sender) ⊎ (h.sender ≢ h.receiver) → end_at shares s q ≡ Some Away
 
--- What a vertex did not send is held where its queue is received, and nowhere else.
-pub record HoldUnsent (u : Setup) (unsent : List (List McCopy)) (homes : List Home) (shares : List Share) : Type 0 where
-  pub here : (v : ℕ) (h : Home) → slice_get homes (vertex_place u v) ≡ Some h → unsent_at shares h.receiver v ≡ slice_index_or unsent v []
-  pub nowhere_else : (v : ℕ) (h : Home) (s : ℕ) → slice_get homes (vertex_place u v) ≡ Some h → s ≢ h.receiver → unsent_at shares s v ≡ []
+-- What a vertex did not send is held where its queue is received, and nowhere else. The vertices' queues stand behind those of so many ports.
+pub record HoldUnsent (ports : ℕ) (unsent : List (List McCopy)) (homes : List Home) (shares : List Share) : Type 0 where
+  pub here : (v : ℕ) (h : Home) → slice_get homes (ports + v) ≡ Some h → unsent_at shares h.receiver v ≡ slice_index_or unsent v []
+  pub nowhere_else : (v : ℕ) (h : Home) (s : ℕ) → slice_get homes (ports + v) ≡ Some h → s ≢ h.receiver → unsent_at shares s v ≡ []
 
 -- nothing is logged in the shares
 abbrev pub HaveNoLogs : List Share → Type 0

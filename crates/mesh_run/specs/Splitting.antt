@@ -15,7 +15,7 @@ use Rattle.mesh_run.specs.declared.splitting.SplitPlan.{SplitPlan}
 use Rattle.mesh_run.specs.Crossing.{PutsEnd}
 use Rattle.mesh_run.specs.Homes.{run_start}
 use Rattle.mesh_run.specs.Queues.{AreUp}
-use Rattle.mesh_run.specs.Split.{AreShared, HaveNoLogs, HoldLanes, cut_queues, end_at, unsent_at}
+use Rattle.mesh_run.specs.Split.{AreShared, HaveNoLogs, HoldLanes, HoldUnsent, cut_queues, end_at, unsent_at}
 use Rattle.mesh_run.specs.Standing.{HoldsAll}
 
 -- nothing is held
@@ -78,18 +78,16 @@ pub record SetsUnsent (vertex : ℕ) (copies : List McCopy) (before after : Stat
   pub cores : after.cores ≡ before.cores
   pub unsent : after.unsent ≡ slice_set before.unsent vertex copies
 
--- What each vertex did not send is held where its queue is received, and nowhere else. The vertices' queues stand behind those of ports.
-pub record HoldVertices (ports : ℕ) (unsent : List (List McCopy)) (homes : List Home) (shares : List Share) : Type 0 where
-  pub here : (v : ℕ) (h : Home) → slice_get homes (ports + v) ≡ Some h → unsent_at shares h.receiver v ≡ slice_index_or unsent v []
-  pub nowhere_else : (v : ℕ) (h : Home) (s : ℕ) → slice_get homes (ports + v) ≡ Some h → s ≢ h.receiver → unsent_at shares s v ≡ []
+-- a share with the same run, and with places for as many queues and vertices
+pub record SameRun (before after : Share) : Type 0 where
+  pub from : after.from ≡ before.from
+  pub to : after.to ≡ before.to
+  pub ends_long : length after.hold.ends.items ≡ length before.hold.ends.items
+  pub unsent_long : length after.hold.unsent.items ≡ length before.hold.unsent.items
 
--- the shares have the same runs, and places for as many queues and vertices; nothing is logged
-pub record AreSameRuns (before after : List Share) : Type 0 where
-  pub long : length after ≡ length before
-  pub from : (k : ℕ) (s t : Share) → slice_get before k ≡ Some s → slice_get after k ≡ Some t → t.from ≡ s.from
-  pub to : (k : ℕ) (s t : Share) → slice_get before k ≡ Some s → slice_get after k ≡ Some t → t.to ≡ s.to
-  pub ends_long : (k : ℕ) (s t : Share) → slice_get before k ≡ Some s → slice_get after k ≡ Some t → length t.hold.ends.items ≡ length s.hold.ends.items
-  pub unsent_long : (k : ℕ) (s t : Share) → slice_get before k ≡ Some s → slice_get after k ≡ Some t → length t.hold.unsent.items ≡ length s.hold.unsent.items
+abbrev pub AreSameRuns : List Share → List Share → Type 0
+AreSameRuns before after =
+    (length after ≡ length before) × ((k : ℕ) (s t : Share) → slice_get before k ≡ Some s → slice_get after k ≡ Some t → SameRun s t)
 
 -- the lane of a queue that no two shares are between stands in its share
 abbrev pub MayPutLane : Home → ℕ → List McCopy → List Share → List Share → Type 0
@@ -132,7 +130,7 @@ pub record MovesIn (m : State) (homes : List Home) (before : List Share) (left :
   pub runs : AreSameRuns before after
   pub no_logs : HaveNoLogs after
   pub lanes : HoldLanes (m.inputs ++ m.cores) homes after
-  pub vertices : HoldVertices (length m.inputs) m.unsent homes after
+  pub vertices : HoldUnsent (length m.inputs) m.unsent homes after
 
 -- What shares hold moved back into a mesh: whatever their lanes and vertices hold stands there, and at the other places what stood there.
 pub record MovesOut (homes : List Home) (shares : List Share) (left m : State) : Type 0 where
@@ -140,4 +138,4 @@ pub record MovesOut (homes : List Home) (shares : List Share) (left m : State) :
   pub lanes : (queues : List (List McCopy)) (q : ℕ) (h : Home) → HoldLanes queues homes shares → slice_get homes q ≡ Some h → h.sender ≡ h.receiver
       → slice_index_or (m.inputs ++ m.cores) q [] ≡ slice_index_or queues q []
   pub others : (q : ℕ) (h : Home) → slice_get homes q ≡ Some h → h.sender ≢ h.receiver → slice_index_or (m.inputs ++ m.cores) q [] ≡ slice_index_or (left.inputs ++ left.cores) q []
-  pub vertices : (unsent : List (List McCopy)) → length unsent ≡ length left.unsent → HoldVertices (length left.inputs) unsent homes shares → m.unsent ≡ unsent
+  pub vertices : (unsent : List (List McCopy)) → length unsent ≡ length left.unsent → HoldUnsent (length left.inputs) unsent homes shares → m.unsent ≡ unsent
