@@ -1,9 +1,9 @@
 -- What a whole round logged is what its items tell, and the mesh to which it leads is split as it was.
-use Rattle.mesh_run.proofs.Common.{Bool, Goes, IsAnyMoved, IsRaisedFrom, Item, List, MeshLogs, PlaysTo, RaisedMesh, Share, Vec, [], ap, ap₂, arith, delivered_of, deliveries, dumped_of, flat_map}
-use Rattle.mesh_run.proofs.Common.{get_or, get_or_default, length, list_any, records, refl, slice_get-get_or, sym, ℕ, ◌++◌, ◌<◌, ◌||◌, ◌∙◌, ◌≡◌}
-use Rattle.mesh_run.proofs.{AfterLinks.whole_no_logs, AfterLinks.whole_up, Going.each_two, AfterMesh.mesh, AfterMesh.whole_played, AfterRuns.whole_shared, AfterSplit.whole_lanes}
-use Rattle.mesh_run.proofs.{AfterSplit.whole_unsent, Together.flat_map_joined, Together.joined, WholeRound.Whole, WholeRound.dealt_long, WholeRound.parts, WholeRound.played_parts}
-use Rattle.mesh_run.proofs.WholeRound.{whole_noted}
+use Rattle.mesh_run.proofs.Common.{Bool, Goes, IsRaisedFrom, Item, List, MeshLogs, PlaysTo, RaisedMesh, Share, Vec, [], ap, ap₂, arith, delivered_of, deliveries, dumped_of, flat_map, get_or}
+use Rattle.mesh_run.proofs.Common.{get_or_default, length, list_any, records, refl, slice_get-get_or, sym, ℕ, ◌++◌, ◌<◌, ◌||◌, ◌∙◌, ◌≡◌}
+use Rattle.mesh_run.proofs.{AfterLinks.whole_no_logs, AfterLinks.whole_up, GatheringLaws.Gathered, Going.each_two, AfterMesh.mesh, AfterMesh.whole_played, AfterRuns.whole_shared}
+use Rattle.mesh_run.proofs.{AfterSplit.whole_lanes, AfterSplit.whole_unsent, Together.flat_map_joined, Together.joined, WholeRound.Whole, WholeRound.dealt_long, WholeRound.parts}
+use Rattle.mesh_run.proofs.WholeRound.{played_parts, whole_noted}
 
 -- a test that is the same at each place has the same answer
 any_same : {X Y : Type 0} (f : X → Bool) (g : Y → Bool) (xs : List X) (ys : List Y) → length xs ≡ length ys →
@@ -67,12 +67,8 @@ module _ (w : Whole) where
     abbrev pub stands : RaisedMesh
     stands = record w.r { standing = w.standing; shares = shares; logs = logs }
 
-    pub record GathersLogs : Type 0 where
-      pub delivered : logs.delivered.items ≡ w.r.logs.delivered.items ++ flat_map (λ s. s.hold.deliveries.items) w.collected
-      pub dumped : logs.dumped.items ≡ w.r.logs.dumped.items ++ flat_map (λ s. s.hold.dumps.items) w.collected
+    whole_raised : (moved : Bool) → Gathered w.collected w.cleared w.r.logs logs moved → IsRaisedFrom (mesh w) 0 stands
+    whole_raised moved gathered = grind (arith, whole_played, whole_shared, mesh, whole_lanes, whole_unsent, whole_up, whole_no_logs, whole_delivered, whole_dumped)
 
-    whole_raised : GathersLogs → IsRaisedFrom (mesh w) 0 stands
-    whole_raised logged_are = grind (arith, whole_played, whole_shared, mesh, whole_lanes, whole_unsent, whole_up, whole_no_logs, whole_delivered, whole_dumped)
-
-    pub whole_plays : (moved : Bool) → GathersLogs → IsAnyMoved w.collected moved → PlaysTo w.patience w.turns w.m moved stands
-    whole_plays moved logged_are moved_are = grind (arith, mesh, joined, parts, whole_raised, whole_played, moved_same, whole_noted)
+    pub whole_plays : (moved : Bool) → Gathered w.collected w.cleared w.r.logs logs moved → PlaysTo w.patience w.turns w.m moved stands
+    whole_plays moved gathered = grind (arith, mesh, joined, parts, whole_raised, whole_played, moved_same, whole_noted)

@@ -1,12 +1,13 @@
 -- Floors chip by chip: the vertices on a chip, the queues behind its outputs, and that there are few vertices.
 use Rattle.mesh_run.proofs.Common.{AddsBehind, All, All-at, AllPairs, AreVerticesOf, Behind, Chip, Contains-at, Contains-filter_map, Contains-from_filter_map, CoreBank, Description, Floor, HasSize}
-use Rattle.mesh_run.proofs.Common.{IsBankOf, IsFloorOf, IsFloorSoFar, IsLiveIndex, IsOutput, IsSite, List, None, Option, Out, Setup, Some, Spot, [], ap, append_assoc, arith, cases_eq, cases_lt}
-use Rattle.mesh_run.proofs.Common.{chip_of, get_or, get_or-map, get_or-range_with_len, get_or_from_slice_get, grid_size, index_below, inl, inr, length, length-append, length-map}
-use Rattle.mesh_run.proofs.Common.{length-range_with_len, length_le_from_apart, length_push, live_inside, live_one, map, mul-le-mul_left, none-some, out_number, out_number_below, out_number_injective}
-use Rattle.mesh_run.proofs.Common.{place_behind, place_in, place_of_slot, port_count, range_with_len, refl, same_spot_place, site_inside, slice_get, slice_get-append_left, slice_get-get_or}
-use Rattle.mesh_run.proofs.Common.{slice_get-pushed, slice_get_there, slice_get_within, spot_place, spot_place-below, subst, suc, sym, vertex_at_stands, vertex_on, vertex_there, vertices_by, ℕ, ◌*◌}
-use Rattle.mesh_run.proofs.Common.{◌++◌, ◌+◌, ◌<◌, ◌∙◌, ◌∷◌, ◌≡◌, ◌≢◌, ◌≤◌}
+use Rattle.mesh_run.proofs.Common.{IsBankOf, IsFloorOf, IsFloorSoFar, IsInside, IsLiveIndex, IsOutput, IsSite, List, None, Option, Out, Setup, Some, Spot, [], ap, append_assoc, arith, cases_eq}
+use Rattle.mesh_run.proofs.Common.{chip_of, get_or, get_or-range_with_len, get_or_from_slice_get, grid_size, index_below, inl, inr, length, length-append, length-map, length-range_with_len}
+use Rattle.mesh_run.proofs.Common.{length_le_from_apart, length_push, live_inside, live_one, map, mul-le-mul_left, none-some, out_number, out_number_below, out_number_injective, place_behind}
+use Rattle.mesh_run.proofs.Common.{place_in, place_of_slot, port_count, range_with_len, refl, same_spot_place, site_inside, slice_get, slice_get-append_left, slice_get-get_or, slice_get-mapped}
+use Rattle.mesh_run.proofs.Common.{slice_get-pushed, slice_get_there, spot_place, spot_place-below, subst, suc, sym, vertex_at_stands, vertex_on, vertex_there, vertices_by, ℕ, ◌*◌, ◌++◌, ◌+◌, ◌<◌}
+use Rattle.mesh_run.proofs.Common.{◌∙◌, ◌∷◌, ◌≡◌, ◌≢◌, ◌≤◌}
 use Rattle.mesh_run.proofs.Going.{pushed}
+use Rattle.spin_base.proofs.Pairs.{AllPairs-apart}
 
 -- ---- few vertices
 
@@ -14,42 +15,29 @@ use Rattle.mesh_run.proofs.Going.{pushed}
 pub few_chips : (m : Description) → HasSize m → m.width * m.height ≤ 4096
 few_chips m size = grind (arith, mul-le-mul_left m.width size.height_to_64)
 
--- Different items with different numbers below a bound are no more than the bound.
-few_numbered : {A : Type 0} (f : A → ℕ) (n : ℕ) (xs : List A) (x : A) → AllPairs (λ a b. a ≢ b) xs → ((k : ℕ) → k < length xs → f (get_or xs k x) < n)
-    → ((i j : ℕ) → i < length xs → j < length xs → f (get_or xs i x) ≡ f (get_or xs j x) → get_or xs i x ≡ get_or xs j x) → length xs ≤ n
-few_numbered {A} f n xs x different small one = subst (λ l. l ≤ n) (length-map xs f) (length_le_from_apart (map f xs) n apart below)
-  where
-    inside : (k : ℕ) → k < length (map f xs) → k < length xs
-    inside k low = subst (λ l. k < l) (length-map xs f) low
-
-    below : (k d : ℕ) → k < length (map f xs) → get_or (map f xs) k d < n
-    below k d low = subst (λ v. v < n) (sym (get_or-map f xs k x d (inside k low))) (small k (inside k low))
-
-    apart : (i j d : ℕ) → i < j → j < length (map f xs) → get_or (map f xs) i d ≢ get_or (map f xs) j d
-    apart i j d before low e =
-        let low_i : i < length (map f xs) = omega (arith, before, low) in
-        let same = sym (get_or-map f xs i x d (inside i low_i)) ∙ (e ∙ get_or-map f xs j x d (inside j low)) in
-        different i j x before (inside j low) (one i j (inside i low_i) (inside j low) same)
-
 pub few_vertices : (m : Description) (spots : List Spot) → AllPairs (λ a b. a ≢ b) spots → All (IsSite m) spots → HasSize m → length spots ≤ 98304
 few_vertices m spots different sites size =
-    let few = few_numbered (spot_place m) (24 * (m.width * m.height)) spots nothing different small one in
+    let few = subst (λ l. l ≤ 24 * (m.width * m.height)) (length-map spots (spot_place m)) (length_le_from_apart places (24 * (m.width * m.height)) apart below) in
     omega (arith, few, few_chips m size)
   where
-    nothing : Spot
-    nothing = record { chip = record { x = 0; y = 0 }; core = 0 }
+    places : List ℕ
+    places = map (spot_place m) spots
 
-    small : (k : ℕ) → k < length spots → spot_place m (get_or spots k nothing) < 24 * (m.width * m.height)
-    small k low =
-        let at = site_inside m (get_or spots k nothing) (sites k nothing low) in
-        spot_place-below m (get_or spots k nothing) at.0 at.1
+    at : (k d : ℕ) → k < length (map (spot_place m) spots) → (s : Spot) × (slice_get spots k ≡ Some s) × (IsInside m s.chip × (s.core < 24)) × (get_or (map (spot_place m) spots) k d ≡ spot_place m s)
+    at k d low =
+        let s = slice_get_there spots k (subst (λ l. k < l) (length-map spots (spot_place m)) low) in
+        (s.0, s.1, site_inside m s.0 (All-at (IsSite m) spots k s.0 sites s.1), get_or_from_slice_get places k (spot_place m s.0) d (slice_get-mapped (spot_place m) spots k s.0 s.1))
 
-    one : (i j : ℕ) → i < length spots → j < length spots → spot_place m (get_or spots i nothing) ≡ spot_place m (get_or spots j nothing)
-        → get_or spots i nothing ≡ get_or spots j nothing
-    one i j low_i low_j same =
-        let a = site_inside m (get_or spots i nothing) (sites i nothing low_i) in
-        let b = site_inside m (get_or spots j nothing) (sites j nothing low_j) in
-        same_spot_place m (get_or spots i nothing) (get_or spots j nothing) a.0 b.0 a.1 b.1 same
+    below : (k d : ℕ) → k < length (map (spot_place m) spots) → get_or (map (spot_place m) spots) k d < 24 * (m.width * m.height)
+    below k d low = let s = at k d low in subst (λ v. v < 24 * (m.width * m.height)) (sym s.3) (spot_place-below m s.0 s.2.0 s.2.1)
+
+    apart : (i j d : ℕ) → i < j → j < length (map (spot_place m) spots) → get_or (map (spot_place m) spots) i d ≢ get_or (map (spot_place m) spots) j d
+    apart i j d before low e =
+        let a = at i d (omega (arith, before, low)) in
+        let b = at j d low in
+        let same = same_spot_place m a.0 b.0 a.2.0 b.2.0 a.2.1 b.2.1 (sym a.3 ∙ (e ∙ b.3)) in
+        let one = AllPairs-apart spots b.0 different i j (subst (λ (s : Spot). slice_get spots i ≡ Some s) same a.1) b.1 in
+        omega (arith, before, one)
 
 -- ---- lists
 
@@ -59,19 +47,6 @@ slice_get-first xs ys i below = let x = slice_get_there xs i below in slice_get-
 pub slice_get-second : {X : Type 0} (xs ys : List X) (n : ℕ) → slice_get (xs ++ ys) (length xs + n) ≡ slice_get ys n
 slice_get-second [] ys n = let e : 0 + n ≡ n = omega arith in ap (slice_get ys) e
 slice_get-second (x ∷ xs) ys n = let e : suc (length xs) + n ≡ suc (length xs + n) = omega arith in ap (slice_get (x ∷ (xs ++ ys))) e ∙ slice_get-second xs ys n
-
--- an item stands once in a list whose items differ
-pub one_place : {X : Type 0} (xs : List X) (x : X) (v w : ℕ) → AllPairs (λ a b. a ≢ b) xs → slice_get xs v ≡ Some x → slice_get xs w ≡ Some x → v ≡ w
-one_place {X} xs x v w differ first second = elim (cases_lt v w) [
-  | inl before ↦ absurd (later v w before first second)
-  | inr not_before ↦ elim (cases_lt w v) [
-    | inl after ↦ absurd (later w v after second first)
-    | inr not_after ↦ omega (arith, not_before, not_after)
-  ]
-]
-  where
-    later : (i j : ℕ) → i < j → slice_get xs i ≡ Some x → slice_get xs j ≡ Some x → ⊥
-    later i j less a b = differ i j x less (slice_get_within xs j x b) (get_or_from_slice_get xs i x x a ∙ sym (get_or_from_slice_get xs j x x b))
 
 -- ---- the vertices on a chip
 
@@ -89,7 +64,7 @@ vertices_found u i vs differ sites is = subst (AreVerticesOf u i) (sym is) (reco
       let below = (site_inside u.machine on.spot (All-at (IsSite u.machine) u.spots v on.spot sites on.stands)).1 in
       let stands : slice_get u.spots v ≡ Some (spot_of core) = on.stands ∙ ap Some (spot_is on.spot chip core on.here refl) in
       let there = vertex_there u.spots (spot_of core) (Contains-at u.spots v (spot_of core) stands) in
-      let same = one_place u.spots (spot_of core) there.0 v differ (vertex_at_stands u.spots (spot_of core) there.0 there.1) stands in
+      let same = AllPairs-apart u.spots (spot_of core) differ there.0 v (vertex_at_stands u.spots (spot_of core) there.0 there.1) stands in
       Contains-filter_map (vertex_on u.spots chip) (range_with_len 0 24) core v (core, subst (λ n. core < n) (sym (length-range_with_len 0 24)) below, get_or-range_with_len 0 24 core core below ∙ omega arith)
       (there.1 ∙ ap Some same);
 })

@@ -1,9 +1,8 @@
 -- The steps of a round, each as far as what its call promises: ends dealt, turns played, ends collected, links at rest, logs gathered.
-use Rattle.mesh_run.proofs.Common.{All, AreCuts, AreEmptied, AreLaid, Bool, Cut, Deals, FitsLogs, HoldsAll, HoldsCollected, HoldsNoEnds, IsAnyMoved, IsMesh, IsRoomyFrom, IsShareOf, Link, LinkEnds}
-use Rattle.mesh_run.proofs.Common.{List, MeshLogs, PlaysAndStays, PlaysTo, RaisedMesh, RestAll, Rested, Setup, Share, Standing, State, Vec, WasUp, ap, arith, flat_map, get_or, length, refl, subst}
-use Rattle.mesh_run.proofs.Common.{sym, ℕ, ◌++◌, ◌+◌, ◌<◌, ◌∙◌, ◌≡◌}
+use Rattle.mesh_run.proofs.Common.{All, AreCuts, AreLaid, Bool, Cut, Deals, FitsLogs, HoldsAll, HoldsCollected, HoldsNoEnds, IsMesh, IsRoomyFrom, IsShareOf, Link, LinkEnds, List, MeshLogs}
+use Rattle.mesh_run.proofs.Common.{PlaysAndStays, PlaysTo, RaisedMesh, RestAll, Rested, Setup, Share, Standing, State, Vec, WasUp, ap, arith, get_or, length, refl, subst, sym, ℕ, ◌+◌, ◌<◌, ◌∙◌, ◌≡◌}
 use Rattle.mesh_run.proofs.{WholeRound.Whole, AfterDeal.cuts_apart, AfterDeal.dealt_shares, AfterDeal.links_many, AfterPlay.ends_laid, AfterPlay.links_were_up, AfterPlay.logs_fit}
-use Rattle.mesh_run.proofs.AfterRound.{whole_plays}
+use Rattle.mesh_run.proofs.{AfterRound.whole_plays, GatheringLaws.Gathered}
 
 -- ends were dealt to the shares of a mesh with room for a round
 pub record IsDealt (m : State) (r : RaisedMesh) (lent : Standing) (dealt : List Share) : Type 0 where
@@ -106,11 +105,9 @@ module _ {m : State} {r : RaisedMesh} {lent : Standing} {dealt : List Share} whe
       -- The whole round, with links at rest and logs gathered.
       pub round_plays : {rested : Rested} (standing : Standing) (shares : Vec Share) (logs : MeshLogs) (moved : Bool) →
           IsCollected m r lent dealt played brought collected →
-          ((ends : List LinkEnds) → HoldsAll ends brought → RestAll r.parts.setup.capacity ends standing rested) → AreEmptied collected shares.items →
-          logs.delivered.items ≡ r.logs.delivered.items ++ flat_map (λ s. s.hold.deliveries.items) collected →
-          logs.dumped.items ≡ r.logs.dumped.items ++ flat_map (λ s. s.hold.dumps.items) collected → IsAnyMoved collected moved →
+          ((ends : List LinkEnds) → HoldsAll ends brought → RestAll r.parts.setup.capacity ends standing rested) → Gathered collected shares.items r.logs logs moved →
           PlaysTo r.pace.patience r.pace.turns m moved (record r { standing = standing; shares = shares; logs = logs })
-      round_plays {rested} standing shares logs moved h rests clears delivered dumped moved_are =
+      round_plays {rested} standing shares logs moved h rests gathered =
           let t = h.turned in
           let d = t.before in
           let w : Whole = record {
@@ -132,6 +129,6 @@ module _ {m : State} {r : RaisedMesh} {lent : Standing} {dealt : List Share} whe
             rested = rested;
             rests = subst (λ (u : Setup). RestAll u.capacity h.collects.ends standing rested) d.roomy.raised.setup (rests h.collects.ends h.collects.holds);
             cleared = shares.items;
-            clears = clears;
+            clears = gathered.cleared;
           } in
-          whole_plays w shares logs refl moved (record { delivered = delivered; dumped = dumped }) moved_are
+          whole_plays w shares logs refl moved gathered

@@ -133,14 +133,18 @@ module _ (u : Setup) where
   services_elsewhere : (j i : ℕ) (c : Chip) (place : Service → Option ℕ) → j ≢ i → (done : List Service) → services i (map (λ s. served j c (place s) s) done) ≡ []
   services_elsewhere j i c place other done = flat_map_map_none (service_of i) (λ s. served j c (place s) s) (λ s. elsewhere j i (s ∷ []) other) done
 
+  -- what a turn of a router tells, where services tell nothing
+  routed_tells : {Y : Type 0} (f : Item → List Y) (r : RouterNode) (items : List Item) → (h : RoutesOne r.table.now r items) →
+      ((s : Service) → f (served r.index r.chip (place_at_router r.behind.now s.out) s) ≡ []) → flat_map f items ≡ f (took r.index h.port h.copy) ++ []
+  routed_tells f r items h none =
+      ap (flat_map f) h.are ∙ ap (λ l. f (took r.index h.port h.copy) ++ l) (flat_map_map_none f (λ s. served r.index r.chip (place_at_router r.behind.now s.out) s) none h.done)
+
   routed_each_once : (r : RouterNode) (a : ℕ) → IsRouterOf u a r → (items : List Item) → (h : RoutesOne r.table.now r items) → (i : ℕ) → (r.index ≡ i) ⊎ (r.index ≢ i) →
       map told (services i items) ≡ owed_on u (chip_of u.machine i) (takings i items)
   routed_each_once r a of items h i (inl same) =
       let place : Service → Option ℕ = λ s. place_at_router r.behind.now s.out in
       let done : services i items ≡ h.done = ap (services i) h.are ∙ services_here r.index i r.chip place same h.done in
-      let none : takings i (service_items r h.done) ≡ [] = flat_map_map_none (taking_of i) (λ s. served r.index r.chip (place s) s) (λ s. refl) h.done in
-      let taken : takings i items ≡ (h.port, h.copy) ∷ [] =
-      ap (takings i) h.are ∙ ap₂ (λ (x y : List (Port × McCopy)). x ++ y) (here r.index i ((h.port, h.copy) ∷ []) same) none in
+      let taken : takings i items ≡ (h.port, h.copy) ∷ [] = routed_tells (taking_of i) r items h (λ s. refl) ∙ (append-nil _ ∙ here r.index i ((h.port, h.copy) ∷ []) same) in
       let at : i ≡ a = sym same ∙ of.index in
       let table : r.table.now ≡ slice_index_or u.tables (index_of u.machine (chip_of u.machine i)) [] =
       of.table ∙ ap (λ n. slice_index_or u.tables n []) (sym of.live.is ∙ ap (λ n. index_of u.machine (chip_of u.machine n)) (sym at)) in
@@ -173,24 +177,11 @@ module _ (u : Setup) where
   pub routed_turns : (r : RouterNode) (a : ℕ) → IsRouterOf u a r → (items : List Item) → RoutesOne r.table.now r items → AreTurns u 1 items
   routed_turns r a of items h = record {
     each = routed_each r a of items h;
-    each_once = λ i. routed_each_once r a of items h i (same_or_not r.index i);
-    takes = λ i.
-        let none = flat_map_map_none (taking_of i) (λ s. served r.index r.chip (place_at_router r.behind.now s.out) s) (λ s. refl) h.done in
-        let is = ap length (ap (takings i) h.are ∙ ap (λ (y : List (Port × McCopy)). where_same r.index i ((h.port, h.copy) ∷ []) ++ y) none) in
-        let few = few_more {X = Port × McCopy} r.index i (h.port, h.copy) in
-        omega (arith, is, few);
-    sends = λ i.
-        let none = flat_map_map_none (sending_of i) (λ s. served r.index r.chip (place_at_router r.behind.now s.out) s) (λ s. refl) h.done in
-        let is = ap length (ap (sendings i) h.are ∙ none) in
-        omega (arith, is);
-    gets = λ i.
-        let none = flat_map_map_none (getting_of i) (λ s. served r.index r.chip (place_at_router r.behind.now s.out) s) (λ s. refl) h.done in
-        let is = ap length (ap (gettings i) h.are ∙ none) in
-        omega (arith, is);
+    each_once = λ i. routed_each_once r a of items h i (cases_eq r.index i);
+    takes = λ i. omega (arith, ap length (routed_tells (taking_of i) r items h (λ s. refl)), few_more {X = Port × McCopy} r.index i (h.port, h.copy));
+    sends = λ i. omega (arith, ap length (routed_tells (sending_of i) r items h (λ s. refl)));
+    gets = λ i. omega (arith, ap length (routed_tells (getting_of i) r items h (λ s. refl)));
   }
-    where
-      same_or_not : (p q : ℕ) → (p ≡ q) ⊎ (p ≢ q)
-      same_or_not p q = cases_eq p q
 
   pub routed_by : (r : RouterNode) (items : List Item) → RoutesOne r.table.now r items → All (λ x. actor_of x ≡ router_place r.index) items
   routed_by r items h =

@@ -1,7 +1,7 @@
-use Rattle.mesh_run.proofs.Common.{All, AreCuts, AreEmptied, AreLaid, Cut, Deals, FitsLogs, HoldsAll, HoldsNoEnds, IsAnyMoved, IsMesh, IsRoomyFrom, IsShareOf, Link, LinkEnds, List, PlaysTo}
-use Rattle.mesh_run.proofs.Common.{RaisedMesh, RestAll, Share, State, WasUp, ap, arith, flat_map, length, subst, sym, with_items, with_items_is, ℕ, ◌++◌, ◌+◌, ◌∙◌}
-use Rattle.mesh_run.proofs.{AfterDeal.cuts_apart, RoundSteps.IsCollected, RoundSteps.IsDealt, RoundSteps.IsTurned, RoundSteps.PlayAndStay, RoundSteps.can_rest, RoundSteps.cuts_laid}
-use Rattle.mesh_run.proofs.RoundSteps.{is_collected, is_dealt, is_turned, no_ends, room_for_logs, round_plays, shares_of_mesh, still_cuts}
+use Rattle.mesh_run.proofs.Common.{All, AreCuts, AreLaid, Cut, Deals, FitsLogs, HoldsAll, HoldsNoEnds, IsMesh, IsRoomyFrom, IsShareOf, Link, LinkEnds, List, PlaysTo, RaisedMesh, RestAll, Share, State}
+use Rattle.mesh_run.proofs.Common.{WasUp, ap, arith, length, subst, sym, with_items, with_items_is, ℕ, ◌+◌, ◌∙◌}
+use Rattle.mesh_run.proofs.{AfterDeal.cuts_apart, GatheringLaws.Gathered, RoundSteps.IsCollected, RoundSteps.IsDealt, RoundSteps.IsTurned, RoundSteps.PlayAndStay, RoundSteps.can_rest}
+use Rattle.mesh_run.proofs.RoundSteps.{cuts_laid, is_collected, is_dealt, is_turned, no_ends, room_for_logs, round_plays, shares_of_mesh, still_cuts}
 use Rattle.mesh_run.proofs.raised.RaisedMesh.play_roomy.{Given.Over, Goals.After-collect, Goals.After-deal, Goals.After-play_all}
 use Rattle.mesh_run.proofs.raised.RaisedMesh.play_roomy.Goals as goal
 
@@ -39,29 +39,17 @@ play_all-requires-after_bounds g c κs within =
     (subst (λ (l : List Link). All (IsShareOf c.args.self.now.parts.setup l) c.deal.new.shares.items) (sym c.deref-2.ensures.value)
     (shares_of_mesh (dealt g (goal.at.play_all-requires-after_bounds g c).After-deal q.0 q.1 q.2)))
 
-pub collect-requires-clause-cuts : goal.collect-requires-clause-cuts
-collect-requires-clause-cuts g c =
+pub collect-requires : goal.collect-requires
+collect-requires g c =
     let q = c.requires in
-    let turn = turned g (goal.at.collect-requires-clause-cuts g c).After-play_all q.0
-    (dealt g (goal.at.collect-requires-clause-cuts g c).After-deal q.0 q.1 q.2) in
-    subst (λ (l : List Cut). AreCuts l c.play_all.new.shares.items) (sym (c.deref-3.ensures.value ∙ ap (λ (x : RaisedMesh). x.layout.now.cuts.items) c.self.view_is))
-    (still_cuts turn)
-
-pub collect-requires-clause-laid : goal.collect-requires-clause-laid
-collect-requires-clause-laid g c =
-    let q = c.requires in
-    let turn = turned g (goal.at.collect-requires-clause-laid g c).After-play_all q.0
-    (dealt g (goal.at.collect-requires-clause-laid g c).After-deal q.0 q.1 q.2) in
-    subst (AreLaid c.deal.new.standing.links.items c.play_all.new.shares.items) (sym (c.deref-3.ensures.value ∙ ap (λ (x : RaisedMesh). x.layout.now.cuts.items) c.self.view_is))
-    (cuts_laid turn)
-
-pub collect-requires-clause-none : goal.collect-requires-clause-none
-collect-requires-clause-none g c =
-    let q = c.requires in
-    let turn = turned g (goal.at.collect-requires-clause-none g c).After-play_all q.0
-    (dealt g (goal.at.collect-requires-clause-none g c).After-deal q.0 q.1 q.2) in
+    let turn = turned g (goal.at.collect-requires g c).After-play_all q.0 (dealt g (goal.at.collect-requires g c).After-deal q.0 q.1 q.2) in
+    let is = sym (c.deref-3.ensures.value ∙ ap (λ (x : RaisedMesh). x.layout.now.cuts.items) c.self.view_is) in
     let none = no_ends turn in
-    (none.0, none.1, none.2 ∙ ap length (sym (c.deref-3.ensures.value ∙ ap (λ (x : RaisedMesh). x.layout.now.cuts.items) c.self.view_is)))
+    record {
+      cuts = subst (λ (l : List Cut). AreCuts l c.play_all.new.shares.items) is (still_cuts turn);
+      laid = subst (AreLaid c.deal.new.standing.links.items c.play_all.new.shares.items) is (cuts_laid turn);
+      none = (none.0, none.1, none.2 ∙ ap length is);
+    }
 
 pub rest_all-requires : goal.rest_all-requires
 rest_all-requires g c =
@@ -86,18 +74,13 @@ returns-clause-played g c = λ m is_mesh roomy.
     let logs = c.gather.new.self in
     let turn = turned g (goal.at.returns-clause-played g c).After-play_all m (dealt g (goal.at.returns-clause-played g c).After-deal m is_mesh roomy) in
     let all = collected g (goal.at.returns-clause-played g c).After-collect m turn in
-    let value = c.deref_mut.ensures.value in
     subst (λ (x : RaisedMesh). PlaysTo r.pace.patience r.pace.turns m c.gather.result (record x { standing = standing; shares = shares; logs = logs }))
     (sym c.self.view_is)
     (round_plays standing shares logs c.gather.result all
     (subst (λ (n : ℕ). (ends : List LinkEnds) → HoldsAll ends c.collect.new.standing → RestAll n ends standing c.rest_all.result)
     (c.capacity-2.ensures ∙ ap (λ (x : RaisedMesh). x.parts.setup.capacity) c.self.view_is) c.rest_all.ensures)
-    (subst (AreEmptied c.collect.new.shares.items) (sym (with_items_is c.collect.new.shares c.gather.new.shares (c.gather.ensures.cleared.0 ∙ c.deref_mut.ensures.len)))
-    (subst (λ (l : List Share). AreEmptied l c.gather.new.shares) value c.gather.ensures.cleared))
-    (c.gather.ensures.delivered
-    ∙ (ap (λ (x : RaisedMesh). x.logs.delivered.items ++ flat_map (λ (s : Share). s.hold.deliveries.items) c.deref_mut.result.now) c.self.view_is
-    ∙ ap (λ (l : List Share). r.logs.delivered.items ++ flat_map (λ (s : Share). s.hold.deliveries.items) l) value))
-    (c.gather.ensures.dumped
-    ∙ (ap (λ (x : RaisedMesh). x.logs.dumped.items ++ flat_map (λ (s : Share). s.hold.dumps.items) c.deref_mut.result.now) c.self.view_is
-    ∙ ap (λ (l : List Share). r.logs.dumped.items ++ flat_map (λ (s : Share). s.hold.dumps.items) l) value))
-    (subst (λ (l : List Share). IsAnyMoved l c.gather.result) value c.gather.ensures.moved))
+    (subst (λ (l : List Share). Gathered c.collect.new.shares.items l r.logs logs c.gather.result)
+    (sym (with_items_is c.collect.new.shares c.gather.new.shares (c.gather.ensures.cleared.0 ∙ c.deref_mut.ensures.len)))
+    (subst (λ (l : List Share). Gathered l c.gather.new.shares r.logs logs c.gather.result) c.deref_mut.ensures.value
+    (subst (λ (x : RaisedMesh). Gathered c.deref_mut.result.now c.gather.new.shares x.logs logs c.gather.result) c.self.view_is
+    (record { delivered = c.gather.ensures.delivered; dumped = c.gather.ensures.dumped; cleared = c.gather.ensures.cleared; moved_are = c.gather.ensures.moved })))))
