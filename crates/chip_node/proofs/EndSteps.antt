@@ -1,6 +1,6 @@
 -- What one look, one offer or one copy makes of an end, as what was done tells it.
 use Rattle.chip_node.proofs.Common.{All-nil, All-replicate, Away, End, EndGoes, EndLacks, EndRefuses, EndSends, EndStays, EndTakes, IsFullEnd, IsFullMoment, IsIdle, LaneGoes, List, McCopy, OutEnd}
-use Rattle.chip_node.proofs.Common.{Own, RefusesOffers, SenderGoes, Sends, SendsOffer, Takes, [], append-nil, arith, length, length-append, length-replicate, put_of, replicate, sending, taking, ℕ}
+use Rattle.chip_node.proofs.Common.{Own, RefusesOffers, SenderGoes, Sends, SendsOffer, Takes, [], append-nil, arith, length, length-append, length-replicate, put_of, refl, replicate, sending, taking, ℕ}
 use Rattle.chip_node.proofs.Common.{◌++◌, ◌<◌, ◌∷◌, ◌≡◌, ◌≤◌}
 use Rattle.chip_node.proofs.Stays.{sender_same}
 
@@ -15,8 +15,8 @@ sender_sends patience tries k x y link s = grind arith
 
 pub end_goes_sends : (cap patience tries : ℕ) (k : McCopy) (x y : End) → EndSends cap tries k x y → EndGoes cap patience (k ∷ []) [] [] x y
 end_goes_sends cap patience tries k Away y h = absurd h
-end_goes_sends cap patience tries k (Own a) y (b, is, items, below) = grind (arith, lane_sends cap patience k a.items b.items items below)
-end_goes_sends cap patience tries k (Sends a) y (b, is, link, s) = grind (arith, sender_sends patience tries k a b link s)
+end_goes_sends cap patience tries k (Own a) y (b, is, items, below) = (b, is, lane_sends cap patience k a.items b.items items below)
+end_goes_sends cap patience tries k (Sends a) y (b, is, link, s) = (b, is, refl, sender_sends patience tries k a b link s)
 end_goes_sends cap patience tries k (Takes a) y h = absurd h
 
 -- ---- a copy was dumped
@@ -35,8 +35,8 @@ sender_refuses patience k x y link r = grind (arith, append-nil (sending x.tx).s
 
 pub end_goes_refuses : (cap patience : ℕ) (k : McCopy) (x y : End) → EndRefuses cap patience x y → EndGoes cap patience [] [] (k ∷ []) x y
 end_goes_refuses cap patience k Away y h = absurd h
-end_goes_refuses cap patience k (Own a) y (is, full) = grind (arith, lane_refuses cap patience k a.items full)
-end_goes_refuses cap patience k (Sends a) y (b, is, link, r) = grind (arith, sender_refuses patience k a b link r)
+end_goes_refuses cap patience k (Own a) y (is, full) = (a, is, lane_refuses cap patience k a.items full)
+end_goes_refuses cap patience k (Sends a) y (b, is, link, r) = (b, is, refl, sender_refuses patience k a b link r)
 end_goes_refuses cap patience k (Takes a) y h = absurd h
 
 -- a copy that was refused, and not dumped

@@ -1,8 +1,8 @@
 -- What was done, one list after the other, is what both lists tell.
 use Rattle.chip_node.proofs.Common.{All-append, All-map, All-nil, All-weaker, AreEndsOf, Away, CoreBank, End, EndGoes, EndStays, Goes, Holdings, HoldsSender, IsFullMoment, IsReadyBank, IsReadyRouter}
 use Rattle.chip_node.proofs.Common.{IsSending, Item, LaneGoes, Link, List, McCopy, Own, RouterNode, Sends, Stays, Takes, [], ap, append-nil, append_assoc, arith, delivered_of, deliveries, dumped_of}
-use Rattle.chip_node.proofs.Common.{entered, entered_by, flat_map-append, injection_place, left, left_by, length, length-append, length-map, lost_at, lost_by, map, records, refl, sent_by, sent_in}
-use Rattle.chip_node.proofs.Common.{slice_index_or, subst, sym, ℕ, ◌*◌, ◌++◌, ◌+◌, ◌∙◌, ◌≡◌, ◌≤◌}
+use Rattle.chip_node.proofs.Common.{entered, entered_by, flat_map-append, injection_place, left, left_by, length, length-append, length-map, lost, lost_at, lost_by, map, records, refl, sent_by}
+use Rattle.chip_node.proofs.Common.{sent_in, slice_index_or, subst, sym, ℕ, ◌*◌, ◌++◌, ◌+◌, ◌∙◌, ◌≡◌, ◌≤◌}
 use Rattle.chip_node.proofs.Stays.{end_before, patient_on, sender_on, taker_on}
 
 -- ---- lanes
@@ -49,43 +49,27 @@ lane_same cap patience x = grind (arith, append-nil x, All-nil (IsFullMoment cap
 -- ---- ends
 
 pub end_goes_none : (cap patience : ℕ) (x y : End) → EndStays x y → EndGoes cap patience [] [] [] x y
-end_goes_none cap patience Away y h = subst (λ (e : End). EndGoes cap patience [] [] [] Away e) (sym h) (refl, refl, refl)
-end_goes_none cap patience (Own a) y h = subst (λ (e : End). EndGoes cap patience [] [] [] (Own a) e) (sym h) (lane_same cap patience a.items)
-end_goes_none cap patience (Sends a) y (b, is, h) = grind arith
-end_goes_none cap patience (Takes a) y (b, is, h) = subst (λ (e : End). EndGoes cap patience [] [] [] (Takes a) e) (sym is) (refl, refl, h)
+end_goes_none cap patience Away y h = (h, refl, refl, refl)
+end_goes_none cap patience (Own a) y h = (a, h, lane_same cap patience a.items)
+end_goes_none cap patience (Sends a) y (b, is, h) = (b, is, refl, record { link = h.link; first = h.first; sent = h.sent; notes = h.notes; fulls = h.fulls; patient = omega arith })
+end_goes_none cap patience (Takes a) y (b, is, h) = (b, is, refl, refl, h)
 
 both_empty : (c e : List McCopy) → c ≡ [] → e ≡ [] → c ++ e ≡ []
 both_empty c e none nothing = ap (λ l. l ++ e) none ∙ nothing
 
 pub end_goes_on : (cap patience : ℕ) (c w d e v f : List McCopy) (x y z : End) → EndGoes cap patience c w d x y → EndGoes cap patience e v f y z → EndGoes cap patience (c ++ e) (w ++ v) (d ++ f) x z
-end_goes_on cap patience c w d e v f Away Away Away h k = (both_empty c e h.0 k.0, both_empty w v h.1 k.1, both_empty d f h.2 k.2)
-end_goes_on cap patience c w d e v f (Own x) (Own y) (Own z) h k = lane_on cap patience c w d e v f x.items y.items z.items h k
-end_goes_on cap patience c w d e v f (Sends x) (Sends y) (Sends z) h k = (both_empty w v h.0 k.0, sender_on patience c d e f x y z h.1 k.1)
-end_goes_on cap patience c w d e v f (Takes x) (Takes y) (Takes z) h k = (both_empty c e h.0 k.0, both_empty d f h.1 k.1, taker_on w v x y z h.2 k.2)
-end_goes_on cap patience c w d e v f Away Away (Own z) h k = absurd k
-end_goes_on cap patience c w d e v f Away Away (Sends z) h k = absurd k
-end_goes_on cap patience c w d e v f Away Away (Takes z) h k = absurd k
-end_goes_on cap patience c w d e v f (Own x) (Own y) Away h k = absurd k
-end_goes_on cap patience c w d e v f (Own x) (Own y) (Sends z) h k = absurd k
-end_goes_on cap patience c w d e v f (Own x) (Own y) (Takes z) h k = absurd k
-end_goes_on cap patience c w d e v f (Sends x) (Sends y) Away h k = absurd k
-end_goes_on cap patience c w d e v f (Sends x) (Sends y) (Own z) h k = absurd k
-end_goes_on cap patience c w d e v f (Sends x) (Sends y) (Takes z) h k = absurd k
-end_goes_on cap patience c w d e v f (Takes x) (Takes y) Away h k = absurd k
-end_goes_on cap patience c w d e v f (Takes x) (Takes y) (Own z) h k = absurd k
-end_goes_on cap patience c w d e v f (Takes x) (Takes y) (Sends z) h k = absurd k
-end_goes_on cap patience c w d e v f Away (Own y) z h k = absurd h
-end_goes_on cap patience c w d e v f Away (Sends y) z h k = absurd h
-end_goes_on cap patience c w d e v f Away (Takes y) z h k = absurd h
-end_goes_on cap patience c w d e v f (Own x) Away z h k = absurd h
-end_goes_on cap patience c w d e v f (Own x) (Sends y) z h k = absurd h
-end_goes_on cap patience c w d e v f (Own x) (Takes y) z h k = absurd h
-end_goes_on cap patience c w d e v f (Sends x) Away z h k = absurd h
-end_goes_on cap patience c w d e v f (Sends x) (Own y) z h k = absurd h
-end_goes_on cap patience c w d e v f (Sends x) (Takes y) z h k = absurd h
-end_goes_on cap patience c w d e v f (Takes x) Away z h k = absurd h
-end_goes_on cap patience c w d e v f (Takes x) (Own y) z h k = absurd h
-end_goes_on cap patience c w d e v f (Takes x) (Sends y) z h k = absurd h
+end_goes_on cap patience c w d e v f Away y z (is, h) k =
+    let then : EndGoes cap patience e v f Away z = subst (λ (x : End). EndGoes cap patience e v f x z) is k in
+    (then.0, both_empty c e h.0 then.1, both_empty w v h.1 then.2, both_empty d f h.2 then.3)
+end_goes_on cap patience c w d e v f (Own x) y z (b, is, h) k =
+    let then : EndGoes cap patience e v f (Own b) z = subst (λ (x : End). EndGoes cap patience e v f x z) is k in
+    (then.0, then.1, lane_on cap patience c w d e v f x.items b.items then.0.items h then.2)
+end_goes_on cap patience c w d e v f (Sends x) y z (b, is, none, h) k =
+    let then : EndGoes cap patience e v f (Sends b) z = subst (λ (x : End). EndGoes cap patience e v f x z) is k in
+    (then.0, then.1, both_empty w v none then.2, sender_on patience c d e f x b then.0 h then.3)
+end_goes_on cap patience c w d e v f (Takes x) y z (b, is, none, lost, h) k =
+    let then : EndGoes cap patience e v f (Takes b) z = subst (λ (x : End). EndGoes cap patience e v f x z) is k in
+    (then.0, then.1, both_empty c e none then.2, both_empty d f lost then.3, taker_on w v x b then.0 h then.4)
 
 -- ---- all that is held
 
@@ -129,14 +113,8 @@ goes_stays cap patience a b c xs h k = grind (arith, append-nil xs, goes_on cap 
 
 end_sends_on : (cap patience : ℕ) (c w d : List McCopy) (x y : End) → EndGoes cap patience c w d x y → IsSending x → IsSending y
 end_sends_on cap patience c w d Away y h sends = absurd sends
-end_sends_on cap patience c w d (Own x) Away h sends = absurd h
-end_sends_on cap patience c w d (Own x) (Own y) h sends = tt
-end_sends_on cap patience c w d (Own x) (Sends y) h sends = tt
-end_sends_on cap patience c w d (Own x) (Takes y) h sends = absurd h
-end_sends_on cap patience c w d (Sends x) Away h sends = absurd h
-end_sends_on cap patience c w d (Sends x) (Own y) h sends = tt
-end_sends_on cap patience c w d (Sends x) (Sends y) h sends = tt
-end_sends_on cap patience c w d (Sends x) (Takes y) h sends = absurd h
+end_sends_on cap patience c w d (Own x) y h sends = subst IsSending (sym h.1) tt
+end_sends_on cap patience c w d (Sends x) y h sends = subst IsSending (sym h.1) tt
 end_sends_on cap patience c w d (Takes x) y h sends = absurd sends
 
 -- a sending end that was held still is

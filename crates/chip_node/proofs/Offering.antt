@@ -1,6 +1,6 @@
 -- An end stays an end of its link, and one offer more is refused.
-use Rattle.chip_node.proofs.Common.{InEnd, IsInEndOf, IsOutEndOf, IsRx, IsTx, Known, Link, List, OutEnd, RefusesOffer, RefusesOffers, Rx, Tx, [], ap, append_assoc, arith, full_noted_often, get_or}
-use Rattle.chip_node.proofs.Common.{get_or_from_slice_get, length, put_of, replicate, replicate_more, subst, sym, ℕ, ◌++◌, ◌+◌, ◌∙◌, ◌∷◌, ◌≡◌}
+use Rattle.chip_node.proofs.Common.{InEnd, IsInEndOf, IsOutEndOf, IsRx, IsTx, Known, Link, List, OutEnd, RefusesOffer, RefusesOffers, Rx, Tx, append_assoc, arith, get_or, get_or_from_slice_get}
+use Rattle.chip_node.proofs.Common.{replicate_more, subst, sym, ℕ, ◌+◌, ◌∙◌, ◌≡◌}
 
 -- the link that is read is the one of which it is an end
 pub in_end_stays : (links : List Link) (e : InEnd) (l : Link) (rx : Rx) → IsInEndOf links e → l ≡ get_or links e.link l → IsRx l rx → IsInEndOf links (record { link = e.link; rx = rx })

@@ -1,7 +1,7 @@
 -- The queue behind an output of a router: where it stands, and that its end is one by which copies are sent.
-use Rattle.chip_node.proofs.Common.{Behind, Chip, DumpRec, Dumped, End, HoldsSender, IsOutput, IsSending, List, McCopy, None, Option, Out, SendsBehind, Sent, Served, Some, WithRoom, [], ap}
-use Rattle.chip_node.proofs.Common.{append-nil, arith, get_or, length, one_item_at, out_number, out_number_below, place_at_router, place_in, recorded, refl, slice_get, slice_get-get_or}
-use Rattle.chip_node.proofs.Common.{slice_get_read, slice_get_within, subst, sym, ℕ, ◌++◌, ◌+◌, ◌<◌, ◌∙◌, ◌∷◌, ◌≡◌}
+use Rattle.chip_node.proofs.Common.{Behind, Chip, DumpRec, Dumped, End, HoldsSender, IsOutput, IsSending, List, McCopy, None, Option, Out, SendsBehind, Sent, Served, Some, WithRoom, [], append-nil}
+use Rattle.chip_node.proofs.Common.{arith, get_or, length, one_item_at, out_number, out_number_below, place_at_router, recorded, refl, slice_get, slice_get-get_or, slice_get_read, slice_get_within}
+use Rattle.chip_node.proofs.Common.{subst, sym, ℕ, ◌++◌, ◌+◌, ◌<◌, ◌∷◌, ◌≡◌}
 
 -- ---- the place behind an output
 

@@ -1,6 +1,6 @@
 -- What stays where nothing was done: what is not there to take, what is full, and room.
 use Rattle.chip_node.proofs.Common.{All-at, Away, Delivery, DumpRec, End, EndHasRoom, EndStays, HasAmpleRoom, Holdings, InEnd, IsIdle, IsIdleAt, List, McCopy, OutEnd, Own, SenderGoes, Sends, Some}
-use Rattle.chip_node.proofs.Common.{Stays, TakerGoes, Takes, WithRoom, [], ap, append-nil, append_assoc, arith, get_or, length, length-append, refl, same_Some, sending, slice_get, slice_get-get_or}
+use Rattle.chip_node.proofs.Common.{Stays, TakerGoes, Takes, WithRoom, [], append-nil, append_assoc, arith, get_or, length, length-append, refl, same_Some, sending, slice_get, slice_get-get_or}
 use Rattle.chip_node.proofs.Common.{slice_get_there, slice_get_within, subst, sym, taking, ℕ, ◌*◌, ◌++◌, ◌+◌, ◌∙◌, ◌≡◌, ◌≤◌}
 
 -- ---- ends of links, one step after the other

@@ -1,6 +1,7 @@
 -- What a list of what was done makes of the ends of queues, of what is unsent, and of logs. The definitions are this project's own.
 use Rattle.std.specs.Prelude.{◌≡◌, ◌⊎◌, ℕ, ◌+◌, ◌*◌, ◌<◌, ◌≤◌, List, [], ◌++◌, length, Some, All, slice_get, slice_index_or}
 use Rattle.spin_base.specs.declared.copies.McCopy.{McCopy}
+use Rattle.spin_base.specs.WithRoom.{WithRoom}
 use Rattle.link_queue.specs.declared.links.Link.{Link}
 use Rattle.link_queue.specs.Ends.{sending, taking}
 use Rattle.link_queue.specs.TheRule.{StartsWith}
@@ -46,22 +47,10 @@ pub record TakerGoes (went : List McCopy) (before after : InEnd) : Type 0 where
 
 -- What is held of a queue stays of its kind: both ends, one, or none. Where an end is not held, nothing passes by it.
 abbrev pub EndGoes : (cap patience : ℕ) (came went dropped : List McCopy) → End → End → Type 0
-EndGoes cap patience came went dropped Away Away = (came ≡ []) × (went ≡ []) × (dropped ≡ [])
-EndGoes cap patience came went dropped Away (Own b) = ⊥
-EndGoes cap patience came went dropped Away (Sends b) = ⊥
-EndGoes cap patience came went dropped Away (Takes b) = ⊥
-EndGoes cap patience came went dropped (Own a) Away = ⊥
-EndGoes cap patience came went dropped (Own a) (Own b) = LaneGoes cap patience came went dropped a.items b.items
-EndGoes cap patience came went dropped (Own a) (Sends b) = ⊥
-EndGoes cap patience came went dropped (Own a) (Takes b) = ⊥
-EndGoes cap patience came went dropped (Sends a) Away = ⊥
-EndGoes cap patience came went dropped (Sends a) (Own b) = ⊥
-EndGoes cap patience came went dropped (Sends a) (Sends b) = (went ≡ []) × SenderGoes patience came dropped a b
-EndGoes cap patience came went dropped (Sends a) (Takes b) = ⊥
-EndGoes cap patience came went dropped (Takes a) Away = ⊥
-EndGoes cap patience came went dropped (Takes a) (Own b) = ⊥
-EndGoes cap patience came went dropped (Takes a) (Sends b) = ⊥
-EndGoes cap patience came went dropped (Takes a) (Takes b) = (came ≡ []) × (dropped ≡ []) × TakerGoes went a b
+EndGoes cap patience came went dropped Away b = (b ≡ Away) × (came ≡ []) × (went ≡ []) × (dropped ≡ [])
+EndGoes cap patience came went dropped (Own a) b = (l : WithRoom McCopy) × (b ≡ Own l) × LaneGoes cap patience came went dropped a.items l.items
+EndGoes cap patience came went dropped (Sends a) b = (e : OutEnd) × (b ≡ Sends e) × (went ≡ []) × SenderGoes patience came dropped a e
+EndGoes cap patience came went dropped (Takes a) b = (e : InEnd) × (b ≡ Takes e) × (came ≡ []) × (dropped ≡ []) × TakerGoes went a e
 
 -- ---- all that a worker holds
 

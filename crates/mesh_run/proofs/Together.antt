@@ -123,28 +123,16 @@ module _ {cap patience : ℕ} {before after : List Share} {parts : List (List It
     pub went : left q (part k) ≡ []
     pub lost : lost_at q (part k) ≡ []
 
-  none_by : (k q : ℕ) (b : End) → end_at after k q ≡ Some b → Passes k q Away b → NonePasses k q
-  none_by k q Away at goes = record { stays = at; came = goes.0; went = goes.1; lost = goes.2 }
-  none_by k q (Own b) at goes = absurd goes
-  none_by k q (Sends b) at goes = absurd goes
-  none_by k q (Takes b) at goes = absurd goes
-
   pub none_passes : (k q : ℕ) → end_at before k q ≡ Some Away → NonePasses k q
-  none_passes k q at = let b = end_passes k q Away at in none_by k q b.0 b.1 b.2
+  none_passes k q at = let b = end_passes k q Away at in record { stays = b.1 ∙ ap Some b.2.0; came = b.2.1; went = b.2.2; lost = b.2.3 }
 
   pub record LanePasses (k q : ℕ) (a : WithRoom McCopy) : Type 0 where
     pub lane : WithRoom McCopy
     pub stays : end_at after k q ≡ Some (Own lane)
     pub goes : LaneGoes cap patience (entered q (part k)) (left q (part k)) (lost_at q (part k)) a.items lane.items
 
-  lane_by : (k q : ℕ) (a : WithRoom McCopy) (b : End) → end_at after k q ≡ Some b → Passes k q (Own a) b → LanePasses k q a
-  lane_by k q a Away at goes = absurd goes
-  lane_by k q a (Own b) at goes = record { lane = b; stays = at; goes = goes }
-  lane_by k q a (Sends b) at goes = absurd goes
-  lane_by k q a (Takes b) at goes = absurd goes
-
   pub lane_passes : (k q : ℕ) (a : WithRoom McCopy) → end_at before k q ≡ Some (Own a) → LanePasses k q a
-  lane_passes k q a at = let b = end_passes k q (Own a) at in lane_by k q a b.0 b.1 b.2
+  lane_passes k q a at = let b = end_passes k q (Own a) at in record { lane = b.2.0; stays = b.1 ∙ ap Some b.2.1; goes = b.2.2 }
 
   pub record SenderPasses (k q : ℕ) (a : OutEnd) : Type 0 where
     pub sender : OutEnd
@@ -152,14 +140,8 @@ module _ {cap patience : ℕ} {before after : List Share} {parts : List (List It
     pub went : left q (part k) ≡ []
     pub goes : SenderGoes patience (entered q (part k)) (lost_at q (part k)) a sender
 
-  sender_by : (k q : ℕ) (a : OutEnd) (b : End) → end_at after k q ≡ Some b → Passes k q (Sends a) b → SenderPasses k q a
-  sender_by k q a Away at goes = absurd goes
-  sender_by k q a (Own b) at goes = absurd goes
-  sender_by k q a (Sends b) at goes = record { sender = b; stays = at; went = goes.0; goes = goes.1 }
-  sender_by k q a (Takes b) at goes = absurd goes
-
   pub sender_passes : (k q : ℕ) (a : OutEnd) → end_at before k q ≡ Some (Sends a) → SenderPasses k q a
-  sender_passes k q a at = let b = end_passes k q (Sends a) at in sender_by k q a b.0 b.1 b.2
+  sender_passes k q a at = let b = end_passes k q (Sends a) at in record { sender = b.2.0; stays = b.1 ∙ ap Some b.2.1; went = b.2.2; goes = b.2.3 }
 
   pub record TakerPasses (k q : ℕ) (a : InEnd) : Type 0 where
     pub taker : InEnd
@@ -168,14 +150,8 @@ module _ {cap patience : ℕ} {before after : List Share} {parts : List (List It
     pub lost : lost_at q (part k) ≡ []
     pub goes : TakerGoes (left q (part k)) a taker
 
-  taker_by : (k q : ℕ) (a : InEnd) (b : End) → end_at after k q ≡ Some b → Passes k q (Takes a) b → TakerPasses k q a
-  taker_by k q a Away at goes = absurd goes
-  taker_by k q a (Own b) at goes = absurd goes
-  taker_by k q a (Sends b) at goes = absurd goes
-  taker_by k q a (Takes b) at goes = record { taker = b; stays = at; came = goes.0; lost = goes.1; goes = goes.2 }
-
   pub taker_passes : (k q : ℕ) (a : InEnd) → end_at before k q ≡ Some (Takes a) → TakerPasses k q a
-  taker_passes k q a at = let b = end_passes k q (Takes a) at in taker_by k q a b.0 b.1 b.2
+  taker_passes k q a at = let b = end_passes k q (Takes a) at in record { taker = b.2.0; stays = b.1 ∙ ap Some b.2.1; came = b.2.2; lost = b.2.3; goes = b.2.4 }
 
   -- what all tell of a queue, where one share alone tells something
   pub told_by_one : {Y : Type 0} (f : Item → List Y) (k : ℕ) → k < length before → ((j : ℕ) → j < length before → j ≢ k → flat_map f (part j) ≡ []) →
