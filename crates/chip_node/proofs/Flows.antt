@@ -1,7 +1,7 @@
 -- What was done, one list after the other, is what both lists tell.
 use Rattle.chip_node.proofs.Common.{All-append, All-map, All-nil, All-weaker, AreEndsOf, Away, CoreBank, End, EndGoes, EndStays, Goes, Holdings, HoldsSender, IsFullMoment, IsReadyBank, IsReadyRouter}
 use Rattle.chip_node.proofs.Common.{IsSending, Item, LaneGoes, Link, List, McCopy, Own, RouterNode, Sends, Stays, Takes, [], ap, append-nil, append_assoc, arith, delivered_of, deliveries, dumped_of}
-use Rattle.chip_node.proofs.Common.{entered, entered_by, flat_map-append, injection_place, left, left_by, length, length-append, length-map, lost, lost_at, lost_by, map, records, refl, sent_by}
+use Rattle.chip_node.proofs.Common.{entered, entered_by, flat_map-append, injection_place, left, left_by, length, length-append, length-map, lost_at, lost_by, map, records, refl, sent_by}
 use Rattle.chip_node.proofs.Common.{sent_in, slice_index_or, subst, sym, ℕ, ◌*◌, ◌++◌, ◌+◌, ◌∙◌, ◌≡◌, ◌≤◌}
 use Rattle.chip_node.proofs.Stays.{end_before, patient_on, sender_on, taker_on}
 

@@ -1,7 +1,7 @@
 -- What a router sees at a port, and that there is room for what its turn needs.
 use Rattle.chip_node.proofs.Common.{All, All-at, All-each, All-filter, All-nil, All-weaker, Away, Behind, Bool, End, EndHasRoom, EndLacks, EndTakes, Entry, Front, HasRoomBehind, HasRoomForOuts}
 use Rattle.chip_node.proofs.Common.{HasRoomIn, Holdings, IsIdle, IsIdleAt, IsReadyRouter, IsSeen, Link, List, McCopy, None, Option, Out, Own, Port, RouterNode, Sends, Some, Stays, Takes, [], all_outs}
-use Rattle.chip_node.proofs.Common.{arith, cond, false, get_or, has, last_hop, length, lookup, one_item_at, out_number, outputs_at, outs_of, place_in, port_place, records, refl, set, slice_get}
+use Rattle.chip_node.proofs.Common.{arith, cond, false, get_or, has, last_hop, length, lookup, one_item_at, out_number, outputs_at, outs_of, place_in, port_place, refl, set, slice_get}
 use Rattle.chip_node.proofs.Common.{slice_get-set_other, slice_get_read, slice_get_within, subst, sym, true, ℕ, ◌<◌, ◌==◌, ◌∙◌, ◌∷◌, ◌≡◌, ◌≤◌}
 use Rattle.spin_base.specs.Outputs.{core_outs, link_outs}
 use Rattle.chip_node.proofs.{Outputs.few_pass, EndSteps.end_lacks_idle, EndSteps.end_stays_lacks, Placing.stays_at, Placing.Writes}

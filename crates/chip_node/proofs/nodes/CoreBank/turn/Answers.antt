@@ -1,4 +1,4 @@
-use Rattle.chip_node.proofs.Common.{Moved, SendsOne, Turn, got, subst, ◌≢◌}
+use Rattle.chip_node.proofs.Common.{Moved, SendsOne, Turn, subst, ◌≢◌}
 use Rattle.chip_node.proofs.{Banking.cannot_get_before, Banking.first_none, Banking.half_stays, Banking.second_none, Stays.roomy_on}
 use Rattle.chip_node.proofs.nodes.CoreBank.turn.Goals as goal
 

@@ -1,4 +1,4 @@
-use Rattle.chip_node.proofs.Common.{East, Out, Service, arith, get_or, get_or_default, length, records, refl, ◌<◌, ◌≡◌}
+use Rattle.chip_node.proofs.Common.{East, Out, Service, arith, get_or, get_or_default, length, refl, ◌<◌, ◌≡◌}
 use Rattle.spin_base.specs.declared.routes.Out.TheVariants.{Link}
 use Rattle.chip_node.proofs.Serving.{room_left, serves_more}
 use Rattle.chip_node.proofs.nodes.RouterNode.serve_all.Goals as goal
