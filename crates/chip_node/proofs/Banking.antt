@@ -1,5 +1,5 @@
 -- A bank's turn: one unsent copy is offered, and one look goes round the queues of its vertices.
-use Rattle.chip_node.proofs.Common.{All-weaker, BankActs, BankMoves, CannotGet, Contains, CoreBank, GetsOne, HalfActs, Holdings, IsIdleAt, IsNone, IsReadyBank, IsUnsentAt, Item, Link, List, McCopy}
+use Rattle.chip_node.proofs.Common.{All-weaker, BankActs, BankMoves, CannotGet, Contains, CoreBank, GetsOne, ActsBy, Holdings, IsIdleAt, IsNone, IsReadyBank, IsUnsentAt, Item, Link, List, McCopy}
 use Rattle.chip_node.proofs.Common.{Moved, None, Nothing, Option, SendsOne, Some, Stays, Turn, Waits, [], ap, append-nil, arith, get_or, get_or_default, length, option_to_list, refl, slice_get, sym}
 use Rattle.chip_node.proofs.Common.{turn_of_both, ℕ, ◌++◌, ◌+◌, ◌<◌, ◌∙◌, ◌∷◌, ◌≡◌, ◌≢◌}
 use Rattle.chip_node.proofs.{Flows.goes_on, Flows.goes_stays, Flows.stays_goes, Stays.idle_before, Stays.stays_on}
@@ -31,7 +31,7 @@ sends_only b xs one = grind (arith, append-nil xs)
 gets_only : (b : CoreBank) (xs : List Item) → GetsOne b xs → BankMoves b xs
 gets_only b xs one = grind arith
 
-pub halves_act : (cap patience : ℕ) (k : CoreBank) (a b c : Holdings) (s t : Turn) → HalfActs cap patience (SendsOne k) a s b → HalfActs cap patience (GetsOne k) b t c →
+pub halves_act : (cap patience : ℕ) (k : CoreBank) (a b c : Holdings) (s t : Turn) → ActsBy cap patience (SendsOne k) a s b → ActsBy cap patience (GetsOne k) b t c →
     BankActs cap patience k a (turn_of_both s t) c
 halves_act cap patience k a b c Moved Moved (xs, one, goes) (ys, other, then) = grind (arith, goes_on cap patience a b c xs ys goes then, some_more)
 halves_act cap patience k a b c Moved Nothing (xs, one, goes) then = (xs, sends_only k xs one, goes_stays cap patience a b c xs goes then)
@@ -44,7 +44,7 @@ halves_act cap patience k a b c Waits Nothing stays then = stays_on a b c stays 
 halves_act cap patience k a b c Waits Waits stays then = stays_on a b c stays then
 
 -- where a half moved nothing, nothing was done
-pub half_stays : (cap patience : ℕ) (One : List Item → Type 0) (a b : Holdings) (s : Turn) → s ≢ Moved → HalfActs cap patience One a s b → Stays a b
+pub half_stays : (cap patience : ℕ) (One : List Item → Type 0) (a b : Holdings) (s : Turn) → s ≢ Moved → ActsBy cap patience One a s b → Stays a b
 half_stays cap patience One a b Moved none h = absurd (none refl)
 half_stays cap patience One a b Nothing none h = h
 half_stays cap patience One a b Waits none h = h

@@ -1,5 +1,5 @@
 -- The names that the proofs of this crate cite from outside of them, passed on from one place. Declares nothing.
-pub use Rattle.chip_node.specs.Acting.{BankActs, BankMoves, CannotGet, GetsOne, HalfActs, IsReadyBank, IsReadyRouter, IsUnsentAt, RoutesOne, SendsOne, ServesOuts, place_at_router, place_in}
+pub use Rattle.chip_node.specs.Acting.{BankActs, BankMoves, CannotGet, GetsOne, ActsBy, IsReadyBank, IsReadyRouter, IsUnsentAt, RoutesOne, SendsOne, ServesOuts, place_at_router, place_in}
 pub use Rattle.chip_node.specs.{Acting.service_items, Acting.turn_of_both, Ends.IsInEndOf, Ends.IsOutEndOf, Going.AreEndsOf, Going.EndGoes, Going.EndHasRoom, Going.EndStays, Going.Goes}
 pub use Rattle.chip_node.specs.Going.{HasAmpleRoom, HoldsSender, IsEndOf, IsFullEnd, IsFullMoment, IsIdle, IsIdleAt, IsSending, LaneGoes, SenderGoes, Stays, TakerGoes}
 pub use Rattle.chip_node.specs.Items.{Item, Service, brought, delivered_of, deliveries, dumped_of, entered, entered_by, got, injection_place, left, left_by, lost, lost_at, lost_by, port_place}

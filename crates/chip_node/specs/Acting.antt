@@ -57,11 +57,15 @@ pub record ServesOuts (cap patience : ℕ) (r : RouterNode) (outs : List Out) (k
   pub nowhere : All (λ s. place_at_router r.behind.now s.out ≡ None → s.fate ≡ Dumped) done
   pub goes : Goes cap patience before (service_items r done) after
 
+-- What a turn, or one half of a bank's, does: as its relation tells where it moved a copy, and else nothing.
+abbrev pub ActsBy : ℕ → ℕ → (List Item → Type 0) → Holdings → Turn → Holdings → Type 0
+ActsBy cap patience One before Moved after = (items : List Item) × One items × Goes cap patience before items after
+ActsBy cap patience One before Nothing after = Stays before after
+ActsBy cap patience One before Waits after = Stays before after
+
 -- What a turn of a router does: it routes a copy where it moved one, and else nothing.
 abbrev pub RouterActs : ℕ → ℕ → List Entry → RouterNode → Holdings → Turn → Holdings → Type 0
-RouterActs cap patience entries r before Moved after = (items : List Item) × RoutesOne entries r items × Goes cap patience before items after
-RouterActs cap patience entries r before Nothing after = Stays before after
-RouterActs cap patience entries r before Waits after = Stays before after
+RouterActs cap patience entries r before turn after = ActsBy cap patience (RoutesOne entries r) before turn after
 
 -- from none of a router's ports a copy can be taken
 abbrev pub IsIdleRouter : RouterNode → Holdings → Type 0
@@ -100,15 +104,7 @@ pub record BankMoves (b : CoreBank) (items : List Item) : Type 0 where
   pub some : items ≢ []
 
 abbrev pub BankActs : ℕ → ℕ → CoreBank → Holdings → Turn → Holdings → Type 0
-BankActs cap patience b before Moved after = (items : List Item) × BankMoves b items × Goes cap patience before items after
-BankActs cap patience b before Nothing after = Stays before after
-BankActs cap patience b before Waits after = Stays before after
-
--- what one half of a bank's turn does: as its relation tells where it moved a copy, and else nothing
-abbrev pub HalfActs : ℕ → ℕ → (List Item → Type 0) → Holdings → Turn → Holdings → Type 0
-HalfActs cap patience One before Moved after = (items : List Item) × One items × Goes cap patience before items after
-HalfActs cap patience One before Nothing after = Stays before after
-HalfActs cap patience One before Waits after = Stays before after
+BankActs cap patience b before turn after = ActsBy cap patience (BankMoves b) before turn after
 
 -- no vertex of the bank has an unsent copy, or the injection queue is full
 abbrev pub CannotSend : ℕ → CoreBank → Holdings → Type 0

@@ -1,6 +1,6 @@
 // The bank of a chip's vertices between queues.
 ghost use Rattle.std.specs.Prelude.{◌≡◌, ◌≢◌, ◌+◌, ◌<◌, [], All, IfNone, IfSome, IsTrue, length, slice_index_or};
-ghost use Rattle.chip_node.specs.Acting.{BankActs, CannotGet, CannotSend, GetsOne, HalfActs, IsIdleBank, IsReadyBank, IsUnsentAt, SendsOne, turn_of_both};
+ghost use Rattle.chip_node.specs.Acting.{BankActs, CannotGet, CannotSend, GetsOne, ActsBy, IsIdleBank, IsReadyBank, IsUnsentAt, SendsOne, turn_of_both};
 ghost use Rattle.chip_node.specs.Going.{AreEndsOf, HasAmpleRoom};
 ghost use Rattle.chip_node.specs.declared.holdings.Turn.TheVariants.{Moved};
 
@@ -51,7 +51,7 @@ impl CoreBank {
         all: bool,
     ) -> Turn
         requires { IsReadyBank around.links.now self.now hold.old }
-        ensures acts { HalfActs around.entry.capacity around.entry.patience (SendsOne self.now)
+        ensures acts { ActsBy around.entry.capacity around.entry.patience (SendsOne self.now)
             hold.old result hold.new }
         ensures idle { IsTrue all → result ≢ Moved → HasAmpleRoom around.entry.capacity hold.old
             → CannotSend around.entry.capacity self.now hold.old }
@@ -88,7 +88,7 @@ impl CoreBank {
     // Looks at the queues of the vertices, one after the other, until one gives a copy, and logs it.
     fn collect<R: Wait>(&self, rt: &R, around: Around, hold: &mut Holdings, number: u32) -> Turn
         requires { IsReadyBank around.links.now self.now hold.old }
-        ensures acts { HalfActs around.entry.capacity around.entry.patience (GetsOne self.now)
+        ensures acts { ActsBy around.entry.capacity around.entry.patience (GetsOne self.now)
             hold.old result hold.new }
         ensures idle { result ≢ Moved → HasAmpleRoom around.entry.capacity hold.old
             → CannotGet self.now hold.old }

@@ -1,10 +1,10 @@
 -- What one turn of the actor at a place does to a share, and turns one after the other.
-use Rattle.mesh_run.proofs.Common.{ActsAt, All, All-append, All-each, All-nil, All-weaker, AreEndsOf, AreOf, BankActs, Bool, Core, CoreBank, DoesAt, Goes, Holdings, HoldsSender, IsBankOf, IsInRun}
-use Rattle.mesh_run.proofs.Common.{IsLiveIndex, IsNoted, IsOutput, IsReadyBank, IsReadyRouter, IsRouterOf, IsShareOf, Item, List, Moved, MovesAt, Nothing, Out, PlaysOne, PlaysRound, PlaysTurns}
-use Rattle.mesh_run.proofs.Common.{QueueLink, RouterActs, RouterNode, Setup, Share, SharePlays, Some, Stays, Turn, Waits, [], actor_of, ap, arith, bank_place, both_none, cases_eq, chip_of}
-use Rattle.mesh_run.proofs.Common.{div-add-mod', false, goes_none, goes_on, grid_size, holds_sender_on, index_of, index_of-chip_of, injection_place, inl, inr, length, live_inside, mod_below}
-use Rattle.mesh_run.proofs.Common.{out_number, place_at_router, place_behind, port_number, port_place, refl, router_place, slice_get_within, stays_same, subst, sym, true, ℕ, ◌%◌, ◌*◌, ◌++◌, ◌+◌, ◌/◌}
-use Rattle.mesh_run.proofs.Common.{◌<◌, ◌∙◌, ◌≡◌, ◌≢◌, ◌≤◌, ◌⊎◌}
+use Rattle.mesh_run.proofs.Common.{ActsAt, ActsBy, All, All-append, All-each, All-nil, All-weaker, AreEndsOf, AreOf, AreTurns, BankActs, BankMoves, Bool, Core, CoreBank, DoesAt, Goes, Holdings}
+use Rattle.mesh_run.proofs.Common.{HoldsSender, IsBankOf, IsInRun, IsLiveIndex, IsNoted, IsOutput, IsReadyBank, IsReadyRouter, IsRouterOf, IsShareOf, Item, List, Moved, MovesAt, Nothing, Out}
+use Rattle.mesh_run.proofs.Common.{PlaysOne, PlaysRound, PlaysTurns, QueueLink, RouterActs, RouterNode, RoutesOne, Setup, Share, SharePlays, Some, Stays, Turn, Waits, [], actor_of, ap, arith}
+use Rattle.mesh_run.proofs.Common.{bank_place, both_none, cases_eq, chip_of, div-add-mod', false, goes_none, goes_on, grid_size, holds_sender_on, index_of, index_of-chip_of, injection_place, inl, inr}
+use Rattle.mesh_run.proofs.Common.{length, live_inside, mod_below, out_number, place_at_router, place_behind, port_number, port_place, refl, router_place, slice_get_within, stays_same, subst, sym}
+use Rattle.mesh_run.proofs.Common.{true, ℕ, ◌%◌, ◌*◌, ◌++◌, ◌+◌, ◌/◌, ◌<◌, ◌∙◌, ◌≡◌, ◌≢◌, ◌≤◌, ◌⊎◌}
 use Rattle.spin_base.specs.declared.routes.Out.TheVariants.{Link}
 use Rattle.mesh_run.proofs.{Apart.not_to_itself, Apart.one_output, Turns.IsNotOf, Turns.bank_by, Turns.bank_turns, Turns.routed_by, Turns.routed_some, Turns.routed_turns, Turns.turns_beside}
 use Rattle.mesh_run.proofs.Turns.{turns_none, turns_on}
@@ -72,47 +72,38 @@ module _ (u : Setup) (links : List QueueLink) (s : Share) where
 -- ---- what a turn does
 
 module _ (u : Setup) (patience : ℕ) where
-  router_goes : (cap i : ℕ) (r : RouterNode) (a b : Holdings) (turn : Turn) → RouterActs cap patience r.table.now r a turn b → (items : List Item) × Goes cap patience a items b
-  router_goes cap i r a b Moved acts = (acts.0, acts.2)
-  router_goes cap i r a b Nothing acts = ([], goes_none cap patience a b acts)
-  router_goes cap i r a b Waits acts = ([], goes_none cap patience a b acts)
+  acts_go : (cap : ℕ) (One : List Item → Type 0) (a b : Holdings) (turn : Turn) → ActsBy cap patience One a turn b → (items : List Item) × Goes cap patience a items b
+  acts_go cap One a b Moved acts = (acts.0, acts.2)
+  acts_go cap One a b Nothing acts = ([], goes_none cap patience a b acts)
+  acts_go cap One a b Waits acts = ([], goes_none cap patience a b acts)
 
-  bank_goes : (cap : ℕ) (k : CoreBank) (a b : Holdings) (turn : Turn) → BankActs cap patience k a turn b → (items : List Item) × Goes cap patience a items b
-  bank_goes cap k a b Moved acts = (acts.0, acts.2)
-  bank_goes cap k a b Nothing acts = ([], goes_none cap patience a b acts)
-  bank_goes cap k a b Waits acts = ([], goes_none cap patience a b acts)
-
-  pub router_keeps : (links : List QueueLink) (s t : Share) (cap i : ℕ) (r : RouterNode) (turn : Turn) → t.from ≡ s.from → t.to ≡ s.to → RouterActs cap patience r.table.now r s.hold turn t.hold →
+  pub acts_keep : (links : List QueueLink) (s t : Share) (cap : ℕ) (One : List Item → Type 0) (turn : Turn) → t.from ≡ s.from → t.to ≡ s.to → ActsBy cap patience One s.hold turn t.hold →
       AreEndsOf links t.hold.ends.items → IsShareOf u links s → IsShareOf u links t
-  router_keeps links s t cap i r turn from to acts ends share =
-      let goes = router_goes cap i r s.hold t.hold turn acts in
-      share_on u links s cap patience t goes.0 from to goes.1 ends share
+  acts_keep links s t cap One turn from to acts ends share = let goes = acts_go cap One s.hold t.hold turn acts in share_on u links s cap patience t goes.0 from to goes.1 ends share
 
-  pub bank_keeps : (links : List QueueLink) (s t : Share) (cap : ℕ) (k : CoreBank) (turn : Turn) → t.from ≡ s.from → t.to ≡ s.to → BankActs cap patience k s.hold turn t.hold →
-      AreEndsOf links t.hold.ends.items → IsShareOf u links s → IsShareOf u links t
-  bank_keeps links s t cap k turn from to acts ends share =
-      let goes = bank_goes cap k s.hold t.hold turn acts in
-      share_on u links s cap patience t goes.0 from to goes.1 ends share
-
-  router_does : (cap at i : ℕ) (r : RouterNode) (s t : Share) (turn : Turn) → cap ≡ u.capacity → IsRouterOf u i r → router_place i ≡ at →
-      RouterActs cap patience r.table.now r s.hold turn t.hold → DoesAt u patience at s turn t
-  router_does cap at i r s t Moved is of place acts = grind (arith, routed_turns u r i of acts.0 acts.1, routed_some u r acts.0 acts.1, routed_by u r acts.0 acts.1, All-weaker)
-  router_does cap at i r s t Nothing is of place acts = acts
-  router_does cap at i r s t Waits is of place acts = acts
-
-  bank_does : (cap at i : ℕ) (k : CoreBank) (s t : Share) (turn : Turn) → cap ≡ u.capacity → IsLiveIndex u i → IsBankOf u i k → bank_place i ≡ at →
-      BankActs cap patience k s.hold turn t.hold → DoesAt u patience at s turn t
-  bank_does cap at i k s t Moved is live of place acts = grind (arith, bank_turns u i k acts.0 live of acts.1, bank_by u k acts.0 acts.1, All-weaker)
-  bank_does cap at i k s t Nothing is live of place acts = acts
-  bank_does cap at i k s t Waits is live of place acts = acts
+  acts_does : (cap at : ℕ) (One : List Item → Type 0) (s t : Share) (turn : Turn) → cap ≡ u.capacity →
+      ((items : List Item) → One items → AreTurns u 1 items × (items ≢ []) × All (λ x. actor_of x ≡ at) items) → ActsBy cap patience One s.hold turn t.hold → DoesAt u patience at s turn t
+  acts_does cap at One s t Moved is one acts =
+      let did = one acts.0 acts.1 in
+      record { items = acts.0; goes = subst (λ n. Goes n patience s.hold acts.0 t.hold) is acts.2; of_it = did.2; turns_are = did.0; some = did.1 }
+  acts_does cap at One s t Nothing is one acts = acts
+  acts_does cap at One s t Waits is one acts = acts
 
   pub router_acts : (cap at i : ℕ) (r : RouterNode) (s t : Share) (turn : Turn) → t.from ≡ s.from → t.to ≡ s.to → t.moved ≡ s.moved → cap ≡ u.capacity → IsRouterOf u i r → router_place i ≡ at →
       RouterActs cap patience r.table.now r s.hold turn t.hold → ActsAt u patience at s turn t
-  router_acts cap at i r s t turn from to moved is of place acts = record { from = from; to = to; moved = moved; does = router_does cap at i r s t turn is of place acts }
+  router_acts cap at i r s t turn from to moved is of place acts =
+      let by = ap router_place of.index ∙ place in
+      let does = acts_does cap at (RoutesOne r.table.now r) s t turn is
+      (λ items one. (routed_turns u r i of items one, routed_some u r items one, subst (λ n. All (λ x. actor_of x ≡ n) items) by (routed_by u r items one))) acts in
+      record { from = from; to = to; moved = moved; does = does }
 
   pub bank_acts : (cap at i : ℕ) (k : CoreBank) (s t : Share) (turn : Turn) → t.from ≡ s.from → t.to ≡ s.to → t.moved ≡ s.moved → cap ≡ u.capacity → IsLiveIndex u i → IsBankOf u i k →
       bank_place i ≡ at → BankActs cap patience k s.hold turn t.hold → ActsAt u patience at s turn t
-  bank_acts cap at i k s t turn from to moved is live of place acts = record { from = from; to = to; moved = moved; does = bank_does cap at i k s t turn is live of place acts }
+  bank_acts cap at i k s t turn from to moved is live of place acts =
+      let by = ap bank_place of.index ∙ place in
+      let does = acts_does cap at (BankMoves k) s t turn is
+      (λ items one. (bank_turns u i k items live of one, one.some, subst (λ n. All (λ x. actor_of x ≡ n) items) by (bank_by u k items one))) acts in
+      record { from = from; to = to; moved = moved; does = does }
 
   -- ---- what is noted
 

@@ -1,6 +1,6 @@
 -- The names that the proofs of this crate cite from outside of them, passed on from one place. Declares nothing.
 pub use Rattle.chip_node.proofs.{Flows.goes_none, Flows.goes_on, Flows.holds_sender_on, Stays.end_before, Stays.stays_same}
-pub use Rattle.chip_node.specs.Acting.{BankActs, BankMoves, GetsOne, IsReadyBank, IsReadyRouter, RouterActs, RoutesOne, SendsOne, place_at_router, place_in, service_items}
+pub use Rattle.chip_node.specs.Acting.{ActsBy, BankActs, BankMoves, GetsOne, IsReadyBank, IsReadyRouter, RouterActs, RoutesOne, SendsOne, place_at_router, place_in, service_items}
 pub use Rattle.chip_node.specs.Going.{AreEndsOf, EndGoes, Goes, HoldsSender, IsEndOf, IsFullMoment, LaneGoes, SenderGoes, Stays, TakerGoes}
 pub use Rattle.chip_node.specs.Items.{Item, Service, brought, delivered_of, deliveries, dumped_of, entered, entered_by, getting_of, gettings, got, injection_place, left, left_by, lost_at, lost_by}
 pub use Rattle.chip_node.specs.Items.{port_place, records, sending_of, sendings, sent, sent_by, sent_in, served, service_of, services, taking_of, takings, took, where_same, where_there}

@@ -1,5 +1,5 @@
-use Rattle.mesh_run.proofs.Common.{IsInRun, refl, subst, sym, ◌/◌}
-use Rattle.mesh_run.proofs.Acting.{bank_acts, bank_keeps, even_place, odd_place, ready_bank, ready_router, router_acts, router_keeps}
+use Rattle.mesh_run.proofs.Common.{BankMoves, IsInRun, RoutesOne, refl, subst, sym, ◌/◌}
+use Rattle.mesh_run.proofs.Acting.{acts_keep, bank_acts, even_place, odd_place, ready_bank, ready_router, router_acts}
 use Rattle.mesh_run.proofs.shares.Share.act.Goals as goal
 
 pub turn-requires : goal.turn-requires
@@ -22,8 +22,8 @@ returns-in-Some-clause-acts g c =
 
 pub returns-in-Some-clause-share : goal.returns-in-Some-clause-share
 returns-in-Some-clause-share g c =
-    router_keeps c.args.ground.footing.setup.now c.args.ground.around.patience c.args.ground.around.links.now c.args.self.now _ c.args.ground.around.capacity
-    (c.args.at / 2) c.in-Some.router c.turn.result refl refl c.turn.ensures.acts c.turn.ensures.ends c.requires.share
+    acts_keep c.args.ground.footing.setup.now c.args.ground.around.patience c.args.ground.around.links.now c.args.self.now _ c.args.ground.around.capacity (RoutesOne c.in-Some.router.table.now c.in-Some.router)
+    c.turn.result refl refl c.turn.ensures.acts c.turn.ensures.ends c.requires.share
 
 pub returns-in-Some-bank-clause-acts : goal.returns-in-Some-bank-clause-acts
 returns-in-Some-bank-clause-acts g c =
@@ -33,5 +33,5 @@ returns-in-Some-bank-clause-acts g c =
 
 pub returns-in-Some-bank-clause-share : goal.returns-in-Some-bank-clause-share
 returns-in-Some-bank-clause-share g c =
-    bank_keeps c.args.ground.footing.setup.now c.args.ground.around.patience c.args.ground.around.links.now c.args.self.now _ c.args.ground.around.capacity c.in-Some-bank.bank.now
+    acts_keep c.args.ground.footing.setup.now c.args.ground.around.patience c.args.ground.around.links.now c.args.self.now _ c.args.ground.around.capacity (BankMoves c.in-Some-bank.bank.now)
     c.turn-in-Some-bank.result refl refl c.turn-in-Some-bank.ensures.acts c.turn-in-Some-bank.ensures.ends c.requires.share
