@@ -1,5 +1,5 @@
 -- The nets of the example stand on its machine.
-use Rattle.std.proofs.Common.{◌≡◌, ◌≢◌, ℕ, ◌+◌, ◌*◌, suc, zero, List, [], ◌∷◌, map, Some, None, refl, sym, ap, ◌∙◌, subst, arith, inl, inr, ◌⊎◌}
+use Rattle.std.proofs.Common.{◌≡◌, ◌≢◌, ℕ, ◌+◌, ◌*◌, ◌<◌, ◌≤◌, suc, zero, List, [], ◌∷◌, map, length, get_or, Some, None, refl, sym, ap, ◌∙◌, subst, arith, inl, inr, ◌⊎◌}
 use Rattle.std.proofs.lemmas.{Option.none-some, List.Elements.All-from_recursion, List.Kept.AllPairs-cons}
 use Rattle.std.specs.List.{All, AllPairs, Any, Contains, slice_get}
 use Rattle.spin_base.proofs.Members.{Contains-only}
@@ -58,50 +58,32 @@ tree_stands = tree_to targets (1, omega arith, refl)
 other_tree_stands : IsRoutingTree two_chip_board left_chip (east ∷ []) (device ∷ [])
 other_tree_stands = tree_to (device ∷ []) (0, omega arith, refl) (All-from_recursion (IsTreeChip two_chip_board left_chip (east ∷ [])) (right_chip ∷ []) (right_in_tree, tt))
 
-abbrev near : Spot
-near = record { chip = left_chip; core = 2 }
+-- spots by the numbers of their chips and of their cores
+number : Spot → ℕ
+number s = 100 * s.chip.x + s.core
 
-abbrev far : Spot
-far = record { chip = right_chip; core = 1 }
+-- spots in the order of their numbers, from one number on
+Ascend : ℕ → List Spot → Type 0
+Ascend low [] = Unit {0}
+Ascend low (s ∷ more) = (low ≤ number s) × Ascend (number s + 1) more
 
-abbrev last : Spot
-last = record { chip = right_chip; core = 2 }
+no_less : (low : ℕ) (xs : List Spot) → Ascend low xs → (j : ℕ) (d : Spot) → j < length xs → low ≤ number (get_or xs j d)
+no_less low [] h j d within = absurd (omega (arith, within))
+no_less low (s ∷ more) h zero d within = h.0
+no_less low (s ∷ more) h (suc j) d within = omega (arith, h.0, no_less (number s + 1) more h.1 j d (omega (arith, within)))
 
-spots_of_one : (a b : Spot) → (a.chip.x + (2 * a.core)) ≢ (b.chip.x + (2 * b.core)) → a ≢ b
-spots_of_one a b differ same = differ (ap (λ (s : Spot). s.chip.x + (2 * s.core)) same)
+-- such spots differ
+differ : (low : ℕ) (xs : List Spot) → Ascend low xs → AllPairs (λ a b. a ≢ b) xs
+differ low [] h i j d lt within = absurd (omega (arith, within))
+differ low (s ∷ more) h i zero d lt within = absurd (omega (arith, lt))
+differ low (s ∷ more) h zero (suc j) d lt within = λ same. omega (arith, ap number same, no_less (number s + 1) more h.1 j d (omega (arith, within)))
+differ low (s ∷ more) h (suc i) (suc j) d lt within = differ (number s + 1) more h.1 i j d (omega (arith, lt)) (omega (arith, within))
 
 spots_differ : AllPairs (λ a b. a ≢ b) spots
-spots_differ = AllPairs-cons (λ a b. a ≢ b) source (near ∷ far ∷ last ∷ device ∷ [])
-    (All-from_recursion (λ b. source ≢ b) (near ∷ far ∷ last ∷ device ∷ []) (
-      spots_of_one source near (λ e. absurd (omega (arith, e))),
-      (
-        spots_of_one source far (λ e. absurd (omega (arith, e))),
-        (spots_of_one source last (λ e. absurd (omega (arith, e))), (spots_of_one source device (λ e. absurd (omega (arith, e))), tt)),
-      ),
-    ))
-    (AllPairs-cons (λ a b. a ≢ b) near (far ∷ last ∷ device ∷ [])
-    (All-from_recursion (λ b. near ≢ b) (far ∷ last ∷ device ∷ []) (
-      spots_of_one near far (λ e. absurd (omega (arith, e))),
-      (spots_of_one near last (λ e. absurd (omega (arith, e))), (spots_of_one near device (λ e. absurd (omega (arith, e))), tt)),
-    ))
-    (AllPairs-cons (λ a b. a ≢ b) far (last ∷ device ∷ [])
-    (All-from_recursion (λ b. far ≢ b) (last ∷ device ∷ []) (
-      spots_of_one far last (λ e. absurd (omega (arith, e))),
-      (spots_of_one far device (λ e. absurd (omega (arith, e))), tt),
-    ))
-    (AllPairs-cons (λ a b. a ≢ b) last (device ∷ [])
-    (All-from_recursion (λ b. last ≢ b) (device ∷ []) (spots_of_one last device (λ e. absurd (omega (arith, e))), tt))
-    (λ i j d lt within. absurd (omega (arith, lt, within))))))
+spots_differ = differ 0 spots (omega arith, (omega arith, (omega arith, (omega arith, (omega arith, tt)))))
 
 targets_differ : AllPairs (λ a b. a ≢ b) targets
-targets_differ = AllPairs-cons (λ a b. a ≢ b) near (far ∷ last ∷ [])
-    (All-from_recursion (λ b. near ≢ b) (far ∷ last ∷ []) (
-      spots_of_one near far (λ e. absurd (omega (arith, e))),
-      (spots_of_one near last (λ e. absurd (omega (arith, e))), tt),
-    ))
-    (AllPairs-cons (λ a b. a ≢ b) far (last ∷ [])
-    (All-from_recursion (λ b. far ≢ b) (last ∷ []) (spots_of_one far last (λ e. absurd (omega (arith, e))), tt))
-    (λ i j d lt within. absurd (omega (arith, lt, within))))
+targets_differ = differ 0 targets (omega arith, (omega arith, (omega arith, tt)))
 
 one_differs : AllPairs (λ a b. a ≢ b) (device ∷ [])
 one_differs i j d lt within = absurd (omega (arith, lt, within))
