@@ -2,7 +2,6 @@
 use Rattle.mesh_run.proofs.Common.{List, Some, [], ap, arith, cases_eq, get_or, get_or-set_other, get_or-set_same, get_or_default, inl, inr, length, length-set, refl, same_Some, set, slice_get}
 use Rattle.mesh_run.proofs.Common.{slice_get-push_cases, slice_get-set_other, slice_get-set_same, slice_get_there, slice_get_within, subst, suc, sym, ℕ, ◌++◌, ◌+◌, ◌<◌, ◌∙◌, ◌∷◌, ◌≡◌, ◌≢◌, ◌≤◌}
 
-
 -- What holds of each item of a list and of one more holds of each where that one is put at the end.
 pub pushed : {X : Type 0} (P : ℕ → X → Type 0) (xs : List X) (x : X) (new : List X) → new ≡ xs ++ x ∷ [] → ((k : ℕ) (y : X) → slice_get xs k ≡ Some y → P k y) → P (length xs) x →
     (k : ℕ) (y : X) → slice_get new k ≡ Some y → P k y

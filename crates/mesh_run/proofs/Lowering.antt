@@ -1,9 +1,10 @@
 -- A split mesh put together again.
 use Rattle.mesh_run.proofs.Common.{All, AreEnds, AreUp, Cut, DownTo, FitHomes, HoldUnsent, Home, IsDown, IsMesh, IsRaisedFrom, IsUp, LinkEnds, List, McCopy, MovesOut, RaisedMesh, SameButCopies}
-use Rattle.mesh_run.proofs.Common.{SetsQueue, Some, State, [], ap, append-nil, arith, cases_eq, get_or, get_or-set_other, get_or-set_same, inl, inr, length, length-append, length-set, refl, same_Some}
-use Rattle.mesh_run.proofs.Common.{same_lists, set, slice_get, slice_get-get_or, slice_get-mapped, slice_get_there, slice_get_within, subst, sym, ℕ, ◌++◌, ◌+◌, ◌<◌, ◌∙◌, ◌≡◌, ◌≢◌, ◌≤◌}
+use Rattle.mesh_run.proofs.Common.{SetsQueue, Some, State, [], ap, append-nil, arith, cases_eq, get_or, get_or-set_other, get_or-set_same, get_or_default, inl, inr, length, length-append, length-set}
+use Rattle.mesh_run.proofs.Common.{refl, same_Some, same_lists, set, slice_get, slice_get-get_or, slice_get-mapped, slice_get_there, slice_get_within, subst, sym, ℕ, ◌++◌, ◌+◌, ◌<◌, ◌∙◌, ◌≡◌, ◌≢◌}
+use Rattle.mesh_run.proofs.Common.{◌≤◌}
 use Rattle.std.proofs.Math.Seq.{drop-append_seam, take-append_seam}
-use Rattle.mesh_run.proofs.{AfterDeal.lane_uncut, AfterDeal.links_many, PlanLaws.homes_fit, SplitLaws.default_at, SplitLaws.same_state, SplitLaws.state_on}
+use Rattle.mesh_run.proofs.{AfterDeal.lane_uncut, AfterDeal.links_many, PlanLaws.homes_fit, SplitLaws.same_state, SplitLaws.state_on}
 
 -- ---- what the calls ask for
 
@@ -129,7 +130,7 @@ lowered m more n r mid now back down left mesh raised moves are so_far past setu
         let homes = raised.laid.homes.long in
         same_lists (now.inputs ++ now.cores) (m.inputs ++ m.cores) (omega (arith, long_now, long_m, a, b)) (λ q d below.
         let h = slice_get_there r.layout.now.homes.items q (omega (arith, below, long_now, a, b, homes, mesh.input_lists, mesh.core_lists)) in
-        default_at (now.inputs ++ now.cores) q d below ∙ (each q h.0 h.1 ∙ sym (default_at (m.inputs ++ m.cores) q d (omega (arith, below, long_now, long_m, a, b)))))
+        get_or_default (now.inputs ++ now.cores) q d [] below ∙ (each q h.0 h.1 ∙ sym (get_or_default (m.inputs ++ m.cores) q d [] (omega (arith, below, long_now, long_m, a, b)))))
 
     halves : (now.inputs ≡ m.inputs) × (now.cores ≡ m.cores)
     halves = two_lists now.inputs m.inputs now.cores m.cores joined inputs_long

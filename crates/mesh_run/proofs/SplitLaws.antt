@@ -2,8 +2,8 @@
 use Rattle.mesh_run.proofs.Common.{All, All-at, All-nil, All-push, All-replicate, AreSameButEnds, AreSameButUnsent, AreSameHolds, Away, End, FitHomes, HoldNothing, Home, IsEmptyHand, List, MayPutLane}
 use Rattle.mesh_run.proofs.Common.{MayTakeLane, McCopy, MovesIn, MovesOut, None, Option, Own, PutsEnd, PutsUnsent, SameButCopies, SameButEnds, SameButUnsent, SameRun, SetsQueue, SetsUnsent, Share}
 use Rattle.mesh_run.proofs.Common.{Some, State, WithRoom, [], ap, arith, cases_eq, cases_lt, end_at, end_in, get_or, get_or-append_right, get_or-replicate, get_or-set_other, get_or-set_same}
-use Rattle.mesh_run.proofs.Common.{get_or_append_left, get_or_from_slice_get, get_or_past, inl, inr, length, length-append, length-replicate, length-set, length_push, none-some, refl, replicate}
-use Rattle.mesh_run.proofs.Common.{run_start, same_Some, same_lists, set, set-append_left, set-append_right, slice_get, slice_get-get_or, slice_get-set_other, slice_get-set_same, slice_get_there}
+use Rattle.mesh_run.proofs.Common.{get_or_append_left, get_or_default, get_or_past, inl, inr, length, length-append, length-replicate, length-set, length_push, none-some, refl, replicate, run_start}
+use Rattle.mesh_run.proofs.Common.{same_Some, same_lists, set, set-append_left, set-append_right, slice_get, slice_get-get_or, slice_get-set_other, slice_get-set_same, slice_get_there}
 use Rattle.mesh_run.proofs.Common.{slice_get_within, subst, sym, unsent_at, unsent_in, ℕ, ◌++◌, ◌+◌, ◌-◌, ◌<◌, ◌∙◌, ◌∷◌, ◌≡◌, ◌≢◌, ◌≤◌, ◌⊎◌}
 use Rattle.mesh_run.proofs.CrossingLaws.{AreEach, each_on, each_weaker, each_self, each_set, same_on, same_self, stood, told_same}
 use Rattle.mesh_run.proofs.{Going.pushed, HomeLaws.start_more}
@@ -159,9 +159,6 @@ vertex_there m homes start second now ports v fits ends unsent is below =
 -- where all but ends is the same, the same is unsent
 ends_unsent : (a b : List Share) (s v : ℕ) → AreSameButEnds a b → unsent_at b s v ≡ unsent_at a s v
 ends_unsent a b s v same = told_same (λ (o : Option Share). unsent_in o v) a b s same.0 (λ x y at also. ap (λ l. get_or l.items v []) (same.1 s x y at also).unsent)
-
-pub default_at : (xs : List (List McCopy)) (v : ℕ) (d : List McCopy) → v < length xs → get_or xs v d ≡ get_or xs v []
-default_at xs v d below = let x = slice_get_there xs v below in get_or_from_slice_get xs v x.0 d x.1 ∙ sym (get_or_from_slice_get xs v x.0 [] x.1)
 
 -- a share with the same actors, logs and places
 record Parts (s t : Share) : Type 0 where
@@ -331,13 +328,10 @@ moved_out left mid m homes n k start second third fits past past_k lanes unsent 
       let m_long = unsent.same.unsent_long ∙ lanes.same.unsent_long in
       same_lists m.unsent sent (m_long ∙ sym long) (λ v d below.
       let h = slice_get_there homes (length left.inputs + v) (omega (arith, below, m_long, fits.long, fits.vertices)) in
-      default_at m.unsent v d below ∙ (unsent.done v h.0 (omega (arith, below, m_long, past_k)) h.1
-      ∙ (unsent_before h.0.receiver v ∙ (held.here v h.0 h.1 ∙ default_back sent v d (omega (arith, below, m_long, long))))));
+      get_or_default m.unsent v d [] below ∙ (unsent.done v h.0 (omega (arith, below, m_long, past_k)) h.1
+      ∙ (unsent_before h.0.receiver v ∙ (held.here v h.0 h.1 ∙ get_or_default sent v [] d (omega (arith, below, m_long, long))))));
 }
   where
-    default_back : (xs : List (List McCopy)) (v : ℕ) (d : List McCopy) → v < length xs → get_or xs v [] ≡ get_or xs v d
-    default_back xs v d below = sym (default_at xs v d below)
-
     queues_still : (q : ℕ) → get_or (m.inputs ++ m.cores) q [] ≡ get_or (mid.inputs ++ mid.cores) q []
     queues_still q = ap (λ l. get_or (l ++ m.cores) q []) unsent.inputs ∙ ap (λ l. get_or (mid.inputs ++ l) q []) unsent.cores
 
