@@ -18,7 +18,7 @@ none_sent u v past (x ∷ items) done =
     ap (λ l. l ++ sent_by v items) (none_sent_of u v past x (All-head (IsDoneOn u) x items done)) ∙ none_sent u v past items (All-tail (IsDoneOn u) x items done)
 
 module _ (w : Whole) where
-  abbrev ports : ℕ
+  abbrev pub ports : ℕ
   ports = port_count w.m.setup
 
   -- all queues, those of ports and then those of vertices
