@@ -1,9 +1,10 @@
 -- The mesh to which a whole round leads, and that it was played to it.
 use Rattle.mesh_run.proofs.Common.{All, All-head, All-tail, IsDoneOn, IsPlayedBy, Item, List, McCopy, Setup, State, [], ap, arith, cases_lt, deliveries, drop, get_or, get_or_past, got, inl, inr}
-use Rattle.mesh_run.proofs.Common.{length, length-drop, length-take-le, port_count, records, refl, sent, sent_by, sent_in, served, slice_get_within, slice_index_or, subst, sym, take, take-append-drop}
+use Rattle.mesh_run.proofs.Common.{length, port_count, records, refl, sent, sent_by, sent_in, served, slice_get_within, slice_index_or, subst, sym, take}
 use Rattle.mesh_run.proofs.Common.{took, ℕ, ◌++◌, ◌+◌, ◌<◌, ◌∙◌, ◌∷◌, ◌≡◌, ◌≤◌}
 use Rattle.mesh_run.proofs.{Apart.elsewhere, EachQueue.AfterRound, EachQueue.queue_after, EachVertex.VertexAfter, EachVertex.vertex_after, Together.joined, Together.listed, WholeRound.Whole}
 use Rattle.mesh_run.proofs.WholeRound.{parts, whole_turns}
+use Rattle.std.proofs.lemmas.List.{length-drop, length-take-le, take-append-drop}
 
 -- no vertex that is not there sent a copy
 none_sent_of : (u : Setup) (v : ℕ) → length u.spots ≤ v → (x : Item) → IsDoneOn u x → sent_in v x ≡ []

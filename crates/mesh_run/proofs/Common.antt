@@ -48,7 +48,7 @@ pub use Rattle.std.proofs.{Math.Nat.mul-le-mul_left, lemmas.Bool.cases_Bool, lem
 pub use Rattle.std.proofs.lemmas.{Grind.flat_map-append, List.Elements.All-append, List.Elements.All-cons, List.Elements.All-contains, List.Elements.All-filter, List.Elements.All-head, List.Elements.All-replicate}
 pub use Rattle.std.proofs.lemmas.List.{Elements.All-map, Elements.All-nil, Elements.All-push, Elements.All-tail, Elements.All-weaker, Folds.list_all_more, FromFn.get_or-range_with_len}
 pub use Rattle.std.proofs.lemmas.List.{FromFn.length-range_with_len, Sums.sum_by-cons, get_or-append_right, get_or-map, get_or-replicate, get_or-set_other, get_or-set_same, get_or_append_left}
-pub use Rattle.std.proofs.lemmas.List.{get_or_default, get_or_past, get_or_push, length-drop, length-map, length-take-le, take-append-drop, length-replicate, length-set, length_push, map-append, map-set, same_from_push, same_lists}
+pub use Rattle.std.proofs.lemmas.List.{get_or_default, get_or_past, get_or_push, length-map, length-replicate, length-set, length_push, map-append, map-set, same_from_push, same_lists}
 pub use Rattle.std.proofs.lemmas.{List.set-append_left, List.set-append_right, List.set-set, List.take-set-le, List.take_all, List.take_more, List.with_items_is, Nat.div-add-mod', Nat.mod_below}
 pub use Rattle.std.proofs.lemmas.Option.{get_or_from_slice_get, none-some, same_Some, slice_get-get_or, slice_get_past, slice_get_within}
 pub use Rattle.std.specs.{Global.Vec, List.All, List.AllPairs, List.flat_map, List.list_all, List.list_any, List.range_with_len, List.slice_get, List.slice_index_or, List.sum_by, Vec.with_items}
