@@ -145,7 +145,7 @@ dealt_more cuts start standing after before now mid new n c tx rx are so_far at 
       same = same_on before mid new (same_on before now mid so_far.same one.same) two.same;
       dealt = λ l d e less at_l there.
           next_too (λ l d. (e : LinkEnds) → slice_get so_far.ends l ≡ Some e →
-              (end_at new d.sender d.queue ≡ Some (Sends (record { link = l; tx = e.tx }))) × (end_at new d.receiver d.queue ≡ Some (Takes (record { link = l; rx = e.rx })))) cuts n c at
+          (end_at new d.sender d.queue ≡ Some (Sends (record { link = l; tx = e.tx }))) × (end_at new d.receiver d.queue ≡ Some (Takes (record { link = l; rx = e.rx })))) cuts n c at
           (λ l d less at_l e there.
           let was = so_far.dealt l d e less at_l there in (
             both.2 d.sender d.queue (apart cuts before n l d.sender c d are at at_l less) ∙ was.0,
@@ -254,7 +254,7 @@ collected_more cuts start standing after before now mid new n c tx rx are so_far
       same = same_on before mid new (same_on before now mid so_far.same one.same) two.same;
       dealt = λ l d e less at_l there.
           was_set (λ l e. l < n + 1 → slice_get cuts l ≡ Some d →
-              (end_at before d.sender d.queue ≡ Some (Sends (record { link = l; tx = e.tx }))) × (end_at before d.receiver d.queue ≡ Some (Takes (record { link = l; rx = e.rx }))))
+          (end_at before d.sender d.queue ≡ Some (Sends (record { link = l; tx = e.tx }))) × (end_at before d.receiver d.queue ≡ Some (Takes (record { link = l; rx = e.rx }))))
           so_far.ends n e_new (λ l e other stands less at_l. so_far.dealt l d e (omega (arith, less, other)) at_l stands)
           (λ less at_l. subst (λ (x : Cut). (end_at before x.sender x.queue ≡ Some (Sends (record { link = n; tx = tx }))) × (end_at before x.receiver x.queue ≡ Some (Takes (record { link = n; rx = rx }))))
           (same_Some c d (sym at ∙ at_l)) (sends, takes)) l e there less at_l;
