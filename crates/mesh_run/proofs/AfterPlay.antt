@@ -26,7 +26,7 @@ end_of shares links k q e all at =
     All-at (IsEndOf links) s.0.hold.ends.items q e (all s.0 s.1) s.2
 
 module _ {m : State} {more : ℕ} {r : RaisedMesh} (raised : IsRaisedFrom m more r) {dealt : List Share} (deals : Deals raised.ends r.layout.now.cuts.items r.shares.items dealt)
-    {links : List Link} (same_links : map (λ (e : LinkEnds). e.link) raised.ends ≡ links) {patience turns : ℕ} {played : List Share} (long : length played ≡ length dealt)
+    {links : List Link} (same_links : map (λ (e : LinkEnds). e.link) raised.ends ≡ links) {patience turns : ℕ} (played : List Share) (long : length played ≡ length dealt)
     (plays : (k : ℕ) (s : Share) → k < length dealt → PlaysAndStays m.setup links patience turns (get_or dealt k s) (get_or played k s)) where
   -- what one share did
   abbrev Did : ℕ → List Item → Type 0

@@ -27,7 +27,12 @@ pub record UpTo (cap more : ℕ) (lists : List (List McCopy)) (k : ℕ) (r : Ris
   pub up : (j : ℕ) (q : List McCopy) (e : LinkEnds) → slice_get lists j ≡ Some q → slice_get ends j ≡ Some e → IsUp cap more q e
 
 pub up_none : (cap more n : ℕ) (lists : List (List McCopy)) (r : Rising) → n ≡ length lists → RisenTo [] n r → UpTo cap more lists 0 r
-up_none cap more n lists r is risen = grind (arith, none-some)
+up_none cap more n lists r is risen = record {
+  ends = [];
+  many = refl;
+  risen = subst (λ k. RisenTo [] k r) (let all : n ≡ length lists - 0 = omega (arith, is) in all) risen;
+  up = λ j q e at_q at_e. absurd (none-some e at_e);
+}
 
 -- there is room for one more
 pub may_rise : (cap more : ℕ) (lists : List (List McCopy)) (k : ℕ) (r : Rising) → (u : UpTo cap more lists k r) → k < length lists → RisenTo u.ends (length lists - (k + 1) + 1) r

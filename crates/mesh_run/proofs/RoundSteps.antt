@@ -53,7 +53,7 @@ module _ {m : State} {r : RaisedMesh} {lent : Standing} {dealt : List Share} whe
     pub cuts_laid : IsTurned m r lent dealt played → AreLaid lent.links.items played r.layout.now.cuts.items
     cuts_laid t =
         let d = t.before in
-        ends_laid d.roomy.raised d.deals d.none_left.links t.long t.plays
+        ends_laid d.roomy.raised d.deals d.none_left.links played t.long t.plays
 
     -- so the cuts lie between the shares that played
     pub still_cuts : IsTurned m r lent dealt played → AreCuts r.layout.now.cuts.items played
@@ -92,7 +92,7 @@ module _ {m : State} {r : RaisedMesh} {lent : Standing} {dealt : List Share} whe
       can_rest h =
           let t = h.turned in
           let d = t.before in
-          let up = links_were_up d.roomy.raised d.deals d.none_left.links t.long t.plays brought collected h.collects in
+          let up = links_were_up d.roomy.raised d.deals d.none_left.links played t.long t.plays brought collected h.collects in
           (h.collects.ends, h.collects.holds, subst (λ (u : Setup). All (WasUp u.capacity) h.collects.ends) (sym d.roomy.raised.setup) up)
 
       -- there is room for what was logged
@@ -100,7 +100,7 @@ module _ {m : State} {r : RaisedMesh} {lent : Standing} {dealt : List Share} whe
       room_for_logs h =
           let t = h.turned in
           let d = t.before in
-          logs_fit d.roomy.raised d.deals d.none_left.links t.long t.plays brought collected r.logs h.collects d.roomy.room
+          logs_fit d.roomy.raised d.deals d.none_left.links played t.long t.plays brought collected r.logs h.collects d.roomy.room
 
       -- The whole round, with links at rest and logs gathered.
       pub round_plays : {rested : Rested} (standing : Standing) (shares : Vec Share) (logs : MeshLogs) (moved : Bool) →
