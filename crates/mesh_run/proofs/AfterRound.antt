@@ -1,6 +1,6 @@
 -- What a whole round logged is what its items tell, and the mesh to which it leads is split as it was.
-use Rattle.mesh_run.proofs.Common.{Bool, Goes, IsRaisedFrom, Item, List, MeshLogs, PlaysTo, RaisedMesh, Share, Vec, [], ap, ap₂, arith, delivered_of, deliveries, dumped_of, flat_map, get_or}
-use Rattle.mesh_run.proofs.Common.{get_or_default, length, list_any, records, refl, slice_get-get_or, sym, ℕ, ◌++◌, ◌<◌, ◌||◌, ◌∙◌, ◌≡◌}
+use Rattle.mesh_run.proofs.Common.{Bool, Goes, IsNoted, IsRaisedFrom, Item, List, MeshLogs, PlaysTo, RaisedMesh, Share, Vec, [], ap, ap₂, arith, delivered_of, deliveries, dumped_of, false, flat_map}
+use Rattle.mesh_run.proofs.Common.{get_or, get_or_default, length, list_any, records, refl, slice_get-get_or, subst, sym, ℕ, ◌++◌, ◌<◌, ◌||◌, ◌∙◌, ◌≡◌}
 use Rattle.mesh_run.proofs.{AfterLinks.whole_no_logs, AfterLinks.whole_up, GatheringLaws.Gathered, Going.each_two, AfterMesh.mesh, AfterMesh.whole_played, AfterRuns.whole_shared}
 use Rattle.mesh_run.proofs.{AfterSplit.whole_lanes, AfterSplit.whole_unsent, Together.flat_map_joined, Together.joined, WholeRound.Whole, WholeRound.dealt_long, WholeRound.parts}
 use Rattle.mesh_run.proofs.WholeRound.{played_parts, whole_noted}
@@ -71,4 +71,10 @@ module _ (w : Whole) where
     whole_raised moved gathered = grind (arith, whole_played, whole_shared, mesh, whole_lanes, whole_unsent, whole_up, whole_no_logs, whole_delivered, whole_dumped)
 
     pub whole_plays : (moved : Bool) → Gathered w.collected w.cleared w.r.logs logs moved → PlaysTo w.patience w.turns w.m moved stands
-    whole_plays moved gathered = grind (arith, mesh, joined, parts, whole_raised, whole_played, moved_same, whole_noted)
+    whole_plays moved gathered = record {
+      mesh = mesh w;
+      items = joined (parts w);
+      raised = whole_raised moved gathered;
+      played = whole_played w;
+      noted = subst (λ (b : Bool). IsNoted false (joined (parts w)) b) (moved_same ∙ sym gathered.moved_are) (whole_noted w);
+    }
