@@ -1,24 +1,19 @@
 -- Taking rows out, and the table after a merge.
-use Rattle.cover_merge.proofs.Common.{Alias, All, All-head, All-tail, All-weaker, Block, Bool, Err, IsMergeSet, IsOrdered, List, Ok, OnOk, Option, Result, Row, [], after, aliases_at, ap, append-nil}
-use Rattle.cover_merge.proofs.Common.{arith, cond, cons_option, drop, eq-eqb, eqb_tells, false, flat_map, flat_map-append, generality, get_or, get_or_default, has_row, inl, inr, insert, insert_place}
-use Rattle.cover_merge.proofs.Common.{kept, length, length-take, map, merge_of, merge_rows, merged_block, merged_row, ne_eqb, not, or_from, picked, place_for, refl, remove, rows_at, slice_get-get_or}
-use Rattle.cover_merge.proofs.Common.{subst, suc, sym, take, take_more, true, zero, ℕ, ◌++◌, ◌+◌, ◌<◌, ◌==◌, ◌||◌, ◌∙◌, ◌∷◌, ◌≡◌, ◌≢◌, ◌≤◌, ◌⊎◌}
-use Rattle.cover_merge.proofs.Positions.{rows_at-push, member_before, has-at, place_for-le}
+use Rattle.cover_merge.proofs.Common.{Alias, All, Block, Bool, Err, IsMergeSet, IsOrdered, List, Ok, OnOk, Option, Result, Row, [], after, aliases_at, ap, append-nil, arith, cond, cons_option, drop}
+use Rattle.cover_merge.proofs.Common.{eq-eqb, false, false_from_ne_true, flat_map, flat_map-append, generality, get_or, get_or_default, has_row, insert, insert_place, kept, length, length-take}
+use Rattle.cover_merge.proofs.Common.{merge_rows, merged_block, merged_row, ne_eqb, not, picked, place_for, refl, remove, rows_at, slice_get-get_or, subst, suc, sym, take, take_more, true, zero, ℕ}
+use Rattle.cover_merge.proofs.Common.{◌++◌, ◌+◌, ◌<◌, ◌||◌, ◌∙◌, ◌∷◌, ◌≡◌, ◌≤◌}
+use Rattle.cover_merge.proofs.{Legal.merge_rows-block_of, Lists.cond_of, Positions.rows_at-push, Positions.member_before, Positions.has-at, Positions.has-place, Positions.place_for-le}
 
 -- ---- a place that is not of the set
 
-none_of : (places : List ℕ) (k : ℕ) → All (λ t. t ≢ k) places → has_row places k ≡ false
-none_of [] k apart = refl
-none_of (t ∷ places) k apart =
-    or_from (t == k) (has_row places k) (ne_eqb t k (All-head (λ t. t ≢ k) t places apart)) (none_of places k (All-tail (λ t. t ≢ k) t places apart))
-
 -- all places above k: k is none of them
 pub none_at : (places : List ℕ) (k : ℕ) → All (λ t. k < t) places → has_row places k ≡ false
-none_at places k above = none_of places k (All-weaker (λ t. k < t) (λ t. t ≢ k) (λ t less same. omega (arith, less, same)) places above)
+none_at places k above = false_from_ne_true (has_row places k) (λ found. let at = has-place places k found in omega (arith, at.2, above at.0 0 at.1))
 
 -- all places below k: k is none of them
 pub none_from : (places : List ℕ) (k : ℕ) → All (λ t. t < k) places → has_row places k ≡ false
-none_from places k below = none_of places k (All-weaker (λ t. t < k) (λ t. t ≢ k) (λ t less same. omega (arith, less, same)) places below)
+none_from places k below = false_from_ne_true (has_row places k) (λ found. let at = has-place places k found in omega (arith, at.2, below at.0 0 at.1))
 
 -- the items whose places, counted from i, are not of the set
 abbrev pub left : {X : Type 0} → List ℕ → ℕ → List X → List X
@@ -30,23 +25,23 @@ kept_in places j x xs e = ap (λ b. cond (not b) (x ∷ left places (suc j) xs) 
 pub kept_out : {X : Type 0} (places : List ℕ) (j : ℕ) (x : X) (xs : List X) → has_row places j ≡ true → left places j (x ∷ xs) ≡ left places (suc j) xs
 kept_out places j x xs e = ap (λ b. cond (not b) (x ∷ left places (suc j) xs) (left places (suc j) xs)) e
 
+-- where none of the places is one of the list, all are kept
+pub kept_free : {X : Type 0} (places : List ℕ) (j : ℕ) (xs : List X) → ((k : ℕ) → j ≤ k → k < j + length xs → has_row places k ≡ false) → left places j xs ≡ xs
+kept_free places j [] free = refl
+kept_free places j (x ∷ xs) free =
+    kept_in places j x xs (free j (omega arith) (omega arith))
+    ∙ ap (λ ys. x ∷ ys) (kept_free places (suc j) xs (λ k from before. free k (omega arith) (omega (arith, before))))
+
 -- where no place is left, all are kept
 pub kept_none : {X : Type 0} (places : List ℕ) (j : ℕ) (xs : List X) → All (λ t. t < j) places → left places j xs ≡ xs
-kept_none places j [] below = refl
-kept_none places j (x ∷ xs) below =
-    kept_in places j x xs (none_from places j below)
-    ∙ ap (λ ys. x ∷ ys) (kept_none places (suc j) xs (λ k d within. omega (arith, below k d within)))
+kept_none places j xs below = kept_free places j xs (λ k from before. none_from places k (λ i d within. omega (arith, from, below i d within)))
 
 -- a place that is behind takes nothing out
 kept_passed : {X : Type 0} (s : ℕ) (rest : List ℕ) (j : ℕ) (xs : List X) → s < j → left (s ∷ rest) j xs ≡ left rest j xs
 kept_passed s rest j [] behind = refl
 kept_passed s rest j (x ∷ xs) behind =
-    ap (λ b. cond (not (b || has_row rest j)) (x ∷ left (s ∷ rest) (suc j) xs) (left (s ∷ rest) (suc j) xs)) (differs (eqb_tells s j))
+    ap (λ b. cond (not (b || has_row rest j)) (x ∷ left (s ∷ rest) (suc j) xs) (left (s ∷ rest) (suc j) xs)) (ne_eqb s j (λ same. omega (arith, same)))
     ∙ ap (λ ys. cond (not (has_row rest j)) (x ∷ ys) ys) (kept_passed s rest (suc j) xs (omega arith))
-  where
-    differs : ((s == j) ≡ true) × (s ≡ j) ⊎ ((s == j) ≡ false) × (s ≢ j) → (s == j) ≡ false
-    differs (inl same) = absurd (omega (arith, same.1))
-    differs (inr other) = other.0
 
 -- ---- the first place is taken out behind the rest
 
@@ -67,14 +62,10 @@ module _ (s : ℕ) (rest : List ℕ) (above : All (λ t. s < t) rest) where
       ap (λ ys. remove ys 0) (kept_in rest j x xs (first_kept j (omega arith)))
       ∙ sym (kept_out (s ∷ rest) j x xs found ∙ kept_passed s rest (suc j) xs (omega arith))
   kept_remove j (suc m) (x ∷ xs) at within =
-      let later : has_row (s ∷ rest) j ≡ false = ap (λ b. b || has_row rest j) (not_here (eqb_tells s j)) ∙ first_kept j (omega arith) in
+      let later : has_row (s ∷ rest) j ≡ false = ap (λ b. b || has_row rest j) (ne_eqb s j (λ same. omega (arith, same))) ∙ first_kept j (omega arith) in
       ap (λ ys. remove ys (suc m)) (kept_in rest j x xs (first_kept j (omega arith)))
       ∙ ap (λ ys. x ∷ ys) (kept_remove (suc j) m xs (omega arith) (omega arith))
       ∙ sym (kept_in (s ∷ rest) j x xs later)
-    where
-      not_here : ((s == j) ≡ true) × (s ≡ j) ⊎ ((s == j) ≡ false) × (s ≢ j) → (s == j) ≡ false
-      not_here (inl same) = absurd (omega (arith, same.1))
-      not_here (inr other) = other.0
 
 -- ---- the table after a merge
 
@@ -82,11 +73,7 @@ pub picked-append : {X : Type 0} (q : ℕ → Bool) (i : ℕ) (xs ys : List X) �
 picked-append {X = X} q i [] ys = ap (λ j. picked q j ys) (omega arith)
 picked-append {X = X} q i (x ∷ xs) ys =
     ap (λ zs. cond (q i) (x ∷ zs) zs) (picked-append q (suc i) xs ys ∙ ap (λ j. picked q (suc i) xs ++ picked q j ys) (omega arith))
-    ∙ by_test (q i) (picked q (suc i) xs) (picked q (i + suc (length xs)) ys)
-  where
-    by_test : (b : Bool) (us vs : List X) → cond b (x ∷ (us ++ vs)) (us ++ vs) ≡ cond b (x ∷ us) us ++ vs
-    by_test true us vs = refl
-    by_test false us vs = refl
+    ∙ cond_of (λ (l : List X). l ++ picked q (i + suc (length xs)) ys) (q i) (x ∷ picked q (suc i) xs) (picked q (suc i) xs)
 
 module _ (rows : List Row) (places : List ℕ) (ordered : IsOrdered rows) (set : IsMergeSet rows places) where
   -- all members stand before the insertion place
@@ -110,11 +97,7 @@ module _ (rows : List Row) (places : List ℕ) (ordered : IsOrdered rows) (set :
       ∙ sym (kept_none places p (drop p rows) members_before)))
 
   pub block_is : (merged_row rows places).block ≡ merged_block rows places
-  block_is = by_rows (rows_at rows places)
-    where
-      by_rows : (xs : List Row) → (merge_rows xs).block ≡ merge_of (map (λ (x : Row). x.block) xs)
-      by_rows [] = refl
-      by_rows (x ∷ xs) = refl
+  block_is = merge_rows-block_of (rows_at rows places)
 
   -- the place that the code finds
   module _ (list : List Row) (same : list ≡ rows) (m : Row) (is : m ≡ merged_row rows places) (g p : ℕ) (general : g ≡ generality m.block) (place : p ≡ place_for list g) where

@@ -1,27 +1,21 @@
 -- Counting, for each bit, the places that it keeps: one pass over the places, with a counter a bit.
-use Rattle.cover_merge.proofs.Common.{Block, Bool, List, Row, [], and_le_l, ap, arith, bit_and, bit_at, bit_at-lt, bit_at-trailing_zeros, bit_at_and, bit_at_clear_other, bit_at_clear_same, bit_at_not}
-use Rattle.cover_merge.proofs.Common.{bit_at_xor, bit_not, bit_xor, cases_eq, cond, count_by-le-length, false, filter, filter-append, get_or, get_or-set_at, get_or-set_other, inl, inr, keeps, kept_by}
-use Rattle.cover_merge.proofs.Common.{kept_count, length, length-append, length-filter, length-take, min, not, refl, set, subst, suc, sym, take, take_more, trailing_zeros, true, w32, zero, ℕ, ◌%◌}
-use Rattle.cover_merge.proofs.Common.{◌&&◌, ◌*◌, ◌++◌, ◌+◌, ◌-◌, ◌<◌, ◌==◌, ◌^◌, ◌∙◌, ◌∷◌, ◌≡◌, ◌≢◌, ◌≤◌, ◌⊎◌}
+use Rattle.cover_merge.proofs.Common.{Block, Bool, List, Row, [], and_cases, and_le_l, and_parts, ap, arith, bit_and, bit_at, bit_at-lt, bit_at-trailing_zeros, bit_at_and, bit_at_clear_other}
+use Rattle.cover_merge.proofs.Common.{bit_at_clear_same, bit_at_not, bit_at_xor, bit_not, bit_xor, cases_eq, cond, cond_both, count_by-le-length, eqb-false, eqb-true, false, filter, filter-append}
+use Rattle.cover_merge.proofs.Common.{get_or, inl, inr, keeps, kept_by, kept_count, length, length-append, length-filter, length-take, min, not, not-false, not-true, refl, set, sym, take, take_more}
+use Rattle.cover_merge.proofs.Common.{trailing_zeros, true, w32, ℕ, ◌%◌, ◌&&◌, ◌*◌, ◌++◌, ◌+◌, ◌-◌, ◌<◌, ◌==◌, ◌^◌, ◌∙◌, ◌∷◌, ◌≡◌, ◌≢◌, ◌≤◌}
+use Rattle.cover_merge.proofs.{Lists.written_at, RefineLemmas.keeps_inside}
 use Rattle.cover_merge.specs.Refinement.{can_choose, parts}
-use Rattle.cover_merge.proofs.RefineLemmas.{keeps_inside}
 
 -- ---- the words
 
 pub open_bit : (merged met : Block) (j : ℕ) → j < 32 → bit_at (bit_and met.mask (bit_not w32 merged.mask)) j ≡ cond (can_choose merged met j) 1 0
 unfolding can_choose
 open_bit merged met j low =
+    let both : (x y : ℕ) → x < 2 → y < 2 → min y (1 - x) ≡ cond ((x == 0) && (y == 1)) 1 0 = λ x y lx ly. cond_both ((x == 0) && (y == 1)) 1 0 (λ n. min y (1 - x) ≡ n)
+        (λ is. let tests = and_parts (x == 0) (y == 1) is in omega (arith, eqb-true x 0 tests.0, eqb-true y 1 tests.1))
+        (λ is. elim (and_cases (x == 0) (y == 1) is) [ inl off ↦ omega (arith, eqb-false x 0 off) | inr off ↦ omega (arith, eqb-false y 1 off) ]) in
     bit_at_and met.mask (bit_not w32 merged.mask) j ∙ ap (min (bit_at met.mask j)) (bit_at_not w32 merged.mask j merged.small low)
     ∙ both (bit_at merged.mask j) (bit_at met.mask j) (bit_at-lt merged.mask j) (bit_at-lt met.mask j)
-  where
-    both : (x y : ℕ) → x < 2 → y < 2 → min y (1 - x) ≡ cond ((x == 0) && (y == 1)) 1 0
-    both zero zero lx ly = refl
-    both zero (suc zero) lx ly = refl
-    both (suc zero) zero lx ly = refl
-    both (suc zero) (suc zero) lx ly = refl
-    both (suc (suc x)) y lx ly = absurd (omega arith)
-    both zero (suc (suc y)) lx ly = absurd (omega arith)
-    both (suc zero) (suc (suc y)) lx ly = absurd (omega arith)
 
 keeping_bit : (b met : Block) (free j : ℕ) → bit_at (bit_and (bit_and free b.mask) (bit_xor b.key met.key)) j ≡ cond (parts b met j) (bit_at free j) 0
 unfolding parts
@@ -32,37 +26,9 @@ keeping_bit b met free j =
     ∙ by_mask (bit_at b.mask j) (bit_at b.key j) (bit_at met.key j) (bit_at free j) (bit_at-lt b.mask j) (bit_at-lt b.key j) (bit_at-lt met.key j) (bit_at-lt free j)
   where
     by_mask : (m k t x : ℕ) → m < 2 → k < 2 → t < 2 → x < 2 → min (min x m) ((k + t) % 2) ≡ cond ((m == 1) && not (k == t)) x 0
-    by_mask zero zero zero zero lm lk lt lx = refl
-    by_mask zero zero zero (suc zero) lm lk lt lx = refl
-    by_mask zero zero (suc zero) zero lm lk lt lx = refl
-    by_mask zero zero (suc zero) (suc zero) lm lk lt lx = refl
-    by_mask zero (suc zero) zero zero lm lk lt lx = refl
-    by_mask zero (suc zero) zero (suc zero) lm lk lt lx = refl
-    by_mask zero (suc zero) (suc zero) zero lm lk lt lx = refl
-    by_mask zero (suc zero) (suc zero) (suc zero) lm lk lt lx = refl
-    by_mask (suc zero) zero zero zero lm lk lt lx = refl
-    by_mask (suc zero) zero zero (suc zero) lm lk lt lx = refl
-    by_mask (suc zero) zero (suc zero) zero lm lk lt lx = refl
-    by_mask (suc zero) zero (suc zero) (suc zero) lm lk lt lx = refl
-    by_mask (suc zero) (suc zero) zero zero lm lk lt lx = refl
-    by_mask (suc zero) (suc zero) zero (suc zero) lm lk lt lx = refl
-    by_mask (suc zero) (suc zero) (suc zero) zero lm lk lt lx = refl
-    by_mask (suc zero) (suc zero) (suc zero) (suc zero) lm lk lt lx = refl
-    by_mask (suc (suc m)) k t x lm lk lt lx = absurd (omega arith)
-    by_mask zero (suc (suc k)) t x lm lk lt lx = absurd (omega arith)
-    by_mask (suc zero) (suc (suc k)) t x lm lk lt lx = absurd (omega arith)
-    by_mask zero zero (suc (suc t)) x lm lk lt lx = absurd (omega arith)
-    by_mask zero (suc zero) (suc (suc t)) x lm lk lt lx = absurd (omega arith)
-    by_mask (suc zero) zero (suc (suc t)) x lm lk lt lx = absurd (omega arith)
-    by_mask (suc zero) (suc zero) (suc (suc t)) x lm lk lt lx = absurd (omega arith)
-    by_mask zero zero zero (suc (suc x)) lm lk lt lx = absurd (omega arith)
-    by_mask zero zero (suc zero) (suc (suc x)) lm lk lt lx = absurd (omega arith)
-    by_mask zero (suc zero) zero (suc (suc x)) lm lk lt lx = absurd (omega arith)
-    by_mask zero (suc zero) (suc zero) (suc (suc x)) lm lk lt lx = absurd (omega arith)
-    by_mask (suc zero) zero zero (suc (suc x)) lm lk lt lx = absurd (omega arith)
-    by_mask (suc zero) zero (suc zero) (suc (suc x)) lm lk lt lx = absurd (omega arith)
-    by_mask (suc zero) (suc zero) zero (suc (suc x)) lm lk lt lx = absurd (omega arith)
-    by_mask (suc zero) (suc zero) (suc zero) (suc (suc x)) lm lk lt lx = absurd (omega arith)
+    by_mask m k t x lm lk lt lx = cond_both ((m == 1) && not (k == t)) x 0 (λ n. min (min x m) ((k + t) % 2) ≡ n)
+        (λ is. let tests = and_parts (m == 1) (not (k == t)) is in omega (arith, eqb-true m 1 tests.0, eqb-false k t (not-true (k == t) tests.1)))
+        (λ is. elim (and_cases (m == 1) (not (k == t)) is) [ inl off ↦ omega (arith, eqb-false m 1 off) | inr same ↦ omega (arith, eqb-true k t (not-false (k == t) same)) ])
 
 pub keeping_inside : (rows : List Row) (met : Block) (free j s : ℕ) (d : Row) → s < length rows
     → bit_at (bit_and (bit_and free (get_or rows s d).block.mask) (bit_xor (get_or rows s d).block.key met.key)) j ≡ cond (keeps rows met j s) (bit_at free j) 0
@@ -97,15 +63,8 @@ module _ (counts start : List ℕ) (left word : ℕ) (small : left < 2 ^ 32) (so
   ]
 
   pub one_counted : AreCounted (set counts i (get_or counts i 0 + 1)) (without left i) start word
-  one_counted j within = by_place (cases_eq j i)
-    where
-      by_place : (j ≡ i) ⊎ (j ≢ i) → get_or (set counts i (get_or counts i 0 + 1)) j 0 + bit_at (without left i) j ≡ get_or start j 0 + bit_at word j
-      by_place (inl same) =
-          let here : get_or (set counts i (get_or counts i 0 + 1)) i 0 ≡ get_or counts i 0 + 1 = get_or-set_at counts i i (get_or counts i 0 + 1) 0 refl (omega (arith, low.0, long)) in
-          subst (λ k. get_or (set counts i (get_or counts i 0 + 1)) k 0 + bit_at (without left i) k ≡ get_or start k 0 + bit_at word k) (sym same) (omega (arith, here, gone, counted i low.0, low.1))
-      by_place (inr other) =
-          let there : get_or (set counts i (get_or counts i 0 + 1)) j 0 ≡ get_or counts j 0 = get_or-set_other counts i j (get_or counts i 0 + 1) 0 other in
-          omega (arith, there, bit_at_clear_other w32 left i low.0 j within other, counted j within)
+  one_counted = written_at (λ j n. j < 32 → n + bit_at (without left i) j ≡ get_or start j 0 + bit_at word j) counts i (get_or counts i 0 + 1) 0 (omega (arith, low.0, long))
+      (λ within. omega (arith, gone, counted i low.0, low.1)) (λ j other within. omega (arith, bit_at_clear_other w32 left i low.0 j within other, counted j within))
 
 -- ---- the places, one after another
 
@@ -115,11 +74,7 @@ AreKeptCounts counts rows places merged met = (j : ℕ) → j < 32 → get_or co
 
 -- a list of zeros counts none
 pub none_counted : (counts : List ℕ) (rows : List Row) (merged met : Block) → ((j : ℕ) → j < 32 → get_or counts j 0 ≡ 0) → AreKeptCounts counts rows [] merged met
-none_counted counts rows merged met zeros j low = zeros j low ∙ none (can_choose merged met j) 0
-  where
-    none : (b : Bool) (z : ℕ) → z ≡ cond b z z
-    none true z = refl
-    none false z = refl
+none_counted counts rows merged met zeros j low = zeros j low ∙ cond_both (can_choose merged met j) 0 0 (λ (n : ℕ). 0 ≡ n) (λ can. refl) (λ cannot. refl)
 
 -- one more is counted where the bit can be chosen and keeps it
 more : (p : ℕ → Bool) (can : Bool) (xs : List ℕ) (x : ℕ) → cond can (length (filter p xs)) 0 + cond (p x) (cond can 1 0) 0 ≡ cond can (length (filter p (xs ++ x ∷ []))) 0
@@ -133,11 +88,11 @@ more p can xs x = by_choice can (p x) (ap length (filter-append p xs (x ∷ []))
 
 module _ (rows : List Row) (places : List ℕ) (merged met : Block) (k : ℕ) (within : k < length places) (counts : List ℕ) (so_far : AreKeptCounts counts rows (take k places) merged met) where
   pub room_for : length places < 2 ^ 64 → (j : ℕ) → j < 32 → get_or counts j 0 + 1 < 2 ^ 64
-  room_for short j low = omega (arith, so_far j low, at_most (can_choose merged met j), length-take k places, within, short)
-    where
-      at_most : (b : Bool) → cond b (length (kept_by rows met j (take k places))) 0 ≤ length (take k places)
-      at_most true = omega (arith, length-filter (keeps rows met j) (take k places), count_by-le-length (keeps rows met j) (take k places))
-      at_most false = omega arith
+  room_for short j low =
+      let at_most : kept_count rows (take k places) merged met j ≤ length (take k places) =
+      cond_both (can_choose merged met j) (length (kept_by rows met j (take k places))) 0 (λ n. n ≤ length (take k places))
+      (λ can. omega (arith, length-filter (keeps rows met j) (take k places), count_by-le-length (keeps rows met j) (take k places))) (λ cannot. omega arith) in
+      omega (arith, so_far j low, at_most, length-take k places, within, short)
 
   pub kept_more : (free word s : ℕ) → s ≡ get_or places k 0 → ((j : ℕ) → j < 32 → bit_at free j ≡ cond (can_choose merged met j) 1 0) → ((j : ℕ) → j < 32 → bit_at word j ≡ cond (keeps rows met j s) (bit_at free j) 0)
       → (new : List ℕ) → ((j : ℕ) → j < 32 → get_or new j 0 ≡ get_or counts j 0 + bit_at word j) → AreKeptCounts new rows (take (k + 1) places) merged met

@@ -1,9 +1,9 @@
 -- The places of a route, and pairs.
-use Rattle.cover_merge.proofs.Common.{All, All-cons, All-nil, AllPairs, AllPairs-cons, AreNexts, Bool, HasNoLegalPair, IsFirstLegalPair, IsFirstOfRoute, IsFirstPartner, IsLegalPair, IsMergeSet}
-use Rattle.cover_merge.proofs.Common.{IsNextOfRoute, IsOneRoute, List, Row, [], ap, append-nil, arith, cases_lt, cond, eq-eqb, eqb-true, eqb_tells, false, get_or, get_or_default, inl, inr, length}
-use Rattle.cover_merge.proofs.Common.{length-take, merge_rows, places_of, refl, same_route, subst, suc, sym, take, take_all, take_more, true, zero, ℕ, ◌++◌, ◌+◌, ◌-◌, ◌<◌, ◌==◌, ◌∙◌, ◌∷◌, ◌≡◌, ◌≢◌}
-use Rattle.cover_merge.proofs.Common.{◌≤◌, ◌⊎◌}
-use Rattle.cover_merge.proofs.{Positions.pair_set, Lists.AllPairs-nil}
+use Rattle.cover_merge.proofs.Common.{All, All-cons, All-nil, AllPairs, AllPairs-cons, AreNexts, IsFirstLegalPair, IsFirstOfRoute, IsFirstPartner, IsLegalPair, IsMergeSet, IsNextOfRoute, IsOneRoute}
+use Rattle.cover_merge.proofs.Common.{List, Row, [], ap, append-nil, arith, cases_lt, cond, cond_both, eq-eqb, eqb-true, eqb_tells, false, get_or, get_or_default, inl, inr, length, length-take}
+use Rattle.cover_merge.proofs.Common.{merge_rows, ne_eqb, places_of, refl, same_route, subst, suc, sym, take, take_all, take_more, true, zero, ℕ, ◌++◌, ◌+◌, ◌-◌, ◌<◌, ◌==◌, ◌∙◌, ◌∷◌, ◌≡◌, ◌≢◌, ◌≤◌}
+use Rattle.cover_merge.proofs.Common.{◌⊎◌}
+use Rattle.cover_merge.proofs.{Positions.pair_set, Lists.AllPairs-nil, Lists.cond_of}
 
 -- ---- the places of a route
 
@@ -11,27 +11,16 @@ pub places_of-append : (bits i : ℕ) (xs ys : List Row) → places_of bits i (x
 places_of-append bits i [] ys = ap (λ j. places_of bits j ys) (omega arith)
 places_of-append bits i (x ∷ xs) ys =
     ap (λ zs. cond (x.route.bits == bits) (i ∷ zs) zs) (places_of-append bits (suc i) xs ys ∙ ap (λ j. places_of bits (suc i) xs ++ places_of bits j ys) (omega arith))
-    ∙ by_test (x.route.bits == bits) (places_of bits (suc i) xs) (places_of bits (i + suc (length xs)) ys)
-  where
-    by_test : (b : Bool) (us vs : List ℕ) → cond b (i ∷ (us ++ vs)) (us ++ vs) ≡ cond b (i ∷ us) us ++ vs
-    by_test true us vs = refl
-    by_test false us vs = refl
+    ∙ cond_of (λ (l : List ℕ). l ++ places_of bits (i + suc (length xs)) ys) (x.route.bits == bits) (i ∷ places_of bits (suc i) xs) (places_of bits (suc i) xs)
 
 places_of-next : (bits k : ℕ) (rows : List Row) (d : Row) → k < length rows → places_of bits 0 (take (k + 1) rows) ≡ places_of bits 0 (take k rows) ++ cond ((get_or rows k d).route.bits == bits) (k ∷ []) []
 places_of-next bits k rows d within = grind (arith, length-take k rows, take_more rows k d within, places_of-append bits 0 (take k rows) (get_or rows k d ∷ []), get_or rows k d)
 
-pub places_of-here : (bits k : ℕ) (rows : List Row) (d : Row) → k < length rows → (get_or rows k d).route.bits ≡ bits → places_of bits 0 (take (k + 1) rows) ≡ places_of bits 0 (take k rows) ++ k ∷ []
-places_of-here bits k rows d within same = grind (arith, places_of-next bits k rows d within, eq-eqb (get_or rows k d).route.bits bits same, get_or rows k d)
-
 pub places_of-not : (bits k : ℕ) (rows : List Row) (d : Row) → k < length rows → (get_or rows k d).route.bits ≢ bits → places_of bits 0 (take (k + 1) rows) ≡ places_of bits 0 (take k rows)
 places_of-not bits k rows d within differ =
     places_of-next bits k rows d within
-    ∙ ap (λ b. places_of bits 0 (take k rows) ++ cond b (k ∷ []) []) (no_test (eqb_tells (get_or rows k d).route.bits bits))
+    ∙ ap (λ b. places_of bits 0 (take k rows) ++ cond b (k ∷ []) []) (ne_eqb (get_or rows k d).route.bits bits differ)
     ∙ append-nil (places_of bits 0 (take k rows))
-  where
-    no_test : (((get_or rows k d).route.bits == bits) ≡ true) × ((get_or rows k d).route.bits ≡ bits) ⊎ (((get_or rows k d).route.bits == bits) ≡ false) × ((get_or rows k d).route.bits ≢ bits) → ((get_or rows k d).route.bits == bits) ≡ false
-    no_test (inl same) = absurd (differ same.1)
-    no_test (inr other) = other.0
 
 -- what each of the places is, counted from i
 record IsPlaceOf (bits i : ℕ) (rows : List Row) (s : ℕ) : Type 0 where
@@ -44,26 +33,23 @@ later_place bits i r rows s place = grind (arith, get_or)
 
 places_are : (bits i : ℕ) (rows : List Row) → All (IsPlaceOf bits i rows) (places_of bits i rows)
 places_are bits i [] = All-nil (IsPlaceOf bits i [])
-places_are bits i (r ∷ rows) = by_test (r.route.bits == bits) refl (λ k d within. later_place bits i r rows (get_or (places_of bits (suc i) rows) k d) (places_are bits (suc i) rows k d within))
-  where
-    by_test : (b : Bool) → (r.route.bits == bits) ≡ b → All (IsPlaceOf bits i (r ∷ rows)) (places_of bits (suc i) rows) → All (IsPlaceOf bits i (r ∷ rows)) (cond b (i ∷ places_of bits (suc i) rows) (places_of bits (suc i) rows))
-    by_test true e rest = All-cons (IsPlaceOf bits i (r ∷ rows)) i (places_of bits (suc i) rows) here rest
-      where
-        here : IsPlaceOf bits i (r ∷ rows) i
-        here = let first : i - i ≡ 0 = omega arith in record {
-          from = omega arith;
-          below = omega arith;
-          route = λ d. subst (λ n. (get_or (r ∷ rows) n d).route.bits ≡ bits) (sym first) (eqb-true r.route.bits bits e);
-        }
-    by_test false e rest = rest
+places_are bits i (r ∷ rows) =
+    let P : ℕ → Type 0 = IsPlaceOf bits i (r ∷ rows) in
+    let rest : All P (places_of bits (suc i) rows) = λ k d within. later_place bits i r rows (get_or (places_of bits (suc i) rows) k d) (places_are bits (suc i) rows k d within) in
+    let first : i - i ≡ 0 = omega arith in
+    cond_both (r.route.bits == bits) (i ∷ places_of bits (suc i) rows) (places_of bits (suc i) rows) (All P)
+    (λ is. All-cons P i (places_of bits (suc i) rows) (record {
+      from = omega arith;
+      below = omega arith;
+      route = λ d. subst (λ n. (get_or (r ∷ rows) n d).route.bits ≡ bits) (sym first) (eqb-true r.route.bits bits is);
+    }) rest) (λ other. rest)
 
 places_ascend : (bits i : ℕ) (rows : List Row) → AllPairs (λ s t. s < t) (places_of bits i rows)
 places_ascend bits i [] = AllPairs-nil (λ s t. s < t)
-places_ascend bits i (r ∷ rows) = by_test (r.route.bits == bits) (places_ascend bits (suc i) rows) (places_are bits (suc i) rows)
-  where
-    by_test : (b : Bool) → AllPairs (λ s t. s < t) (places_of bits (suc i) rows) → All (IsPlaceOf bits (suc i) rows) (places_of bits (suc i) rows) → AllPairs (λ s t. s < t) (cond b (i ∷ places_of bits (suc i) rows) (places_of bits (suc i) rows))
-    by_test true rest are = AllPairs-cons (λ s t. s < t) i (places_of bits (suc i) rows) (λ k d within. let place = are k d within in omega (arith, place.from)) rest
-    by_test false rest are = rest
+places_ascend bits i (r ∷ rows) =
+    let rest = places_ascend bits (suc i) rows in
+    cond_both (r.route.bits == bits) (i ∷ places_of bits (suc i) rows) (places_of bits (suc i) rows) (AllPairs (λ s t. s < t))
+    (λ is. AllPairs-cons (λ s t. s < t) i (places_of bits (suc i) rows) (λ k d within. let place = places_are bits (suc i) rows k d within in omega (arith, place.from)) rest) (λ other. rest)
 
 has_bits : (bits : ℕ) (rows : List Row) (k d : ℕ) → k < length (places_of bits 0 rows) → (e : Row) → (get_or rows (get_or (places_of bits 0 rows) k d) e).route.bits ≡ bits
 has_bits bits rows k d within e = grind (arith, places_are bits 0 rows k d within, get_or)
@@ -95,21 +81,14 @@ pair_inside rows i j pair = pair.set.set.in_range 1 0 (omega arith)
 pub pair_made : (rows : List Row) (i j : ℕ) → i < j → j < length rows → ((d : Row) → (get_or rows j d).route.bits ≡ (get_or rows i d).route.bits) → IsMergeSet rows (i ∷ j ∷ [])
 pair_made rows i j less within equal = pair_set rows i j less within (λ d. same_route (get_or rows i d).route (get_or rows j d).route (sym (equal d)))
 
-pub partner_found : (rows : List Row) (i j : ℕ) → ((b : ℕ) → i < b → b < j → IsLegalPair rows i b → ⊥) → IsLegalPair rows i j → IsFirstPartner rows i j
-partner_found rows i j none pair = record { legal = pair; before = λ b less other. none b (pair_order rows i b other) less other }
-
-pub no_partner : (rows : List Row) (i j : ℕ) → length rows ≤ j → ((b : ℕ) → i < b → b < j → IsLegalPair rows i b → ⊥) → (b : ℕ) → IsLegalPair rows i b → ⊥
-no_partner rows i j all none b other = none b (pair_order rows i b other) (omega (arith, pair_inside rows i b other)) other
-
 pub first_found : (rows : List Row) (set : List ℕ) (i j : ℕ) → set ≡ i ∷ j ∷ [] → ((a : ℕ) → a < i → (b : ℕ) → IsLegalPair rows a b → ⊥) → IsFirstPartner rows i j → IsFirstLegalPair rows set
-first_found rows set i j is none partner = record { i = i; j = j; pair = is; legal = partner.legal; before = earlier }
-  where
-    earlier : (a b : ℕ) → (a < i) ⊎ ((a ≡ i) × (b < j)) → IsLegalPair rows a b → ⊥
-    earlier a b (inl less) other = none a less b other
-    earlier a b (inr here) other = partner.before b here.1 (subst (λ n. IsLegalPair rows n b) here.0 other)
-
-pub no_pair : (rows : List Row) (i : ℕ) → length rows ≤ i → ((a : ℕ) → a < i → (b : ℕ) → IsLegalPair rows a b → ⊥) → HasNoLegalPair rows
-no_pair rows i all none a b other = none a (omega (arith, pair_order rows a b other, pair_inside rows a b other)) b other
+first_found rows set i j is none partner = record {
+  i = i;
+  j = j;
+  pair = is;
+  legal = partner.legal;
+  before = λ a b less other. elim less [ inl first ↦ none a first b other | inr here ↦ partner.before b here.1 (subst (λ n. IsLegalPair rows n b) here.0 other) ];
+}
 
 -- ---- links
 
@@ -141,7 +120,8 @@ pub places_next : (rows : List Row) (bits place x : ℕ) (old new : List ℕ) �
 places_next rows bits place x old new inside same next before now =
     let there : place + 1 + (x - (place + 1)) ≡ x = omega (arith, next.behind) in
     now ∙ ap (λ l. l ++ place ∷ []) before
-    ∙ sym (places_of-here bits place rows (merge_rows []) inside (same (merge_rows [])))
+    ∙ sym (places_of-next bits place rows (merge_rows []) inside
+    ∙ ap (λ b. places_of bits 0 (take place rows) ++ cond b (place ∷ []) []) (eq-eqb (get_or rows place (merge_rows [])).route.bits bits (same (merge_rows []))))
     ∙ sym (places_gap bits rows (place + 1) (x - (place + 1)) (λ m e from less within equal.
     next.between m e (omega (arith, from)) (omega (arith, less, there)) within (equal ∙ sym (same e))))
     ∙ ap (λ j. places_of bits 0 (take j rows)) there
@@ -154,12 +134,10 @@ place_listed bits i [] k d inside same = absurd (omega arith)
 place_listed bits i (r ∷ rows) zero d inside same =
     subst (λ b. (m : ℕ) × (m < length (cond b (i ∷ places_of bits (suc i) rows) (places_of bits (suc i) rows))) × (get_or (cond b (i ∷ places_of bits (suc i) rows) (places_of bits (suc i) rows)) m 0 ≡ i + 0)) (sym (eq-eqb r.route.bits bits same))
     (0, omega arith, omega arith)
-place_listed bits i (r ∷ rows) (suc k) d inside same = by_test (r.route.bits == bits) (place_listed bits (suc i) rows k d (omega arith) same)
-  where
-    by_test : (b : Bool) → (m : ℕ) × (m < length (places_of bits (suc i) rows)) × (get_or (places_of bits (suc i) rows) m 0 ≡ suc i + k)
-        → (m : ℕ) × (m < length (cond b (i ∷ places_of bits (suc i) rows) (places_of bits (suc i) rows))) × (get_or (cond b (i ∷ places_of bits (suc i) rows) (places_of bits (suc i) rows)) m 0 ≡ i + suc k)
-    by_test true rest = (suc rest.0, omega (arith, rest.1), omega (arith, rest.2))
-    by_test false rest = (rest.0, rest.1, omega (arith, rest.2))
+place_listed bits i (r ∷ rows) (suc k) d inside same =
+    let rest = place_listed bits (suc i) rows k d (omega arith) same in
+    cond_both (r.route.bits == bits) (i ∷ places_of bits (suc i) rows) (places_of bits (suc i) rows) (λ l. (m : ℕ) × (m < length l) × (get_or l m 0 ≡ i + suc k))
+    (λ is. (suc rest.0, omega (arith, rest.1), omega (arith, rest.2))) (λ other. (rest.0, rest.1, omega (arith, rest.2)))
 
 -- the places are just those of the rows of the route, in order
 pub record ArePlaces (bits : ℕ) (rows : List Row) (places : List ℕ) : Type 0 where
@@ -175,7 +153,3 @@ are_places bits rows = record {
   ascend = λ m n less within. places_ascend bits 0 rows m n 0 less within;
   listed = λ k d within same. let at = place_listed bits 0 rows k d within same in (at.0, at.1, omega (arith, at.2));
 }
-
--- such are those that were gathered from the first row on
-pub places_gathered : (rows : List Row) (x : ℕ) (gathered places : List ℕ) → ((bits : ℕ) → IsFirstOfRoute rows bits x → gathered ≡ places_of bits 0 rows) → places ≡ gathered → (bits : ℕ) → IsFirstOfRoute rows bits x → ArePlaces bits rows places
-places_gathered rows x gathered places found is bits first = subst (ArePlaces bits rows) (sym (is ∙ found bits first)) (are_places bits rows)

@@ -47,49 +47,26 @@ taken_out t a r b =
 pub served_out : (rows : List Row) (places : List ℕ) → AllPairs (λ s t. s < t) places → All (λ s. s < length rows) places → IsPermutation (served rows) (served (rows_at rows places) ++ served (kept places 0 rows))
 served_out rows [] ascending in_range = subst (λ l. IsPermutation (served rows) (served l)) (sym (kept_none [] 0 rows (All-nil (λ t. t < 0)))) (IsPermutation-refl (served rows))
 served_out rows (s ∷ rest) ascending in_range =
-    out (served_out rows rest (AllPairs-tail (λ a b. a < b) s rest ascending) (All-tail (λ x. x < length rows) s rest in_range))
-  where
-    above : All (λ t. s < t) rest
-    above = AllPairs-head (λ a b. a < b) s rest ascending
-
-    within : s < length rows
-    within = All-head (λ x. x < length rows) s rest in_range
-
-    d : Row
-    d = merge_rows []
-
-    k : List Row
-    k = kept rest 0 rows
-
-    row : Row
-    row = get_or rows s d
-
-    split : kept rest 0 rows ≡ take s (kept rest 0 rows) ++ get_or rows s (merge_rows []) ∷ drop (suc s) (kept rest 0 rows)
-    split =
-        split_at s (kept rest 0 rows) (merge_rows []) (kept_longer s rest above 0 s rows (omega arith) within)
-        ∙ ap (λ r. take s (kept rest 0 rows) ++ r ∷ drop (suc s) (kept rest 0 rows)) (kept_reads s rest above 0 s rows (merge_rows []) (omega arith) within)
-
-    removed : take s (kept rest 0 rows) ++ drop (suc s) (kept rest 0 rows) ≡ kept (s ∷ rest) 0 rows
-    removed = kept_remove s rest above 0 s rows (omega arith) within
-
-    rows_are : rows_at rows (s ∷ rest) ≡ get_or rows s (merge_rows []) ∷ rows_at rows rest
-    rows_are = ap (λ o. cons_option o (rows_at rows rest)) (slice_get-get_or rows s (merge_rows []) within)
-
-    out : IsPermutation (served rows) (served (rows_at rows rest) ++ served (kept rest 0 rows)) → IsPermutation (served rows) (served (rows_at rows (s ∷ rest)) ++ served (kept (s ∷ rest) 0 rows))
-    out before =
-        let a = take s (kept rest 0 rows) in
-        let b = drop (suc s) (kept rest 0 rows) in
-        let r = get_or rows s (merge_rows []) in
-        let t = served (rows_at rows rest) in
-        let parts : served (kept rest 0 rows) ≡ served a ++ (served_by r ++ served b) = ap served split ∙ flat_map-append served_by a (r ∷ b) in
-        let whole : served (kept (s ∷ rest) 0 rows) ≡ served a ++ served b = sym (ap served removed) ∙ flat_map-append served_by a b in
-        subst (λ l. IsPermutation (served rows) (l ++ served (kept (s ∷ rest) 0 rows))) (sym (ap served rows_are))
-        (subst (λ l. IsPermutation (served rows) ((served_by r ++ t) ++ l)) (sym whole)
-        (IsPermutation-trans (served rows) (t ++ served (kept rest 0 rows)) ((served_by r ++ t) ++ (served a ++ served b)) before
-        (subst (λ l. IsPermutation (t ++ l) ((served_by r ++ t) ++ (served a ++ served b))) (sym parts) (taken_out t (served a) (served_by r) (served b)))))
+    let above = AllPairs-head (λ a b. a < b) s rest ascending in
+    let within = All-head (λ x. x < length rows) s rest in_range in
+    let k = kept rest 0 rows in
+    let d : Row = merge_rows [] in
+    let r = get_or rows s d in
+    let a = take s k in
+    let b = drop (suc s) k in
+    let t = served (rows_at rows rest) in
+    let split : k ≡ a ++ r ∷ b = split_at s k d (kept_longer s rest above 0 s rows (omega arith) within) ∙ ap (λ x. a ++ x ∷ b) (kept_reads s rest above 0 s rows d (omega arith) within) in
+    let parts : served k ≡ served a ++ (served_by r ++ served b) = ap served split ∙ flat_map-append served_by a (r ∷ b) in
+    let whole : served (kept (s ∷ rest) 0 rows) ≡ served a ++ served b = sym (ap served (kept_remove s rest above 0 s rows (omega arith) within)) ∙ flat_map-append served_by a b in
+    let rows_are : rows_at rows (s ∷ rest) ≡ r ∷ rows_at rows rest = ap (λ o. cons_option o (rows_at rows rest)) (slice_get-get_or rows s d within) in
+    subst (λ l. IsPermutation (served rows) (l ++ served (kept (s ∷ rest) 0 rows))) (sym (ap served rows_are))
+    (subst (λ l. IsPermutation (served rows) ((served_by r ++ t) ++ l)) (sym whole)
+    (IsPermutation-trans (served rows) (t ++ served k) ((served_by r ++ t) ++ (served a ++ served b))
+    (served_out rows rest (AllPairs-tail (λ a b. a < b) s rest ascending) (All-tail (λ x. x < length rows) s rest in_range))
+    (subst (λ l. IsPermutation (t ++ l) ((served_by r ++ t) ++ (served a ++ served b))) (sym parts) (taken_out t (served a) (served_by r) (served b)))))
 
 -- each place takes one row out
-length_out : (rows : List Row) (places : List ℕ) → AllPairs (λ s t. s < t) places → All (λ s. s < length rows) places → length places + length (kept places 0 rows) ≡ length rows
+pub length_out : (rows : List Row) (places : List ℕ) → AllPairs (λ s t. s < t) places → All (λ s. s < length rows) places → length places + length (kept places 0 rows) ≡ length rows
 length_out rows [] ascending in_range = let all = ap length (kept_none [] 0 rows (All-nil (λ t. t < 0))) in omega (arith, all)
 length_out rows (s ∷ rest) ascending in_range =
     let above = AllPairs-head (λ a b. a < b) s rest ascending in
@@ -113,9 +90,6 @@ served_alike route (r ∷ rows) all =
     ∙ ap (λ l. map (mark route) r.aliases ++ l) (served_alike route rows (All-tail (λ (x : Row). x.route ≡ route) r rows all))
     ∙ ap (λ ρ. map (mark ρ) r.aliases ++ served rows) (sym (All-head (λ (x : Row). x.route ≡ route) r rows all))
 
-served_merge : (r : Row) (rows : List Row) → All (λ (x : Row). x.route ≡ r.route) rows → served_by (merge_rows (r ∷ rows)) ≡ served (r ∷ rows)
-served_merge r rows all = served_alike r.route (r ∷ rows) (All-cons (λ (x : Row). x.route ≡ r.route) r rows refl all)
-
 pub served_merged : (rows : List Row) (places : List ℕ) → IsMergeSet rows places → served_by (merged_row rows places) ≡ served (rows_at rows places)
 served_merged rows [] set = absurd (omega (arith, set.two))
 served_merged rows (s ∷ rest) set =
@@ -128,7 +102,9 @@ served_merged rows (s ∷ rest) set =
     let at = has-place rest t found in
     let same : (get_or rows s e).route ≡ (get_or rows (get_or rest at.0 0) e).route = AllPairs-head (SameRoute rows) s rest set.set.one_route at.0 0 at.1 e in
     ap (λ n. (get_or rows n e).route) (sym at.2) ∙ sym same ∙ ap (λ (x : Row). x.route) (get_or_default rows s e d within)) in
-    ap (λ l. served_by (merge_rows l)) rows_are ∙ served_merge r (rows_at rows rest) alike ∙ sym (ap served rows_are)
+    ap (λ l. served_by (merge_rows l)) rows_are
+    ∙ served_alike r.route (r ∷ rows_at rows rest) (All-cons (λ (x : Row). x.route ≡ r.route) r (rows_at rows rest) refl alike)
+    ∙ sym (ap served rows_are)
 
 -- ---- the table after a merge serves the same blocks, and is shorter
 
@@ -181,10 +157,6 @@ module _ (rows : List Row) (places : List ℕ) (set : IsMergeSet rows places) wh
 routes_own : (rows : List Row) → HasRoutesOf rows rows
 routes_own rows = All-from_map (Contains (map (λ (x : Row). x.route) rows)) (λ (x : Row). x.route) rows (All-contains_itself (map (λ (x : Row). x.route) rows))
 
--- one more merge at the end of those that were made
-sets_more : (merges : List Merge) (m : Merge) (sets : List (List ℕ)) → sets_of (merges ++ m ∷ []) ++ sets ≡ sets_of merges ++ m.places ∷ sets
-sets_more merges m sets = ap (λ l. l ++ sets) (map-append (λ (x : Merge). x.places) merges (m ∷ [])) ∙ append_assoc (sets_of merges) (m.places ∷ []) sets
-
 -- what covering keeps from one merge to the next
 pub record IsCoveredSoFar (target : ℕ) (start now : List Row) (merges : List Merge) : Type 0 where
   pub few : length now < 2 ^ 32
@@ -206,7 +178,8 @@ so_far_more target start now new merges m so_far more chosen is =
       no_more = omega (arith, shorter now m.places legal.0, so_far.no_more);
       routes = routes_after now m.places legal.0 start so_far.routes;
       sound = legal.1;
-      goes_on = λ sets covered h. subst (λ l. Covers target start l covered) (sym (sets_more merges m sets)) (so_far.goes_on (m.places ∷ sets) covered (merged now m.places sets covered more chosen h));
+      goes_on = λ sets covered h. subst (λ l. Covers target start l covered) 
+          (sym (ap (λ l. l ++ sets) (map-append (λ (x : Merge). x.places) merges (m ∷ [])) ∙ append_assoc (sets_of merges) (m.places ∷ []) sets)) (so_far.goes_on (m.places ∷ sets) covered (merged now m.places sets covered more chosen h));
       serves = IsPermutation-trans (served start) (served now) (served (after now m.places)) so_far.serves (served_after now m.places legal.0);
     })
 

@@ -16,7 +16,7 @@ first_not_later b aliases met other one two less = two.before one.at one.alias l
 one_first : (b : Block) (aliases : List Alias) (met other : Block) → IsFirstMet b aliases met → IsFirstMet b aliases other → met ≡ other
 one_first b aliases met other one two = grind (arith, cases_order one.at two.at, first_alias b aliases met one one.alias, first_alias b aliases other two one.alias, get_or, first_not_later)
 
-met_not_missed : (b : Block) (row : Row) (met : Block) → IsFirstMet b row.aliases met → Misses b row → ⊥
+pub met_not_missed : (b : Block) (row : Row) (met : Block) → IsFirstMet b row.aliases met → Misses b row → ⊥
 met_not_missed b row met first misses = grind (arith, slice_get_within row.aliases first.at first.alias first.found, first_alias b row.aliases met first first.alias)
 
 module _ (rows : List Row) where
@@ -33,10 +33,8 @@ module _ (rows : List Row) where
     | inl same ↦
         let row : one.row ≡ two.row = sym (met_row b p met one one.row) ∙ ap (λ n. get_or rows n one.row) same ∙ met_row b p other two one.row in
         one_first b two.row.aliases met other (subst (λ (r : Row). IsFirstMet b r.aliases met) row one.first) two.first
-    | inr apart ↦ elim apart [
-      | inl less ↦ absurd (met_not_later b p met other one two less)
-      | inr more ↦ absurd (met_not_later b p other met two one more)
-    ]
+    | inr (inl less) ↦ absurd (met_not_later b p met other one two less)
+    | inr (inr more) ↦ absurd (met_not_later b p other met two one more)
   ]
 
   pub met_fails : (b : Block) (p : ℕ) (met : Block) → IsFirstMetFrom rows b p met → PassesDown rows b p → ⊥
@@ -48,10 +46,8 @@ module _ (rows : List Row) where
   one_failing : (places : List ℕ) (p s t : ℕ) → IsLastFailing rows places p s → IsLastFailing rows places p t → s ≡ t
   one_failing places p s t one two = elim (cases_order s t) [
     | inl same ↦ same
-    | inr apart ↦ elim apart [
-      | inl less ↦ absurd (two.failing (one.behind t two.member less))
-      | inr more ↦ absurd (one.failing (two.behind s one.member more))
-    ]
+    | inr (inl less) ↦ absurd (two.failing (one.behind t two.member less))
+    | inr (inr more) ↦ absurd (one.failing (two.behind s one.member more))
   ]
 
   one_up : (old xs ys : List ℕ) → IsUpStep rows old xs → IsUpStep rows old ys → xs ≡ ys
@@ -83,29 +79,20 @@ module _ (rows : List Row) where
   few_end places ys few (goes_up p next a two step rest) = absurd (omega arith)
   few_end places ys few (goes_down p next a two step rest) = absurd (omega arith)
 
-  legal_ends : (places ys : List ℕ) → 2 ≤ length places → PassesUpCheck rows places → PassesDownCheck rows places → Refines rows places ys → places ≡ ys
-  legal_ends places ys many up down (ends_empty p less) = absurd (omega arith)
-  legal_ends places ys many up down (ends_legal p two also too) = refl
-  legal_ends places ys many up down (goes_up p next a two step rest) = absurd (up_fails p next step up)
-  legal_ends places ys many up down (goes_down p next a two step rest) = absurd (down_fails p next step down)
-
-  goes_up_alone : (places next ys : List ℕ) → 2 ≤ length places → IsUpStep rows places next → Refines rows places ys → Refines rows next ys
-  goes_up_alone places next ys many step (ends_empty p less) = absurd (omega arith)
-  goes_up_alone places next ys many step (ends_legal p two up down) = absurd (up_fails p next step up)
-  goes_up_alone places next ys many step (goes_up p other a two also rest) = subst (λ l. Refines rows l a) (one_up p other next also step) rest
-  goes_up_alone places next ys many step (goes_down p other a two also rest) = absurd (up_fails p next step also.up)
-
-  goes_down_alone : (places next ys : List ℕ) → 2 ≤ length places → IsDownStep rows places next → Refines rows places ys → Refines rows next ys
-  goes_down_alone places next ys many step (ends_empty p less) = absurd (omega arith)
-  goes_down_alone places next ys many step (ends_legal p two up down) = absurd (down_fails p next step down)
-  goes_down_alone places next ys many step (goes_up p other a two also rest) = absurd (up_fails p other also step.up)
-  goes_down_alone places next ys many step (goes_down p other a two also rest) = subst (λ l. Refines rows l a) (one_down p other next also step) rest
-
   pub one_refined : (places xs ys : List ℕ) → Refines rows places xs → Refines rows places ys → xs ≡ ys
   one_refined places xs ys (ends_empty p few) other = few_end p ys few other
-  one_refined places xs ys (ends_legal p two up down) other = legal_ends p ys two up down other
-  one_refined places xs ys (goes_up p next a two step rest) other = one_refined next a ys rest (goes_up_alone p next ys two step other)
-  one_refined places xs ys (goes_down p next a two step rest) other = one_refined next a ys rest (goes_down_alone p next ys two step other)
+  one_refined places xs ys (ends_legal p two up down) (ends_empty q few) = absurd (omega arith)
+  one_refined places xs ys (ends_legal p two up down) (ends_legal q also too low) = refl
+  one_refined places xs ys (ends_legal p two up down) (goes_up q next a also step rest) = absurd (up_fails p next step up)
+  one_refined places xs ys (ends_legal p two up down) (goes_down q next a also step rest) = absurd (down_fails p next step down)
+  one_refined places xs ys (goes_up p next a two step rest) (ends_empty q few) = absurd (omega arith)
+  one_refined places xs ys (goes_up p next a two step rest) (ends_legal q also up down) = absurd (up_fails p next step up)
+  one_refined places xs ys (goes_up p next a two step rest) (goes_up q other b also move more) = one_refined next a b rest (subst (λ l. Refines rows l b) (one_up p other next move step) more)
+  one_refined places xs ys (goes_up p next a two step rest) (goes_down q other b also move more) = absurd (up_fails p next step move.up)
+  one_refined places xs ys (goes_down p next a two step rest) (ends_empty q few) = absurd (omega arith)
+  one_refined places xs ys (goes_down p next a two step rest) (ends_legal q also up down) = absurd (down_fails p next step down)
+  one_refined places xs ys (goes_down p next a two step rest) (goes_up q other b also move more) = absurd (up_fails p other move step.up)
+  one_refined places xs ys (goes_down p next a two step rest) (goes_down q other b also move more) = one_refined next a b rest (subst (λ l. Refines rows l b) (one_down p other next move step) more)
 
   -- ---- the chosen merge
 
@@ -139,15 +126,11 @@ module _ (rows : List Row) where
   one_pair xs ys one two = elim (cases_order one.i two.i) [
     | inl same ↦ elim (cases_order one.j two.j) [
       | inl also ↦ one.pair ∙ ap (λ n. n ∷ one.j ∷ []) same ∙ ap (λ n. two.i ∷ n ∷ []) also ∙ sym two.pair
-      | inr apart ↦ elim apart [
-        | inl less ↦ absurd (two.before one.i one.j (inr (same, less)) one.legal)
-        | inr more ↦ absurd (one.before two.i two.j (inr (sym same, more)) two.legal)
-      ]
+      | inr (inl less) ↦ absurd (two.before one.i one.j (inr (same, less)) one.legal)
+      | inr (inr more) ↦ absurd (one.before two.i two.j (inr (sym same, more)) two.legal)
     ]
-    | inr apart ↦ elim apart [
-      | inl less ↦ absurd (two.before one.i one.j (inl less) one.legal)
-      | inr more ↦ absurd (one.before two.i two.j (inl more) two.legal)
-    ]
+    | inr (inl less) ↦ absurd (two.before one.i one.j (inl less) one.legal)
+    | inr (inr more) ↦ absurd (one.before two.i two.j (inl more) two.legal)
   ]
 
   pub one_chosen : (xs ys : List ℕ) → IsChosen rows xs → IsChosen rows ys → xs ≡ ys
@@ -163,31 +146,19 @@ module _ (rows : List Row) where
 -- ---- the covered table
 
 module _ (target : ℕ) where
-  short_ends : (rows : List Row) (ys : List (List ℕ)) (b : List Row) → length rows ≤ target → Covers target rows ys b → ([] ≡ ys) × (rows ≡ b)
-  short_ends rows ys b low (short r le) = (refl, refl)
-  short_ends rows ys b low (stuck r high none) = (refl, refl)
-  short_ends rows ys b low (merged r set sets covered high chosen rest) = absurd (omega arith)
-
-  stuck_ends : (rows : List Row) (ys : List (List ℕ)) (b : List Row) → HasNoChosen rows → Covers target rows ys b → ([] ≡ ys) × (rows ≡ b)
-  stuck_ends rows ys b none (short r le) = (refl, refl)
-  stuck_ends rows ys b none (stuck r high also) = (refl, refl)
-  stuck_ends rows ys b none (merged r set sets covered high chosen rest) = absurd (chosen_or_none r set chosen none)
-
-  merges_alone : (rows : List Row) (set : List ℕ) (ys : List (List ℕ)) (b : List Row) → target < length rows → IsChosen rows set → Covers target rows ys b
-      → (rest : List (List ℕ)) × (set ∷ rest ≡ ys) × (Covers target (after rows set) rest b)
-  merges_alone rows set ys b many chosen (short r le) = absurd (omega arith)
-  merges_alone rows set ys b many chosen (stuck r high none) = absurd (chosen_or_none r set chosen none)
-  merges_alone rows set ys b many chosen (merged r other sets covered high also rest) =
-      let same : other ≡ set = one_chosen r other set also chosen in
-      (sets, ap (λ s. s ∷ sets) (sym same), subst (λ s. Covers target (after r s) sets covered) same rest)
-
   pub one_covering : (rows : List Row) (xs ys : List (List ℕ)) (a b : List Row) → Covers target rows xs a → Covers target rows ys b → (xs ≡ ys) × (a ≡ b)
-  one_covering rows xs ys a b (short r low) other = short_ends r ys b low other
-  one_covering rows xs ys a b (stuck r high none) other = stuck_ends r ys b none other
-  one_covering rows xs ys a b (merged r set sets covered high chosen rest) other =
-      let next = merges_alone r set ys b high chosen other in
-      let later = one_covering (after r set) sets next.0 covered b rest next.2 in
-      (ap (λ l. set ∷ l) later.0 ∙ next.1, later.1)
+  one_covering rows xs ys a b (short r low) (short q also) = (refl, refl)
+  one_covering rows xs ys a b (short r low) (stuck q high none) = (refl, refl)
+  one_covering rows xs ys a b (short r low) (merged q other sets covered high chosen rest) = absurd (omega arith)
+  one_covering rows xs ys a b (stuck r high none) (short q low) = (refl, refl)
+  one_covering rows xs ys a b (stuck r high none) (stuck q more also) = (refl, refl)
+  one_covering rows xs ys a b (stuck r high none) (merged q other sets covered more chosen rest) = absurd (chosen_or_none q other chosen none)
+  one_covering rows xs ys a b (merged r set sets covered high chosen rest) (short q low) = absurd (omega arith)
+  one_covering rows xs ys a b (merged r set sets covered high chosen rest) (stuck q more none) = absurd (chosen_or_none r set chosen none)
+  one_covering rows xs ys a b (merged r set sets covered high chosen rest) (merged q other more last many also behind) =
+      let same : other ≡ set = one_chosen r other set also chosen in
+      let later = one_covering (after r set) sets more covered last rest (subst (λ s. Covers target (after r s) more last) same behind) in
+      (ap (λ l. set ∷ l) later.0 ∙ ap (λ s. s ∷ more) (sym same), later.1)
 
 same_merges : (xs ys : List Merge) → sets_of xs ≡ sets_of ys → xs ≡ ys
 same_merges [] [] same = refl

@@ -1,11 +1,12 @@
 -- What is kept of routes: the greatest, and what a merge leaves.
 use Rattle.cover_merge.proofs.Common.{All, AreAllKept, AreLinks, AreNumbers, AreRoutesKept, AreStillKept, Block, Fresh, HasNoLargest, IsApart, IsDownStep, IsEachOnce, IsFirstOfRoute, IsFreshlyRefined}
 use Rattle.cover_merge.proofs.Common.{IsGone, IsKept, IsLargest, IsLegalMerge, IsMostBefore, IsNoRival, IsOneRoute, IsSound, Kept, LeadsWithin, List, Misses, MissesAllOf, Most, None, Option}
-use Rattle.cover_merge.proofs.Common.{PassesDownCheck, PassesUpCheck, Refines, RefinesWithin, Row, Some, [], after, ap, arith, cases_eq, cases_lt, ends_empty, generality, get_or, get_or-eq_default}
+use Rattle.cover_merge.proofs.Common.{PassesDownCheck, PassesUpCheck, Refines, RefinesWithin, Row, Some, [], after, ap, arith, below_more, cases_lt, ends_empty, generality, get_or, get_or-eq_default}
 use Rattle.cover_merge.proofs.Common.{get_or-set_at, get_or-set_other, get_or_default, inl, inr, length, length-set, merge_rows, merged_block, place_of_route, places_of, refl, set, subst, sym, ℕ, ◌+◌}
 use Rattle.cover_merge.proofs.Common.{◌<◌, ◌∙◌, ◌≡◌, ◌≢◌, ◌≤◌, ◌⊎◌}
-use Rattle.cover_merge.proofs.{LinkLemmas.number_of_route, LinkLemmas.route_there, LinkLemmas.routes_all, KeptLemmas.forgets, KeptLemmas.kept_after, KeptLemmas.merge_other, KeptLemmas.no_rival_kept}
-use Rattle.cover_merge.proofs.{KeptLemmas.size_of_kept, ChooseLemmas.route_cases, KeptLemmasSteps.gone_checked, KeptLemmasSteps.gone_down, KeptLemmasSteps.gone_legal, KeptLemmasSteps.gone_up}
+use Rattle.cover_merge.proofs.{Lists.written_at, LinkLemmas.number_of_route, LinkLemmas.route_there, LinkLemmas.routes_all, KeptLemmas.forgets, KeptLemmas.kept_after, KeptLemmas.merge_other}
+use Rattle.cover_merge.proofs.{KeptLemmas.no_rival_kept, KeptLemmas.size_of_kept, ChooseLemmas.route_cases, KeptLemmasSteps.gone_checked, KeptLemmasSteps.gone_down, KeptLemmasSteps.gone_legal}
+use Rattle.cover_merge.proofs.KeptLemmasSteps.{gone_up}
 
 pub none_some : (it : Kept) → None ≡ Some it → ⊥
 none_some it is = cc
@@ -15,18 +16,10 @@ some_same it other is = cc
 
 -- what is kept is kept of some route
 pub inside_some : (xs : List (Option Kept)) (k : ℕ) (it : Kept) → get_or xs k None ≡ Some it → k < length xs
-inside_some xs k it is = by_case (cases_lt k (length xs))
-  where
-    by_case : (k < length xs) ⊎ (length xs ≤ k) → k < length xs
-    by_case (inl less) = less
-    by_case (inr all) = absurd (none_some it (sym (get_or-eq_default xs None all) ∙ is))
-
-pub less_of : (k c : ℕ) → k ≢ c → k < c + 1 → k < c
-less_of k c apart less = by_case (cases_lt k c)
-  where
-    by_case : (k < c) ⊎ (c ≤ k) → k < c
-    by_case (inl before) = before
-    by_case (inr from) = absurd (apart (omega (arith, less, from)))
+inside_some xs k it is = elim (cases_lt k (length xs)) [
+  | inl less ↦ less
+  | inr all ↦ absurd (none_some it (sym (get_or-eq_default xs None all) ∙ is))
+]
 
 -- ---- the greatest
 
@@ -36,27 +29,23 @@ module _ (routes : List ℕ) (kept : List (Option Kept)) (c : ℕ) (most : Most)
     last_is k it less from is = grind (arith, some_same, get_or)
 
     pub most_new : (new : Most) → new.number ≡ c → new.bits ≡ bits → new.size ≡ own.size → c < length routes → (most.size < own.size) ⊎ ((own.size ≡ most.size) × (bits < most.bits)) → IsMostBefore routes kept (c + 1) new
-    most_new new at bits_is size_is within wins = record {
-      inside = λ some. subst (λ i. i < length routes) (sym at) within;
-      own = λ some. (own, ap (λ i. get_or kept i None) at ∙ here_is, sym size_is);
-      bits = λ some. ap (λ i. get_or routes i 0) at ∙ sym read ∙ sym bits_is;
-      no_larger = λ k it less is. elim (cases_lt k c) [
-        | inl before ↦ omega (arith, old.no_larger k it before is, size_is, no_fewer wins)
-        | inr from ↦ let same = last_is k it less from is in subst (λ (x : Kept). x.size ≤ new.size) (sym same.0) (omega (arith, size_is))
-      ];
-      smaller = λ k it less is some low. elim (cases_lt k c) [
-        | inl before ↦ earlier k it before is (subst (λ b. get_or routes k 0 < b) bits_is low) (omega (arith, size_is, some)) wins
-        | inr from ↦ let same = last_is k it less from is in absurd (omega (arith, low, same.1, bits_is))
-      ];
-    }
-      where
-        no_fewer : (most.size < own.size) ⊎ ((own.size ≡ most.size) × (bits < most.bits)) → most.size ≤ own.size
-        no_fewer (inl less) = omega (arith, less)
-        no_fewer (inr tie) = omega (arith, tie.0)
-
-        earlier : (k : ℕ) (it : Kept) → k < c → get_or kept k None ≡ Some it → get_or routes k 0 < bits → 0 < own.size → (most.size < own.size) ⊎ ((own.size ≡ most.size) × (bits < most.bits)) → it.size < new.size
-        earlier k it before is low some (inl less) = omega (arith, old.no_larger k it before is, less, size_is)
-        earlier k it before is low some (inr tie) = let s = old.smaller k it before is (omega (arith, tie.0, some)) (omega (arith, low, tie.1)) in omega (arith, s, tie.0, size_is)
+    most_new new at bits_is size_is within wins =
+        let no_fewer : most.size ≤ own.size = elim wins [ inl less ↦ omega (arith, less) | inr tie ↦ omega (arith, tie.0) ] in record {
+          inside = λ some. subst (λ i. i < length routes) (sym at) within;
+          own = λ some. (own, ap (λ i. get_or kept i None) at ∙ here_is, sym size_is);
+          bits = λ some. ap (λ i. get_or routes i 0) at ∙ sym read ∙ sym bits_is;
+          no_larger = λ k it less is. elim (cases_lt k c) [
+            | inl before ↦ omega (arith, old.no_larger k it before is, size_is, no_fewer)
+            | inr from ↦ let same = last_is k it less from is in subst (λ (x : Kept). x.size ≤ new.size) (sym same.0) (omega (arith, size_is))
+          ];
+          smaller = λ k it less is some low. elim (cases_lt k c) [
+            | inl before ↦ elim wins [
+              | inl fewer ↦ omega (arith, old.no_larger k it before is, fewer, size_is)
+              | inr tie ↦ let s = old.smaller k it before is (omega (arith, tie.0, size_is, some)) (omega (arith, low, bits_is, tie.1)) in omega (arith, s, tie.0, size_is)
+            ]
+            | inr from ↦ let same = last_is k it less from is in absurd (omega (arith, low, same.1, bits_is))
+          ];
+        }
 
 -- ---- the largest
 
@@ -74,11 +63,10 @@ module _ (routes : List ℕ) (rows : List Row) (numbers : List ℕ) (are : AreNu
       (no_rival_kept rows own.0.outer own.0.low (get_or routes c 0) own.0.size (keeps c own.0 low own.1) most.bits most.size (is.no_larger c own.0 low own.1) (is.smaller c own.0 low own.1))
 
   pub no_rival : (bits : ℕ) → IsNoRival rows bits most.bits most.size
-  no_rival bits = by_cases (route_cases bits 0 rows)
-    where
-      by_cases : ((j : ℕ) × (j < length rows) × ((d : Row) → (get_or rows j d).route.bits ≡ bits)) ⊎ (places_of bits 0 rows ≡ []) → IsNoRival rows bits most.bits most.size
-      by_cases (inl found) = rival_at bits (routes_all routes rows numbers are bits found.0 (merge_rows []) found.1 (found.2 (merge_rows [])))
-      by_cases (inr none) = nothing_of bits most.bits most.size none
+  no_rival bits = elim (route_cases bits 0 rows) [
+    | inl found ↦ rival_at bits (routes_all routes rows numbers are bits found.0 (merge_rows []) found.1 (found.2 (merge_rows [])))
+    | inr none ↦ nothing_of bits most.bits most.size none
+  ]
 
   pub none_largest : most.size < 2 → HasNoLargest rows
   none_largest less route = let rival = no_rival route.bits in (rival.set, rival.refined, omega (arith, rival.no_larger))
@@ -105,27 +93,12 @@ places_read routes rows nexts heads links c low x read places found = grind (ari
 -- ---- one route more of which something is kept
 
 pub kept_put : (routes : List ℕ) (rows : List Row) (kept : List (Option Kept)) (c : ℕ) (own : Kept) → c < length kept → IsKept rows (get_or routes c 0) own.size own.outer own.low → AreRoutesKept routes rows kept → AreRoutesKept routes rows (set kept c (Some own))
-kept_put routes rows kept c own inside here keeps k it low is = by_case (cases_eq k c)
-  where
-    by_case : (k ≡ c) ⊎ (k ≢ c) → IsKept rows (get_or routes k 0) it.size it.outer it.low
-    by_case (inl same) =
-        let equal : own ≡ it = some_same own it (sym (get_or-set_at kept c k (Some own) None same inside) ∙ is) in
-        subst (λ (x : Kept). IsKept rows (get_or routes k 0) x.size x.outer x.low) equal (subst (λ i. IsKept rows (get_or routes i 0) own.size own.outer own.low) (sym same) here)
-    by_case (inr apart) = keeps k it low (sym (get_or-set_other kept c k (Some own) None apart) ∙ is)
+kept_put routes rows kept c own inside here keeps k it = written_at (λ n o. n < length routes → o ≡ Some it → IsKept rows (get_or routes n 0) it.size it.outer it.low) kept c (Some own) None inside
+    (λ low is. subst (λ (x : Kept). IsKept rows (get_or routes c 0) x.size x.outer x.low) (some_same own it is) here) (λ n apart. keeps n it) k
 
 pub all_more : (kept : List (Option Kept)) (c : ℕ) (own : Kept) → c < length kept → ((k : ℕ) → k < c → (it : Kept) × (get_or kept k None ≡ Some it)) → (k : ℕ) → k < c + 1 → (it : Kept) × (get_or (set kept c (Some own)) k None ≡ Some it)
-all_more kept c own inside all k less = by_case (cases_eq k c)
-  where
-    by_case : (k ≡ c) ⊎ (k ≢ c) → (it : Kept) × (get_or (set kept c (Some own)) k None ≡ Some it)
-    by_case (inl same) = (own, get_or-set_at kept c k (Some own) None same inside)
-    by_case (inr apart) = let old = all k (less_of k c apart less) in (old.0, get_or-set_other kept c k (Some own) None apart ∙ old.1)
-
-pub all_known : (kept : List (Option Kept)) (c : ℕ) → (it : Kept) × (get_or kept c None ≡ Some it) → ((k : ℕ) → k < c → (it : Kept) × (get_or kept k None ≡ Some it)) → (k : ℕ) → k < c + 1 → (it : Kept) × (get_or kept k None ≡ Some it)
-all_known kept c own all k less = by_case (cases_eq k c)
-  where
-    by_case : (k ≡ c) ⊎ (k ≢ c) → (it : Kept) × (get_or kept k None ≡ Some it)
-    by_case (inl same) = (own.0, ap (λ n. get_or kept n None) same ∙ own.1)
-    by_case (inr apart) = all k (less_of k c apart less)
+all_more kept c own inside all = below_more (λ k. (it : Kept) × (get_or (set kept c (Some own)) k None ≡ Some it)) c
+    (λ k less. let old = all k less in (old.0, get_or-set_other kept c k (Some own) None (λ same. omega (arith, same, less)) ∙ old.1)) (own, get_or-set_at kept c c (Some own) None refl inside)
 
 -- ---- the set that was refined last
 
@@ -137,41 +110,27 @@ fresh_more routes rows c found outer low refined old new (inr own) before = λ s
 
 -- ---- what is left
 
-pub left_all : (P : ℕ → Kept → Type 0) (xs : List (Option Kept)) → ((k : ℕ) (it : Kept) → get_or xs k None ≡ Some it → P k it) → AreStillKept P xs xs
-left_all P xs all = record { one_each = refl; each = λ k it is. (is, all k it is) }
-
 -- one place is written anew
 pub left_set : (P Q : ℕ → Kept → Type 0) (old now new : List (Option Kept)) (c : ℕ) (v : Option Kept) → c < length now → new ≡ set now c v → AreStillKept P old now
     → ((k : ℕ) (it : Kept) → k ≢ c → P k it → Q k it) → ((it : Kept) → v ≡ Some it → (get_or now c None ≡ Some it) × (P c it → Q c it)) → AreStillKept Q old new
 left_set P Q old now new c v inside is before others here = record {
   one_each = ap length is ∙ length-set now c v ∙ before.one_each;
-  each = λ k it found. by_case k it (ap (λ l. get_or l k None) (sym is) ∙ found) (cases_eq k c);
+  each = λ k it found. written_at (λ n o. o ≡ Some it → (get_or old n None ≡ Some it) × (Q n it)) now c v None inside
+      (λ same. let own = here it same in let was = before.each c it own.0 in (was.0, own.1 was.1))
+      (λ n apart same. let was = before.each n it same in (was.0, others n it apart was.1)) k (ap (λ l. get_or l k None) (sym is) ∙ found);
 }
-  where
-    by_case : (k : ℕ) (it : Kept) → get_or (set now c v) k None ≡ Some it → (k ≡ c) ⊎ (k ≢ c) → (get_or old k None ≡ Some it) × (Q k it)
-    by_case k it found (inl same) =
-        let own = here it (sym (get_or-set_at now c k v None same inside) ∙ found) in
-        let was = before.each c it own.0 in
-        subst (λ i. (get_or old i None ≡ Some it) × (Q i it)) (sym same) (was.0, own.1 was.1)
-    by_case k it found (inr apart) =
-        let was = before.each k it (sym (get_or-set_other now c k v None apart) ∙ found) in
-        (was.0, others k it apart was.1)
 
 -- what is left where nothing is kept of one route
 pub forgotten : (kept : List (Option Kept)) (n : ℕ) → n < length kept → AreStillKept (λ k it. k ≢ n) kept (set kept n None)
 forgotten kept n low =
-    left_set (λ (k : ℕ) (it : Kept). k ≡ k) (λ (k : ℕ) (it : Kept). k ≢ n) kept kept _ n None low refl (left_all (λ (k : ℕ) (it : Kept). k ≡ k) kept (λ k it is. refl)) (λ k it apart same. apart) (λ it is. absurd (none_some it is))
+    left_set (λ (k : ℕ) (it : Kept). k ≡ k) (λ (k : ℕ) (it : Kept). k ≢ n) kept kept _ n None low refl (record { one_each = refl; each = λ k it is. (is, refl) }) (λ k it apart same. apart) (λ it is. absurd (none_some it is))
 
 -- of one route more it is shown
 pub left_more : (P : Kept → Type 0) (old now : List (Option Kept)) (i : ℕ) → AreStillKept (λ k it. k < i → P it) old now → ((it : Kept) → get_or now i None ≡ Some it → P it) → AreStillKept (λ k it. k < i + 1 → P it) old now
 left_more P old now i before here = record {
   one_each = before.one_each;
-  each = λ k it is. ((before.each k it is).0, λ less. by_case k it is less (cases_eq k i));
+  each = λ k it is. ((before.each k it is).0, λ less. below_more (λ n. get_or now n None ≡ Some it → P it) i (λ n low found. (before.each n it found).1 low) (here it) k less is);
 }
-  where
-    by_case : (k : ℕ) (it : Kept) → get_or now k None ≡ Some it → k < i + 1 → (k ≡ i) ⊎ (k ≢ i) → P it
-    by_case k it is less (inl same) = here it (ap (λ n. get_or now n None) (sym same) ∙ is)
-    by_case k it is less (inr apart) = (before.each k it is).1 (less_of k i apart less)
 
 -- what is still kept after two steps
 pub left_twice : (P Q R : ℕ → Kept → Type 0) (old now new : List (Option Kept)) → AreStillKept P old now → AreStillKept Q now new → ((k : ℕ) (it : Kept) → P k it → Q k it → R k it) → AreStillKept R old new
@@ -205,11 +164,8 @@ kept_over routes rows numbers old mid new places merged once are sound merge kee
 -- What the up-steps left is down-checked: the first block that was, and the generality of this one.
 module _ (rows : List Row) (start set left : List ℕ) (outer wide joined : Block) (low g : ℕ) (gone : IsGone rows start set outer low) (one : IsOneRoute rows set) (leads : (b : Block) (least : ℕ) → LeadsWithin rows b least set left) where
   pub turned : (2 ≤ length left) × (joined ≡ merged_block rows left) × (PassesUpCheck rows left) → ((32 < low) × (wide ≡ joined)) ⊎ ((low ≤ 32) × (wide ≡ outer)) → IsGone rows start left wide (generality (merged_block rows left))
-  turned sifted first = gone_checked rows start left outer low (gone_up rows start set outer low gone left one.in_range leads) wide sifted.0 (by_case first)
-    where
-      by_case : ((32 < low) × (wide ≡ joined)) ⊎ ((low ≤ 32) × (wide ≡ outer)) → ((32 < low) × (wide ≡ merged_block rows left)) ⊎ ((low ≤ 32) × (wide ≡ outer))
-      by_case (inl none) = inl (none.0, none.1 ∙ sifted.1)
-      by_case (inr some) = inr some
+  turned sifted first = gone_checked rows start left outer low (gone_up rows start set outer low gone left one.in_range leads) wide sifted.0
+      (subst (λ b. ((32 < low) × (wide ≡ b)) ⊎ ((low ≤ 32) × (wide ≡ outer))) sifted.1 first)
 
   module _ (sifted : (2 ≤ length left) × (joined ≡ merged_block rows left) × (PassesUpCheck rows left)) (first : ((32 < low) × (wide ≡ joined)) ⊎ ((low ≤ 32) × (wide ≡ outer))) (general : g ≡ generality joined) where
     low_is : generality (merged_block rows left) ≡ g

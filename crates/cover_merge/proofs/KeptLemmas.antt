@@ -1,25 +1,24 @@
 -- What is kept of a route is true in the table after a merge that leaves it alone.
-use Rattle.cover_merge.proofs.Common.{Alias, All, All-cons, All-filter, All-head, All-map, All-nil, All-tail, Block, Bool, HoldsItsAliases, Intersects, Intersects-sym, Intersects-wider, IsDownStep}
+use Rattle.cover_merge.proofs.Common.{All, All-cons, All-filter, All-head, All-map, All-nil, All-tail, Block, Bool, HoldsItsAliases, Intersects, Intersects-sym, Intersects-wider, IsDownStep}
 use Rattle.cover_merge.proofs.Common.{IsFirstMetFrom, IsKept, IsLastFailing, IsLeftBy, IsLegal, IsMergeSet, IsNarrowed, IsNoRival, IsSound, IsUpStep, LiesIn, LiesIn-from_wants, LiesIn-trans, List}
 use Rattle.cover_merge.proofs.Common.{Misses, PassesDown, PassesDownCheck, PassesUp, PassesUpCheck, Refines, RefinesWithin, Route, Row, Some, Wants, [], after, ap, arith, can_choose, cases_Bool}
-use Rattle.cover_merge.proofs.Common.{cases_lt, cases_order, cond, cons_option, eq-eqb, eqb_tells, false, filter, generality, generality-mono, get_or, get_or_default, get_or_from_slice_get, has_row}
-use Rattle.cover_merge.proofs.Common.{inl, inr, insert_place, keeps, kept_by, kept_count, length, length-map, map, merge_of, merge_of-is_merge, merged_block, merged_row, ne_eqb, not, place_for}
-use Rattle.cover_merge.proofs.Common.{places_of, refl, rows_at, slice_get, slice_get-get_or, slice_get_within, subst, suc, sym, true, true≢false, zero, ℕ, ◌+◌, ◌<◌, ◌==◌, ◌||◌, ◌∙◌, ◌∷◌, ◌≡◌, ◌≢◌}
-use Rattle.cover_merge.proofs.Common.{◌≤◌, ◌⊎◌}
-use Rattle.cover_merge.proofs.Positions.{has-at, has-place, has-later, All-has, rows_at-from, rows_at-has, rows_at-length, some_blocks, place_for-le, place_for-below, place_for-above, member_le}
-use Rattle.cover_merge.proofs.{Lists.All-from_map, Legal.HoldsItsAliases-merge, Legal.narrower_misses, Legal.member_lies, ApplyLemmas.block_is, Determined.one_refined, KeptLemmasMoved.moved}
-use Rattle.cover_merge.proofs.KeptLemmasMoved.{moved_less, moved_get, moved_onto, moved_places}
+use Rattle.cover_merge.proofs.Common.{cases_lt, cases_order, cond, cond_both, cons_option, eq-eqb, eqb-true, false, false_from_ne_true, filter, generality, generality-mono, get_or, get_or-map}
+use Rattle.cover_merge.proofs.Common.{get_or_default, get_or_from_slice_get, has_row, inl, inr, insert_place, keeps, kept_by, kept_count, length, length-map, map, merge_of, merge_of-is_merge}
+use Rattle.cover_merge.proofs.Common.{merged_block, merged_row, ne_eqb, not, place_for, places_of, refl, rows_at, slice_get, slice_get-get_or, slice_get_within, subst, suc, sym, true, zero, ℕ, ◌+◌}
+use Rattle.cover_merge.proofs.Common.{◌<◌, ◌==◌, ◌||◌, ◌∙◌, ◌∷◌, ◌≡◌, ◌≢◌, ◌≤◌, ◌⊎◌}
+use Rattle.cover_merge.proofs.Positions.{has-at, has-place, All-has, rows_at-from, rows_at-has, rows_at-length, some_blocks, place_for-le, place_for-below, place_for-above, member_le}
+use Rattle.cover_merge.proofs.{Lists.All-from_map, Lists.cond_of, Legal.HoldsItsAliases-merge, Legal.narrower_misses, Legal.member_lies, ApplyLemmas.block_is, Determined.met_not_missed}
+use Rattle.cover_merge.proofs.{Determined.one_refined, KeptLemmasMoved.moved, KeptLemmasMoved.moved_less, KeptLemmasMoved.moved_get, KeptLemmasMoved.moved_onto, KeptLemmasMoved.moved_places}
 
 -- ---- lists of places
 
 -- what holds of each place of a route's rows holds of all
 places_each : (P : ℕ → Type 0) (bits i : ℕ) (rows : List Row) → ((k j : ℕ) → j ≡ i + k → k < length rows → ((d : Row) → (get_or rows k d).route.bits ≡ bits) → P j) → All P (places_of bits i rows)
 places_each P bits i [] each = All-nil P
-places_each P bits i (r ∷ rows) each = by_test (eqb_tells r.route.bits bits) (places_each P bits (suc i) rows (λ k j at within same. each (suc k) j (omega (arith, at)) (omega (arith, within)) same))
-  where
-    by_test : ((r.route.bits == bits) ≡ true) × (r.route.bits ≡ bits) ⊎ ((r.route.bits == bits) ≡ false) × (r.route.bits ≢ bits) → All P (places_of bits (suc i) rows) → All P (places_of bits i (r ∷ rows))
-    by_test (inl same) rest = subst (λ b. All P (cond b (i ∷ places_of bits (suc i) rows) (places_of bits (suc i) rows))) (sym same.0) (All-cons P i (places_of bits (suc i) rows) (each 0 i (omega arith) (omega arith) (λ d. same.1)) rest)
-    by_test (inr other) rest = subst (λ b. All P (cond b (i ∷ places_of bits (suc i) rows) (places_of bits (suc i) rows))) (sym other.0) rest
+places_each P bits i (r ∷ rows) each =
+    let rest = places_each P bits (suc i) rows (λ k j at within same. each (suc k) j (omega (arith, at)) (omega (arith, within)) same) in
+    cond_both (r.route.bits == bits) (i ∷ places_of bits (suc i) rows) (places_of bits (suc i) rows) (All P)
+    (λ is. All-cons P i (places_of bits (suc i) rows) (each 0 i (omega arith) (omega arith) (λ d. eqb-true r.route.bits bits is)) rest) (λ other. rest)
 
 module _ (to : ℕ → ℕ) where
   -- what a test lets pass of the images are the images of what passes
@@ -28,22 +27,14 @@ module _ (to : ℕ → ℕ) where
   filter_to f h (s ∷ places) same =
       ap (λ b. cond b (to s ∷ filter f (map to places)) (filter f (map to places))) (All-head (λ x. f (to x) ≡ h x) s places same)
       ∙ ap (λ l. cond (h s) (to s ∷ l) l) (filter_to f h places (All-tail (λ x. f (to x) ≡ h x) s places same))
-      ∙ by_test (h s)
-    where
-      by_test : (b : Bool) → cond b (to s ∷ map to (filter h places)) (map to (filter h places)) ≡ map to (cond b (s ∷ filter h places) (filter h places))
-      by_test true = refl
-      by_test false = refl
+      ∙ cond_of (map to) (h s) (s ∷ filter h places) (filter h places)
 
   -- an image that is found is that of a place of the set
   has_from : (places : List ℕ) (l : ℕ) → has_row (map to places) l ≡ true → (s : ℕ) × (has_row places s ≡ true) × (to s ≡ l)
-  has_from [] l found = absurd (true≢false (sym found))
-  has_from (s ∷ places) l found = by_head (eqb_tells (to s) l) (λ rest. has_from places l rest)
-    where
-      by_head : ((to s == l) ≡ true) × (to s ≡ l) ⊎ ((to s == l) ≡ false) × (to s ≢ l) → (has_row (map to places) l ≡ true → (k : ℕ) × (has_row places k ≡ true) × (to k ≡ l)) → (k : ℕ) × (has_row (s ∷ places) k ≡ true) × (to k ≡ l)
-      by_head (inl here) rest = (s, has-at (s ∷ places) 0 (omega arith), here.1)
-      by_head (inr other) rest =
-          let behind = rest (subst (λ b. (b || has_row (map to places) l) ≡ true) other.0 found) in
-          (behind.0, has-later s places behind.0 behind.1, behind.2)
+  has_from places l found =
+      let at = has-place (map to places) l found in
+      let inside : at.0 < length places = omega (arith, at.1, length-map places to) in
+      (get_or places at.0 0, has-at places at.0 inside, sym (get_or-map to places at.0 0 0 inside) ∙ at.2)
 
 -- ---- rows that a merge takes in, and others
 
@@ -143,17 +134,14 @@ module _ (rows : List Row) (merge : List ℕ) (sound : IsSound rows) (set : IsMe
     left_at s found = All-has (IsLeft rows merge) places s left found
 
     up_to : (g s : ℕ) → IsLeft rows merge s → PassesUp rows places s (place_for rows g) → PassesUp new (map to places) (to s) (place_for new g)
-    up_to g s stays up l behind before d out = by_place (moved_onto rows merge sound.ordered set l (omega (arith, before, place_for-le new g)))
-      where
-        by_place : ((k : ℕ) × (k < length rows) × (has_row merge k ≡ false) × (to k ≡ l)) ⊎ ((e : Row) → get_or new l e ≡ merged_row rows merge) → Misses (get_or new l d).block (get_or new (to s) d)
-        by_place (inl (k, inside, gone, at)) =
-            subst (Misses (get_or new l d).block) (sym (get_to s d stays.inside stays.out))
-            (subst (λ (r : Row). Misses r.block (get_or rows s d)) (sym (get_to k d inside gone) ∙ ap (λ n. get_or new n d) at)
-            (up k (from_less s k gone (subst (λ n. to s < n) (sym at) behind)) (before_from g k inside gone (subst (λ n. n < place_for new g) (sym at) before)) d
-            (sym (has_to places k left gone) ∙ ap (has_row (map to places)) at ∙ out)))
-        by_place (inr is) =
-            subst (Misses (get_or new l d).block) (sym (get_to s d stays.inside stays.out))
-            (subst (λ (r : Row). Misses r.block (get_or rows s d)) (sym (is d)) (under_misses (merged_block rows merge) (merged_row rows merge) (get_or rows s d) merged_under (stays.clear d)))
+    up_to g s stays up l behind before d out =
+        subst (Misses (get_or new l d).block) (sym (get_to s d stays.inside stays.out)) (elim (moved_onto rows merge sound.ordered set l (omega (arith, before, place_for-le new g))) [
+          | inl (k, inside, gone, at) ↦
+              subst (λ (r : Row). Misses r.block (get_or rows s d)) (sym (get_to k d inside gone) ∙ ap (λ n. get_or new n d) at)
+              (up k (from_less s k gone (subst (λ n. to s < n) (sym at) behind)) (before_from g k inside gone (subst (λ n. n < place_for new g) (sym at) before)) d
+              (sym (has_to places k left gone) ∙ ap (has_row (map to places)) at ∙ out))
+          | inr is ↦ subst (λ (r : Row). Misses r.block (get_or rows s d)) (sym (is d)) (under_misses (merged_block rows merge) (merged_row rows merge) (get_or rows s d) merged_under (stays.clear d))
+        ])
 
     up_from : (g s : ℕ) → IsLeft rows merge s → PassesUp new (map to places) (to s) (place_for new g) → PassesUp rows places s (place_for rows g)
     up_from g s stays up k behind before d out =
@@ -201,37 +189,25 @@ module _ (rows : List Row) (merge : List ℕ) (sound : IsSound rows) (set : IsMe
       new_place = place_for new (generality b)
 
       row_behind : (l : ℕ) (d : Row) → new_place ≤ l → l < length new → ((k : ℕ) → k < length rows → has_row merge k ≡ false → to k ≡ l → old_place ≤ k → Misses b (get_or rows k d)) → Misses b (get_or new l d)
-      row_behind l d from within each = by_place (moved_onto rows merge sound.ordered set l within)
-        where
-          behind : (k : ℕ) → k < length rows → has_row merge k ≡ false → to k ≡ l → (k < old_place) ⊎ (old_place ≤ k) → old_place ≤ k
-          behind k inside gone at (inl low) = absurd (omega (arith, before_to (generality b) k inside gone low, at, from))
-          behind k inside gone at (inr high) = high
-
-          by_case : ((e : Row) → get_or new l e ≡ merged_row rows merge) → (Misses b (merged_row rows merge)) ⊎ (generality (merged_row rows merge).block ≤ generality b) → Misses b (get_or new l d)
-          by_case is (inl misses) = subst (Misses b) (sym (is d)) misses
-          by_case is (inr low) = absurd (omega (arith, from, place_for-above new (generality b) legal.ordered l d within (subst (λ (r : Row). generality r.block ≤ generality b) (sym (is d)) low)))
-
-          by_place : ((k : ℕ) × (k < length rows) × (has_row merge k ≡ false) × (to k ≡ l)) ⊎ ((e : Row) → get_or new l e ≡ merged_row rows merge) → Misses b (get_or new l d)
-          by_place (inl (k, inside, gone, at)) =
-              subst (Misses b) (sym (get_to k d inside gone) ∙ ap (λ n. get_or new n d) at) (each k inside gone at (behind k inside gone at (cases_lt k old_place)))
-          by_place (inr is) = by_case is (apart (merged_row rows merge) merged_under)
-
-      down_to : PassesDown rows b old_place → PassesDown new b new_place
-      down_to down l d from within = row_behind l d from within (λ k inside gone at le. down k d le inside)
+      row_behind l d from within each = elim (moved_onto rows merge sound.ordered set l within) [
+        | inl (k, inside, gone, at) ↦
+            subst (Misses b) (sym (get_to k d inside gone) ∙ ap (λ n. get_or new n d) at) (each k inside gone at (elim (cases_lt k old_place) [
+              | inl low ↦ absurd (omega (arith, before_to (generality b) k inside gone low, at, from))
+              | inr high ↦ high
+            ]))
+        | inr is ↦ elim (apart (merged_row rows merge) merged_under) [
+          | inl misses ↦ subst (Misses b) (sym (is d)) misses
+          | inr low ↦ absurd (omega (arith, from, place_for-above new (generality b) legal.ordered l d within (subst (λ (r : Row). generality r.block ≤ generality b) (sym (is d)) low)))
+        ]
+      ]
 
       -- the first row that has an alias which the block meets is no member
       first_out : (met : Block) (first : IsFirstMetFrom rows b old_place met) → first.at < length rows → (has_row merge first.at ≡ true) ⊎ (has_row merge first.at ≡ false) → has_row merge first.at ≡ false
       first_out met first inside (inr out) = out
-      first_out met first inside (inl found) = absurd (by_case (apart (get_or rows first.at first.row) (member_under first.at first.row inside found)))
-        where
-          row_is : get_or rows first.at first.row ≡ first.row
-          row_is = get_or_from_slice_get rows first.at first.row first.row first.found
-
-          by_case : (Misses b (get_or rows first.at first.row)) ⊎ (generality (get_or rows first.at first.row).block ≤ generality b) → ⊥
-          by_case (inl misses) =
-              subst (Misses b) row_is misses first.first.at first.first.alias (slice_get_within first.row.aliases first.first.at first.first.alias first.first.found)
-              (subst (Intersects b) (sym (ap (λ (a : Alias). a.block) (get_or_from_slice_get first.row.aliases first.first.at first.first.alias first.first.alias first.first.found) ∙ first.first.block)) first.first.meets)
-          by_case (inr low) = omega (arith, first.from, place_for-above rows (generality b) sound.ordered first.at first.row inside low)
+      first_out met first inside (inl found) = absurd (elim (apart (get_or rows first.at first.row) (member_under first.at first.row inside found)) [
+        | inl misses ↦ met_not_missed b first.row met first.first (subst (Misses b) (get_or_from_slice_get rows first.at first.row first.row first.found) misses)
+        | inr low ↦ omega (arith, first.from, place_for-above rows (generality b) sound.ordered first.at first.row inside low)
+      ])
 
       met_to : (met : Block) → IsFirstMetFrom rows b old_place met → IsFirstMetFrom new b new_place met
       met_to met first =
@@ -240,16 +216,15 @@ module _ (rows : List Row) (merge : List ℕ) (sound : IsSound rows) (set : IsMe
           record {
             at = to first.at;
             row = first.row;
-            from = behind inside out (cases_lt (to first.at) new_place);
+            from = elim (cases_lt (to first.at) new_place) [
+              | inl low ↦ absurd (omega (arith, first.from, before_from (generality b) first.at inside out low))
+              | inr high ↦ high
+            ];
             found = slice_to first.at inside out ∙ first.found;
             first = first.first;
             before = λ l d from less. row_behind l d from (omega (arith, less, to_inside first.at inside out))
                 (λ k within gone at le. first.before k d le (from_less k first.at out (omega (arith, at, less))));
           }
-        where
-          behind : first.at < length rows → has_row merge first.at ≡ false → (to first.at < new_place) ⊎ (new_place ≤ to first.at) → new_place ≤ to first.at
-          behind inside out (inl low) = absurd (omega (arith, first.from, before_from (generality b) first.at inside out low))
-          behind inside out (inr high) = high
 
     -- ---- the best bit
 
@@ -260,16 +235,7 @@ module _ (rows : List Row) (merge : List ℕ) (sound : IsSound rows) (set : IsMe
     count_to joined met i = ap (λ n. cond (can_choose joined met i) n 0) (ap length (kept_to met i) ∙ length-map (kept_by rows met i places) to)
 
     narrowed_to : (joined met : Block) (next : List ℕ) → IsNarrowed rows places joined met next → IsNarrowed new (map to places) joined met (map to next)
-    narrowed_to joined met next (inl (i, low, best, is)) = inl (
-      i,
-      low,
-      record {
-        some = omega (arith, best.some, count_to joined met i);
-        most = λ j below. omega (arith, best.most j below, count_to joined met i, count_to joined met j);
-        highest = λ j below behind. omega (arith, best.highest j below behind, count_to joined met i, count_to joined met j);
-      },
-      ap (map to) is ∙ sym (kept_to met i),
-    )
+    narrowed_to joined met next (inl (i, low, best, is)) = grind (arith, count_to, kept_to)
     narrowed_to joined met next (inr none) = inr (λ j below. count_to joined met j ∙ none.0 j below, ap (map to) none.1)
 
     module _ (outer : Block) (low : ℕ) (apart : (Intersects (merged_block rows merge) outer → ⊥) ⊎ (generality (merged_block rows merge) ≤ low)) (lies : LiesIn (merged_block rows places) outer) (high : low ≤ generality (merged_block rows places)) where
@@ -277,7 +243,8 @@ module _ (rows : List Row) (merge : List ℕ) (sound : IsSound rows) (set : IsMe
       apart_here = under_apart (merged_block rows merge) outer (merged_block rows places) low apart lies high
 
       down_check_to : PassesDownCheck rows places → PassesDownCheck new (map to places)
-      down_check_to down = subst (λ b. PassesDown new b (place_for new (generality b))) (sym (block_to places left)) (down_to (merged_block rows places) apart_here down)
+      down_check_to down = subst (λ b. PassesDown new b (place_for new (generality b))) (sym (block_to places left)) 
+          (λ l d from within. row_behind (merged_block rows places) apart_here l d from within (λ k inside gone at le. down k d le inside))
 
       down_step_to : (next : List ℕ) → IsDownStep rows places next → IsDownStep new (map to places) (map to next)
       down_step_to next step = record {
@@ -318,13 +285,12 @@ kept_after rows merge bits size outer low sound set legal leaves keeps_it = reco
   size_is = length-map keeps_it.set (moved rows merge) ∙ keeps_it.size_is;
 }
   where
-    out : (s : ℕ) → ((d : Row) → (get_or rows s d).route.bits ≡ bits) → (has_row merge s ≡ true) ⊎ (has_row merge s ≡ false) → has_row merge s ≡ false
-    out s same (inl found) = absurd (leaves.other s (merged_row rows merge) found (same (merged_row rows merge)))
-    out s same (inr gone) = gone
-
     left : All (IsLeft rows merge) (places_of bits 0 rows)
-    left = places_each (IsLeft rows merge) bits 0 rows (λ k j at within same.
-        subst (IsLeft rows merge) (omega (arith, at)) (record { inside = within; out = out k same (cases_Bool (has_row merge k)); clear = λ d. leaves.misses k d within (same d) }))
+    left = places_each (IsLeft rows merge) bits 0 rows (λ k j at within same. subst (IsLeft rows merge) (omega (arith, at)) (record {
+      inside = within;
+      out = false_from_ne_true (has_row merge k) (λ found. leaves.other k (merged_row rows merge) found (same (merged_row rows merge)));
+      clear = λ d. leaves.misses k d within (same d);
+    }))
 
 module _ (rows : List Row) (outer : Block) (low : ℕ) where
   -- A refinement within bounds is a refinement.
@@ -337,8 +303,7 @@ module _ (rows : List Row) (outer : Block) (low : ℕ) where
   module _ (bits size : ℕ) (is_kept : IsKept rows bits size outer low) where
     -- The refined set of the route's rows has as many places as was kept.
     pub size_of_kept : (set : List ℕ) → Refines rows (places_of bits 0 rows) set → length set ≡ size
-    size_of_kept set refined =
-        ap length (one_refined rows (places_of bits 0 rows) set is_kept.set refined (forgets (places_of bits 0 rows) is_kept.set is_kept.refined)) ∙ is_kept.size_is
+    size_of_kept set refined = grind (arith, one_refined, forgets)
 
     -- A route whose kept number loses to another route's set is no rival of it.
     pub no_rival_kept : (other n : ℕ) → size ≤ n → (0 < n → bits < other → size < n) → IsNoRival rows bits other n
@@ -360,24 +325,13 @@ merge_other rows merge first bits z set is differ s d found same = differ (sym (
 
 -- The merge of some places of a set lies in that of all, and is no more general.
 pub fewer_lies : (rows : List Row) (some all : List ℕ) → All (λ s. s < length rows) all → 0 < length some → All (λ s. has_row all s ≡ true) some → (LiesIn (merged_block rows some) (merged_block rows all)) × (generality (merged_block rows some) ≤ generality (merged_block rows all))
-fewer_lies rows some all in_range one members = (LiesIn-from_wants (merged_block rows some) (merged_block rows all) wants, generality-mono (merged_block rows some) (merged_block rows all) wants)
-  where
-    blocks : List ℕ → List Block
-    blocks places = map (λ (x : Row). x.block) (rows_at rows places)
-
-    few_in : All (λ s. s < length rows) some
-    few_in k d within = All-has (λ s. s < length rows) all (get_or some k d) in_range (members k d within)
-
-    many : 0 < length all
-    many = some_place all (has-place all (get_or some 0 0) (members 0 0 one))
-      where
-        some_place : (l : List ℕ) → (i : ℕ) × (i < length l) × (get_or l i 0 ≡ get_or some 0 0) → 0 < length l
-        some_place l at = omega (arith, at.1)
-
-    wants : (i v : ℕ) → Wants (merged_block rows all) i v → Wants (merged_block rows some) i v
-    wants i v w =
-        let each = rows_at-has (λ (r : Row). Wants r.block i v) rows all in_range
-        (All-from_map (λ b. Wants b i v) (λ (x : Row). x.block) (rows_at rows all)
-        ((merge_of-is_merge (map (λ (x : Row). x.block) (rows_at rows all)) (some_blocks (rows_at rows all) (omega (arith, rows_at-length rows all in_range, many))) i v).0 w)) in
-        (merge_of-is_merge (map (λ (x : Row). x.block) (rows_at rows some)) (some_blocks (rows_at rows some) (omega (arith, rows_at-length rows some few_in, one))) i v).1
-        (All-map (λ b. Wants b i v) (λ (x : Row). x.block) (rows_at rows some) (rows_at-from (λ (r : Row). Wants r.block i v) rows some (λ s d found. each s d (All-has (λ t. has_row all t ≡ true) some s members found))))
+fewer_lies rows some all in_range one members =
+    let few_in : All (λ s. s < length rows) some = λ k d within. All-has (λ s. s < length rows) all (get_or some k d) in_range (members k d within) in
+    let many : 0 < length all = let at = has-place all (get_or some 0 0) (members 0 0 one) in omega (arith, at.1) in
+    let wants : (i v : ℕ) → Wants (merged_block rows all) i v → Wants (merged_block rows some) i v = λ i v w. let each = rows_at-has (λ (r : Row). Wants r.block i v) rows all in_range
+    (All-from_map (λ b. Wants b i v) (λ (x : Row). x.block) (rows_at rows all)
+    ((merge_of-is_merge (map (λ (x : Row). x.block) (rows_at rows all)) (some_blocks (rows_at rows all) (omega (arith, rows_at-length rows all in_range, many))) i v).0 w)) in
+    (merge_of-is_merge (map (λ (x : Row). x.block) (rows_at rows some)) (some_blocks (rows_at rows some) (omega (arith, rows_at-length rows some few_in, one))) i v).1
+    (All-map (λ b. Wants b i v) (λ (x : Row). x.block) (rows_at rows some) (rows_at-from (λ (r : Row). Wants r.block i v) rows some
+    (λ s d found. each s d (All-has (λ t. has_row all t ≡ true) some s members found)))) in
+    (LiesIn-from_wants (merged_block rows some) (merged_block rows all) wants, generality-mono (merged_block rows some) (merged_block rows all) wants)

@@ -1,8 +1,8 @@
 -- Where the rows outside a merge stand in the table after it.
-use Rattle.cover_merge.proofs.Common.{Bool, IsMergeSet, IsOrdered, List, Row, [], after, ap, arith, cases_Bool, cases_eq, cases_lt, cond, false, generality, get_or, get_or-insert_at}
+use Rattle.cover_merge.proofs.Common.{Bool, IsMergeSet, IsOrdered, List, Row, [], after, ap, arith, cases_Bool, cases_eq, cases_lt, cond, cond_both, false, generality, get_or, get_or-insert_at}
 use Rattle.cover_merge.proofs.Common.{get_or-insert_below, has_row, inl, inr, insert, insert_place, kept, length, length-insert, map, map-map, merge_rows, merged_block, merged_row, ne_eqb, not}
-use Rattle.cover_merge.proofs.Common.{not-false, not-true, not_from_false, picked, places_of, refl, subst, suc, sym, true, zero, ℕ, ◌+◌, ◌<◌, ◌==◌, ◌∙◌, ◌∷◌, ◌≡◌, ◌≢◌, ◌≤◌, ◌⊎◌}
-use Rattle.cover_merge.proofs.{Positions.has-at, Positions.All-has, Positions.place_for-le, ApplyLemmas.left, ApplyLemmas.none_from, ApplyLemmas.members_before, ApplyLemmas.after_is}
+use Rattle.cover_merge.proofs.Common.{not-false, not-true, not_from_false, picked, places_of, refl, subst, suc, sym, true, zero, ℕ, ◌+◌, ◌-◌, ◌<◌, ◌==◌, ◌∙◌, ◌∷◌, ◌≡◌, ◌≢◌, ◌≤◌, ◌⊎◌}
+use Rattle.cover_merge.proofs.{Lists.cond_of, Positions.has-at, Positions.All-has, Positions.place_for-le, ApplyLemmas.left, ApplyLemmas.none_from, ApplyLemmas.members_before, ApplyLemmas.after_is}
 use Rattle.cover_merge.proofs.ApplyLemmas.{route_is}
 
 -- ---- the place of a picked item
@@ -26,16 +26,20 @@ module _ (q : ℕ → Bool) where
   rank_le : (i k : ℕ) → i ≤ k → rank q i ≤ rank q k
   rank_le i zero le = let same : i ≡ 0 = omega arith in omega (arith, ap (rank q) same)
   rank_le i (suc k) le = elim (cases_lt i (suc k)) [
-    | inl less ↦ step (q k) (rank_le i k (omega arith))
+    | inl less ↦ let low = rank_le i k (omega arith) in cond_both (q k) (suc (rank q k)) (rank q k) (λ n. rank q i ≤ n) (λ kept. omega arith) (λ out. low)
     | inr all ↦ let same : i ≡ suc k = omega arith in omega (arith, ap (rank q) same)
   ]
-    where
-      step : (b : Bool) → rank q i ≤ rank q k → rank q i ≤ cond b (suc (rank q k)) (rank q k)
-      step true low = omega arith
-      step false low = low
 
-  pub rank_less : (i k : ℕ) → i < k → q i ≡ true → rank q i < rank q k
-  rank_less i k less pass = omega (arith, rank_in i pass, rank_le (suc i) k (omega arith))
+  -- as many items of a list are picked as places pass
+  pub rank_length : (i : ℕ) (xs : List Row) → rank q (i + length xs) ≡ rank q i + length (picked q i xs)
+  rank_length i [] = let same : i + 0 ≡ i = omega arith in omega (arith, ap (rank q) same)
+  rank_length i (x ∷ xs) =
+      let same : i + suc (length xs) ≡ suc i + length xs = omega arith in
+      let rest = rank_length (suc i) xs in
+      elim (cases_Bool (q i)) [
+        | inl pass ↦ omega (arith, ap (rank q) same, rest, rank_in i pass, ap (λ b. length (cond b (x ∷ picked q (suc i) xs) (picked q (suc i) xs))) pass)
+        | inr fail ↦ omega (arith, ap (rank q) same, rest, rank_out i fail, ap (λ b. length (cond b (x ∷ picked q (suc i) xs) (picked q (suc i) xs))) fail)
+      ]
 
   -- a picked item stands at its rank
   picked_get : {X : Type 0} (i : ℕ) (xs : List X) (k j l : ℕ) (d : X) → j ≡ i + k → rank q j ≡ rank q i + l → k < length xs → q j ≡ true
@@ -47,34 +51,30 @@ module _ (q : ℕ → Bool) where
       subst (λ n. Stands x (picked q (suc i) xs) d x (q i) n) (sym first)
       (subst (λ b. Stands x (picked q (suc i) xs) d x b 0) (sym (ap q (sym here) ∙ pass)) (omega arith, refl))
   picked_get i (x ∷ xs) (suc k) j l d at rank_is within pass = elim (cases_Bool (q i)) [
-    | inl kept ↦ in_case l kept (rank_le (suc i) j (omega arith)) rank_is (λ n is. picked_get (suc i) xs k j n d (omega arith) is (omega arith) pass)
+    | inl kept ↦
+        let step : l ≡ suc (l - 1) = omega (arith, rank_le (suc i) j (omega arith), rank_is, rank_in i kept) in
+        let rest = picked_get (suc i) xs k j (l - 1) d (omega arith) (omega (arith, rank_is, rank_in i kept, step)) (omega arith) pass in
+        subst (λ n. Stands x (picked q (suc i) xs) d (get_or xs k d) (q i) n) (sym step)
+        (subst (λ b. Stands x (picked q (suc i) xs) d (get_or xs k d) b (suc (l - 1))) (sym kept) (omega (arith, rest.0), rest.1))
     | inr out ↦ subst (λ b. Stands x (picked q (suc i) xs) d (get_or xs k d) b l) (sym out) (picked_get (suc i) xs k j l d (omega arith) (rank_is ∙ ap (λ n. n + l) (sym (rank_out i out))) (omega arith) pass)
   ]
-    where
-      in_case : (n : ℕ) → q i ≡ true → rank q (suc i) ≤ rank q j → rank q j ≡ rank q i + n
-          → ((m : ℕ) → rank q j ≡ rank q (suc i) + m → (m < length (picked q (suc i) xs)) × (get_or (picked q (suc i) xs) m d ≡ get_or xs k d)) → Stands x (picked q (suc i) xs) d (get_or xs k d) (q i) n
-      in_case zero kept le is behind = absurd (omega (arith, le, is, rank_in i kept))
-      in_case (suc n) kept le is behind =
-          let rest = behind n (omega (arith, is, rank_in i kept)) in
-          subst (λ b. Stands x (picked q (suc i) xs) d (get_or xs k d) b (suc n)) (sym kept) (omega (arith, rest.0), rest.1)
 
   -- and each item that was picked is one of the list
   picked_onto : {X : Type 0} (i : ℕ) (xs : List X) (l : ℕ) → l < length (picked q i xs) → (k : ℕ) × (j : ℕ) × (j ≡ i + k) × (k < length xs) × (q j ≡ true) × (rank q j ≡ rank q i + l)
   picked_onto i [] l within = absurd (omega arith)
   picked_onto i (x ∷ xs) l within = elim (cases_Bool (q i)) [
-    | inl kept ↦ in_case l kept (subst (λ b. l < length (cond b (x ∷ picked q (suc i) xs) (picked q (suc i) xs))) kept within) (λ n low. picked_onto (suc i) xs n low)
+    | inl kept ↦
+        let low : l < suc (length (picked q (suc i) xs)) = subst (λ b. l < length (cond b (x ∷ picked q (suc i) xs) (picked q (suc i) xs))) kept within in
+        elim (cases_eq l 0) [
+          | inl first ↦ (0, i, omega arith, omega arith, kept, omega (arith, first))
+          | inr more ↦
+              let rest = picked_onto (suc i) xs (l - 1) (omega (arith, low, more)) in
+              (suc rest.0, rest.1, omega (arith, rest.2), omega (arith, rest.3), rest.4, omega (arith, rest.5, rank_in i kept, more))
+        ]
     | inr out ↦
         let rest = picked_onto (suc i) xs l (subst (λ b. l < length (cond b (x ∷ picked q (suc i) xs) (picked q (suc i) xs))) out within) in
         (suc rest.0, rest.1, omega (arith, rest.2), omega (arith, rest.3), rest.4, rest.5 ∙ ap (λ n. n + l) (rank_out i out))
   ]
-    where
-      in_case : (n : ℕ) → q i ≡ true → n < suc (length (picked q (suc i) xs))
-          → ((m : ℕ) → m < length (picked q (suc i) xs) → (k : ℕ) × (j : ℕ) × (j ≡ suc i + k) × (k < length xs) × (q j ≡ true) × (rank q j ≡ rank q (suc i) + m))
-          → (k : ℕ) × (j : ℕ) × (j ≡ i + k) × (k < suc (length xs)) × (q j ≡ true) × (rank q j ≡ rank q i + n)
-      in_case zero kept low behind = (0, i, omega arith, omega arith, kept, omega arith)
-      in_case (suc n) kept low behind =
-          let rest = behind n (omega arith) in
-          (suc rest.0, rest.1, omega (arith, rest.2), omega (arith, rest.3), rest.4, omega (arith, rest.5, rank_in i kept))
 
   -- places of a route, where all its rows are picked
   places_picked : (bits i n : ℕ) (xs : List Row) → n ≡ rank q i → ((k j : ℕ) (d : Row) → j ≡ i + k → k < length xs → q j ≡ false → (get_or xs k d).route.bits ≢ bits) → places_of bits n (picked q i xs) ≡ map (rank q) (places_of bits i xs)
@@ -85,7 +85,7 @@ module _ (q : ℕ → Bool) where
         ap (λ b. places_of bits n (cond b (x ∷ picked q (suc i) xs) (picked q (suc i) xs))) kept
         ∙ ap (λ l. cond (x.route.bits == bits) (n ∷ l) l) rest
         ∙ ap (λ m. cond (x.route.bits == bits) (m ∷ map (rank q) (places_of bits (suc i) xs)) (map (rank q) (places_of bits (suc i) xs))) is
-        ∙ by_test (x.route.bits == bits)
+        ∙ cond_of (map (rank q)) (x.route.bits == bits) (i ∷ places_of bits (suc i) xs) (places_of bits (suc i) xs)
     | inr gone ↦
         ap (λ b. places_of bits n (cond b (x ∷ picked q (suc i) xs) (picked q (suc i) xs))) gone
         ∙ places_picked bits (suc i) n xs (is ∙ sym (rank_out i gone)) later
@@ -94,10 +94,6 @@ module _ (q : ℕ → Bool) where
     where
       later : (k j : ℕ) (d : Row) → j ≡ suc i + k → k < length xs → q j ≡ false → (get_or xs k d).route.bits ≢ bits
       later k j d at within gone = out (suc k) j d (omega (arith, at)) (omega (arith, within)) gone
-
-      by_test : (b : Bool) → cond b (rank q i ∷ map (rank q) (places_of bits (suc i) xs)) (map (rank q) (places_of bits (suc i) xs)) ≡ map (rank q) (cond b (i ∷ places_of bits (suc i) xs) (places_of bits (suc i) xs))
-      by_test true = refl
-      by_test false = refl
 
 -- ---- the place of an item when one is put in
 
@@ -118,13 +114,7 @@ put_high (suc p) zero le = absurd (omega arith)
 put_high (suc p) (suc k) le = ap suc (put_high p k (omega arith))
 
 put_less : (p j k : ℕ) → j < k → put p j < put p k
-put_less p j k less = elim (cases_lt j p) [
-  | inl low ↦ elim (cases_lt k p) [
-    | inl also ↦ omega (arith, put_low p j low, put_low p k also)
-    | inr high ↦ omega (arith, put_low p j low, put_high p k high)
-  ]
-  | inr high ↦ omega (arith, put_high p j high, put_high p k (omega arith))
-]
+put_less p j k less = grind (arith, cases_lt, put_low, put_high)
 
 put_onto : (p j : ℕ) → j ≢ p → (k : ℕ) × (put p k ≡ j)
 put_onto zero zero apart = absurd (apart refl)
@@ -143,11 +133,7 @@ places_shifted bits i n [] le = refl
 places_shifted bits i n (x ∷ xs) le =
     ap (λ l. cond (x.route.bits == bits) (suc i ∷ l) l) (places_shifted bits (suc i) n xs (omega arith))
     ∙ ap (λ m. cond (x.route.bits == bits) (m ∷ map (put n) (places_of bits (suc i) xs)) (map (put n) (places_of bits (suc i) xs))) (sym (put_high n i le))
-    ∙ by_test (x.route.bits == bits)
-  where
-    by_test : (b : Bool) → cond b (put n i ∷ map (put n) (places_of bits (suc i) xs)) (map (put n) (places_of bits (suc i) xs)) ≡ map (put n) (cond b (i ∷ places_of bits (suc i) xs) (places_of bits (suc i) xs))
-    by_test true = refl
-    by_test false = refl
+    ∙ cond_of (map (put n)) (x.route.bits == bits) (i ∷ places_of bits (suc i) xs) (places_of bits (suc i) xs)
 
 -- places of a route, where a row of another one is put in
 places_put : (bits i n : ℕ) (xs : List Row) (p : ℕ) (m : Row) → n ≡ i + p → p ≤ length xs → m.route.bits ≢ bits → places_of bits i (insert xs p m) ≡ map (put n) (places_of bits i xs)
@@ -157,11 +143,7 @@ places_put bits i n [] (suc p) m at le other = absurd (omega arith)
 places_put bits i n (x ∷ xs) (suc p) m at le other =
     ap (λ l. cond (x.route.bits == bits) (i ∷ l) l) (places_put bits (suc i) n xs p m (omega arith) (omega arith) other)
     ∙ ap (λ k. cond (x.route.bits == bits) (k ∷ map (put n) (places_of bits (suc i) xs)) (map (put n) (places_of bits (suc i) xs))) (sym (put_low n i (omega arith)))
-    ∙ by_test (x.route.bits == bits)
-  where
-    by_test : (b : Bool) → cond b (put n i ∷ map (put n) (places_of bits (suc i) xs)) (map (put n) (places_of bits (suc i) xs)) ≡ map (put n) (cond b (i ∷ places_of bits (suc i) xs) (places_of bits (suc i) xs))
-    by_test true = refl
-    by_test false = refl
+    ∙ cond_of (map (put n)) (x.route.bits == bits) (i ∷ places_of bits (suc i) xs) (places_of bits (suc i) xs)
 
 -- ---- the place of a row outside a merge
 
@@ -191,17 +173,11 @@ module _ (rows : List Row) (merge : List ℕ) (ordered : IsOrdered rows) (set : 
   none_behind : (k : ℕ) → p ≤ k → has_row merge k ≡ false
   none_behind k le = none_from merge k (λ i d within. omega (arith, le, members_before rows merge ordered set i d within))
 
-  member_low : (k : ℕ) → has_row merge k ≡ true → k < p
-  member_low k found = All-has (λ t. t < p) merge k (members_before rows merge ordered set) found
-
   stays_put : (k : ℕ) → has_row merge k ≡ false → q (put p k) ≡ true
-  stays_put k out = elim (cases_lt k p) [
-    | inl low ↦ subst (λ n. q n ≡ true) (sym (put_low p k low)) (not_from_false (has_row merge k) out)
-    | inr high ↦ subst (λ n. q n ≡ true) (sym (put_high p k high)) (not_from_false (has_row merge (suc k)) (none_behind (suc k) (omega arith)))
-  ]
+  stays_put k out = grind (arith, cases_lt, put_low, not_from_false, put_high, none_behind)
 
   pub moved_less : (j k : ℕ) → has_row merge j ≡ false → j < k → moved rows merge j < moved rows merge k
-  moved_less j k out less = rank_less q (put p j) (put p k) (put_less p j k less) (stays_put j out)
+  moved_less j k out less = omega (arith, rank_in q (put p j) (stays_put j out), rank_le q (suc (put p j)) (put p k) (put_less p j k less))
 
   -- of any list that has an item for each row, such as their guards
   module _ {X : Type 0} (xs : List X) (m : X) (same : length xs ≡ length rows) where
@@ -226,40 +202,31 @@ module _ (rows : List Row) (merge : List ℕ) (ordered : IsOrdered rows) (set : 
 
     -- each item after the merge is one that moved, or the one that was put in
     pub item_onto : (l : ℕ) → l < length (left merge 0 (insert xs p m)) → ((k : ℕ) × (k < length xs) × (has_row merge k ≡ false) × (moved rows merge k ≡ l)) ⊎ (l ≡ merged_at rows merge)
-    item_onto l within = by_place (picked_onto q 0 (insert xs p m) l within)
-      where
-        by_place : (k : ℕ) × (j : ℕ) × (j ≡ 0 + k) × (k < length (insert xs p m)) × (q j ≡ true) × (rank q j ≡ rank q 0 + l)
-            → ((k : ℕ) × (k < length xs) × (has_row merge k ≡ false) × (moved rows merge k ≡ l)) ⊎ (l ≡ merged_at rows merge)
-        by_place (k, j, at, inside, pass, rank_is) = elim (cases_eq j p) [
+    item_onto l within =
+        let (k, j, at, inside, pass, rank_is) = picked_onto q 0 (insert xs p m) l within in
+        elim (cases_eq j p) [
           | inl equal ↦ inr (omega (arith, rank_is, ap (rank q) equal))
           | inr apart ↦
               let from = put_onto p j apart in
-              inl (from.0, small from.0 from.1, out from.0 from.1 (cases_lt from.0 p), ap (rank q) from.1 ∙ omega (arith, rank_is))
+              elim (cases_lt from.0 p) [
+                | inl low ↦ inl (from.0, omega (arith, low, in_xs), not-true (has_row merge from.0) (ap q (sym (put_low p from.0 low) ∙ from.1) ∙ pass), ap (rank q) from.1 ∙ omega (arith, rank_is))
+                | inr high ↦ inl (from.0, omega (arith, put_high p from.0 high, from.1, at, inside, longer), none_behind from.0 high, ap (rank q) from.1 ∙ omega (arith, rank_is))
+              ]
         ]
-          where
-            small : (i : ℕ) → put p i ≡ j → i < length xs
-            small i is = elim (cases_lt i p) [
-              | inl low ↦ omega (arith, low, in_xs)
-              | inr high ↦ omega (arith, put_high p i high, is, at, inside, longer)
-            ]
-
-            out : (i : ℕ) → put p i ≡ j → (i < p) ⊎ (p ≤ i) → has_row merge i ≡ false
-            out i is (inl low) = not-true (has_row merge i) (ap q (sym (put_low p i low) ∙ is) ∙ pass)
-            out i is (inr high) = none_behind i high
 
   pub moved_get : (k : ℕ) (d : Row) → k < length rows → has_row merge k ≡ false → (moved rows merge k < length (after rows merge)) × (get_or (after rows merge) (moved rows merge k) d ≡ get_or rows k d)
   moved_get k d within out = grind (arith, get_or rows k d, after_is rows merge ordered set, item_moved rows (merged_row rows merge) refl k d within out)
 
+  pub merged_get : (d : Row) → (merged_at rows merge < length (after rows merge)) × (get_or (after rows merge) (merged_at rows merge) d ≡ merged_row rows merge)
+  merged_get d =
+      subst (λ l. (merged_at rows merge < length l) × (get_or l (merged_at rows merge) d ≡ merged_row rows merge)) (after_is rows merge ordered set) (item_merged rows (merged_row rows merge) refl d)
+
   -- each row after the merge is one that moved, or the merged one
   pub moved_onto : (l : ℕ) → l < length (after rows merge) → ((k : ℕ) × (k < length rows) × (has_row merge k ≡ false) × (moved rows merge k ≡ l)) ⊎ ((d : Row) → get_or (after rows merge) l d ≡ merged_row rows merge)
-  moved_onto l within = by_case (item_onto rows (merged_row rows merge) refl l (subst (λ x. l < length x) (sym (after_is rows merge ordered set)) within))
-    where
-      by_case : ((k : ℕ) × (k < length rows) × (has_row merge k ≡ false) × (moved rows merge k ≡ l)) ⊎ (l ≡ merged_at rows merge)
-          → ((k : ℕ) × (k < length rows) × (has_row merge k ≡ false) × (moved rows merge k ≡ l)) ⊎ ((d : Row) → get_or (after rows merge) l d ≡ merged_row rows merge)
-      by_case (inl one) = inl one
-      by_case (inr is) = inr (λ d.
-          ap (λ n. get_or (after rows merge) n d) is
-          ∙ subst (λ x. get_or x (merged_at rows merge) d ≡ merged_row rows merge) (after_is rows merge ordered set) (item_merged rows (merged_row rows merge) refl d).1)
+  moved_onto l within = elim (item_onto rows (merged_row rows merge) refl l (subst (λ x. l < length x) (sym (after_is rows merge ordered set)) within)) [
+    | inl one ↦ inl one
+    | inr is ↦ inr (λ d. ap (λ n. get_or (after rows merge) n d) is ∙ (merged_get d).1)
+  ]
 
   -- the places of a route of which no row was merged
   pub moved_places : (bits : ℕ) → ((s : ℕ) (d : Row) → has_row merge s ≡ true → (get_or rows s d).route.bits ≢ bits) → places_of bits 0 (after rows merge) ≡ map (moved rows merge) (places_of bits 0 rows)
@@ -276,4 +243,4 @@ module _ (rows : List Row) (merge : List ℕ) (ordered : IsOrdered rows) (set : 
       gone k j d at within out same =
           let here : j ≡ k = omega (arith, at) in
           let member : has_row merge k ≡ true = ap (has_row merge) (sym here) ∙ not-false (has_row merge j) out in
-          other k d member (ap (λ (r : Row). r.route.bits) (sym (get_or-insert_below rows p (merged_row rows merge) d k (member_low k member) p_le)) ∙ same)
+          other k d member (ap (λ (r : Row). r.route.bits) (sym (get_or-insert_below rows p (merged_row rows merge) d k (All-has (λ t. t < p) merge k (members_before rows merge ordered set) member) p_le)) ∙ same)

@@ -1,12 +1,7 @@
 -- Steps of refinement one after another, and the bounds of the blocks that are down-checked on the way.
-use Rattle.cover_merge.proofs.Common.{All, All-filter, All-nil, Block, IsDownStep, IsGone, IsLastFailing, IsNarrowed, IsOneRoute, IsOrdered, IsUpStep, LeadsWithin, LiesIn, LiesIn-trans, List}
-use Rattle.cover_merge.proofs.Common.{PassesDownCheck, PassesUpCheck, RefinesWithin, Row, [], arith, generality, generality_le, get_or, get_or_default, has_row, inl, inr, keeps, length, merged_block}
-use Rattle.cover_merge.proofs.Common.{not, place_for, remove, subst, sym, true, ℕ, ◌+◌, ◌<◌, ◌==◌, ◌≡◌, ◌≤◌, ◌⊎◌}
-use Rattle.cover_merge.proofs.{Positions.has-at, Positions.has-place, Positions.All-has, SiftLemmas.sift_step, KeptLemmas.fewer_lies}
-
--- each place of a set is one of it
-all_of : (set : List ℕ) → All (λ s. has_row set s ≡ true) set
-all_of set k d within = subst (λ t. has_row set t ≡ true) (get_or_default set k 0 d within) (has-at set k within)
+use Rattle.cover_merge.proofs.Common.{All, All-filter, All-nil, Block, IsDownStep, IsGone, IsNarrowed, LeadsWithin, LiesIn, LiesIn-trans, List, PassesDownCheck, PassesUpCheck, RefinesWithin, Row, []}
+use Rattle.cover_merge.proofs.Common.{arith, generality, generality_le, get_or, has_row, inl, inr, keeps, length, merged_block, not, subst, sym, true, ℕ, ◌<◌, ◌==◌, ◌≡◌, ◌≤◌, ◌⊎◌}
+use Rattle.cover_merge.proofs.{Positions.all_of, Positions.has-place, Positions.All-has, KeptLemmas.fewer_lies}
 
 -- places of places of a set
 all_through : (start set few : List ℕ) → All (λ s. has_row start s ≡ true) set → All (λ s. has_row set s ≡ true) few → All (λ s. has_row start s ≡ true) few
@@ -14,9 +9,6 @@ all_through start set few all some k d within = All-has (λ s. has_row start s �
 
 module _ (rows : List Row) where
   -- a step leads to places of the set
-  up_of_set : (old new : List ℕ) → IsUpStep rows old new → All (λ s. has_row old s ≡ true) new
-  up_of_set old new step = subst (All (λ s. has_row old s ≡ true)) (sym step.result) (All-filter (λ t. not (t == step.place)) (λ s. has_row old s ≡ true) old (all_of old))
-
   narrowed_of_set : (old : List ℕ) (joined met : Block) (new : List ℕ) → IsNarrowed rows old joined met new → All (λ s. has_row old s ≡ true) new
   narrowed_of_set old joined met new (inl (i, below, best, is)) = subst (All (λ s. has_row old s ≡ true)) (sym is) (All-filter (keeps rows met i) (λ s. has_row old s ≡ true) old (all_of old))
   narrowed_of_set old joined met new (inr none) = subst (All (λ s. has_row old s ≡ true)) (sym none.1) (All-nil (λ s. has_row old s ≡ true))
@@ -37,15 +29,9 @@ module _ (rows : List Row) where
     -- No step leads to another place than those at the start.
     pub leads_of_set : (start set : List ℕ) → LeadsWithin rows outer low start set → All (λ s. has_row start s ≡ true) set
     leads_of_set start set (LeadsWithin.stands p) = all_of p
-    leads_of_set start set (LeadsWithin.leads_up p next l two step rest) = all_through p next l (up_of_set p next step) (leads_of_set next l rest)
+    leads_of_set start set (LeadsWithin.leads_up p next l two step rest) = all_through p next l
+        (subst (All (λ s. has_row p s ≡ true)) (sym step.result) (All-filter (λ t. not (t == step.place)) (λ s. has_row p s ≡ true) p (all_of p))) (leads_of_set next l rest)
     leads_of_set start set (LeadsWithin.leads_down p next l two step lies high rest) = all_through p next l (narrowed_of_set p (merged_block rows p) step.met next step.narrowed) (leads_of_set next l rest)
-
-  -- ---- taking out the greatest place that fails
-
-  module _ (set : List ℕ) (one : IsOneRoute rows set) (ordered : IsOrdered rows) (merged : Block) (is : merged ≡ merged_block rows set) (g : ℕ) (general : g ≡ generality merged) where
-    pub sift_leads : (i : ℕ) → i < length set → IsLastFailing rows set (place_for rows g) (get_or set i 0) → (new : List ℕ) → new ≡ remove set i → length new + 1 ≡ length set → 2 ≤ length set
-        → (outer : Block) (low : ℕ) → LeadsWithin rows outer low set new
-    sift_leads i inside last new now count two outer low = LeadsWithin.leads_up set new new two (sift_step rows set one ordered merged is g general i inside last new now count two) (LeadsWithin.stands new)
 
   -- ---- the loop of a refinement
 
@@ -59,12 +45,10 @@ module _ (rows : List Row) where
   module _ (start set : List ℕ) (outer : Block) (low : ℕ) (gone : IsGone rows start set outer low) where
     few_gone : (new : List ℕ) → All (λ s. s < length rows) set → All (λ s. has_row set s ≡ true) new → low ≤ 32 → 0 < length new → (LiesIn (merged_block rows new) outer) × (generality (merged_block rows new) ≤ low)
     few_gone new in_range few checked some =
-        let old = gone.within checked (some_of set (has-place set (get_or new 0 0) (few 0 0 some))) in
+        let at = has-place set (get_or new 0 0) (few 0 0 some) in
+        let old = gone.within checked (omega (arith, at.1)) in
         let less = fewer_lies rows new set in_range some few in
         (LiesIn-trans (merged_block rows new) (merged_block rows set) outer less.0 old.0, omega (arith, less.1, old.1))
-      where
-        some_of : (l : List ℕ) → (i : ℕ) × (i < length l) × (get_or l i 0 ≡ get_or new 0 0) → 0 < length l
-        some_of l at = omega (arith, at.1)
 
     -- up-steps keep the bounds
     pub gone_up : (new : List ℕ) → All (λ s. s < length rows) set → ((wide : Block) (least : ℕ) → LeadsWithin rows wide least set new) → IsGone rows start new outer low

@@ -1,13 +1,13 @@
 -- On a sound table both checks are true exactly where the table after the merge is sound.
 use Rattle.cover_merge.proofs.Common.{Alias, All, All-append, All-cons, All-drop, All-take, Block, HoldsItsAliases, Intersects, Intersects-sym, Intersects-wider, IsLegal, IsMergeSet, IsSound, LiesIn}
-use Rattle.cover_merge.proofs.Common.{LiesIn-merge, LiesIn-trans, List, Misses, PassesDownCheck, PassesUpCheck, Row, [], ap, arith, cases_Bool, cases_lt, drop, false, flat_map, generality, get_or}
+use Rattle.cover_merge.proofs.Common.{LiesIn-merge, LiesIn-trans, List, Misses, PassesDownCheck, PassesUpCheck, Row, [], ap, arith, cases_Bool, cases_order, drop, false, flat_map, generality, get_or}
 use Rattle.cover_merge.proofs.Common.{get_or-drop, get_or-take, get_or_default, has_row, inl, inr, insert_place, kept, length, length-drop, length-take, map, merge_of, merge_rows, merged_block}
-use Rattle.cover_merge.proofs.Common.{merged_row, not, not-true, not_from_false, refl, rows_at, subst, sym, take, true, true≢false, ℕ, ◌+◌, ◌-◌, ◌<◌, ◌∙◌, ◌∷◌, ◌≡◌, ◌≤◌, ◌⊎◌}
+use Rattle.cover_merge.proofs.Common.{merged_row, not, not-true, not_from_false, refl, rows_at, subst, sym, take, true, true≢false, ℕ, ◌+◌, ◌-◌, ◌<◌, ◌∙◌, ◌∷◌, ◌≡◌, ◌≤◌}
 use Rattle.cover_merge.proofs.Lists.{All-picked, picked-at, picked-from, All-from_map, All-flat_map, All-from_flat_map, AllPairs-around, AllPairs-into, AllPairs-out}
-use Rattle.cover_merge.proofs.Positions.{All-has, rows_at-from, rows_at-has, place_for-le, place_for-below, place_for-above, member_before}
+use Rattle.cover_merge.proofs.Positions.{All-has, rows_at-from, rows_at-has, place_for-le, place_for-below, place_for-from, member_before}
 
 -- the block and the aliases of a merge
-merge_rows-block_of : (rows : List Row) → (merge_rows rows).block ≡ merge_of (map (λ (x : Row). x.block) rows)
+pub merge_rows-block_of : (rows : List Row) → (merge_rows rows).block ≡ merge_of (map (λ (x : Row). x.block) rows)
 merge_rows-block_of [] = refl
 merge_rows-block_of (r ∷ rows) = refl
 
@@ -24,9 +24,7 @@ Misses-members b rows misses = All-from_flat_map (λ (a : Alias). Intersects b a
 
 -- what a block misses, a narrower one misses
 pub narrower_misses : (b x : Block) (r : Row) → LiesIn x b → Misses b r → Misses x r
-narrower_misses b x r lies misses k d within meets =
-    let a = (get_or r.aliases k d).block in
-    misses k d within (Intersects-sym a b (Intersects-wider a x b lies (Intersects-sym x a meets)))
+narrower_misses b x r lies misses k d within meets = grind (arith, get_or, Intersects-sym, Intersects-wider)
 
 -- each member lies in the merge
 pub member_lies : (rows : List Row) (places : List ℕ) → IsMergeSet rows places → (b : Block) → b ≡ merged_block rows places → (s : ℕ) (d : Row) → has_row places s ≡ true → LiesIn (get_or rows s d).block b
@@ -59,9 +57,7 @@ module _ (rows : List Row) (places : List ℕ) (sound : IsSound rows) (in_range 
 
   -- a row before the place, by its place in the table
   front_row : (k : ℕ) (d : Row) → k < length (take (insert_place rows places) rows) → (k < insert_place rows places) × (get_or (take (insert_place rows places) rows) k d ≡ get_or rows k d)
-  front_row k d within =
-      let before : k < insert_place rows places = omega (arith, length-take (insert_place rows places) rows, within) in
-      (before, get_or-take (insert_place rows places) rows k d before)
+  front_row k d within = grind (arith, length-take, get_or-take)
 
   back_row : (k : ℕ) (d : Row) → k < length (drop (insert_place rows places) rows) → (insert_place rows places + k < length rows) × (get_or (drop (insert_place rows places) rows) k d ≡ get_or rows (insert_place rows places + k) d)
   back_row k d within = grind (arith, length-drop (insert_place rows places) rows, get_or-drop (insert_place rows places) rows k d)
@@ -79,13 +75,7 @@ module _ (rows : List Row) (places : List ℕ) (sound : IsSound rows) (in_range 
       let row = back_row k d within in
       subst (IsBefore (merged_row rows places)) (sym row.1)
       (subst (λ (b : Block). generality b ≤ generality (get_or rows (insert_place rows places + k) d).block) (sym block_is)
-      (not_below (insert_place rows places + k) d row.0 (omega arith))))
-    where
-      not_below : (r : ℕ) (d : Row) → r < length rows → insert_place rows places ≤ r → generality (merged_block rows places) ≤ generality (get_or rows r d).block
-      not_below r d within behind = elim (cases_lt (generality (merged_block rows places)) (generality (get_or rows r d).block)) [
-        | inl above ↦ omega (arith, above)
-        | inr low ↦ absurd (omega (arith, place_for-above rows (generality (merged_block rows places)) sound.ordered r d within low))
-      ]
+      (omega (arith, place_for-from rows (generality (merged_block rows places)) sound.ordered (insert_place rows places + k) d row.0 (omega arith)))))
 
   -- ---- the up-check
 
@@ -93,19 +83,14 @@ module _ (rows : List Row) (places : List ℕ) (sound : IsSound rows) (in_range 
   front_clear up = picked-from (λ r. Clears r (merged_row rows places)) (λ k. not (has_row places k)) 0 (take (insert_place rows places) rows) (λ k j d at within pass.
       let row = front_row k d within in
       let same : k ≡ j = omega arith in
-      subst (λ (r : Row). Clears r (merged_row rows places)) (sym row.1) (clear k d row.0 (not-true (has_row places k) (ap (λ i. not (has_row places i)) same ∙ pass))))
-    where
-      clear : (k : ℕ) (d : Row) → k < insert_place rows places → has_row places k ≡ false → Misses (get_or rows k d).block (merged_row rows places)
-      clear k d before out = Misses-merge (get_or rows k d).block (rows_at rows places) (rows_at-from (Misses (get_or rows k d).block) rows places (λ s e found.
-          let inside : s < length rows = All-has (λ x. x < length rows) places s in_range found in
-          subst (Misses (get_or rows k d).block) (get_or_default rows s d e inside) (by_place s found inside (cases_lt k s))))
-        where
-          by_place : (s : ℕ) → has_row places s ≡ true → s < length rows → (k < s) ⊎ (s ≤ k) → Misses (get_or rows k d).block (get_or rows s d)
-          by_place s found inside (inl earlier) = sound.unmet k s d earlier inside
-          by_place s found inside (inr later) = elim (cases_lt s k) [
-            | inl behind ↦ up s found k behind before d out
-            | inr least ↦ let same : s ≡ k = omega arith in absurd (true≢false (sym (subst (λ i. has_row places i ≡ true) same found) ∙ out))
-          ]
+      let out : has_row places k ≡ false = not-true (has_row places k) (ap (λ i. not (has_row places i)) same ∙ pass) in
+      subst (λ (r : Row). Clears r (merged_row rows places)) (sym row.1) (Misses-merge (get_or rows k d).block (rows_at rows places) (rows_at-from (Misses (get_or rows k d).block) rows places (λ s e found.
+      let inside : s < length rows = All-has (λ x. x < length rows) places s in_range found in
+      subst (Misses (get_or rows k d).block) (get_or_default rows s d e inside) (elim (cases_order k s) [
+        | inl here ↦ absurd (true≢false (sym found ∙ ap (has_row places) (sym here) ∙ out))
+        | inr (inl earlier) ↦ sound.unmet k s d earlier inside
+        | inr (inr later) ↦ up s found k later row.0 d out
+      ])))))
 
   pub up_from : All (λ r. Clears r (merged_row rows places)) (kept places 0 (take (insert_place rows places) rows)) → PassesUpCheck rows places
   up_from clear s found r behind before d out =

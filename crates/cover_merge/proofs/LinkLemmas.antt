@@ -1,10 +1,10 @@
 -- Numbers of routes, and the rows of one route one after another.
 use Rattle.cover_merge.proofs.Common.{All-append, All-cons, All-drop, All-take, AreLinks, AreNumbers, Bool, IsAhead, IsEachOnce, IsFirstOfRoute, IsMergeSet, IsNextOfRoute, IsOrdered, IsRouteAdded}
-use Rattle.cover_merge.proofs.Common.{List, Route, Row, [], after, ap, arith, cases_lt, cond, drop, eqb-true, false, get_or, get_or-append_seam, get_or_append_left, get_or_default, has_row, insert}
-use Rattle.cover_merge.proofs.Common.{insert_place, length, length-append, map, merge_rows, merged_row, nat_tests, not, passes_at_first, picked, position_or_len_push, prefix_len-le-length, refl}
-use Rattle.cover_merge.proofs.Common.{subst, suc, sym, take, true, zero, ℕ, ◌++◌, ◌+◌, ◌<◌, ◌==◌, ◌∙◌, ◌∷◌, ◌≡◌, ◌≤◌}
+use Rattle.cover_merge.proofs.Common.{List, Route, Row, [], after, ap, arith, cases_lt, cond, drop, eqb-true, get_or, get_or-append_seam, get_or-map, get_or_append_left, get_or_default, has_row}
+use Rattle.cover_merge.proofs.Common.{insert, insert_place, length, length-append, length-map, map, merge_rows, merged_row, nat_tests, not, passes_at_first, picked, position_or_len_push}
+use Rattle.cover_merge.proofs.Common.{prefix_len-le-length, refl, subst, suc, sym, take, zero, ℕ, ◌++◌, ◌+◌, ◌<◌, ◌==◌, ◌∙◌, ◌∷◌, ◌≡◌, ◌≤◌}
 use Rattle.cover_merge.specs.Links.{place_of_route}
-use Rattle.cover_merge.proofs.{Lists.All-picked, ApplyLemmas.left, ApplyLemmas.after_is, ApplyLemmas.route_is}
+use Rattle.cover_merge.proofs.{Lists.All-picked, Lists.cond_of, ApplyLemmas.left, ApplyLemmas.after_is, ApplyLemmas.route_is}
 
 -- ---- the place of a route
 
@@ -38,23 +38,10 @@ place_le routes bits = prefix_len-le-length (λ r. not (r == bits)) routes
 abbrev pub numbers_for : List ℕ → List Row → List ℕ
 numbers_for routes rows = map (λ (r : Row). place_of_route routes r.route.bits) rows
 
-numbers_read : (routes : List ℕ) (rows : List Row) (k : ℕ) (d : Row) → k < length rows → get_or (numbers_for routes rows) k 0 ≡ place_of_route routes (get_or rows k d).route.bits
-numbers_read routes [] k d inside = absurd (omega arith)
-numbers_read routes (r ∷ rows) zero d inside = refl
-numbers_read routes (r ∷ rows) (suc k) d inside = numbers_read routes rows k d (omega arith)
-
-numbers_length : (routes : List ℕ) (rows : List Row) → length (numbers_for routes rows) ≡ length rows
-numbers_length routes [] = refl
-numbers_length routes (r ∷ rows) = ap suc (numbers_length routes rows)
-
 numbers_picked : (routes : List ℕ) (q : ℕ → Bool) (i : ℕ) (rows : List Row) → picked q i (numbers_for routes rows) ≡ numbers_for routes (picked q i rows)
 numbers_picked routes q i [] = refl
-numbers_picked routes q i (r ∷ rows) = by_test (q i) (numbers_picked routes q (suc i) rows)
-  where
-    by_test : (t : Bool) → picked q (suc i) (numbers_for routes rows) ≡ numbers_for routes (picked q (suc i) rows)
-        → cond t (place_of_route routes r.route.bits ∷ picked q (suc i) (numbers_for routes rows)) (picked q (suc i) (numbers_for routes rows)) ≡ numbers_for routes (cond t (r ∷ picked q (suc i) rows) (picked q (suc i) rows))
-    by_test true rest = ap (λ l. place_of_route routes r.route.bits ∷ l) rest
-    by_test false rest = rest
+numbers_picked routes q i (r ∷ rows) =
+    ap (λ l. cond (q i) (place_of_route routes r.route.bits ∷ l) l) (numbers_picked routes q (suc i) rows) ∙ cond_of (numbers_for routes) (q i) (r ∷ picked q (suc i) rows) (picked q (suc i) rows)
 
 numbers_insert : (routes : List ℕ) (m : Row) (p : ℕ) (rows : List Row) → insert (numbers_for routes rows) p (place_of_route routes m.route.bits) ≡ numbers_for routes (insert rows p m)
 numbers_insert routes m zero rows = refl
@@ -64,10 +51,10 @@ numbers_insert routes m (suc p) (r ∷ rows) = ap (λ l. place_of_route routes r
 -- two rows have one number exactly where they have one route
 module _ (routes : List ℕ) (rows : List Row) (numbers : List ℕ) (are : AreNumbers routes rows numbers) where
   pub as_many : length numbers ≡ length rows
-  as_many = ap length are.each ∙ numbers_length routes rows
+  as_many = ap length are.each ∙ length-map rows (λ (r : Row). place_of_route routes r.route.bits)
 
   pub number_at : (k : ℕ) (d : Row) → k < length rows → get_or numbers k 0 ≡ place_of_route routes (get_or rows k d).route.bits
-  number_at k d inside = ap (λ l. get_or l k 0) are.each ∙ numbers_read routes rows k d inside
+  number_at k d inside = ap (λ l. get_or l k 0) are.each ∙ get_or-map (λ (r : Row). place_of_route routes r.route.bits) rows k d 0 inside
 
   -- the route of a row stands at its number
   pub route_of : (k : ℕ) (d : Row) → k < length rows → get_or routes (get_or numbers k 0) 0 ≡ (get_or rows k d).route.bits

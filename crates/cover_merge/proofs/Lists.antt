@@ -1,7 +1,19 @@
 -- What holds of the picked items of a list, and of all pairs of a list.
-use Rattle.cover_merge.proofs.Common.{All, All-cons, All-head, All-nil, All-tail, AllPairs, AllPairs-cons, Bool, List, [], ap, arith, cond, drop, false, get_or, length, picked, refl, subst, suc, sym}
-use Rattle.cover_merge.proofs.Common.{take, take-append-drop, true, zero, ℕ, ◌++◌, ◌+◌, ◌<◌, ◌∙◌, ◌∷◌, ◌≡◌}
+use Rattle.cover_merge.proofs.Common.{All, All-cons, All-head, All-nil, All-tail, AllPairs, AllPairs-cons, Bool, List, [], ap, arith, cases_eq, cond, drop, false, get_or, get_or-set_at}
+use Rattle.cover_merge.proofs.Common.{get_or-set_other, inl, inr, length, picked, refl, set, subst, suc, sym, take, take-append-drop, true, zero, ℕ, ◌++◌, ◌+◌, ◌<◌, ◌∙◌, ◌∷◌, ◌≡◌, ◌≢◌}
 pub use Rattle.spin_base.proofs.Pairs.{All-left, All-right, All-from_map, All-flat_map, All-from_flat_map, AllPairs-nil, AllPairs-head, AllPairs-tail, AllAcross, AllPairs-append, AllPairs-left, AllPairs-right, AllPairs-across}
+
+-- what is made of both arms is made of the one that is taken
+pub cond_of : {A B : Type 0} (f : A → B) (b : Bool) (x y : A) → cond b (f x) (f y) ≡ f (cond b x y)
+cond_of f true x y = refl
+cond_of f false x y = refl
+
+-- what holds of the item that is written, and of the others at their places, holds of each item
+pub written_at : {X : Type 0} (P : ℕ → X → Type 0) (xs : List X) (c : ℕ) (v d : X) → c < length xs → P c v → ((k : ℕ) → k ≢ c → P k (get_or xs k d)) → (k : ℕ) → P k (get_or (set xs c v) k d)
+written_at P xs c v d inside here others k = elim (cases_eq k c) [
+  | inl same ↦ subst (P k) (sym (get_or-set_at xs c k v d same inside)) (subst (λ i. P i v) (sym same) here)
+  | inr apart ↦ subst (P k) (sym (get_or-set_other xs c k v d apart)) (others k apart)
+]
 
 module _ {X : Type 0} (P : X → Type 0) where
   -- an item that is put before others where a test passes
@@ -69,8 +81,7 @@ pub picked_lengths : {X Y : Type 0} (q : ℕ → Bool) (i : ℕ) (xs : List X) (
 picked_lengths q i [] [] same = refl
 picked_lengths q i [] (y ∷ ys) same = absurd (omega arith)
 picked_lengths q i (x ∷ xs) [] same = absurd (omega arith)
-picked_lengths {X = X} {Y = Y} q i (x ∷ xs) (y ∷ ys) same = by_test (q i) (picked_lengths q (suc i) xs ys (omega arith))
-  where
-    by_test : (t : Bool) → length (picked q (suc i) ys) ≡ length (picked q (suc i) xs) → length (cond t (y ∷ picked q (suc i) ys) (picked q (suc i) ys)) ≡ length (cond t (x ∷ picked q (suc i) xs) (picked q (suc i) xs))
-    by_test true rest = ap suc rest
-    by_test false rest = rest
+picked_lengths q i (x ∷ xs) (y ∷ ys) same =
+    sym (cond_of length (q i) (y ∷ picked q (suc i) ys) (picked q (suc i) ys))
+    ∙ ap (λ n. cond (q i) (suc n) n) (picked_lengths q (suc i) xs ys (omega arith))
+    ∙ cond_of length (q i) (x ∷ picked q (suc i) xs) (picked q (suc i) xs)

@@ -1,30 +1,26 @@
 -- Places of rows: those of a set, and the insertion place of a merge.
-use Rattle.cover_merge.proofs.Common.{All, All-cons, All-drop, All-head, All-nil, All-tail, All-take, AllPairs, Block, IsMergeSet, IsOrdered, List, None, Option, Row, SameRoute, Some, [], add_comm}
-use Rattle.cover_merge.proofs.Common.{ap, arith, cond, cons_option, count_by-le-length, drop, eq-eqb, eqb_tells, false, filter_map-append, generality, generality-merge, get_or, get_or-drop}
-use Rattle.cover_merge.proofs.Common.{get_or-take, get_or_from_slice_get, has_row, inl, inr, insert_place, is_at_one, leb_tells, length, length-drop, length-take, map, map-append, merge_of}
-use Rattle.cover_merge.proofs.Common.{merge_of-push, merge_two, merged_block, nat_le, nat_tests, or_left, or_right, place_for, refl, rows_at, slice_get, slice_get-get_or, subst, suc, sum_by-append}
-use Rattle.cover_merge.proofs.Common.{sym, take, take_more, true, zero, zero-add, ℕ, ◌++◌, ◌+◌, ◌-◌, ◌<◌, ◌==◌, ◌||◌, ◌∙◌, ◌∷◌, ◌≡◌, ◌≤◌, ◌⊎◌}
-use Rattle.cover_merge.proofs.Lists.{All-from_map, AllPairs-head, AllPairs-tail}
+use Rattle.cover_merge.proofs.Common.{All, All-cons, All-drop, All-head, All-nil, All-tail, All-take, AllPairs, AllPairs-cons, Any-from_list_any, Block, IsMergeSet, IsOrdered, List, None, Option, Row}
+use Rattle.cover_merge.proofs.Common.{SameRoute, Some, [], add_comm, ap, arith, cases_lt, cond, cons_option, count_by-le-length, drop, eq-eqb, eqb-true, false, filter_map-append, generality}
+use Rattle.cover_merge.proofs.Common.{generality-merge, get_or, get_or-drop, get_or-take, get_or_default, get_or_from_slice_get, has_row, inl, inr, insert_place, is_at_one, leb_tells, length}
+use Rattle.cover_merge.proofs.Common.{length-drop, length-take, list_any_at, map, map-append, merge_of, merge_of-push, merge_rows, merge_two, merged_block, nat_le, nat_tests, or_right, place_for}
+use Rattle.cover_merge.proofs.Common.{refl, rows_at, slice_get, slice_get-get_or, subst, suc, sum_by-append, sym, take, take_more, true, zero, zero-add, ℕ, ◌++◌, ◌+◌, ◌-◌, ◌<◌, ◌==◌, ◌∙◌, ◌∷◌, ◌≡◌}
+use Rattle.cover_merge.proofs.Common.{◌≤◌, ◌⊎◌}
+use Rattle.cover_merge.proofs.Lists.{All-from_map, AllPairs-head, AllPairs-nil, AllPairs-tail}
 
 -- ---- places of a set
 
 -- each place of a set is found
 pub has-at : (places : List ℕ) (i : ℕ) → i < length places → has_row places (get_or places i 0) ≡ true
-has-at [] i in_range = absurd (omega arith)
-has-at (s ∷ places) zero in_range = rw (eq-eqb s s refl) refl
-has-at (s ∷ places) (suc i) in_range = or_right (s == get_or places i 0) (has_row places (get_or places i 0)) (has-at places i (omega arith))
+has-at places i in_range = list_any_at (λ s. s == get_or places i 0) places i 0 in_range (eq-eqb (get_or places i 0) (get_or places i 0) refl)
+
+pub all_of : (places : List ℕ) → All (λ s. has_row places s ≡ true) places
+all_of places k d within = subst (λ t. has_row places t ≡ true) (get_or_default places k 0 d within) (has-at places k within)
 
 -- and what is found is a place of it
 pub has-place : (places : List ℕ) (k : ℕ) → has_row places k ≡ true → (i : ℕ) × (i < length places) × (get_or places i 0 ≡ k)
-has-place [] k found = absurd (grind (arith, found))
-has-place (s ∷ places) k found = by_head (eqb_tells s k) (λ rest. has-place places k rest)
-  where
-    by_head : ((s == k) ≡ true) × (s ≡ k) ⊎ ((s == k) ≡ false) × (s ≡ k → ⊥) → (has_row places k ≡ true → (i : ℕ) × (i < length places) × (get_or places i 0 ≡ k)) → (i : ℕ) × (i < suc (length places)) × (get_or (s ∷ places) i 0 ≡ k)
-    by_head (inl here) rest = (0, omega arith, here.1)
-    by_head (inr other) rest = let later = rest (subst (λ b. (b || has_row places k) ≡ true) other.0 found) in (suc later.0, omega (arith, later.1), later.2)
-
-pub has-later : (s : ℕ) (places : List ℕ) (k : ℕ) → has_row places k ≡ true → has_row (s ∷ places) k ≡ true
-has-later s places k found = or_right (s == k) (has_row places k) found
+has-place places k found =
+    let at = Any-from_list_any (λ s. s == k) places found in
+    (at.0, at.2, get_or_default places at.0 0 at.1 at.2 ∙ at.3 ∙ eqb-true at.1 k at.4)
 
 -- what holds of all places holds of one that is found
 pub All-has : (P : ℕ → Type 0) (places : List ℕ) (k : ℕ) → All P places → has_row places k ≡ true → P k
@@ -41,9 +37,6 @@ module _ (P : Row → Type 0) where
   rest_of_cons_option None rows all = all
   rest_of_cons_option (Some r) rows all = All-tail P r rows all
 
-  head_of_cons_option : (o : Option Row) (r : Row) (rows : List Row) → o ≡ Some r → All P (cons_option o rows) → P r
-  head_of_cons_option o r rows is all = All-head P r rows (subst (λ x. All P (cons_option x rows)) is all)
-
   module _ (rows : List Row) where
     -- what holds at each place of a set holds of its rows
     pub rows_at-from : (places : List ℕ) → ((s : ℕ) (d : Row) → has_row places s ≡ true → P (get_or rows s d)) → All P (rows_at rows places)
@@ -51,12 +44,13 @@ module _ (P : Row → Type 0) where
     rows_at-from (s ∷ places) h =
         All-cons_option (slice_get rows s) (rows_at rows places)
         (λ r is. subst P (get_or_from_slice_get rows s r r is) (h s r (has-at (s ∷ places) 0 (omega arith))))
-        (rows_at-from places (λ k d found. h k d (has-later s places k found)))
+        (rows_at-from places (λ k d found. h k d (or_right (s == k) (has_row places k) found)))
 
     rows_at-nth : (places : List ℕ) → All (λ s. s < length rows) places → All P (rows_at rows places) → (i : ℕ) (d : Row) → i < length places → P (get_or rows (get_or places i 0) d)
     rows_at-nth [] in_range all i d within = absurd (omega arith)
     rows_at-nth (s ∷ places) in_range all zero d within =
-        head_of_cons_option (slice_get rows s) (get_or rows s d) (rows_at rows places) (slice_get-get_or rows s d (All-head (λ x. x < length rows) s places in_range)) all
+        All-head P (get_or rows s d) (rows_at rows places)
+        (subst (λ x. All P (cons_option x (rows_at rows places))) (slice_get-get_or rows s d (All-head (λ x. x < length rows) s places in_range)) all)
     rows_at-nth (s ∷ places) in_range all (suc i) d within =
         rows_at-nth places (All-tail (λ x. x < length rows) s places in_range) (rest_of_cons_option (slice_get rows s) (rows_at rows places) all) i d (omega arith)
 
@@ -64,20 +58,12 @@ module _ (P : Row → Type 0) where
     pub rows_at-has : (places : List ℕ) → All (λ s. s < length rows) places → All P (rows_at rows places) → (s : ℕ) (d : Row) → has_row places s ≡ true → P (get_or rows s d)
     rows_at-has places in_range all s d found = let at = has-place places s found in subst (λ k. P (get_or rows k d)) at.2 (rows_at-nth places in_range all at.0 d at.1)
 
-slice_get_known : (rows : List Row) (s : ℕ) → s < length rows → (r : Row) × (slice_get rows s ≡ Some r)
-slice_get_known [] s within = absurd (omega arith)
-slice_get_known (r ∷ rows) zero within = (r, refl)
-slice_get_known (r ∷ rows) (suc s) within = slice_get_known rows s (omega arith)
-
 -- a set within the table has as many rows as places
 pub rows_at-length : (rows : List Row) (places : List ℕ) → All (λ s. s < length rows) places → length (rows_at rows places) ≡ length places
 rows_at-length rows [] in_range = refl
 rows_at-length rows (s ∷ places) in_range =
-    longer (slice_get rows s) (slice_get_known rows s (All-head (λ x. x < length rows) s places in_range)) (rows_at rows places)
+    ap (λ o. length (cons_option o (rows_at rows places))) (slice_get-get_or rows s (merge_rows []) (All-head (λ x. x < length rows) s places in_range))
     ∙ ap suc (rows_at-length rows places (All-tail (λ x. x < length rows) s places in_range))
-  where
-    longer : (o : Option Row) → (r : Row) × (o ≡ Some r) → (xs : List Row) → length (cons_option o xs) ≡ suc (length xs)
-    longer o (r, is) xs = ap (λ x. length (cons_option x xs)) is
 
 -- one more place, one more row
 pub rows_at-push : (rows : List Row) (places : List ℕ) (s : ℕ) (r : Row) → slice_get rows s ≡ Some r → rows_at rows (places ++ s ∷ []) ≡ rows_at rows places ++ r ∷ []
@@ -165,6 +151,19 @@ place_for-above (r ∷ rows) g ordered k d in_range le = by_head k (leb_tells (g
     by_head (suc k) (inr high) within h rest =
         absurd (omega (arith, high.1, AllPairs-head (λ (x y : Row). generality x.block ≤ generality y.block) r rows ordered k d (omega arith)))
 
+-- a row from the place on is more general, and a more general row stands there
+pub place_for-from : (rows : List Row) (g : ℕ) → IsOrdered rows → (k : ℕ) (d : Row) → k < length rows → place_for rows g ≤ k → g < generality (get_or rows k d).block
+place_for-from rows g ordered k d within from = elim (cases_lt g (generality (get_or rows k d).block)) [
+  | inl more ↦ more
+  | inr low ↦ absurd (omega (arith, from, place_for-above rows g ordered k d within low))
+]
+
+pub place_for-reach : (rows : List Row) (g : ℕ) → IsOrdered rows → (k : ℕ) (d : Row) → g < generality (get_or rows k d).block → place_for rows g ≤ k
+place_for-reach rows g ordered k d more = elim (cases_lt k (place_for rows g)) [
+  | inl less ↦ absurd (omega (arith, more, place_for-below rows g ordered k d less))
+  | inr le ↦ le
+]
+
 -- ---- every member of a set stands before its insertion place
 
 module _ (rows : List Row) (places : List ℕ) (in_range : All (λ s. s < length rows) places) where
@@ -177,44 +176,30 @@ module _ (rows : List Row) (places : List ℕ) (in_range : All (λ s. s < length
 
 -- ---- a pair
 
-module _ (rows : List Row) (i j : ℕ) where
-  pub pair_in_range : i < j → j < length rows → All (λ s. s < length rows) (i ∷ j ∷ [])
-  pair_in_range less within zero d in_range = omega arith
-  pair_in_range less within (suc zero) d in_range = within
-  pair_in_range less within (suc (suc k)) d in_range = absurd (omega arith)
+-- what holds of two items holds of all pairs of their list
+pub pair_of : (R : ℕ → ℕ → Type 0) (i j : ℕ) → R i j → AllPairs R (i ∷ j ∷ [])
+pair_of R i j here = AllPairs-cons R i (j ∷ []) (All-cons (R i) j [] here (All-nil (R i))) (AllPairs-cons R j [] (All-nil (R j)) (AllPairs-nil R))
 
-  -- two rows of one route are a set
-  pub pair_set : i < j → j < length rows → SameRoute rows i j → IsMergeSet rows (i ∷ j ∷ [])
-  pair_set less within alike = record {
-    set = record {
-      ascending = ascends;
-      in_range = pair_in_range less within;
-      one_route = agree;
-    };
-    two = omega arith;
-  }
-    where
-      ascends : AllPairs (λ x y. x < y) (i ∷ j ∷ [])
-      ascends zero (suc zero) d before in_range = less
-      ascends zero zero d before in_range = absurd (omega arith)
-      ascends zero (suc (suc b)) d before in_range = absurd (omega arith)
-      ascends (suc a) zero d before in_range = absurd (omega arith)
-      ascends (suc a) (suc b) d before in_range = absurd (omega arith)
+-- and what holds of both, of all
+pub both_of : (P : ℕ → Type 0) (i j : ℕ) → P i → P j → All P (i ∷ j ∷ [])
+both_of P i j first second = All-cons P i (j ∷ []) first (All-cons P j [] second (All-nil P))
 
-      agree : AllPairs (SameRoute rows) (i ∷ j ∷ [])
-      agree zero (suc zero) d before in_range = alike
-      agree zero zero d before in_range = absurd (omega arith)
-      agree zero (suc (suc b)) d before in_range = absurd (omega arith)
-      agree (suc a) zero d before in_range = absurd (omega arith)
-      agree (suc a) (suc b) d before in_range = absurd (omega arith)
+-- two rows of one route are a set
+pub pair_set : (rows : List Row) (i j : ℕ) → i < j → j < length rows → SameRoute rows i j → IsMergeSet rows (i ∷ j ∷ [])
+pair_set rows i j less within alike = record {
+  set = record {
+    ascending = pair_of (λ x y. x < y) i j less;
+    in_range = both_of (λ s. s < length rows) i j (omega (arith, less, within)) within;
+    one_route = pair_of (SameRoute rows) i j alike;
+  };
+  two = omega arith;
+}
 
 -- ---- numbers of rows at places
 
 -- the number of a row at one of the places is found
 pub at_one_of : (serials places : List ℕ) (r : ℕ) → has_row places r ≡ true → is_at_one serials places (get_or serials r 0) ≡ true
-at_one_of serials [] r found = absurd (grind (arith, found))
-at_one_of serials (s ∷ places) r found = by_head (eqb_tells s r) (λ rest. at_one_of serials places r rest)
-  where
-    by_head : ((s == r) ≡ true) × (s ≡ r) ⊎ ((s == r) ≡ false) × (s ≡ r → ⊥) → (has_row places r ≡ true → is_at_one serials places (get_or serials r 0) ≡ true) → is_at_one serials (s ∷ places) (get_or serials r 0) ≡ true
-    by_head (inl here) rest = or_left (get_or serials s 0 == get_or serials r 0) (is_at_one serials places (get_or serials r 0)) (eq-eqb (get_or serials s 0) (get_or serials r 0) (ap (λ i. get_or serials i 0) here.1))
-    by_head (inr other) rest = or_right (get_or serials s 0 == get_or serials r 0) (is_at_one serials places (get_or serials r 0)) (rest (subst (λ b. (b || has_row places r) ≡ true) other.0 found))
+at_one_of serials places r found =
+    let at = has-place places r found in
+    let same = eq-eqb (get_or serials (get_or places at.0 0) 0) (get_or serials r 0) (ap (λ i. get_or serials i 0) at.2) in
+    list_any_at (λ s. get_or serials s 0 == get_or serials r 0) places at.0 0 at.1 same

@@ -2,7 +2,7 @@
 use Rattle.cover_merge.proofs.Common.{All, All-append, All-cons, All-nil, AllPairs, AllPairs-cons, AllPairs-filter, AreMet, Block, IsLegalMerge, IsPutIn, IsSound, List, Misses, PassesDown, Rival, Row}
 use Rattle.cover_merge.proofs.Common.{[], ap, arith, cases_lt, eq-eqb, false, get_or, get_or-append_seam, get_or-set_at, get_or-take, get_or_append_left, get_or_default, has_row, inl, inr, insert}
 use Rattle.cover_merge.proofs.Common.{insert_place, is_at_one, length, length-append, length-set, length-take, list_any-append, not, or_left, or_right, rivals_left, set, subst, sym, take, take_more}
-use Rattle.cover_merge.proofs.Common.{true, ℕ, ◌++◌, ◌+◌, ◌<◌, ◌==◌, ◌∙◌, ◌∷◌, ◌≡◌, ◌≤◌, ◌⊎◌}
+use Rattle.cover_merge.proofs.Common.{ℕ, ◌++◌, ◌+◌, ◌<◌, ◌==◌, ◌∙◌, ◌∷◌, ◌≡◌, ◌≤◌}
 use Rattle.cover_merge.proofs.{Legal.down_from_legal, Lists.AllPairs-append, Lists.AllPairs-nil}
 
 -- ---- rows that a block meets
@@ -73,22 +73,16 @@ pub missed_behind : (rows : List Row) (places : List ℕ) (block : Block) (place
 missed_behind rows places block place sound merge at = grind (arith, down_from_legal rows places sound merge.set.set.in_range merge.legal)
 
 pub met_front : (block : Block) (rows : List Row) (place i : ℕ) (met : List ℕ) → i ≡ place → place ≤ length rows → PassesDown rows block place → AreMet block (take i rows) met → AreMet block rows met
-met_front block rows place i met at fits behind front = record {
-  ascending = front.ascending;
-  inside = λ k d within. omega (arith, long, front.inside k d within);
-  meets = λ k d within e missed. front.meets k d within e (subst (Misses block) (sym (get_or-take i rows (get_or met k d) e (omega (arith, long, front.inside k d within)))) missed);
-  all = λ s inside. by_place s inside (cases_lt s i);
-}
-  where
-    long : length (take i rows) ≡ i
-    long = omega (arith, length-take i rows, at, fits)
-
-    by_place : (s : ℕ) → s < length rows → (s < i) ⊎ (i ≤ s) → ((d : Row) → Misses block (get_or rows s d)) ⊎ (has_row met s ≡ true)
-    by_place s inside (inl low) = elim (front.all s (omega (arith, long, low))) [
-      | inl misses ↦ inl (λ d. subst (Misses block) (get_or-take i rows s d low) (misses d))
-      | inr found ↦ inr found
-    ]
-    by_place s inside (inr from) = inl (λ d. behind s d (omega (arith, at, from)) inside)
+met_front block rows place i met at fits behind front =
+    let long : length (take i rows) ≡ i = omega (arith, length-take i rows, at, fits) in record {
+      ascending = front.ascending;
+      inside = λ k d within. omega (arith, long, front.inside k d within);
+      meets = λ k d within e missed. front.meets k d within e (subst (Misses block) (sym (get_or-take i rows (get_or met k d) e (omega (arith, long, front.inside k d within)))) missed);
+      all = λ s inside. elim (cases_lt s i) [
+        | inl low ↦ elim (front.all s (omega (arith, long, low))) [ inl misses ↦ inl (λ d. subst (Misses block) (get_or-take i rows s d low) (misses d)) | inr found ↦ inr found ]
+        | inr from ↦ inl (λ d. behind s d (omega (arith, at, from)) inside)
+      ];
+    }
 
 -- ---- a rival that is put in
 
@@ -99,25 +93,21 @@ put_last v old new at within end before is = grind arith
 -- the rival at its place is more general, and so are those behind it
 pub put_before : (v x : Rival) (old new : List Rival) (at : ℕ) → AllPairs (λ (v w : Rival). v.general ≤ w.general) old → at < length old → ((k : ℕ) (e : Rival) → k < at → (get_or old k e).general ≤ v.general)
     → x ≡ get_or old at x → v.general < x.general → new ≡ insert old at v → IsPutIn v old new
-put_before v x old new at ordered inside before read more is = record {
+put_before v x old new at ordered inside before read more is =
+    let here : (e : Rival) → v.general ≤ (get_or old at e).general = λ e. let same : x ≡ get_or old at e = read ∙ get_or_default old at x e inside in
+    let g = ap (λ (y : Rival). y.general) same in
+    omega (arith, g, more) in
+    let behind : (k : ℕ) (e : Rival) → at ≤ k → k < length old → v.general ≤ (get_or old k e).general = λ k e from within. elim (cases_lt at k) [
+      | inl later ↦ omega (arith, here e, ordered at k e later within)
+      | inr last ↦ let same : at ≡ k = omega (arith, from, last) in subst (λ m. v.general ≤ (get_or old m e).general) same (here e)
+    ] in
+    record {
   at = at;
   within = omega (arith, inside);
   before = before;
   behind = behind;
   result = is;
 }
-  where
-    here : (e : Rival) → v.general ≤ (get_or old at e).general
-    here e =
-        let same : x ≡ get_or old at e = read ∙ get_or_default old at x e inside in
-        let g = ap (λ (y : Rival). y.general) same in
-        omega (arith, g, more)
-
-    behind : (k : ℕ) (e : Rival) → at ≤ k → k < length old → v.general ≤ (get_or old k e).general
-    behind k e from within = elim (cases_lt at k) [
-      | inl later ↦ omega (arith, here e, ordered at k e later within)
-      | inr last ↦ let same : at ≡ k = omega (arith, from, last) in subst (λ m. v.general ≤ (get_or old m e).general) same (here e)
-    ]
 
 -- ---- the rivals of one row
 

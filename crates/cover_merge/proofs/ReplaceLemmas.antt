@@ -1,9 +1,9 @@
 -- Putting an item in and taking out those at places before it, in one pass.
 use Rattle.cover_merge.proofs.Common.{All, All-cons, All-nil, AllPairs, AllPairs-cons, List, [], ap, append_assoc, arith, cases_lt, copy_within, drop, drop-cons, drop-drop, drop-paste, drop-put_mid}
 use Rattle.cover_merge.proofs.Common.{drop-set-lt, drop-take, false, false_from_ne_true, get_or, get_or-append_seam, get_or_append_left, has_row, insert, length, length-append, length-drop}
-use Rattle.cover_merge.proofs.Common.{length-paste, length-take, not, paste, refl, set, subst, suc, sym, take, take-add, take-paste, take_all, take_at, take_more_set, true, zero, ℕ, ◌++◌, ◌+◌, ◌-◌}
-use Rattle.cover_merge.proofs.Common.{◌<◌, ◌∙◌, ◌∷◌, ◌≡◌, ◌≤◌}
-use Rattle.cover_merge.proofs.{ApplyLemmas.left, ApplyLemmas.kept_in, ApplyLemmas.kept_out, ApplyLemmas.kept_none, ApplyLemmas.picked-append, Lists.AllPairs-append, Lists.AllPairs-nil}
+use Rattle.cover_merge.proofs.Common.{length-paste, length-take, not, paste, set, subst, suc, sym, take, take-add, take-paste, take_all, take_at, take_more_set, true, zero, ℕ, ◌++◌, ◌+◌, ◌-◌, ◌<◌}
+use Rattle.cover_merge.proofs.Common.{◌∙◌, ◌∷◌, ◌≡◌, ◌≤◌}
+use Rattle.cover_merge.proofs.{ApplyLemmas.left, ApplyLemmas.kept_out, ApplyLemmas.kept_free, ApplyLemmas.kept_none, ApplyLemmas.picked-append, Lists.AllPairs-append, Lists.AllPairs-nil}
 use Rattle.cover_merge.proofs.Positions.{has-at, has-place}
 
 -- ---- items moved down
@@ -71,13 +71,6 @@ copied_down from to by dest old new fits order inside at made =
     }
 
 -- ---- the places one after another
-
--- where none of the places is one of the list, all are kept
-kept_free : {X : Type 0} (places : List ℕ) (j : ℕ) (xs : List X) → ((k : ℕ) → j ≤ k → k < j + length xs → has_row places k ≡ false) → left places j xs ≡ xs
-kept_free places j [] free = refl
-kept_free places j (x ∷ xs) free =
-    kept_in places j x xs (free j (omega arith) (omega arith))
-    ∙ ap (λ ys. x ∷ ys) (kept_free places (suc j) xs (λ k from before. free k (omega arith) (omega (arith, before))))
 
 -- the places, and that behind all
 abbrev pub end_of : List ℕ → ℕ → ℕ → ℕ

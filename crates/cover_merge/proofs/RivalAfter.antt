@@ -1,14 +1,14 @@
 -- The rivals of rows in the table after a merge.
-use Rattle.cover_merge.proofs.Common.{All, All-append, All-cons, All-drop, All-filter, All-head, All-nil, All-tail, All-take, AllPairs, AllPairs-cons, AllPairs-filter, AreMet, AreRivalsAfter}
-use Rattle.cover_merge.proofs.Common.{AreRivalsAt, AreSpansOf, Block, Bool, HasSerial, IsLegal, IsMergeSet, IsPutIn, IsRivalBehind, IsRivalOf, IsRivaled, IsSound, List, MeetsAliasOf, MeetsNone}
-use Rattle.cover_merge.proofs.Common.{Misses, Rival, Rivals, Row, [], after, ap, arith, cases_Bool, cases_eq, cases_lt, cond, drop, eq-eqb, false, filter, filter_passes, generality, get_or}
-use Rattle.cover_merge.proofs.Common.{get_or-append_seam, get_or-drop, get_or-take, get_or_append_left, has_row, inl, inr, insert, insert_place, is_at_one, length, length-append, length-drop}
-use Rattle.cover_merge.proofs.Common.{length-insert, length-take, merge_rows, merged_block, merged_row, ne_eqb, not, not-true, not_from_false, place_for, refl, rivals_left, subst, suc, sym, take}
-use Rattle.cover_merge.proofs.Common.{take-append-drop, true, zero, ℕ, ◌++◌, ◌+◌, ◌<◌, ◌==◌, ◌^◌, ◌||◌, ◌∙◌, ◌∷◌, ◌≡◌, ◌≢◌, ◌≤◌, ◌⊎◌}
-use Rattle.cover_merge.proofs.{Legal.narrower_misses, Legal.member_lies, Lists.All-picked, Lists.AllPairs-head, Lists.AllPairs-tail, Lists.AllPairs-append, Lists.AllPairs-left, Lists.AllPairs-right}
-use Rattle.cover_merge.proofs.{Lists.AllPairs-across, Lists.picked_lengths, Positions.has-place, Positions.place_for-le, ApplyLemmas.left, ApplyLemmas.first_kept, ApplyLemmas.members_before}
-use Rattle.cover_merge.proofs.{ApplyLemmas.block_is, ApplyLemmas.route_is, ApplyLemmas.after_is, CoverLemmas.shorter, KeptLemmas.from_less, KeptLemmas.to_less, KeptLemmasMoved.rank}
-use Rattle.cover_merge.proofs.KeptLemmasMoved.{moved, merged_at, moved_get, item_moved, item_merged, item_onto}
+use Rattle.cover_merge.proofs.Common.{All, All-append, All-cons, All-drop, All-filter, All-head, All-tail, All-take, AllPairs, AllPairs-cons, AllPairs-filter, AreMet, AreRivalsAfter, AreRivalsAt}
+use Rattle.cover_merge.proofs.Common.{AreSpansOf, Block, Bool, HasSerial, IsLegal, IsMergeSet, IsPutIn, IsRivalBehind, IsRivalOf, IsRivaled, IsSound, List, MeetsNone, Misses, Rival, Rivals, Row, []}
+use Rattle.cover_merge.proofs.Common.{after, ap, arith, below_more, cases_eq, cases_lt, cond, drop, eq-eqb, false, false_from_ne_true, filter, filter_passes, generality, get_or, get_or-append_seam}
+use Rattle.cover_merge.proofs.Common.{get_or-drop, get_or-take, get_or_append_left, has_row, inl, inr, insert, insert_place, is_at_one, length, length-append, length-drop, length-insert, length-take}
+use Rattle.cover_merge.proofs.Common.{merge_rows, merged_block, merged_row, ne_eqb, not, not-true, not_from_false, place_for, refl, rivals_left, subst, suc, sym, take, take-append-drop, true, zero, ℕ}
+use Rattle.cover_merge.proofs.Common.{◌++◌, ◌+◌, ◌<◌, ◌==◌, ◌^◌, ◌||◌, ◌∙◌, ◌∷◌, ◌≡◌, ◌≢◌, ◌≤◌, ◌⊎◌}
+use Rattle.cover_merge.proofs.KeptLemmasMoved.{rank_length, merged_get, rank, moved, merged_at, moved_get, item_moved, item_merged, item_onto}
+use Rattle.cover_merge.proofs.{Lists.All-picked, Lists.AllPairs-append, Lists.AllPairs-left, Lists.AllPairs-right, Lists.AllPairs-across, Lists.picked_lengths, Legal.narrower_misses}
+use Rattle.cover_merge.proofs.{Legal.member_lies, Positions.has-place, Positions.place_for-le, ApplyLemmas.left, ApplyLemmas.members_before, ApplyLemmas.block_is, ApplyLemmas.route_is}
+use Rattle.cover_merge.proofs.{ApplyLemmas.after_is, CoverLemmas.length_out, CoverLemmas.shorter, KeptLemmas.from_less, KeptLemmas.to_less}
 
 -- ---- numbers in a list of rivals
 
@@ -59,6 +59,10 @@ IsNoMore v w = v.general ≤ w.general
 
 ordered_insert : (v : Rival) (old new : List Rival) → IsPutIn v old new → AllPairs IsNoMore old → AllPairs IsNoMore new
 ordered_insert v old new put ordered =
+    let later : All (IsNoMore v) (drop put.at old) =
+    λ k d within. subst (IsNoMore v) (sym (get_or-drop put.at old k d)) (put.behind (put.at + k) d (omega arith) (omega (arith, length-drop put.at old, within))) in
+    let earlier : All (λ x. IsNoMore x v) (take put.at old) = λ k d within. let less : k < put.at = omega (arith, length-take put.at old, within) in
+    subst (λ x. IsNoMore x v) (sym (get_or-take put.at old k d less)) (put.before k d less) in
     let n = put.at in
     let whole : AllPairs IsNoMore (take n old ++ drop n old) = subst (AllPairs IsNoMore) (sym (take-append-drop n old)) ordered in
     let across = AllPairs-across IsNoMore (take n old) (drop n old) whole in
@@ -66,15 +70,6 @@ ordered_insert v old new put ordered =
     (AllPairs-append IsNoMore (take n old) (v ∷ drop n old) (AllPairs-left IsNoMore (take n old) (drop n old) whole)
     (AllPairs-cons IsNoMore v (drop n old) later (AllPairs-right IsNoMore (take n old) (drop n old) whole))
     (λ k d within. All-cons (IsNoMore (get_or (take n old) k d)) v (drop n old) (earlier k d within) (across k d within)))
-  where
-    later : All (IsNoMore v) (drop put.at old)
-    later k d within =
-        subst (IsNoMore v) (sym (get_or-drop put.at old k d)) (put.behind (put.at + k) d (omega arith) (omega (arith, length-drop put.at old, within)))
-
-    earlier : All (λ x. IsNoMore x v) (take put.at old)
-    earlier k d within =
-        let less : k < put.at = omega (arith, length-take put.at old, within) in
-        subst (λ x. IsNoMore x v) (sym (get_or-take put.at old k d less)) (put.before k d less)
 
 all_insert : (P : Rival → Type 0) (v : Rival) (old new : List Rival) → IsPutIn v old new → P v → All P old → All P new
 all_insert P v old new put here all =
@@ -127,14 +122,14 @@ module _ (rows : List Row) (serials places : List ℕ) (apart : (i j : ℕ) → 
     pub unmet : (list : List Rival) → IsMergeSet rows places → block ≡ merged_block rows places → ((d : Row) → Misses block (get_or rows s d)) → AreRivalsAt rows serials s list → AreRivalsAfter rows serials places block merged s list
     unmet list set is misses was = record {
       ordered = was.ordered;
-      each = λ k d within. let it = was.each k d within in inr (it, no_member it.place it.meets (cases_Bool (has_row places it.place)));
+      each = λ k d within.
+          let it = was.each k d within in
+          let e = merge_rows [] in
+          inr (it, false_from_ne_true (has_row places it.place) (λ found.
+          it.meets e (narrower_misses block (get_or rows it.place e).block (get_or rows s e) (member_lies rows places set block is it.place e found) (misses e))));
       all = λ r behind inside out. was.all r behind inside;
       own = inl misses;
     }
-      where
-        no_member : (r : ℕ) → MeetsAliasOf rows r s → (has_row places r ≡ true) ⊎ (has_row places r ≡ false) → has_row places r ≡ false
-        no_member r meets (inr out) = out
-        no_member r meets (inl found) = let d = merge_rows [] in absurd (meets d (narrower_misses block (get_or rows r d).block (get_or rows s d) (member_lies rows places set block is r d found) (misses d)))
 
 -- ---- one row after the other
 
@@ -158,74 +153,41 @@ module _ (rows : List Row) (serials places : List ℕ) (block : Block) (merged :
       → IsPutIn merged (rivals_left serials places (get_or now (get_or serials (get_or met k 0) 0) [])) (get_or new (get_or serials (get_or met k 0) 0) [])
       → ((n : ℕ) → n ≢ get_or serials (get_or met k 0) 0 → get_or new n [] ≡ get_or now n []) → AreRenewed rows serials places block merged met (k + 1) old new
   one_renewed k now new within so_far put others = record {
-    done = λ i less. by_place i less (cases_lt i k);
+    done = below_more (λ i. AreRivalsAfter rows serials places block merged (get_or met i 0) (get_or new (get_or serials (get_or met i 0) 0) [])) k
+        (λ i earlier.
+        let s = get_or met i 0 in
+        let differ : get_or serials s 0 ≢ get_or serials (get_or met k 0) 0 =
+        λ same. omega (arith, apart s (get_or met k 0) (met_inside i (omega (arith, earlier, within))) (met_inside k within) same, are_met.ascending i k 0 earlier within) in
+        subst (AreRivalsAfter rows serials places block merged s) (sym (others (get_or serials s 0) differ)) (so_far.done i earlier))
+        (renewed rows serials places apart set.set.in_range (get_or met k 0) block merged (get_or now (get_or serials (get_or met k 0) 0) [])
+        (get_or new (get_or serials (get_or met k 0) 0) []) (are_met.meets k 0 within)
+        (next_list k now within so_far) put);
     others = λ s inside differ. others (get_or serials s 0) (λ same. differ k (omega arith) (sym (apart s (get_or met k 0) inside (met_inside k within) same))) ∙ so_far.others s inside (λ i less. differ i (omega (arith, less)));
   }
-    where
-      by_place : (i : ℕ) → i < k + 1 → (i < k) ⊎ (k ≤ i) → AreRivalsAfter rows serials places block merged (get_or met i 0) (get_or new (get_or serials (get_or met i 0) 0) [])
-      by_place i less (inl earlier) =
-          let s = get_or met i 0 in
-          let differ : get_or serials s 0 ≢ get_or serials (get_or met k 0) 0 = λ same. omega (arith, apart s (get_or met k 0) (met_inside i (omega (arith, earlier, within))) (met_inside k within) same, are_met.ascending i k 0 earlier within) in
-          subst (AreRivalsAfter rows serials places block merged s) (sym (others (get_or serials s 0) differ)) (so_far.done i earlier)
-      by_place i less (inr last) =
-          let here : k ≡ i = omega (arith, less, last) in
-          let s = get_or met k 0 in
-          subst (λ j. AreRivalsAfter rows serials places block merged (get_or met j 0) (get_or new (get_or serials (get_or met j 0) 0) [])) here
-          (renewed rows serials places apart set.set.in_range s block merged (get_or now (get_or serials s 0) []) (get_or new (get_or serials s 0) []) (are_met.meets k 0 within) (next_list k now within so_far) put)
 
   -- at the end, rows that are not met have the same rivals after the merge
   pub all_renewed : (k : ℕ) (now : List (List Rival)) → block ≡ merged_block rows places → k ≡ length met → AreRenewed rows serials places block merged met k old now
       → (s : ℕ) → s < length rows → AreRivalsAfter rows serials places block merged s (get_or now (get_or serials s 0) [])
-  all_renewed k now is all so_far s inside = by_case (are_met.all s inside)
-    where
-      by_case : ((d : Row) → Misses block (get_or rows s d)) ⊎ (has_row met s ≡ true) → AreRivalsAfter rows serials places block merged s (get_or now (get_or serials s 0) [])
-      by_case (inl misses) =
-          let d = merge_rows [] in
-          let same = so_far.others s inside (λ i less at. are_met.meets i 0 (omega (arith, less, all)) d (subst (λ t. Misses block (get_or rows t d)) (sym at) (misses d))) in
-          unmet rows serials places apart set.set.in_range s block merged (get_or now (get_or serials s 0) []) set is misses (subst (AreRivalsAt rows serials s) (sym same) (each s inside))
-      by_case (inr found) = let at = has-place met s found in subst (λ t. AreRivalsAfter rows serials places block merged t (get_or now (get_or serials t 0) [])) at.2 (so_far.done at.0 (omega (arith, at.1, all)))
+  all_renewed k now is all so_far s inside = elim (are_met.all s inside) [
+    | inl misses ↦
+        let d = merge_rows [] in
+        let same = so_far.others s inside (λ i less at. are_met.meets i 0 (omega (arith, less, all)) d (subst (λ t. Misses block (get_or rows t d)) (sym at) (misses d))) in
+        unmet rows serials places apart set.set.in_range s block merged (get_or now (get_or serials s 0) []) set is misses (subst (AreRivalsAt rows serials s) (sym same) (each s inside))
+    | inr found ↦
+        let at = has-place met s found in
+        subst (λ t. AreRivalsAfter rows serials places block merged t (get_or now (get_or serials t 0) [])) at.2 (so_far.done at.0 (omega (arith, at.1, all)))
+  ]
 
 -- ---- where the merged row stands
 
--- the rows outside the places, of those below a place
-abbrev below_out : List ℕ → ℕ → ℕ
-below_out places = rank (λ j. not (has_row places j))
-
-module _ (s : ℕ) (rest : List ℕ) (above : All (λ t. s < t) rest) where
-  -- at or before the first place, it makes no difference
-  first_same : (n : ℕ) → n ≤ s → below_out (s ∷ rest) n ≡ below_out rest n
-  first_same zero le = refl
-  first_same (suc n) le = grind (arith, first_same n (omega arith), ne_eqb)
-
-  -- behind it, there is one fewer
-  first_fewer : (n : ℕ) → s < n → suc (below_out (s ∷ rest) n) ≡ below_out rest n
-  first_fewer zero less = absurd (omega arith)
-  first_fewer (suc n) less = elim (cases_lt s n) [
-    | inl earlier ↦
-        ap (λ b. suc (cond (not (b || has_row rest n)) (suc (below_out (s ∷ rest) n)) (below_out (s ∷ rest) n))) (ne_eqb s n (λ same. omega (arith, same, earlier)))
-        ∙ by_test (not (has_row rest n)) (first_fewer n earlier)
-    | inr last ↦
-        let same : s ≡ n = omega (arith, last, less) in
-        ap (λ b. suc (cond (not (b || has_row rest n)) (suc (below_out (s ∷ rest) n)) (below_out (s ∷ rest) n))) (eq-eqb s n same)
-        ∙ ap suc (first_same n last)
-        ∙ sym (ap (λ b. cond (not b) (suc (below_out rest n)) (below_out rest n)) (first_kept s rest above n last))
-  ]
-    where
-      by_test : {a c : ℕ} (b : Bool) → suc a ≡ c → suc (cond b (suc a) a) ≡ cond b (suc c) c
-      by_test true is = ap suc is
-      by_test false is = is
-
-all_out : (places : List ℕ) (n : ℕ) → AllPairs (λ s t. s < t) places → All (λ s. s < n) places → below_out places n + length places ≡ n
-all_out [] zero ascending before = refl
-all_out [] (suc n) ascending before =
-    let one : below_out [] (suc n) ≡ suc (below_out [] n) = refl in omega (arith, one, all_out [] n ascending (All-nil (λ s. s < n)))
-all_out (s ∷ rest) n ascending before =
-    let fewer = first_fewer s rest (AllPairs-head (λ a b. a < b) s rest ascending) n (All-head (λ x. x < n) s rest before) in
-    omega (arith, fewer, all_out rest n (AllPairs-tail (λ a b. a < b) s rest ascending) (All-tail (λ x. x < n) s rest before))
-
 -- the merged row stands before its insertion place by as many as are merged
 pub stands_at : (rows : List Row) (places : List ℕ) → IsSound rows → IsMergeSet rows places → merged_at rows places + length places ≡ insert_place rows places
-stands_at rows places sound set = all_out places (insert_place rows places) set.set.ascending (members_before rows places sound.ordered set)
+stands_at rows places sound set =
+    let p = insert_place rows places in
+    let q : ℕ → Bool = λ j. not (has_row places j) in
+    let long : 0 + length (take p rows) ≡ p = omega (arith, length-take p rows, place_for-le rows (generality (merged_block rows places))) in
+    let out = length_out (take p rows) places set.set.ascending (λ k d within. omega (arith, long, members_before rows places sound.ordered set k d within)) in
+    omega (arith, long, out, rank_length q 0 (take p rows), ap (rank q) long)
 
 -- the insertion place, as the code finds it
 pub place_is : (rows one two : List Row) (places members : List ℕ) (general place : ℕ) → one ≡ rows → two ≡ rows → members ≡ places → general ≡ generality (merged_block one members) → place ≡ place_for two general → place ≡ insert_place rows places
@@ -253,20 +215,17 @@ module _ (rows : List Row) (places : List ℕ) (sound : IsSound rows) (set : IsM
   place_le = place_for-le rows (generality (merged_block rows places))
 
   pub carried_length : length carried ≡ length new
-  carried_length =
-      picked_lengths (λ j. not (has_row places j)) 0 grown (insert serials (insert_place rows places) n)
-      (length-insert serials (insert_place rows places) n (omega (arith, place_le, one_each)) ∙ ap (λ m. m + 1) one_each ∙ sym (length-insert rows (insert_place rows places) (merged_row rows places) place_le))
-      ∙ ap length (after_is rows places sound.ordered set)
-
-  merged_get : (d : Row) → (at < length new) × (get_or new at d ≡ merged_row rows places)
-  merged_get d = subst (λ l. (at < length l) × (get_or l at d ≡ merged_row rows places)) (after_is rows places sound.ordered set) (item_merged rows places sound.ordered set rows (merged_row rows places) refl d)
+  carried_length = grind (arith, picked_lengths, length-insert, place_le, after_is)
 
   pub at_inside : at < length new
-  at_inside = (merged_get (merged_row rows places)).0
+  at_inside = (merged_get rows places sound.ordered set (merged_row rows places)).0
+
+  row_at : (d : Row) → get_or new at d ≡ merged_row rows places
+  row_at d = (merged_get rows places sound.ordered set d).1
 
   -- the block of the merged row
   block_at : (d : Row) → (get_or new at d).block ≡ merged_block rows places
-  block_at d = ap (λ (r : Row). r.block) (merged_get d).1 ∙ block_is rows places sound.ordered set
+  block_at d = ap (λ (r : Row). r.block) (row_at d) ∙ block_is rows places sound.ordered set
 
   row_to : (k : ℕ) (d : Row) → k < length rows → has_row places k ≡ false → get_or new (to k) d ≡ get_or rows k d
   row_to k d inside out = (moved_get rows places sound.ordered set k d inside out).1
@@ -281,11 +240,7 @@ module _ (rows : List Row) (places : List ℕ) (sound : IsSound rows) (set : IsM
   CameFrom l = ((k : ℕ) × (k < length rows) × (has_row places k ≡ false) × (to k ≡ l)) ⊎ (l ≡ at)
 
   came_from : (l : ℕ) → l < length new → CameFrom l
-  came_from l within = by_case (item_onto rows places sound.ordered set serials n one_each l (omega (arith, within, carried_length)))
-    where
-      by_case : ((k : ℕ) × (k < length serials) × (has_row places k ≡ false) × (to k ≡ l)) ⊎ (l ≡ at) → CameFrom l
-      by_case (inl (k, inside, out, is)) = inl (k, omega (arith, inside, one_each), out, is)
-      by_case (inr is) = inr is
+  came_from l within = item_onto rows places sound.ordered set rows (merged_row rows places) refl l (subst (λ x. l < length x) (sym (after_is rows places sound.ordered set)) within)
 
   -- ---- numbers
 
@@ -325,7 +280,7 @@ module _ (rows : List Row) (places : List ℕ) (sound : IsSound rows) (set : IsM
 
     module _ (merged : Rival) (serial : merged.serial ≡ n) (general : merged.general ≡ generality (merged_block rows places)) (bits : (d : Row) → merged.bits ≡ (get_or rows (get_or places 0 0) d).route.bits) where
       merged_is : IsRivalOf new carried at merged
-      merged_is = grind (arith, at_inside, serial_at, block_at, merged_get, route_is)
+      merged_is = grind (arith, at_inside, serial_at, block_at, row_at, route_is)
 
       module _ (k : ℕ) (inside : k < length rows) (out : has_row places k ≡ false) (list : List Rival) (was : AreRivalsAfter rows serials places (merged_block rows places) merged k list) where
         -- no row before a row meets an alias of it, as the table after the merge is sound
@@ -364,23 +319,20 @@ module _ (rows : List Row) (places : List ℕ) (sound : IsSound rows) (set : IsM
             }
 
         all_after : (r : ℕ) → to k < r → r < length new → (MeetsNone new r (to k)) ⊎ (HasSerial list (get_or carried r 0))
-        all_after r behind within = by_place (came_from r within)
-          where
-            by_row : (m : ℕ) → m < length rows → has_row places m ≡ false → to m ≡ r → (MeetsNone rows m k) ⊎ (HasSerial list (get_or serials m 0)) → (MeetsNone new r (to k)) ⊎ (HasSerial list (get_or carried r 0))
-            by_row m inner gone is (inl none) = inl (λ d.
+        all_after r behind within = elim (came_from r within) [
+          | inl (m, inner, gone, is) ↦ elim (was.all m (from_less rows places sound set legal k m gone (omega (arith, behind, is))) inner gone) [
+            | inl none ↦ inl (λ d.
                 subst (λ x. Misses (get_or new x d).block (get_or new (to k) d)) is
                 (subst (λ (x : Row). Misses x.block (get_or new (to k) d)) (sym (row_to m d inner gone)) (subst (Misses (get_or rows m d).block) (sym (row_to k d inside out)) (none d))))
-            by_row m inner gone is (inr found) = inr (subst (HasSerial list) (sym (ap (λ x. get_or carried x 0) (sym is) ∙ serial_to m inner gone)) found)
-
-            by_own : r ≡ at → ((d : Row) → Misses (merged_block rows places) (get_or rows k d)) ⊎ (HasSerial list merged.serial) → (MeetsNone new r (to k)) ⊎ (HasSerial list (get_or carried r 0))
-            by_own is (inl none) = inl (λ d.
+            | inr found ↦ inr (subst (HasSerial list) (sym (ap (λ x. get_or carried x 0) (sym is) ∙ serial_to m inner gone)) found)
+          ]
+          | inr is ↦ elim was.own [
+            | inl none ↦ inl (λ d.
                 subst (λ x. Misses (get_or new x d).block (get_or new (to k) d)) (sym is)
                 (subst (λ b. Misses b (get_or new (to k) d)) (sym (block_at d)) (subst (Misses (merged_block rows places)) (sym (row_to k d inside out)) (none d))))
-            by_own is (inr found) = inr (subst (HasSerial list) (serial ∙ sym serial_at ∙ ap (λ x. get_or carried x 0) (sym is)) found)
-
-            by_place : CameFrom r → (MeetsNone new r (to k)) ⊎ (HasSerial list (get_or carried r 0))
-            by_place (inl (m, inner, gone, is)) = by_row m inner gone is (was.all m (from_less rows places sound set legal k m gone (omega (arith, behind, is))) inner gone)
-            by_place (inr is) = by_own is was.own
+            | inr found ↦ inr (subst (HasSerial list) (serial ∙ sym serial_at ∙ ap (λ x. get_or carried x 0) (sym is)) found)
+          ]
+        ]
 
         row_after : AreRivalsAt new carried (to k) list
         row_after = record { ordered = was.ordered; each = each_after; all = all_after }

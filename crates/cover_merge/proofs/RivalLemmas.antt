@@ -4,25 +4,15 @@ use Rattle.cover_merge.proofs.Common.{Intersects-sym, Intersects-wider, IsLegal,
 use Rattle.cover_merge.proofs.Common.{MeetsAliasOf, MeetsNone, Misses, PassesDown, PassesUp, Rival, Rivals, Row, SameRoute, [], all_pairs_push, ap, arith, below_more, bit_and, cases_lt, cases_order}
 use Rattle.cover_merge.proofs.Common.{eqb-false, eqb-true, false, false_from_ne_true, generality, get_or, get_or_append_left, get_or_default, get_or_from_slice_get, get_or_past, get_or_push, has_row}
 use Rattle.cover_merge.proofs.Common.{inl, inr, insert_place, is_at_one, length, length-append, list_any-append, merge_rows, merged_block, or_parts, pair_read, place_for, refl, slice_get_within}
-use Rattle.cover_merge.proofs.Common.{subst, subst₂, suc, sym, true, true≢false, zero, ℕ, ◌++◌, ◌+◌, ◌<◌, ◌==◌, ◌^◌, ◌↔◌, ◌∙◌, ◌∷◌, ◌≡◌, ◌≤◌, ◌⊎◌}
-use Rattle.cover_merge.proofs.{Lists.AllPairs-nil, Positions.at_one_of, Positions.has-at, Positions.has-place, Positions.place_for-above, Positions.place_for-below, Positions.place_for-le}
-use Rattle.cover_merge.proofs.{Answering.answers_no, Answering.fails, Legal.up_from_legal, Legal.down_from_legal, Legal.legal_from_checks}
+use Rattle.cover_merge.proofs.Common.{subst, sym, true, true≢false, ℕ, ◌++◌, ◌+◌, ◌<◌, ◌==◌, ◌^◌, ◌↔◌, ◌∙◌, ◌∷◌, ◌≡◌, ◌≤◌, ◌⊎◌}
+use Rattle.cover_merge.proofs.Positions.{All-has, both_of, at_one_of, has-at, has-place, place_for-above, place_for-below, place_for-le}
+use Rattle.cover_merge.proofs.{Lists.AllPairs-nil, Answering.answers_no, Answering.fails, Legal.up_from_legal, Legal.down_from_legal, Legal.legal_from_checks}
 
 -- ---- the rows of a set
 
 -- the rows of a set have one route
 pub one_route : (rows : List Row) (places : List ℕ) → IsOneRoute rows places → (s r : ℕ) → has_row places s ≡ true → has_row places r ≡ true → s < r → SameRoute rows s r
-one_route rows places set s r in_s in_r less d =
-    let a = has-place places s in_s in
-    let b = has-place places r in_r in
-    let one = set.one_route in
-    elim (cases_order a.0 b.0) [
-      | inl same ↦ let e = sym a.2 ∙ ap (λ i. get_or places i 0) same ∙ b.2 in absurd (omega (arith, e, less))
-      | inr apart ↦ elim apart [
-        | inl before ↦ subst (λ x. (get_or rows x d).route ≡ (get_or rows r d).route) a.2 (subst (λ y. (get_or rows (get_or places a.0 0) d).route ≡ (get_or rows y d).route) b.2 (one a.0 b.0 0 before b.1 d))
-        | inr after ↦ sym (subst (λ x. (get_or rows x d).route ≡ (get_or rows s d).route) b.2 (subst (λ y. (get_or rows (get_or places b.0 0) d).route ≡ (get_or rows y d).route) a.2 (one b.0 a.0 0 after a.1 d)))
-      ]
-    ]
+one_route rows places set s r in_s in_r less d = grind (arith, has-place, cases_order, get_or)
 
 -- ---- rows that are not original
 
@@ -44,17 +34,14 @@ place_found rows g p ordered within low high =
     let d : Row = merge_rows [] in
     elim (cases_order p (place_for rows g)) [
       | inl same ↦ same
-      | inr apart ↦ elim apart [
-        | inl before ↦ let le = place_for-le rows g in absurd (omega (arith, high p d (omega arith) (omega arith), place_for-below rows g ordered p d before))
-        | inr after ↦ let q = place_for rows g in absurd (omega (arith, place_for-above rows g ordered q d (omega (arith, within, after)) (low q d after)))
-      ]
+      | inr (inl before) ↦ let le = place_for-le rows g in absurd (omega (arith, high p d (omega arith) (omega arith), place_for-below rows g ordered p d before))
+      | inr (inr after) ↦ let q = place_for rows g in absurd (omega (arith, place_for-above rows g ordered q d (omega (arith, within, after)) (low q d after)))
     ]
 
 -- ---- what the code reads
 
 pub missed_read : (rows : List Row) (s r : ℕ) (first e : Row) (t : Bool) → s < length rows → r < length rows → first ≡ get_or rows s first → (IsTrue t) ↔ (Misses (get_or rows r e).block first) → t ≡ true → (d : Row) → Misses (get_or rows r d).block (get_or rows s d)
-missed_read rows s r first e t in_s in_r is_first tells came d =
-    pair_read rows (λ (x y : Row). Misses x.block y) r s (get_or rows r e) first in_r in_s (get_or_default rows r e (get_or rows r e) in_r) is_first (tells.0 came) d
+missed_read rows s r first e t in_s in_r is_first tells came d = grind (arith, pair_read, get_or, get_or_default)
 
 -- ---- a pair
 
@@ -70,25 +57,13 @@ module _ (rows : List Row) (i j : ℕ) (set : IsMergeSet rows (i ∷ j ∷ [])) 
 
   -- where both pass it, the down-check decides
   pub pair_told : (t : Bool) → PassesUp rows (i ∷ j ∷ []) i (place_for rows g) → PassesUp rows (i ∷ j ∷ []) j (place_for rows g) → (IsTrue t) ↔ (PassesDown rows b (place_for rows g)) → (IsTrue t) ↔ (IsLegal rows (i ∷ j ∷ []))
-  pair_told t first second tells = (
-    λ yes. legal_from_checks rows (i ∷ j ∷ []) sound set.set.in_range up (subst (PassesDown rows (merged_block rows (i ∷ j ∷ []))) place_is (subst (λ x. PassesDown rows x (place_for rows g)) is (tells.0 yes))),
-    λ legal. tells.1 (subst (λ x. PassesDown rows x (place_for rows g)) (sym is) (subst (PassesDown rows (merged_block rows (i ∷ j ∷ []))) (sym place_is) (down_from_legal rows (i ∷ j ∷ []) sound set.set.in_range legal))),
-  )
-    where
-      up : (s : ℕ) → has_row (i ∷ j ∷ []) s ≡ true → PassesUp rows (i ∷ j ∷ []) s (insert_place rows (i ∷ j ∷ []))
-      up s found = by_place (has-place (i ∷ j ∷ []) s found)
-        where
-          by_place : (k : ℕ) × (k < length (i ∷ j ∷ [])) × (get_or (i ∷ j ∷ []) k 0 ≡ s) → PassesUp rows (i ∷ j ∷ []) s (insert_place rows (i ∷ j ∷ []))
-          by_place (zero, inside, at) = subst₂ (λ n p. PassesUp rows (i ∷ j ∷ []) n p) at place_is first
-          by_place (suc zero, inside, at) = subst₂ (λ n p. PassesUp rows (i ∷ j ∷ []) n p) at place_is second
-          by_place (suc (suc k), inside, at) = absurd (omega arith)
-
--- a row that is more general stands at the place or behind it
-pub behind_place : (rows : List Row) (r : ℕ) (a : Row) (g : ℕ) → IsOrdered rows → r < length rows → a ≡ get_or rows r a → g < generality a.block → place_for rows g ≤ r
-behind_place rows r a g ordered inside is above = elim (cases_lt r (place_for rows g)) [
-  | inl less ↦ absurd (omega (arith, above, place_for-below rows g ordered r a less, ap (λ (x : Row). generality x.block) is))
-  | inr le ↦ le
-]
+  pair_told t first second tells =
+      let P : ℕ → Type 0 = λ n. PassesUp rows (i ∷ j ∷ []) n (insert_place rows (i ∷ j ∷ [])) in
+      let up : All P (i ∷ j ∷ []) = both_of P i j (subst (PassesUp rows (i ∷ j ∷ []) i) place_is first) (subst (PassesUp rows (i ∷ j ∷ []) j) place_is second) in (
+        λ passes. legal_from_checks rows (i ∷ j ∷ []) sound set.set.in_range (λ s found. All-has P (i ∷ j ∷ []) s up found)
+            (subst (PassesDown rows (merged_block rows (i ∷ j ∷ []))) place_is (subst (λ x. PassesDown rows x (place_for rows g)) is (tells.0 passes))),
+        λ legal. tells.1 (subst (λ x. PassesDown rows x (place_for rows g)) (sym is) (subst (PassesDown rows (merged_block rows (i ∷ j ∷ []))) (sym place_is) (down_from_legal rows (i ∷ j ∷ []) sound set.set.in_range legal))),
+      )
 
 -- ---- the up-check by rivals
 
@@ -114,7 +89,10 @@ module _ (rows : List Row) (rivals : Rivals) (rivaled : IsRivaled rows rivals) w
       -- where each rival that is at most so general is at one of the places, the row passes
       passes_by : (n : ℕ) → ((k : ℕ) → k < n → (e : Rival) → is_at_one numbers places (get_or list k e).serial ≡ true) → ((k : ℕ) (e : Rival) → n ≤ k → k < length list → g < (get_or list k e).general)
           → PassesUp rows places s (place_for rows g)
-      passes_by n passed left r after before d outside = elim (are.all r after inside) [
+      passes_by n passed left r after before d outside =
+          let e : Rival = record { serial = 0; general = 0; bits = 0 } in
+          let inside : r < length rows = omega (arith, before, place_for-le rows g) in
+          elim (are.all r after inside) [
         | inl misses ↦ misses d
         | inr listed ↦ absurd (elim (cases_lt listed.at n) [
           | inl earlier ↦
@@ -128,12 +106,6 @@ module _ (rows : List Row) (rivals : Rivals) (rivaled : IsRivaled rows rivals) w
               omega (arith, level, low, left listed.at e later listed.within)
         ])
       ]
-        where
-          e : Rival
-          e = record { serial = 0; general = 0; bits = 0 }
-
-          inside : r < length rows
-          inside = omega (arith, before, place_for-le rows g)
 
       module _ (n : ℕ) (passed : (k : ℕ) → k < n → (e : Rival) → is_at_one rivals.serials.items places (get_or list k e).serial ≡ true) where
         -- at the end of the list
@@ -229,7 +201,11 @@ module _ (rows : List Row) (serials : List ℕ) (s n : ℕ) (list : List Rival) 
 
   -- one that does comes last
   pub rivals_more : IsOrdered rows → (v : Rival) (new : List Rival) → s < n → IsRivalOf rows serials n v → MeetsAliasOf rows n s → new ≡ list ++ v ∷ [] → AreRivalsTo rows serials s (n + 1) new
-  rivals_more ordered v new behind is meets made = subst (AreRivalsTo rows serials s (n + 1)) (sym made) (record {
+  rivals_more ordered v new behind is meets made =
+      let last : (k : ℕ) (d : Rival) → k < length list → (get_or list k d).general ≤ v.general = λ k d within. let a : Row = merge_rows [] in
+      let at = are.each k d within in
+      omega (arith, at.0.is.general a, is.general a, ordered at.0.place n a at.1 is.inside) in
+      subst (AreRivalsTo rows serials s (n + 1)) (sym made) (record {
     ordered = all_pairs_push (λ (a b : Rival). a.general ≤ b.general) list v are.ordered last;
     each = All-push (λ w. (it : IsRivalBehind rows serials s w) × (it.place < n + 1)) list v
         (All-weaker (λ w. (it : IsRivalBehind rows serials s w) × (it.place < n)) (λ w. (it : IsRivalBehind rows serials s w) × (it.place < n + 1)) (λ w at. (at.0, omega (arith, at.1))) list are.each)
@@ -252,12 +228,6 @@ module _ (rows : List Row) (serials : List ℕ) (s n : ℕ) (list : List Rival) 
           })
     ];
   })
-    where
-      last : (k : ℕ) (d : Rival) → k < length list → (get_or list k d).general ≤ v.general
-      last k d within =
-          let a : Row = merge_rows [] in
-          let at = are.each k d within in
-          omega (arith, at.0.is.general a, is.general a, ordered at.0.place n a at.1 is.inside)
 
   pub rivals_all : n ≡ length rows → AreRivalsAt rows serials s list
   rivals_all all = record {
@@ -277,24 +247,18 @@ module _ (rows : List Row) (sound : IsSound rows) (joined : List ℕ) (are_joine
 
   -- the rows between a place and the next are original
   between : (k from : ℕ) → ((i : ℕ) → i < k → i < length joined → get_or joined i 0 < from) → (r : ℕ) → s < r → from ≤ r → r < get_or joined k (length rows) → MeetsNone rows r s
-  between k from low r after since before d = original_misses rows sound s r d after inside (are_joined.original r d inside (false_from_ne_true (has_row joined r) none))
-    where
-      inside : r < length rows
-      inside = elim (cases_lt k (length joined)) [
+  between k from low r after since before d =
+      let inside : r < length rows = elim (cases_lt k (length joined)) [
         | inl within ↦ omega (arith, before, next_in k within, are_joined.inside k 0 within)
         | inr end ↦ omega (arith, before, next_end k end)
-      ]
-
-      none : has_row joined r ≡ true → ⊥
-      none found =
-          let at = has-place joined r found in
-          elim (cases_order at.0 k) [
-            | inl here ↦ let e = ap (λ i. get_or joined i (length rows)) here in omega (arith, e, before, at.2, next_in at.0 at.1)
-            | inr apart ↦ elim apart [
-              | inl earlier ↦ omega (arith, low at.0 earlier at.1, at.2, since)
-              | inr later ↦ omega (arith, before, at.2, next_in k (omega (arith, later, at.1)), are_joined.ascending k at.0 0 later at.1)
-            ]
-          ]
+      ] in
+      let none : has_row joined r ≡ true → ⊥ = λ found. let at = has-place joined r found in
+      elim (cases_order at.0 k) [
+        | inl here ↦ let e = ap (λ i. get_or joined i (length rows)) here in omega (arith, e, before, at.2, next_in at.0 at.1)
+        | inr (inl earlier) ↦ omega (arith, low at.0 earlier at.1, at.2, since)
+        | inr (inr later) ↦ omega (arith, before, at.2, next_in k (omega (arith, later, at.1)), are_joined.ascending k at.0 0 later at.1)
+      ] in
+      original_misses rows sound s r d after inside (are_joined.original r d inside (false_from_ne_true (has_row joined r) none))
 
   module _ (serials : List ℕ) where
     pub among_none : (list : List Rival) → list ≡ [] → AreRivalsTo rows serials s (get_or joined 0 (length rows)) list
@@ -305,19 +269,16 @@ module _ (rows : List Row) (sound : IsSound rows) (joined : List ℕ) (are_joine
       here = subst (λ n. AreRivalsTo rows serials s n list) (next_in k within) are
 
       to_next : (new : List Rival) → AreRivalsTo rows serials s (get_or joined k 0 + 1) new → AreRivalsTo rows serials s (get_or joined (k + 1) (length rows)) new
-      to_next new so_far = rivals_stay rows serials s (get_or joined k 0 + 1) new so_far (get_or joined (k + 1) (length rows)) onward (between (k + 1) (get_or joined k 0 + 1) passed)
-        where
-          onward : get_or joined k 0 + 1 ≤ get_or joined (k + 1) (length rows)
-          onward = elim (cases_lt (k + 1) (length joined)) [
+      to_next new so_far =
+          let onward : get_or joined k 0 + 1 ≤ get_or joined (k + 1) (length rows) = elim (cases_lt (k + 1) (length joined)) [
             | inl more ↦ omega (arith, next_in (k + 1) more, are_joined.ascending k (k + 1) 0 (omega arith) more)
             | inr end ↦ omega (arith, next_end (k + 1) end, are_joined.inside k 0 within)
-          ]
-
-          passed : (i : ℕ) → i < k + 1 → i < length joined → get_or joined i 0 < get_or joined k 0 + 1
-          passed i less inside = elim (cases_lt i k) [
+          ] in
+          let passed : (i : ℕ) → i < k + 1 → i < length joined → get_or joined i 0 < get_or joined k 0 + 1 = λ i less inside. elim (cases_lt i k) [
             | inl earlier ↦ omega (arith, are_joined.ascending i k 0 earlier within)
             | inr last ↦ let same : i ≡ k = omega (arith, less, last) in omega (arith, ap (λ j. get_or joined j 0) same)
-          ]
+          ] in
+          rivals_stay rows serials s (get_or joined k 0 + 1) new so_far (get_or joined (k + 1) (length rows)) onward (between (k + 1) (get_or joined k 0 + 1) passed)
 
       -- the row at the place is no rival
       pub among_stay : (s < get_or joined k 0 → MeetsNone rows (get_or joined k 0) s) → AreRivalsTo rows serials s (get_or joined (k + 1) (length rows)) list

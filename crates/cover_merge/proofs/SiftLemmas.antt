@@ -1,13 +1,12 @@
 -- Places taken out one after another, the greatest first.
-use Rattle.cover_merge.proofs.Common.{All, All-append, All-filter, All-head, All-map, All-tail, All-take, AllPairs, Block, Bool, IsLastFailing, IsOneRoute, IsOrdered, IsTrue, IsUpStep, List, PassesUp}
-use Rattle.cover_merge.proofs.Common.{PassesUpCheck, Row, SameRoute, Wants, [], add-one, ap, append_assoc, arith, cases_lt, cond, drop, drop-set, eq-eqb, eqb_tells, false, filter, generality}
-use Rattle.cover_merge.proofs.Common.{generality-mono, get_or, get_or-append_right, get_or-remove_above, get_or-take, get_or_append_left, get_or_default, get_or_push, has_row, inl, inr, insert_place}
-use Rattle.cover_merge.proofs.Common.{length, length-append, length-drop, length-take, map, merge_of-is_merge, merge_rows, merge_two, merged_block, not, place_for, refl, remove, remove-append_left}
-use Rattle.cover_merge.proofs.Common.{rows_at, set, set_without, slice_get-get_or, subst, suc, sym, take, take-append-drop, take-set-le, take_more, true, true≢false, zero, ℕ, ◌++◌, ◌+◌, ◌-◌, ◌<◌}
-use Rattle.cover_merge.proofs.Common.{◌==◌, ◌||◌, ◌↔◌, ◌∙◌, ◌∷◌, ◌≡◌, ◌≢◌, ◌≤◌, ◌⊎◌}
-use Rattle.cover_merge.proofs.{Lists.All-from_map, Lists.All-left, Lists.All-right, Lists.AllPairs-head, Lists.AllPairs-tail, Positions.All-has, Positions.has-at, Positions.merged_block-push}
-use Rattle.cover_merge.proofs.Positions.{place_for-above, place_for-below, place_for-le, rows_at-from, rows_at-has, rows_at-length, some_blocks}
-use Rattle.cover_merge.proofs.{RefineLemmas.last_found, RefineLemmas.one_route_after, RivalLemmas.one_route}
+use Rattle.cover_merge.proofs.Common.{All, All-append, All-filter, All-head, All-tail, All-take, AllPairs, Block, Bool, IsLastFailing, IsOneRoute, IsOrdered, IsTrue, IsUpStep, List, PassesUp}
+use Rattle.cover_merge.proofs.Common.{PassesUpCheck, Row, SameRoute, [], add-one, ap, append_assoc, arith, below_more, cases_lt, cond, drop, drop-set, eq-eqb, eqb_tells, false, false_from_ne_true}
+use Rattle.cover_merge.proofs.Common.{filter, generality, get_or, get_or-append_right, get_or-remove_above, get_or-take, get_or_append_left, get_or_default, get_or_push, has_row, inl, inr}
+use Rattle.cover_merge.proofs.Common.{insert_place, length, length-append, length-drop, length-take, merge_rows, merge_two, merged_block, ne_eqb, not, place_for, refl, remove, remove-append_left, set}
+use Rattle.cover_merge.proofs.Common.{set_without, slice_get-get_or, subst, suc, sym, take, take-append-drop, take-set-le, take-take, take_more, true, true≢false, zero, ℕ, ◌++◌, ◌+◌, ◌-◌, ◌<◌, ◌==◌}
+use Rattle.cover_merge.proofs.Common.{◌||◌, ◌↔◌, ◌∙◌, ◌∷◌, ◌≡◌, ◌≢◌, ◌≤◌, ◌⊎◌}
+use Rattle.cover_merge.proofs.{KeptLemmas.fewer_lies, Positions.all_of, Positions.has-at, Positions.merged_block-push, Positions.place_for-above, Positions.place_for-below, Positions.place_for-le}
+use Rattle.cover_merge.proofs.{Lists.All-left, Lists.All-right, Lists.AllPairs-head, Lists.AllPairs-tail, RefineLemmas.last_found, RivalLemmas.one_route}
 
 -- ---- merges of the first places
 
@@ -46,23 +45,19 @@ merges_more rows set done k n many each now j d inside = grind (arith, length-ap
 
 all_other : (s : ℕ) (xs : List ℕ) → All (λ t. s < t) xs → filter (λ t. not (t == s)) xs ≡ xs
 all_other s [] above = refl
-all_other s (x ∷ xs) above = by_test (eqb_tells x s) (all_other s xs (All-tail (λ t. s < t) x xs above))
-  where
-    by_test : ((x == s) ≡ true) × (x ≡ s) ⊎ ((x == s) ≡ false) × (x ≢ s) → filter (λ t. not (t == s)) xs ≡ xs → cond (not (x == s)) (x ∷ filter (λ t. not (t == s)) xs) (filter (λ t. not (t == s)) xs) ≡ x ∷ xs
-    by_test (inl same) rest = absurd (omega (arith, same.1, All-head (λ t. s < t) x xs above))
-    by_test (inr other) rest = ap (λ b. cond (not b) (x ∷ filter (λ t. not (t == s)) xs) (filter (λ t. not (t == s)) xs)) other.0 ∙ ap (λ l. x ∷ l) rest
+all_other s (x ∷ xs) above =
+    ap (λ b. cond (not b) (x ∷ filter (λ t. not (t == s)) xs) (filter (λ t. not (t == s)) xs)) (ne_eqb x s (λ same. omega (arith, same, All-head (λ t. s < t) x xs above)))
+    ∙ ap (λ l. x ∷ l) (all_other s xs (All-tail (λ t. s < t) x xs above))
 
 -- the set without the place at an index is the list without its item
 pub without_at : (xs : List ℕ) (i : ℕ) → AllPairs (λ s t. s < t) xs → i < length xs → set_without (get_or xs i 0) xs ≡ remove xs i
 without_at [] i ascending within = absurd (omega arith)
 without_at (x ∷ xs) zero ascending within =
     ap (λ b. cond (not b) (x ∷ filter (λ t. not (t == x)) xs) (filter (λ t. not (t == x)) xs)) (eq-eqb x x refl) ∙ all_other x xs (AllPairs-head (λ s t. s < t) x xs ascending)
-without_at (x ∷ xs) (suc i) ascending within = by_test (eqb_tells x (get_or xs i 0)) (without_at xs i (AllPairs-tail (λ s t. s < t) x xs ascending) (omega arith))
-  where
-    by_test : ((x == get_or xs i 0) ≡ true) × (x ≡ get_or xs i 0) ⊎ ((x == get_or xs i 0) ≡ false) × (x ≢ get_or xs i 0) → set_without (get_or xs i 0) xs ≡ remove xs i
-        → cond (not (x == get_or xs i 0)) (x ∷ set_without (get_or xs i 0) xs) (set_without (get_or xs i 0) xs) ≡ x ∷ remove xs i
-    by_test (inl same) rest = absurd (omega (arith, same.1, AllPairs-head (λ s t. s < t) x xs ascending i 0 (omega arith)))
-    by_test (inr other) rest = ap (λ b. cond (not b) (x ∷ set_without (get_or xs i 0) xs) (set_without (get_or xs i 0) xs)) other.0 ∙ ap (λ l. x ∷ l) rest
+without_at (x ∷ xs) (suc i) ascending within =
+    ap (λ b. cond (not b) (x ∷ set_without (get_or xs i 0) xs) (set_without (get_or xs i 0) xs))
+    (ne_eqb x (get_or xs i 0) (λ same. omega (arith, same, AllPairs-head (λ s t. s < t) x xs ascending i 0 (omega arith))))
+    ∙ ap (λ l. x ∷ l) (without_at xs i (AllPairs-tail (λ s t. s < t) x xs ascending) (omega arith))
 
 -- a place other than that taken out stays
 stays : (s r : ℕ) (xs : List ℕ) → (r ≡ s → ⊥) → has_row xs r ≡ true → has_row (set_without s xs) r ≡ true
@@ -77,26 +72,6 @@ stays s r (x ∷ xs) differ found = by_test (eqb_tells x r) (eqb_tells x s) (sta
     by_test (inr other) (inr kept) rest =
         ap (λ b. has_row (cond (not b) (x ∷ set_without s xs) (set_without s xs)) r) kept.0 ∙ ap (λ b. b || has_row (set_without s xs) r) other.0 ∙ rest (ap (λ b. b || has_row xs r) (sym other.0) ∙ found)
 
--- a merge of fewer rows is no more general
-module _ (rows : List Row) (set : List ℕ) (in_range : All (λ s. s < length rows) set) (p : ℕ → Bool) (some : 0 < length (filter p set)) where
-  of_set : (s : ℕ) → has_row (filter p set) s ≡ true → has_row set s ≡ true
-  of_set s found =
-      All-has (λ t. has_row set t ≡ true) (filter p set) s (All-filter p (λ t. has_row set t ≡ true) set (λ k d within. subst (λ t. has_row set t ≡ true) (get_or_default set k 0 d within) (has-at set k within))) found
-
-  blocks_some : (places : List ℕ) → All (λ s. s < length rows) places → 0 < length places → 0 < length (map (λ (x : Row). x.block) (rows_at rows places))
-  blocks_some places within few = some_blocks (rows_at rows places) (omega (arith, rows_at-length rows places within))
-
-  set_some : (places : List ℕ) → 0 < length (filter p places) → 0 < length places
-  set_some [] h = h
-  set_some (x ∷ xs) h = omega arith
-
-  pub fewer_general : generality (merged_block rows (filter p set)) ≤ generality (merged_block rows set)
-  fewer_general = generality-mono (merged_block rows (filter p set)) (merged_block rows set) (λ i v w.
-      let all = (merge_of-is_merge (map (λ (x : Row). x.block) (rows_at rows set)) (blocks_some set in_range (set_some set some)) i v).0 w in
-      let each = rows_at-has (λ (r : Row). Wants r.block i v) rows set in_range (All-from_map (λ b. Wants b i v) (λ (x : Row). x.block) (rows_at rows set) all) in
-      (merge_of-is_merge (map (λ (x : Row). x.block) (rows_at rows (filter p set))) (blocks_some (filter p set) (All-filter p (λ s. s < length rows) set in_range) some) i v).1
-      (All-map (λ b. Wants b i v) (λ (x : Row). x.block) (rows_at rows (filter p set)) (rows_at-from (λ (r : Row). Wants r.block i v) rows (filter p set) (λ s d found. each s d (of_set s found)))))
-
 place_mono : (rows : List Row) (g h : ℕ) → IsOrdered rows → g ≤ h → place_for rows g ≤ place_for rows h
 place_mono rows g h ordered le = elim (cases_lt (place_for rows h) (place_for rows g)) [
   | inr not_less ↦ not_less
@@ -109,11 +84,8 @@ place_mono rows g h ordered le = elim (cases_lt (place_for rows h) (place_for ro
 
 -- a place behind that taken out still passes the up-check, with a merge no more general
 still_passes : (rows : List Row) (set : List ℕ) (s t p q : ℕ) → s < t → q ≤ p → PassesUp rows set t p → PassesUp rows (set_without s set) t q
-still_passes rows set s t p q less le up r after before d outside = up r after (omega (arith, before, le)) d (by_case (has_row set r) refl)
-  where
-    by_case : (b : Bool) → has_row set r ≡ b → has_row set r ≡ false
-    by_case false e = e
-    by_case true e = absurd (true≢false (sym (stays s r set (λ same. omega (arith, same, less, after)) e) ∙ outside))
+still_passes rows set s t p q less le up r after before d outside =
+    up r after (omega (arith, before, le)) d (false_from_ne_true (has_row set r) (λ found. true≢false (sym (stays s r set (λ same. omega (arith, same, less, after)) found) ∙ outside)))
 
 module _ (rows : List Row) (set : List ℕ) (one : IsOneRoute rows set) (ordered : IsOrdered rows) (merged : Block) (is : merged ≡ merged_block rows set) (g : ℕ) (general : g ≡ generality merged) where
   place_is : place_for rows g ≡ insert_place rows set
@@ -129,9 +101,6 @@ module _ (rows : List Row) (set : List ℕ) (one : IsOneRoute rows set) (ordered
     pub sift_step : IsUpStep rows set new
     sift_step = record { place = get_or set i 0; last = subst (λ p. IsLastFailing rows set p (get_or set i 0)) place_is last; result = without_is }
 
-    pub sift_one : IsOneRoute rows new
-    sift_one = one_route_after rows set one new (inl sift_step)
-
     pub sift_behind : (m : Block) → m ≡ merged_block rows new → (h : ℕ) → h ≡ generality m → (k : ℕ) → i ≤ k → k < length new → PassesUp rows new (get_or new k 0) (place_for rows h)
     sift_behind m m_is h h_is k from within =
         let s = get_or set i 0 in
@@ -140,7 +109,8 @@ module _ (rows : List Row) (set : List ℕ) (one : IsOneRoute rows set) (ordered
         let at : get_or set (k + 1) 0 ≡ get_or new k 0 = sym (ap (λ l. get_or l k 0) now ∙ get_or-remove_above set i 0 k from inside) in
         let less : s < t = one.ascending i (k + 1) 0 (omega (arith, from)) later in
         let some : 0 < length (set_without s set) = subst (λ l. 0 < length l) without_is (omega (arith, count, two)) in
-        let low : generality (merged_block rows (set_without s set)) ≤ generality (merged_block rows set) = fewer_general rows set one.in_range (λ x. not (x == s)) some in
+        let low : generality (merged_block rows (set_without s set)) ≤ generality (merged_block rows set) =
+        (fewer_lies rows (set_without s set) set one.in_range some (All-filter (λ x. not (x == s)) (λ t. has_row set t ≡ true) set (all_of set))).1 in
         let mine : h ≡ generality (merged_block rows (set_without s set)) = h_is ∙ ap generality (m_is ∙ ap (merged_block rows) without_is) in
         let theirs : g ≡ generality (merged_block rows set) = general ∙ ap generality is in
         let le : place_for rows h ≤ place_for rows g = place_mono rows h g ordered (omega (arith, low, mine, theirs)) in
@@ -172,11 +142,9 @@ gap_out xs back i within =
 -- of the places behind row s, only those behind count in its up-check
 has_behind : (front back : List ℕ) (r : ℕ) → All (λ t. t < r) front → has_row (front ++ back) r ≡ has_row back r
 has_behind [] back r low = refl
-has_behind (t ∷ front) back r low = ap (λ b. b || has_row (front ++ back) r) (off (eqb_tells t r)) ∙ has_behind front back r (All-tail (λ x. x < r) t front low)
-  where
-    off : ((t == r) ≡ true) × (t ≡ r) ⊎ ((t == r) ≡ false) × (t ≢ r) → (t == r) ≡ false
-    off (inl same) = absurd (omega (arith, same.1, All-head (λ x. x < r) t front low))
-    off (inr other) = other.0
+has_behind (t ∷ front) back r low =
+    ap (λ b. b || has_row (front ++ back) r) (ne_eqb t r (λ same. omega (arith, same, All-head (λ x. x < r) t front low)))
+    ∙ has_behind front back r (All-tail (λ x. x < r) t front low)
 
 pub passes_behind : (rows : List Row) (front back : List ℕ) (s p : ℕ) (t : Bool) → All (λ x. x ≤ s) front → (IsTrue t) ↔ (PassesUp rows back s p) → (IsTrue t) ↔ (PassesUp rows (front ++ back) s p)
 passes_behind rows front back s p t low tells = (
@@ -189,30 +157,18 @@ passes_behind rows front back s p t low tells = (
 
 -- the places up to an index are no greater than that there
 pub front_low : (front back : List ℕ) (i s : ℕ) → AllPairs (λ x y. x < y) (front ++ back) → length front ≡ i + 1 → s ≡ get_or (front ++ back) i 0 → All (λ x. x ≤ s) front
-front_low front back i s ascending many is k d inside = by_place (cases_lt k i)
-  where
-    within : i < length (front ++ back)
-    within = omega (arith, length-append front back, many)
-
-    here : get_or (front ++ back) k d ≡ get_or front k d
-    here = get_or_append_left front back d k inside
-
-    last : get_or (front ++ back) i d ≡ s
-    last = get_or_default (front ++ back) i d 0 within ∙ sym is
-
-    by_place : (k < i) ⊎ (i ≤ k) → get_or front k d ≤ s
-    by_place (inl before) = omega (arith, here, last, ascending k i d before within)
-    by_place (inr from) = let same : k ≡ i = omega (arith, from, many, inside) in let e = ap (λ n. get_or (front ++ back) n d) same in omega (arith, here, last, e)
-
-pub begins_twice : (n i : ℕ) (xs : List ℕ) → n ≤ i → take n (take i xs) ≡ take n xs
-begins_twice zero i xs le = refl
-begins_twice (suc n) zero xs le = absurd (omega arith)
-begins_twice (suc n) (suc i) [] le = refl
-begins_twice (suc n) (suc i) (x ∷ xs) le = ap (λ l. x ∷ l) (begins_twice n i xs (omega arith))
+front_low front back i s ascending many is k d inside =
+    let here : get_or (front ++ back) k d ≡ get_or front k d = get_or_append_left front back d k inside in
+    let within : i < length (front ++ back) = omega (arith, length-append front back, many) in
+    let last : get_or (front ++ back) i d ≡ s = get_or_default (front ++ back) i d 0 within ∙ sym is in
+    elim (cases_lt k i) [
+      | inl before ↦ omega (arith, here, last, ascending k i d before within)
+      | inr from ↦ let same : k ≡ i = omega (arith, from, many, inside) in let e = ap (λ n. get_or (front ++ back) n d) same in omega (arith, here, last, e)
+    ]
 
 -- what begins alike begins alike up to less
 pub begins_less : (n i : ℕ) (xs start : List ℕ) → n ≤ i → take i xs ≡ take i start → take n xs ≡ take n start
-begins_less n i xs start le same = sym (begins_twice n i xs le) ∙ ap (take n) same ∙ begins_twice n i start le
+begins_less n i xs start le same = sym (take-take n i xs le) ∙ ap (take n) same ∙ take-take n i start le
 
 module _ (rows : List Row) (xs : List ℕ) (i w : ℕ) (some : 0 < i) (gap : i ≤ w) (inside : w ≤ length xs) (one : IsOneRoute rows (take i xs ++ drop w xs)) where
   front_many : length (take i xs) ≡ i
@@ -261,7 +217,7 @@ module _ (rows : List Row) (xs : List ℕ) (i w : ℕ) (some : 0 < i) (gap : i �
   out_in_range =
       let P : ℕ → Type 0 = λ x. x < length rows in
       All-append P (take (i - 1) xs) (drop w xs)
-      (subst (All P) (begins_twice (i - 1) i xs (omega arith)) (All-take P (i - 1) (take i xs) (All-left P (take i xs) (drop w xs) one.in_range)))
+      (subst (All P) (take-take (i - 1) i xs (omega arith)) (All-take P (i - 1) (take i xs) (All-left P (take i xs) (drop w xs) one.in_range)))
       (All-right P (take i xs) (drop w xs) one.in_range)
 
   -- where it stays, all are left
@@ -291,14 +247,7 @@ module _ (rows : List Row) (xs : List ℕ) (one : IsOneRoute rows xs) (k s d : �
   member_alike = alike_behind rows xs (k + 1) (k + 1) (omega arith) (omega arith) (omega (arith, inside)) both s here
 
   pub member_passes : (p : ℕ) (t : Bool) (behind : List ℕ) → behind ≡ drop (k + 1) xs → (IsTrue t) ↔ (PassesUp rows behind s p) → IsTrue t → ((n : ℕ) → n < k → PassesUp rows xs (get_or xs n 0) p) → (n : ℕ) → n < k + 1 → PassesUp rows xs (get_or xs n 0) p
-  member_passes p t behind is tells passed before n less = by_case (cases_lt n k)
-    where
-      now : (IsTrue t) ↔ (PassesUp rows xs (get_or xs (k + 1 - 1) 0) p)
-      now = subst (λ l. (IsTrue t) ↔ (PassesUp rows l (get_or l (k + 1 - 1) 0) p)) whole
-          (up_of rows xs (k + 1) (k + 1) (omega arith) (omega arith) (omega (arith, inside)) both s here p t (subst (λ l. (IsTrue t) ↔ (PassesUp rows l s p)) is tells))
-
-      by_case : (n < k) ⊎ (k ≤ n) → PassesUp rows xs (get_or xs n 0) p
-      by_case (inl low) = before n low
-      by_case (inr from) =
-          let same : k + 1 - 1 ≡ n = omega (arith, less, from) in
-          subst (λ m. PassesUp rows xs (get_or xs m 0) p) same (now.0 passed)
+  member_passes p t behind is tells passed before =
+      let now : (IsTrue t) ↔ (PassesUp rows xs (get_or xs (k + 1 - 1) 0) p) = subst (λ l. (IsTrue t) ↔ (PassesUp rows l (get_or l (k + 1 - 1) 0) p)) whole
+      (up_of rows xs (k + 1) (k + 1) (omega arith) (omega arith) (omega (arith, inside)) both s here p t (subst (λ l. (IsTrue t) ↔ (PassesUp rows l s p)) is tells)) in
+      below_more (λ n. PassesUp rows xs (get_or xs n 0) p) k before (subst (λ m. PassesUp rows xs (get_or xs m 0) p) back (now.0 passed))

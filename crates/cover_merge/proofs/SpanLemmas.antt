@@ -13,8 +13,7 @@ lies_second a b = LiesIn-merge (a ∷ b ∷ []) 1 a (omega arith)
 -- one alias more lies in the span
 pub span_more : (aliases : List Alias) (from i : ℕ) (span : Block) (item : Alias) → i < length aliases → ((j : ℕ) (d : Alias) → from ≤ j → j < i → LiesIn (get_or aliases j d).block span)
     → (j : ℕ) (d : Alias) → from ≤ j → j < i + 1 → LiesIn (get_or aliases j d).block (merge_two span (get_or aliases i item).block)
-span_more aliases from i span item inside was j d begins ends =
-    grind (arith, get_or aliases i item, get_or_default aliases i item d inside, lies_second span ((get_or aliases i item).block), lies_first span ((get_or aliases i item).block), LiesIn-trans)
+span_more aliases from i span item inside was j d begins ends = grind (arith, get_or, get_or_default, lies_second, lies_first, LiesIn-trans)
 
 -- ---- all spans
 

@@ -1,9 +1,8 @@
 -- Pairs that were tried stay illegal until one of their rows loses a row behind it.
-use Rattle.cover_merge.proofs.Common.{All, All-head, AreNewerOf, AreNoLater, AreTried, AreTriedUpTo, Bool, IsEachOnce, IsLegalPair, IsMergeSet, IsNextSince, IsOrdered, IsTriedNow, List, Route, Row}
-use Rattle.cover_merge.proofs.Common.{Times, [], after, ap, arith, cases_Bool, cases_eq, cases_lt, cases_order, drop, false, get_or, get_or-drop, get_or-set_at, get_or-set_other, get_or-take}
-use Rattle.cover_merge.proofs.Common.{get_or_default, has_row, inl, inr, insert_place, kept, length, length-drop, length-set, length-take, merge_rows, merged_row, not, place_of_route, set, subst, suc}
-use Rattle.cover_merge.proofs.Common.{sym, take, true, ℕ, ◌+◌, ◌-◌, ◌<◌, ◌∙◌, ◌∷◌, ◌≡◌, ◌≢◌, ◌≤◌, ◌⊎◌}
-use Rattle.cover_merge.proofs.{ChooseLemmas.ArePlaces, Lists.All-left, Lists.All-right, Lists.picked-at}
+use Rattle.cover_merge.proofs.Common.{All, AreNewerOf, AreNoLater, AreTried, AreTriedUpTo, Bool, IsEachOnce, IsLegalPair, IsMergeSet, IsNextSince, IsOrdered, IsTriedNow, List, Route, Row, Times, []}
+use Rattle.cover_merge.proofs.Common.{after, ap, arith, cases_Bool, cases_eq, cases_order, get_or, get_or-set_at, get_or-set_other, get_or_default, has_row, inl, inr, length, length-set, merge_rows}
+use Rattle.cover_merge.proofs.Common.{merged_row, place_of_route, refl, set, subst, suc, sym, true, ℕ, ◌-◌, ◌<◌, ◌∙◌, ◌≡◌, ◌≢◌, ◌≤◌, ◌⊎◌}
+use Rattle.cover_merge.proofs.{Lists.written_at, KeptLemmasMoved.merged_at, KeptLemmasMoved.merged_get, KeptLemmasMoved.moved, KeptLemmasMoved.moved_get, ChooseLemmas.ArePlaces}
 
 -- ---- the times of one row in place of others
 
@@ -17,7 +16,9 @@ module _ (now : ℕ) (rows : List Row) (gs : List Times) (s : ℕ) (g : Times) (
   tried_put : ArePairsOf → AreTriedUpTo now rows (set gs s g)
   tried_put pairs = record {
     tried = λ i j e less within told. by_first i j e less (omega (arith, length-set gs s g, within)) told (cases_eq i s) (cases_eq j s);
-    bound = λ k e within. by_place k e (omega (arith, length-set gs s g, within)) (cases_eq k s);
+    bound = λ k e within.
+        written_at (λ n (x : Times). n < length gs → (x.tried ≤ now) × (x.changed ≤ now)) gs s g e inside (λ low. pairs.bound) (λ n other low. marks.bound n e low) k
+        (omega (arith, length-set gs s g, within));
   }
     where
       by_first : (i j : ℕ) (e : Times) → i < j → j < length gs → (get_or (set gs s g) j e).changed < (get_or (set gs s g) i e).tried → (i ≡ s) ⊎ (i ≢ s) → (j ≡ s) ⊎ (j ≢ s) → IsLegalPair rows i j → ⊥
@@ -30,10 +31,6 @@ module _ (now : ℕ) (rows : List Row) (gs : List Times) (s : ℕ) (g : Times) (
           (pairs.before i e (omega (arith, less, same)) (omega (arith, told, ap (λ (x : Times). x.changed) (get_or-set_at gs s j g e same inside), ap (λ (x : Times). x.tried) (get_or-set_other gs s i g e other))))
       by_first i j e less within told (inr other) (inr apart) =
           marks.tried i j e less within (omega (arith, told, ap (λ (x : Times). x.changed) (get_or-set_other gs s j g e apart), ap (λ (x : Times). x.tried) (get_or-set_other gs s i g e other)))
-
-      by_place : (k : ℕ) (e : Times) → k < length gs → (k ≡ s) ⊎ (k ≢ s) → ((get_or (set gs s g) k e).tried ≤ now) × ((get_or (set gs s g) k e).changed ≤ now)
-      by_place k e within (inl same) = subst (λ (x : Times). (x.tried ≤ now) × (x.changed ≤ now)) (sym (get_or-set_at gs s k g e same inside)) pairs.bound
-      by_place k e within (inr other) = subst (λ (x : Times). (x.tried ≤ now) × (x.changed ≤ now)) (sym (get_or-set_other gs s k g e other)) (marks.bound k e within)
 
   -- that of a row that is no legal pair with a later one
   pub marked_put : (old : Times) → old ≡ get_or gs s old → IsTriedNow now old g → ((b : ℕ) → IsLegalPair rows s b → ⊥) → AreTriedUpTo now rows (set gs s g)
@@ -49,15 +46,9 @@ module _ (now : ℕ) (rows : List Row) (gs : List Times) (s : ℕ) (g : Times) (
 -- the time of a route, and those of a row of it, are put
 module _ (routes latest : List ℕ) (rows : List Row) (gs : List Times) (now : ℕ) (bounds : All (λ (g : Times). (g.tried ≤ now) × (g.changed ≤ now)) gs) where
   pub times_no_later : (s : ℕ) (g : Times) → s < length gs → ((d : Row) → g.changed ≤ get_or latest (place_of_route routes (get_or rows s d).route.bits) 0) → AreNoLater routes latest rows gs → AreNoLater routes latest rows (set gs s g)
-  times_no_later s g inside own all k d e within = by_place (cases_eq k s)
-    where
-      by_place : (k ≡ s) ⊎ (k ≢ s) → (get_or (set gs s g) k e).changed ≤ get_or latest (place_of_route routes (get_or rows k d).route.bits) 0
-      by_place (inl same) =
-          subst (λ (x : Times). x.changed ≤ get_or latest (place_of_route routes (get_or rows k d).route.bits) 0) (sym (get_or-set_at gs s k g e same inside))
-          (subst (λ n. g.changed ≤ get_or latest (place_of_route routes (get_or rows n d).route.bits) 0) (sym same) (own d))
-      by_place (inr other) =
-          subst (λ (x : Times). x.changed ≤ get_or latest (place_of_route routes (get_or rows k d).route.bits) 0) (sym (get_or-set_other gs s k g e other))
-          (all k d e (omega (arith, length-set gs s g, within)))
+  times_no_later s g inside own all k d e within =
+      written_at (λ n (x : Times). n < length gs → x.changed ≤ get_or latest (place_of_route routes (get_or rows n d).route.bits) 0) gs s g e inside (λ low. own d) (λ n other low. all n d e low) k
+      (omega (arith, length-set gs s g, within))
 
 -- ---- the times of all rows
 
@@ -69,28 +60,10 @@ marked_later now rows gs then le marks = grind arith
 module _ (rows : List Row) (places : List ℕ) (ordered : IsOrdered rows) (merge : IsMergeSet rows places) where
   -- what holds of the rows of the table after the merge held of all rows, where it follows of the members
   pub all_before : (P : Row → Type 0) → (P (merged_row rows places) → (k : ℕ) (d : Row) → has_row places k ≡ true → P (get_or rows k d)) → All P (after rows places) → All P rows
-  all_before P members all k d within = by_case (cases_Bool (has_row places k))
-    where
-      n : ℕ
-      n = insert_place rows places
-
-      front : All P (kept places 0 (take n rows))
-      front = All-left P (kept places 0 (take n rows)) (merged_row rows places ∷ kept places n (drop n rows)) all
-
-      back : All P (merged_row rows places ∷ kept places n (drop n rows))
-      back = All-right P (kept places 0 (take n rows)) (merged_row rows places ∷ kept places n (drop n rows)) all
-
-      outside : (k : ℕ) (d : Row) → k < length rows → not (has_row places k) ≡ true → (k < n) ⊎ (n ≤ k) → P (get_or rows k d)
-      outside k d within out (inl before) =
-          subst P (get_or-take n rows k d before) (picked-at P (λ j. not (has_row places j)) 0 (take n rows) front k k d (omega arith) (omega (arith, length-take n rows, before, within)) out)
-      outside k d within out (inr from) =
-          let at : n + (k - n) ≡ k = omega (arith, from) in
-          subst P (get_or-drop n rows (k - n) d ∙ ap (λ i. get_or rows i d) at)
-          (picked-at P (λ j. not (has_row places j)) n (drop n rows) (λ i e inside. back (suc i) e (omega (arith, inside))) (k - n) k d (sym at) (omega (arith, length-drop n rows, from, within)) out)
-
-      by_case : (has_row places k ≡ true) ⊎ (has_row places k ≡ false) → P (get_or rows k d)
-      by_case (inl found) = members (All-head P (merged_row rows places) (kept places n (drop n rows)) back) k d found
-      by_case (inr out) = outside k d within (ap not out) (cases_lt k n)
+  all_before P members all k d within = elim (cases_Bool (has_row places k)) [
+    | inl found ↦ let at = merged_get rows places ordered merge d in members (subst P at.1 (all (merged_at rows places) d at.0)) k d found
+    | inr out ↦ let at = moved_get rows places ordered merge k d within out in subst P at.1 (all (moved rows places k) d at.0)
+  ]
 
 -- ---- the rows that changed since a row was tried
 
@@ -122,56 +95,40 @@ module _ (bits : ℕ) (rows : List Row) (places : List ℕ) (are : ArePlaces bit
   -- and those behind a place
   pub newer_behind : (n k : ℕ) (newer : List ℕ) → n < length places → get_or places n 0 ≡ k → AreNewerAt (suc n) places rows gs newer → AreNewerOf bits (suc k) rows gs newer
   newer_behind n k newer inside is done j d e from within same =
-      let at = are.listed j d within same in newer_row (suc n) newer done j at.0 e (later at.0 at.2 (cases_order at.0 n)) at.1 at.2
-    where
-      later : (m : ℕ) → get_or places m 0 ≡ j → (m ≡ n) ⊎ ((m < n) ⊎ (n < m)) → n < m
-      later m at (inl here) = absurd (omega (arith, from, is, at, ap (λ i. get_or places i 0) here))
-      later m at (inr (inl before)) = absurd (omega (arith, from, is, at, are.ascend m n before inside))
-      later m at (inr (inr behind)) = behind
+      let at = are.listed j d within same in newer_row (suc n) newer done j at.0 e (elim (cases_order at.0 n) [
+        | inl here ↦ absurd (omega (arith, from, is, at.2, ap (λ i. get_or places i 0) here))
+        | inr (inl before) ↦ absurd (omega (arith, from, is, at.2, are.ascend at.0 n before inside))
+        | inr (inr behind) ↦ behind
+      ]) at.1 at.2
 
   -- one place more with the next that changed later
   pub newer_more : (now new : List ℕ) (n k v : ℕ) (was : Times) → length now ≡ length rows → length gs ≡ length rows → n < length places → get_or places n 0 ≡ k → IsNextSince rows gs k (suc (get_or gs k was).changed) v → new ≡ set now k v
       → AreNewerAt (suc n) places rows gs now → AreNewerAt n places rows gs new
   newer_more now new n k v was all many inside is next is_new done m e from within =
-      subst (λ l. IsNextSince rows gs (get_or places m 0) (suc (get_or gs (get_or places m 0) e).changed) (get_or l (get_or places m 0) 0)) (sym is_new) (by_case (cases_order m n))
-    where
-      j : ℕ
-      j = get_or places m 0
-
-      low : k < length now
-      low = omega (arith, all, is, are.inside n inside)
-
-      by_case : (m ≡ n) ⊎ ((m < n) ⊎ (n < m)) → IsNextSince rows gs j (suc (get_or gs j e).changed) (get_or (set now k v) j 0)
-      by_case (inl here) =
-          let at : j ≡ k = ap (λ i. get_or places i 0) here ∙ is in
-          subst (IsNextSince rows gs j (suc (get_or gs j e).changed)) (sym (get_or-set_at now k j v 0 at low))
-          (subst (λ i. IsNextSince rows gs i (suc (get_or gs i e).changed) v) (sym at) (subst (λ t. IsNextSince rows gs k (suc t) v) (sym (ap (λ (x : Times). x.changed) (get_or_default gs k e was (omega (arith, many, is, are.inside n inside))))) next))
-      by_case (inr (inl before)) = absurd (omega (arith, before, from))
-      by_case (inr (inr behind)) =
-          subst (IsNextSince rows gs j (suc (get_or gs j e).changed)) (sym (get_or-set_other now k j v 0 (λ at. omega (arith, at, is, are.ascend n m behind within))))
-          (done m e behind within)
+      let low : k < length now = omega (arith, all, is, are.inside n inside) in
+      let later : get_or places m 0 ≢ k → n < m = λ apart. elim (cases_order m n) [
+        | inl here ↦ absurd (apart (ap (λ i. get_or places i 0) here ∙ is))
+        | inr (inl before) ↦ absurd (omega (arith, from, before))
+        | inr (inr behind) ↦ behind
+      ] in
+      subst (λ l. IsNextSince rows gs (get_or places m 0) (suc (get_or gs (get_or places m 0) e).changed) (get_or l (get_or places m 0) 0)) (sym is_new)
+      (written_at (λ j x. get_or places m 0 ≡ j → IsNextSince rows gs j (suc (get_or gs j e).changed) x) now k v 0 low
+      (λ at. subst (λ t. IsNextSince rows gs k (suc t) v) (ap (λ (x : Times). x.changed) (get_or_default gs k was e (omega (arith, many, is, are.inside n inside)))) next)
+      (λ j apart at. newer_row (suc n) now done j m e (later (λ same. apart (sym at ∙ same))) within at) (get_or places m 0) refl)
 
 -- what stands at the rows of other routes stays
 pub newer_others : (bits : ℕ) (rows : List Row) (now new : List ℕ) (k v : ℕ) → ((d : Row) → (get_or rows k d).route.bits ≡ bits) → new ≡ set now k v → (j : ℕ) (d : Row) → (get_or rows j d).route.bits ≢ bits → get_or new j 0 ≡ get_or now j 0
 newer_others bits rows now new k v of is j d other = ap (λ l. get_or l j 0) is ∙ get_or-set_other now k j v 0 (λ at. other (ap (λ i. (get_or rows i d).route.bits) at ∙ of d))
-
--- the changes of a route, where what stands at its rows stays
-pub newer_same : (bits : ℕ) (rows : List Row) (gs : List Times) (now new : List ℕ) → ((j : ℕ) (d : Row) → j < length rows → (get_or rows j d).route.bits ≡ bits → get_or new j 0 ≡ get_or now j 0) → AreNewerOf bits 0 rows gs now → AreNewerOf bits 0 rows gs new
-newer_same bits rows gs now new stays each k d e from within same = subst (IsNextSince rows gs k (suc (get_or gs k e).changed)) (sym (stays k d within same)) (each k d e from within same)
 
 -- one route more is ready, and the others stay so
 pub newer_ready : (routes : List ℕ) (rows : List Row) (gs : List Times) (ready : List Bool) (now new : List ℕ) (c : ℕ) → IsEachOnce routes → length ready ≡ length routes → c < length routes
     → AreNewerOf (get_or routes c 0) 0 rows gs new → ((j : ℕ) (d : Row) → j < length rows → (get_or rows j d).route.bits ≢ get_or routes c 0 → get_or new j 0 ≡ get_or now j 0)
     → ((k : ℕ) (e : Bool) → k < length routes → get_or ready k e ≡ true → AreNewerOf (get_or routes k 0) 0 rows gs now)
     → (k : ℕ) (e : Bool) → k < length routes → get_or (set ready c true) k e ≡ true → AreNewerOf (get_or routes k 0) 0 rows gs new
-newer_ready routes rows gs ready now new c once all low own others before k e within is = by_case (cases_eq k c)
-  where
-    by_case : (k ≡ c) ⊎ (k ≢ c) → AreNewerOf (get_or routes k 0) 0 rows gs new
-    by_case (inl same) = subst (λ n. AreNewerOf (get_or routes n 0) 0 rows gs new) (sym same) own
-    by_case (inr other) =
-        newer_same (get_or routes k 0) rows gs now new
-        (λ j d in_rows bits. others j d in_rows (λ equal. other (sym (once k within) ∙ ap (place_of_route routes) (sym bits ∙ equal) ∙ once c low)))
-        (before k e within (sym (get_or-set_other ready c k true e other) ∙ is))
+newer_ready routes rows gs ready now new c once all low own others before k e =
+    written_at (λ n b. n < length routes → b ≡ true → AreNewerOf (get_or routes n 0) 0 rows gs new) ready c true e (omega (arith, all, low)) (λ within is. own)
+    (λ n other within is j d f from in_rows bits. subst (IsNextSince rows gs j (suc (get_or gs j f).changed))
+    (sym (others j d in_rows (λ equal. other (sym (once n within) ∙ ap (place_of_route routes) (sym bits ∙ equal) ∙ once c low)))) (before n e within is j d f from in_rows bits)) k
 
 -- a mark changes no time
 pub newer_kept : (now : ℕ) (bits : ℕ) (rows : List Row) (gs new : List Times) (newer : List ℕ) (s : ℕ) (g old : Times) → s < length gs → old ≡ get_or gs s old → new ≡ set gs s g → IsTriedNow now old g
@@ -184,43 +141,29 @@ newer_kept now bits rows gs new newer s g old inside is_old is mark each k d e f
     }
   where
     kept_at : (b : ℕ) (e : Times) → (get_or new b e).changed ≡ (get_or gs b e).changed
-    kept_at b e = ap (λ l. (get_or l b e).changed) is ∙ by_case (cases_eq b s)
-      where
-        by_case : (b ≡ s) ⊎ (b ≢ s) → (get_or (set gs s g) b e).changed ≡ (get_or gs b e).changed
-        by_case (inl at) =
-            ap (λ (x : Times). x.changed) (get_or-set_at gs s b g e at inside) ∙ mark.changed ∙ ap (λ (x : Times). x.changed) (is_old ∙ get_or_default gs s old e inside)
-            ∙ ap (λ n. (get_or gs n e).changed) (sym at)
-        by_case (inr apart) = ap (λ (x : Times). x.changed) (get_or-set_other gs s b g e apart)
+    kept_at b e = ap (λ l. (get_or l b e).changed) is ∙ written_at (λ n (x : Times). x.changed ≡ (get_or gs n e).changed) gs s g e inside
+        (mark.changed ∙ ap (λ (x : Times). x.changed) (is_old ∙ get_or_default gs s old e inside)) (λ n apart. refl) b
 
 -- a row is no legal pair with one that did not change since it was tried
 pub skipped_none : (rows : List Row) (gs : List Times) (i k x : ℕ) (was : Times) → length gs ≡ length rows → AreTried rows gs → i ≤ k → ((d : Row) → k < length rows → (get_or rows k d).route.bits ≡ (get_or rows i d).route.bits) → IsNextSince rows gs k (get_or gs i was).tried x
     → (b : ℕ) → k < b → b < x → IsLegalPair rows i b → ⊥
 skipped_none rows gs i k x was same tried le route next b from to pair =
+    let d : Row = merge_rows [] in
+    let within : b < length rows = pair.set.set.in_range 1 0 (omega arith) in
+    let bits : (get_or rows b d).route.bits ≡ (get_or rows k d).route.bits =
+    ap (λ (r : Route). r.bits) (sym (pair.set.set.one_route 0 1 0 (omega arith) (omega arith) d)) ∙ sym (route d (omega (arith, from, within))) in
     tried i b was (omega (arith, le, from)) (omega (arith, same, within)) (next.between b d was from to within bits) pair
-  where
-    d : Row
-    d = merge_rows []
-
-    within : b < length rows
-    within = pair.set.set.in_range 1 0 (omega arith)
-
-    bits : (get_or rows b d).route.bits ≡ (get_or rows k d).route.bits
-    bits = ap (λ (r : Route). r.bits) (sym (pair.set.set.one_route 0 1 0 (omega arith) (omega arith) d)) ∙ sym (route d (omega (arith, from, within)))
 
 -- and with none, where no row of its route did
 pub settled_none : (routes latest : List ℕ) (rows : List Row) (gs : List Times) (i : ℕ) → length gs ≡ length rows → AreTried rows gs → AreNoLater routes latest rows gs
     → ((d : Row) (e : Times) → get_or latest (place_of_route routes (get_or rows i d).route.bits) 0 < (get_or gs i e).tried) → (b : ℕ) → IsLegalPair rows i b → ⊥
 settled_none routes latest rows gs i same tried none_later low b pair =
+    let d : Row = merge_rows [] in
+    let z : Times = record { tried = 0; changed = 0 } in
     let within : b < length gs = omega (arith, same, pair.set.set.in_range 1 0 (omega arith)) in
     let less : i < b = pair.set.set.ascending 0 1 0 (omega arith) (omega arith) in
     let bits : (get_or rows i d).route.bits ≡ (get_or rows b d).route.bits = ap (λ (r : Route). r.bits) (pair.set.set.one_route 0 1 0 (omega arith) (omega arith) d) in
     tried i b z less within (omega (arith, none_later b d z within, low d z, ap (λ n. get_or latest (place_of_route routes n) 0) bits)) pair
-  where
-    d : Row
-    d = merge_rows []
-
-    z : Times
-    z = record { tried = 0; changed = 0 }
 
 -- what holds before a place, there, and behind it
 pub each_on : (P : ℕ → Type 0) (i j x : ℕ) → ((b : ℕ) → i < b → b < j → P b) → P j → ((b : ℕ) → j < b → b < x → P b) → (b : ℕ) → i < b → b < x → P b

@@ -42,17 +42,6 @@ pub record IsKnownAt (now : ℕ) (rows : List Row) (known : Known) : Type 0 wher
   pub told : IsKnown rows known
   pub marks : AreTriedUpTo now rows known.times.items
 
--- The same, but for the rivals.
-pub record IsCarried (now : ℕ) (rows : List Row) (known : Known) : Type 0 where
-  pub one_each : length known.times.items ≡ length rows
-  pub one_time : length known.latest.items ≡ length known.routes.items
-  pub latest : AreNoLater known.routes.items known.latest.items rows known.times.items
-  pub once : IsEachOnce known.routes.items
-  pub numbers : AreNumbers known.routes.items rows known.numbers.items
-  pub one_route : length known.kept.items ≡ length known.routes.items
-  pub kept : AreRoutesKept known.routes.items rows known.kept.items
-  pub marks : AreTriedUpTo now rows known.times.items
-
 -- the rows have the same routes
 pub record HasSameRoutes (old new : Known) : Type 0 where
   pub numbers : new.numbers.items ≡ old.numbers.items

@@ -42,6 +42,7 @@ pub fn apply(alloc: Global, table: &mut Table, places: &Seq<u32>) -> Result<(), 
 }
 
 // The merge of the rows at the places.
+#[tactic(auto, using(crate::proofs::ApplyLemmas::row_made))]
 fn merged_row(alloc: Global, set: RowPlaces) -> Result<Row, Memory>
     ensures { IfOk result (λ row. row ≡ merged_row set.entry.rows.now set.entry.places.now) }
 {
@@ -56,6 +57,7 @@ fn merged_row(alloc: Global, set: RowPlaces) -> Result<Row, Memory>
 }
 
 // The aliases of the rows at the places, in the order of the places.
+#[tactic(auto, using(crate::proofs::ApplyLemmas::aliases_more))]
 fn all_aliases(alloc: Global, set: RowPlaces) -> Result<Seq<Alias>, Memory>
     ensures { IfOk result (λ aliases. aliases ≡ aliases_at set.entry.rows.now set.entry.places.now) }
 {

@@ -40,6 +40,7 @@ impl Shared for Covered {}
 /// Merges rows while the table has more than `target`: the largest refined set of the rows of a route, of equal ones
 /// that of the least route; where none has two places, the first legal pair; where no pair is legal, covering ends.
 /// Each key of each alias keeps its route (Mundy, Heathcote, Garside, HPSR 2016).
+#[tactic(auto, using(crate::proofs::CoverLemmas::chosen_shorter))]
 pub fn cover(alloc: Global, mut table: Table, target: u32) -> Result<Covered, Memory>
     requires few { length table.rows < 2 ^ 32 }
     requires sound { IsSound table.rows }

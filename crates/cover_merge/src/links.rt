@@ -50,6 +50,7 @@ pub(crate) fn routes_of(alloc: Global, rows: &[Row]) -> Result<Vec<u32>, Memory>
 }
 
 // Adds the route of these bits where it is not there yet.
+#[tactic(auto, using(crate::proofs::LinkLemmas::added_last))]
 fn add_route(routes: &mut Vec<u32>, bits: u32) -> Result<(), Memory>
     ensures { OnOk result (IsRouteAdded bits routes.old.items routes.new.items) }
 {

@@ -21,6 +21,7 @@ use tern_word::{Row, Table, generality, merge_two};
 /// The places of the set that can be merged. With fewer than two places there are none. Where the up-check fails, the
 /// greatest place for which it fails is taken out; where the down-check fails, the first alias that the merge would
 /// meet is kept clear by the bit that keeps most places, the highest on a tie; and so on until the merge is legal.
+#[tactic(auto, using(crate::proofs::KeptLemmas::forgets))]
 pub fn refine(alloc: Global, table: &Table, places: Seq<u32>) -> Result<Seq<u32>, Memory>
     requires few { length table.now.rows < 2 ^ 32 }
     requires sound { IsSound table.now.rows }
@@ -65,6 +66,7 @@ pub(crate) struct Refined {
 const UNCHECKED: u32 = 33;
 
 /// The same, by what the rivals of rows tell.
+#[tactic(auto, using(crate::proofs::KeepLemmas::turn_legal, crate::proofs::KeptLemmasSteps::gone_empty, crate::proofs::KeptLemmasSteps::gone_start, crate::proofs::KeptLemmasSteps::gone_up))]
 pub(crate) fn refine_within(
     alloc: Global,
     table: RivaledRows,
@@ -288,6 +290,7 @@ fn best_bit(rows: &[Row], places: &[u32], merged: Block, met: Block) -> Option<u
 }
 
 // The bits that can be chosen: the merge does not care for them, and the met alias does.
+#[tactic(auto, using(crate::proofs::BitCounts::open_bit))]
 fn open_bits(merged: Block, met: Block) -> u32
     ensures { (j : ℕ) → j < 32 → bit_at result j ≡ if can_choose merged met j then 1 else 0 }
 {
@@ -295,6 +298,7 @@ fn open_bits(merged: Block, met: Block) -> u32
 }
 
 // Those of the bits that keep the place; no place outside the table is kept.
+#[tactic(auto, using(crate::proofs::BitCounts::keeping_inside))]
 fn keeping_bits(rows: &[Row], free: u32, met: Block, s: u32) -> u32
     ensures { (j : ℕ) → j < 32 → bit_at result j ≡ if keeps rows.now met j s then bit_at free j else 0 }
 {
@@ -347,6 +351,7 @@ fn keeps(rows: &[Row], met: Block, bit: u32, s: u32) -> bool
 }
 
 // Whether the block cares for the bit, and has there the other value than the met alias.
+#[tactic(auto, using(crate::proofs::RefineLemmas::parts_high, crate::proofs::RefineLemmas::parts_off, crate::proofs::RefineLemmas::parts_on))]
 fn parts(block: Block, met: Block, bit: u32) -> bool
     ensures { result ≡ parts block met bit }
 {

@@ -44,6 +44,7 @@ pub(crate) fn spans_of(alloc: Global, aliases: &[Alias]) -> Result<Seq<Block>, M
 }
 
 // The least block that has all keys of those that have a span together from this one on.
+#[tactic(auto, using(crate::proofs::SpanLemmas::span_more))]
 fn span_from(aliases: &[Alias], from: usize) -> Block
     requires { from + 32 ≤ length aliases.now }
     ensures { (i : ℕ) (d : AnAlias) → from ≤ i → i < from + 32

@@ -1,5 +1,5 @@
 -- Each turn moves the items up to the next place down.
-use Rattle.cover_merge.proofs.Common.{arith, get_or, length, length-set, refl, set, subst, sym, ◌+◌, ◌-◌, ◌∙◌, ◌≡◌, ◌≤◌}
+use Rattle.cover_merge.proofs.Common.{arith, get_or, length, length-set, refl, set, ◌+◌, ◌-◌, ◌∙◌, ◌≡◌, ◌≤◌}
 use Rattle.cover_merge.proofs.ReplaceLemmas.{all_replaced, copied_down, none_closed, one_closed, room, starts}
 use Rattle.cover_merge.proofs.applying.replace_all.Goals as goal
 
@@ -19,9 +19,7 @@ copy_within-requires-clause-in_bounds g c = omega (
 )
 
 pub copy_within-requires-clause-dest_in_bounds : goal.copy_within-requires-clause-dest_in_bounds
-copy_within-requires-clause-dest_in_bounds g c = subst (λ n. get_or c.args.gaps.places.now c.loop-i.i 0 + 1 - 1 - c.loop-i.i + (c.next_place-to.result - (get_or c.args.gaps.places.now c.loop-i.i 0 + 1)) ≤ n) (sym c.loop-i.items.ok.0)
-    (starts c.args.gaps.places.now c.args.gaps.place c.args.gaps.ascending c.args.gaps.before c.args.item c.args.items.now.items c.requires c.loop-i.i c.loop-i-test.true c.loop-i.items.items c.loop-i.items.items c.loop-i.invariant
-    (get_or c.args.gaps.places.now c.loop-i.i 0 + 1) c.next_place-to.result refl (c.next_place-to.ensures (omega (arith, c.loop-i-test.true)))).3
+copy_within-requires-clause-dest_in_bounds g c = grind (arith, get_or, starts)
 
 pub loop-i-preserved : goal.loop-i-preserved
 loop-i-preserved g c =

@@ -7,9 +7,7 @@ use Rattle.cover_merge.proofs.carrying.merge_rows.Goals as goal
 
 -- the place is the insertion place
 place_here : (c : After-place_in-place) → c.place_in-place.result ≡ insert_place c.args.table.now.rows c.args.places.now
-place_here c =
-    place_is c.args.table.now.rows c.as_slice.result.now c.as_slice-3.result.now c.args.places.now c.as_slice-members.result.now c.merged_rival-merged.result.general c.place_in-place.result
-    c.as_slice.ensures c.as_slice-3.ensures c.as_slice-members.ensures c.merged_rival-merged.ensures.general c.place_in-place.ensures.value
+place_here c = grind (arith, place_is)
 
 -- and the merged row stands before it by as many as are merged
 stands_here : (c : After-place_in-place) → merged_at c.args.table.now.rows c.args.places.now + length c.as_slice-members.result.now ≡ c.place_in-place.result
@@ -17,10 +15,7 @@ stands_here c = grind (arith, merged_at c.args.table.now.rows c.args.places.now,
 
 -- the numbers are carried over
 serials_here : (c : After-replace_all) → c.replace_all.new.items.items ≡ left c.args.places.now 0 (insert c.args.rivals.now.serials.items (insert_place c.args.table.now.rows c.args.places.now) (length c.args.rivals.now.of.items))
-serials_here c =
-    carried_is c.args.table.now.rows c.args.places.now c.requires.rivaled.sound c.requires.merge.set c.args.rivals.now.serials.items c.requires.rivaled.one_each (length c.args.rivals.now.of.items)
-    c.as_slice-members.result.now c.renew_all.new.rivals.serials.items c.replace_all.new.items.items c.place_in-place.result c.merged_rival-merged.result.serial
-    c.as_slice-members.ensures c.in_ok-renew_all.ensures.serials (place_here (goal.at.overflow_sub-at c).After-place_in-place) c.merged_rival-merged.ensures.serial c.replace_all.ensures
+serials_here c = grind (arith, carried_is, place_here)
 
 pub invariant_of-gaps : goal.invariant_of-gaps
 invariant_of-gaps c =
@@ -69,18 +64,11 @@ returns-clause-rivaled c =
     let carried = left places 0 (insert serials (insert_place rows places) n) in
     let read = c.as_slice-rows.ensures ∙ after_is in
     let at_is : c.place_in-place.result - length c.as_slice-members.result.now ≡ merged_at rows places = omega (arith, stands) in
-    let general : merged.general ≡ generality (merged_block rows places) =
-    told.general ∙ ap (λ l. generality (merged_block l c.as_slice-members.result.now)) c.as_slice.ensures ∙ ap (λ l. generality (merged_block rows l)) c.as_slice-members.ensures in
-    let bits : (d : Row) → merged.bits ≡ (get_or rows (get_or places 0 0) d).route.bits =
-    λ d. told.bits d ∙ ap (λ (l : List Row). (get_or l (get_or c.as_slice-members.result.now 0 0) d).route.bits) c.as_slice.ensures ∙ ap (λ (l : List ℕ). (get_or rows (get_or l 0 0) d).route.bits) c.as_slice-members.ensures in
+    let general : merged.general ≡ generality (merged_block rows places) = rw (c.as_slice.ensures, c.as_slice-members.ensures) at told.general in
+    let bits : (d : Row) → merged.bits ≡ (get_or rows (get_or places 0 0) d).route.bits = λ d. rw (c.as_slice.ensures, c.as_slice-members.ensures) at (told.bits d) in
     let renewed : (s : ℕ) → s < length rows → AreRivalsAfter rows serials places (merged_block rows places) merged s (get_or of (get_or serials s 0) []) =
-    subst (λ (l : List Row). (s : ℕ) → s < length l → AreRivalsAfter l serials places (merged_block l places) merged s (get_or of (get_or serials s 0) [])) c.as_slice-2.ensures
-    (subst (λ (l : List ℕ). (s : ℕ) → s < length c.as_slice-2.result.now → AreRivalsAfter c.as_slice-2.result.now serials l (merged_block c.as_slice-2.result.now l) merged s (get_or of (get_or serials s 0) [])) c.as_slice-members.ensures
-    c.in_ok-renew_all.ensures.after) in
-    let own : AreRivalsAt new carried (merged_at rows places) list =
-    subst (λ (m : ℕ). AreRivalsAt new carried m list) at_is
-    (subst (λ (l : List ℕ). AreRivalsAt new l (c.place_in-place.result - length c.as_slice-members.result.now) list) (c.deref.ensures.value ∙ numbers)
-    (subst (λ (l : List Row). AreRivalsAt l c.deref.result.now (c.place_in-place.result - length c.as_slice-members.result.now) list) read c.in_ok-list.ensures)) in
+    rw (c.as_slice-2.ensures, c.as_slice-members.ensures) at c.in_ok-renew_all.ensures.after in
+    let own : AreRivalsAt new carried (merged_at rows places) list = rw (read, c.deref.ensures.value ∙ numbers, at_is) at c.in_ok-list.ensures in
     let its = c.in_ok-spans.spans in
     let at = c.place_in-place.result - length c.as_slice-members.result.now in
     let inside : at < length c.as_slice-rows.result.now = omega (arith, stands, ap length read, at_inside rows places old.sound c.requires.merge.set serials old.one_each n) in

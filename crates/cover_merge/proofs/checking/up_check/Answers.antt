@@ -4,16 +4,14 @@ use Rattle.cover_merge.proofs.{Answering.up_fails, Answering.up_more, Answering.
 use Rattle.cover_merge.proofs.checking.up_check.Goals as goal
 
 pub returns-then-not-passes_up-clause-passes : goal.returns-then-not-passes_up-clause-passes
-returns-then-not-passes_up-clause-passes c =
-    up_fails c.args.set.rows.now c.args.set.places.now c.insert_place-place.result c.insert_place-place.ensures c.loop-s.s-index c.passes_up.result c.loop-s-test.true c.passes_up.ensures c.if-not-passes_up.true
+returns-then-not-passes_up-clause-passes c = up_fails _ _ _ c.insert_place-place.ensures _ _ c.loop-s-test.true c.passes_up.ensures c.if-not-passes_up.true
 
 pub returns-then-not-passes_up-clause-legal : goal.returns-then-not-passes_up-clause-legal
 returns-then-not-passes_up-clause-legal c = λ sound legal.
     (returns-then-not-passes_up-clause-passes c).1 (up_from_legal c.args.set.rows.now c.args.set.places.now sound c.args.set.inside legal)
 
 pub loop-s-preserved : goal.loop-s-preserved
-loop-s-preserved c =
-    up_more c.args.set.rows.now c.args.set.places.now c.insert_place-place.result c.insert_place-place.ensures c.loop-s.s-index c.passes_up.result c.loop-s.invariant c.passes_up.ensures c.if-not-passes_up.false
+loop-s-preserved c = up_more _ _ _ c.insert_place-place.ensures _ _ c.loop-s.invariant c.passes_up.ensures c.if-not-passes_up.false
 
 pub returns-clause-passes : goal.returns-clause-passes
 returns-clause-passes c = (λ _. up_all c.args.set.rows.now c.args.set.places.now c.loop-s.s-index c.loop-s-test.false c.loop-s.invariant, λ _. refl)

@@ -1,12 +1,12 @@
 -- One row more has its next in the list.
 use Rattle.cover_merge.proofs.Common.{AreChangesFrom, AreNewerOf, IsFirstOfRoute, arith, get_or, length, length-set, refl, set, subst, suc, sym, ℕ, ◌-◌, ◌<◌, ◌∙◌, ◌≡◌}
-use Rattle.cover_merge.proofs.{ChooseLemmas.ArePlaces, ChooseLemmas.places_gathered, TriedLemmas.AreNewerAt, TriedLemmas.newer_all, TriedLemmas.newer_behind, TriedLemmas.newer_more}
+use Rattle.cover_merge.proofs.{ChooseLemmas.are_places, ChooseLemmas.ArePlaces, TriedLemmas.AreNewerAt, TriedLemmas.newer_all, TriedLemmas.newer_behind, TriedLemmas.newer_more}
 use Rattle.cover_merge.proofs.{TriedLemmas.newer_others, choosing.find_newer.Goals.After-as_slice-places}
 use Rattle.cover_merge.proofs.choosing.find_newer.Goals as goal
 
 -- the places are those of the route
 are : (c : After-as_slice-places) (bits : ℕ) → IsFirstOfRoute c.args.linked.table.rows.now bits c.args.first → ArePlaces bits c.args.linked.table.rows.now c.as_slice-places.result.now
-are c = places_gathered c.args.linked.table.rows.now c.args.first c.in_ok-list.list c.as_slice-places.result.now c.in_ok-list.ensures c.as_slice-places.ensures
+are c bits first = subst (ArePlaces bits c.args.linked.table.rows.now) (sym (c.as_slice-places.ensures ∙ c.in_ok-list.ensures bits first)) (are_places bits c.args.linked.table.rows.now)
 
 pub bounds-times-place : goal.bounds-times-place
 bounds-times-place c =

@@ -1,6 +1,6 @@
 -- Of one route more something is kept.
-use Rattle.cover_merge.proofs.Common.{None, Some, ap, arith, get_or_default, length, length-set, sym, ◌<◌, ◌∙◌}
-use Rattle.cover_merge.proofs.KeepLemmas.{all_known, all_more, fresh_more, kept_put}
+use Rattle.cover_merge.proofs.Common.{Kept, None, Some, ap, arith, below_more, get_or, get_or_default, length, length-set, sym, ◌<◌, ◌∙◌, ◌≡◌}
+use Rattle.cover_merge.proofs.KeepLemmas.{all_more, fresh_more, kept_put}
 use Rattle.cover_merge.proofs.choosing.keep_all.Goals as goal
 
 pub loop-c-preserved-then-is_known : goal.loop-c-preserved-then-is_known
@@ -12,7 +12,7 @@ loop-c-preserved-then-is_known c =
       linked = old.linked;
       times = old.times;
       routes = old.routes;
-      all = all_known kept c.loop-c.c (is.0, get_or_default kept c.loop-c.c None _ inside ∙ sym c.index.ensures ∙ is.1) old.all;
+      all = below_more (λ k. (it : Kept) × (get_or kept k None ≡ Some it)) c.loop-c.c old.all (is.0, get_or_default kept c.loop-c.c None _ inside ∙ sym c.index.ensures ∙ is.1);
       fresh = old.fresh;
     }
 

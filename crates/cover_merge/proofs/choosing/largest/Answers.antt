@@ -5,11 +5,7 @@ use Rattle.cover_merge.proofs.choosing.largest.Goals as goal
 
 -- the route of which most places are kept
 most_is : (c : After-most_of-most) → let known = c.args.known.now in IsMostBefore known.routes.items known.kept.items (length known.routes.items) c.most_of-most.result
-most_is c =
-    let routes = c.args.known.now.routes.items in
-    let most = c.most_of-most.result in
-    subst (λ l. IsMostBefore routes l (length routes) most) c.deref-2.ensures.value
-    (subst (λ l. IsMostBefore l c.deref-2.result.now (length l) most) c.deref.ensures.value c.most_of-most.ensures)
+most_is c = grind arith
 
 pub returns-then-most-lt2 : goal.returns-then-most-lt2
 returns-then-most-lt2 c =

@@ -5,16 +5,10 @@ use Rattle.cover_merge.proofs.choosing.make_ready.Goals as goal
 
 -- the number of the row's route
 number : (c : After-index) → get_or c.args.known.now.numbers.items c.args.i 0 ≡ c.index.result.now
-number c =
-    let known = c.requires.changes.linked.known in
-    let many = as_many c.args.known.now.routes.items c.args.rows.now c.args.known.now.numbers.items known.numbers in
-    get_or_default c.args.known.now.numbers.items c.args.i 0 c.index.result.now (omega (arith, many, c.requires.inside)) ∙ sym c.index.ensures
+number c = grind (arith, as_many, get_or_default)
 
 low : (c : After-index) → c.index.result.now < length c.args.known.now.routes.items
-low c =
-    let known = c.requires.changes.linked.known in
-    let many = as_many c.args.known.now.routes.items c.args.rows.now c.args.known.now.numbers.items known.numbers in
-    omega (arith, number c, known.numbers.below c.args.i 0 (omega (arith, many, c.requires.inside)))
+low c = grind (arith, as_many, number)
 
 -- and its bits
 bits : (c : After-index) (d : Row) → get_or c.args.known.now.routes.items c.index.result.now 0 ≡ (get_or c.args.rows.now c.args.i d).route.bits
@@ -24,11 +18,7 @@ bits c d =
 
 -- the place is that of its first row
 first : (c : After-index-then-not-index) → c.index.result.now < length c.args.known.now.routes.items → IsFirstOfRoute c.args.rows.now (get_or c.args.known.now.routes.items c.index.result.now 0) c.index-then-not-index.result.now
-first c inside =
-    let heads = c.args.links.now.heads.items in
-    let links = c.requires.changes.linked.links in
-    subst (IsFirstOfRoute c.args.rows.now (get_or c.args.known.now.routes.items c.index.result.now 0))
-    (get_or_default heads c.index.result.now 0 c.index-then-not-index.result.now (omega (arith, links.one_each, inside)) ∙ sym c.index-then-not-index.ensures) (links.head c.index.result.now inside)
+first c inside = grind (arith, get_or, get_or_default)
 
 pub returns-in_ok-find_newer-clause-changes : goal.returns-in_ok-find_newer-clause-changes
 returns-in_ok-find_newer-clause-changes c =

@@ -1,6 +1,6 @@
 -- The first row of the route that may pair is the first partner.
 use Rattle.cover_merge.proofs.Common.{IsLegal, IsLegalPair, [], arith, length, refl, ◌<◌, ◌∙◌, ◌∷◌}
-use Rattle.cover_merge.proofs.{Answering.fails, ChooseLemmas.pair_made, ChooseLemmas.partner_found, ChooseLemmas.no_partner, TriedLemmas.skipped_none, TriedLemmas.each_on}
+use Rattle.cover_merge.proofs.{ChooseLemmas.pair_inside, ChooseLemmas.pair_order, ChooseLemmas.pair_made, Answering.fails, TriedLemmas.skipped_none, TriedLemmas.each_on}
 use Rattle.cover_merge.proofs.choosing.partner.Goals as goal
 
 pub bounds-times-i : goal.bounds-times-i
@@ -26,7 +26,10 @@ returns-then-is_legal_pair c =
     let rows = c.args.behind.linked.table.rows.now in
     let inside : c.loop-j.j < length rows = omega (arith, c.loop-j-test.true) in
     let set = pair_made rows c.args.behind.k c.loop-j.j c.loop-j.invariant.behind inside (λ d. c.loop-j.invariant.same d inside) in
-    partner_found rows c.args.behind.k c.loop-j.j c.loop-j.invariant.none (record { set = set; legal = c.is_legal_pair.ensures.0 c.if-is_legal_pair.true })
+    record {
+      legal = record { set = set; legal = c.is_legal_pair.ensures.0 c.if-is_legal_pair.true };
+      before = λ b less other. c.loop-j.invariant.none b (pair_order rows c.args.behind.k b other) less other;
+    }
 
 pub invariant_of-further : goal.invariant_of-further
 invariant_of-further c =
@@ -58,4 +61,6 @@ loop-j-preserved c =
     }
 
 pub returns : goal.returns
-returns c = no_partner c.args.behind.linked.table.rows.now c.args.behind.k c.loop-j.j (omega (arith, c.loop-j-test.false)) c.loop-j.invariant.none
+returns c b other =
+    let rows = c.args.behind.linked.table.rows.now in
+    c.loop-j.invariant.none b (pair_order rows c.args.behind.k b other) (omega (arith, c.loop-j-test.false, pair_inside rows c.args.behind.k b other)) other

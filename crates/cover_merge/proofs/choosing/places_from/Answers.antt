@@ -1,13 +1,7 @@
 -- From each row on to the next of its route.
 use Rattle.cover_merge.proofs.Common.{◌∙◌}
-use Rattle.cover_merge.proofs.ChooseLemmas.{link_next, places_begin, places_next}
+use Rattle.cover_merge.proofs.ChooseLemmas.{link_next, places_next}
 use Rattle.cover_merge.proofs.choosing.places_from.Goals as goal
-
-pub loop-place-init : goal.loop-place-init
-loop-place-init c bits first = record {
-  same = first.same;
-  found = c.new-places.ensures.items ∙ places_begin c.args.linked.table.rows.now bits c.args.first first;
-}
 
 pub loop-place-preserved : goal.loop-place-preserved
 loop-place-preserved c bits first =

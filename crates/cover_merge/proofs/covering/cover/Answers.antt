@@ -1,22 +1,17 @@
 -- Each round makes a chosen merge, which is legal.
-use Rattle.cover_merge.proofs.Common.{AreTriedUpTo, Covers, HasNoChosen, HasNoLegalPair, HasRoutesOf, IsChosen, IsPermutation, IsSound, MatchOption, [], after, arith, inr, length, length-append}
-use Rattle.cover_merge.proofs.Common.{served, sets_of, subst, sym, ◌++◌, ◌<◌, ◌∷◌, ◌≡◌, ◌≤◌, ◌⊎◌}
-use Rattle.cover_merge.proofs.{TriedLemmas.marked_later, CoverLemmas.IsCoveredSoFar, CoverLemmas.chosen_shorter, CoverLemmas.so_far_first, CoverLemmas.so_far_more, CoverLemmas.covered_short}
-use Rattle.cover_merge.proofs.CoverLemmas.{covered_stuck}
+use Rattle.cover_merge.proofs.Common.{AreTriedUpTo, Covers, HasNoChosen, HasNoLegalPair, HasRoutesOf, IsChosen, IsPermutation, IsSound, [], after, arith, inr, length, length-append, served, sets_of}
+use Rattle.cover_merge.proofs.Common.{subst, sym, ◌++◌, ◌<◌, ◌∷◌, ◌≡◌, ◌≤◌, ◌⊎◌}
+use Rattle.cover_merge.proofs.{TriedLemmas.marked_later, CoverLemmas.IsCoveredSoFar, CoverLemmas.so_far_first, CoverLemmas.so_far_more, CoverLemmas.covered_short, CoverLemmas.covered_stuck}
 use Rattle.cover_merge.proofs.covering.cover.Goals as goal
 
 pub merging-init : goal.merging-init
 merging-init c = grind (arith, IsCoveredSoFar c.args.target c.args.table.rows c.args.table.rows, so_far_first c.args.target c.args.table.rows c.requires.few c.requires.sound)
 
-pub merging-smaller : goal.merging-smaller
-merging-smaller c = grind (arith, chosen_shorter)
-
 pub merging-preserved : goal.merging-preserved
 merging-preserved c =
     let rows = c.merging.table.rows in
-    let chosen : IsChosen rows c.in-Some.places = subst (λ o. MatchOption o (HasNoChosen rows) (IsChosen rows)) c.in-Some.is c.in_ok-places.ensures.found in
-    let next : c.merge_next.new.table.rows ≡ after rows c.in-Some.places =
-    subst (λ o. MatchOption o (c.merge_next.new.table.rows ≡ rows) (λ p. c.merge_next.new.table.rows ≡ after rows p)) c.in-Some.is c.in_ok-places.ensures.table in
+    let chosen : IsChosen rows c.in-Some.places = rw c.in-Some.is at c.in_ok-places.ensures.found in
+    let next : c.merge_next.new.table.rows ≡ after rows c.in-Some.places = rw c.in-Some.is at c.in_ok-places.ensures.table in
     let more : c.args.target < length rows = omega (arith, c.len.ensures) in record {
       so_far = subst (IsCoveredSoFar c.args.target c.args.table.rows c.merge_next.new.table.rows) (sym c.in_ok-push-in-Some.ensures.ok)
           (so_far_more c.args.target c.args.table.rows rows c.merge_next.new.table.rows c.merging.merges (record { places = c.in-Some.places }) c.merging.invariant.so_far more chosen next);
@@ -33,9 +28,8 @@ returns-in-None c =
     let start = c.args.table.rows in
     let rows = c.merging.table.rows in
     let so_far = c.merging.invariant.so_far in
-    let none : HasNoChosen rows = subst (λ o. MatchOption o (HasNoChosen rows) (IsChosen rows)) c.in-None.is c.in_ok-places.ensures.found in
-    let same : c.merge_next.new.table.rows ≡ rows =
-    subst (λ o. MatchOption o (c.merge_next.new.table.rows ≡ rows) (λ p. c.merge_next.new.table.rows ≡ after rows p)) c.in-None.is c.in_ok-places.ensures.table in
+    let none : HasNoChosen rows = rw c.in-None.is at c.in_ok-places.ensures.found in
+    let same : c.merge_next.new.table.rows ≡ rows = rw c.in-None.is at c.in_ok-places.ensures.table in
     let more : c.args.target < length rows = omega (arith, c.len.ensures) in record {
       covered = subst (Covers c.args.target start (sets_of c.merging.merges)) (sym same) (covered_stuck c.args.target start rows c.merging.merges so_far more none);
       sound = subst IsSound (sym same) so_far.sound;

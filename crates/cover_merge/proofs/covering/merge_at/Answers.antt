@@ -1,6 +1,7 @@
 -- What is known is carried over to the table after the merge, and its rivals are those that were renewed.
-use Rattle.cover_merge.proofs.Common.{All, AllPairs, AreNoLater, AreNumbers, AreRoutesKept, AreStillKept, AreTouched, AreTriedUpTo, IsApart, IsCarried, IsEachOnce, IsKnown, IsLegal, IsMergeSet}
-use Rattle.cover_merge.proofs.Common.{IsSound, Known, List, Row, after, ap, arith, generality, get_or, insert_place, length, merged_block, place_for, place_of_route, subst, sym, ℕ, ◌<◌, ◌^◌, ◌∙◌, ◌≡◌}
+use Rattle.cover_merge.proofs.Common.{All, AllPairs, AreNoLater, AreNumbers, AreRoutesKept, AreStillKept, AreTouched, AreTriedUpTo, IsApart, IsEachOnce, IsKnown, IsKnownAt, IsLegal, IsMergeSet}
+use Rattle.cover_merge.proofs.Common.{IsRivaled, IsSound, Known, List, Rivals, Row, after, ap, arith, generality, get_or, insert_place, length, merged_block, place_for, place_of_route, subst, sym, ℕ}
+use Rattle.cover_merge.proofs.Common.{◌<◌, ◌^◌, ◌∙◌, ◌≡◌}
 use Rattle.cover_merge.proofs.{ApplyLemmas.both_ok, ApplyLemmas.members_before, KeepLemmas.kept_over, covering.merge_at.Goals.After-carry_times}
 use Rattle.cover_merge.proofs.covering.merge_at.Goals as goal
 
@@ -31,16 +32,14 @@ invariant_of-merge c =
       within = c.place_in-place.ensures.bound;
     }
 
--- what was carried over is known of the table after the merge
-carried : (now : ℕ) (rows read table : List Row) (places members : List ℕ) (known : Known) → read ≡ rows → members ≡ places → table ≡ after rows places → IsCarried now (after read members) known → IsCarried now table known
-carried now rows read table places members known is_read is_members is_table =
-    subst (λ l. IsCarried now l known) (ap (λ l. after l members) is_read ∙ ap (after rows) is_members ∙ sym is_table)
+-- what is known of rows is known of a table that has them
+of_table : (now : ℕ) (rows table : List Row) (known : Known) → table ≡ rows → IsKnownAt now rows known → IsKnownAt now table known
+of_table now rows table known is = subst (λ l. IsKnownAt now l known) (sym is)
 
--- all that is known is carried over, but for the rivals of rows
-carried_over : (c : After-carry_times) → let f = c.forget.new.known in
-    IsCarried c.args.now (after c.as_slice-rows.result.now c.as_slice-members.result.now)
-    (record { rivals = f.rivals; times = c.carry_times.new.times; numbers = c.carry_numbers.new.numbers; routes = f.routes; kept = f.kept; latest = f.latest })
-carried_over c =
+-- all that is known is carried over, with the rivals that were renewed
+carried_over : (c : After-carry_times) (rivals : Rivals) → let f = c.forget.new.known in let table = after c.as_slice-rows.result.now c.as_slice-members.result.now in IsRivaled table rivals
+    → IsKnownAt c.args.now table (record { rivals = rivals; times = c.carry_times.new.times; numbers = c.carry_numbers.new.numbers; routes = f.routes; kept = f.kept; latest = f.latest })
+carried_over c rivals rivaled =
     let rows = c.as_slice-rows.result.now in
     let places = c.as_slice-members.result.now in
     let first = c.args.known.now in
@@ -56,36 +55,29 @@ carried_over c =
     (subst (λ l. AreNoLater f.routes.items l rows t.times.items) (sym same.latest) (subst (λ r. AreNoLater r t.latest.items rows t.times.items) (sym same.routes) old.latest)) in
     let numbers : AreNumbers f.routes.items rows f.numbers.items =
     subst (λ n. AreNumbers f.routes.items rows n) (sym same.numbers) (subst (λ r. AreNumbers r rows t.numbers.items) (sym same.routes) old.numbers) in record {
-      one_each = c.carry_times.ensures.one_each;
-      one_time = ap length same.latest ∙ old.one_time ∙ sym (ap length same.routes);
-      latest = c.carry_times.ensures.latest f.routes.items f.latest.items times
-          (λ d. ap (λ r. get_or f.latest.items (place_of_route r (get_or rows (get_or places 0 0) d).route.bits) 0) same.routes
-          ∙ ap (λ l. get_or l (place_of_route t.routes.items (get_or rows (get_or places 0 0) d).route.bits) 0) same.latest ∙ c.touch.ensures.own d);
-      once = subst IsEachOnce (sym same.routes) old.once;
-      numbers = c.carry_numbers.ensures f.routes.items numbers;
-      one_route = same.left.one_each ∙ old.one_route ∙ sym (ap length same.routes);
-      kept = subst (λ r. AreRoutesKept r (after rows places) f.kept.items) (sym (same.routes ∙ c.touch.ensures.same.routes))
-          (kept_over first.routes.items rows first.numbers.items first.kept.items t.kept.items f.kept.items places c.merged_block-block.result start.once start.numbers start.rivaled.sound
-          (record { set = merge.0; legal = merge.1; block = c.merged_block-block.ensures }) start.kept c.touch.ensures.left
-          (subst (λ n. AreStillKept (λ k it. (k ≡ get_or n (get_or places 0 0) 0 → ⊥) × (IsApart c.merged_block-block.result it)) t.kept.items f.kept.items) c.touch.ensures.same.numbers same.left));
+      told = record {
+        rivaled = rivaled;
+        one_each = c.carry_times.ensures.one_each;
+        one_time = ap length same.latest ∙ old.one_time ∙ sym (ap length same.routes);
+        latest = c.carry_times.ensures.latest f.routes.items f.latest.items times
+            (λ d. ap (λ r. get_or f.latest.items (place_of_route r (get_or rows (get_or places 0 0) d).route.bits) 0) same.routes
+            ∙ ap (λ l. get_or l (place_of_route t.routes.items (get_or rows (get_or places 0 0) d).route.bits) 0) same.latest ∙ c.touch.ensures.own d);
+        once = subst IsEachOnce (sym same.routes) old.once;
+        numbers = c.carry_numbers.ensures f.routes.items numbers;
+        one_route = same.left.one_each ∙ old.one_route ∙ sym (ap length same.routes);
+        kept = subst (λ r. AreRoutesKept r (after rows places) f.kept.items) (sym (same.routes ∙ c.touch.ensures.same.routes))
+            (kept_over first.routes.items rows first.numbers.items first.kept.items t.kept.items f.kept.items places c.merged_block-block.result start.once start.numbers start.rivaled.sound
+            (record { set = merge.0; legal = merge.1; block = c.merged_block-block.ensures }) start.kept c.touch.ensures.left
+            (subst (λ n. AreStillKept (λ k it. (k ≡ get_or n (get_or places 0 0) 0 → ⊥) × (IsApart c.merged_block-block.result it)) t.kept.items f.kept.items) c.touch.ensures.same.numbers same.left));
+      };
       marks = c.carry_times.ensures.marks (subst (AreTriedUpTo c.args.now rows) (sym same.times) c.touch.ensures.known.marks)
           (subst (AreTouched places c.args.now rows) (sym same.times) c.touch.ensures.touched);
     }
 
 pub returns-clause-known : goal.returns-clause-known
 returns-clause-known c =
-    both_ok c.merge_rows.result _ _ _
-    (λ table rivaled.
-    let old = carried c.args.now c.args.table.now.rows c.as_slice-rows.result.now c.merge_rows.new.table.rows c.args.places.now c.as_slice-members.result.now _ c.as_slice-rows.ensures c.as_slice-members.ensures table (carried_over (goal.at.returns-clause-known c).After-carry_times) in record {
-      told = record {
-        rivaled = rivaled;
-        one_each = old.one_each;
-        one_time = old.one_time;
-        latest = old.latest;
-        once = old.once;
-        numbers = old.numbers;
-        one_route = old.one_route;
-        kept = old.kept;
-      };
-      marks = old.marks;
-    }) c.merge_rows.ensures.table c.merge_rows.ensures.rivaled
+    both_ok c.merge_rows.result _ _ _ (λ table rivaled.
+    let is : c.merge_rows.new.table.rows ≡ after c.as_slice-rows.result.now c.as_slice-members.result.now =
+    table ∙ sym (ap (λ l. after l c.as_slice-members.result.now) c.as_slice-rows.ensures ∙ ap (after c.args.table.now.rows) c.as_slice-members.ensures) in
+    of_table _ _ _ _ is (carried_over (goal.at.returns-clause-known c).After-carry_times c.merge_rows.new.rivals (subst (λ l. IsRivaled l c.merge_rows.new.rivals) is rivaled)))
+    c.merge_rows.ensures.table c.merge_rows.ensures.rivaled

@@ -1,6 +1,6 @@
 -- One route more is apart from the block, or nothing is kept of it.
 use Rattle.cover_merge.proofs.Common.{IsApart, None, arith, get_or_default, length, refl, sym, ◌+◌, ◌<◌, ◌∙◌}
-use Rattle.cover_merge.proofs.KeepLemmas.{inside_some, left_more, left_set, less_of, none_some}
+use Rattle.cover_merge.proofs.KeepLemmas.{inside_some, left_more, left_set, none_some}
 use Rattle.cover_merge.proofs.keeping.forget_near.Goals as goal
 
 pub loop-c-preserved-then-is_apart : goal.loop-c-preserved-then-is_apart
@@ -17,7 +17,7 @@ loop-c-preserved c =
     let i = c.loop-c.c in
     let inside : i < length now = omega (arith, c.loop-c-test.true, c.len-c-end.ensures, c.loop-c.invariant.one_each) in
     left_set (λ k it. k < i → IsApart c.args.merged it) (λ k it. k < i + 1 → IsApart c.args.merged it) c.args.kept.now.items now _ i None inside refl c.loop-c.invariant
-    (λ k it apart was less. was (less_of k i apart less))
+    (λ k it apart was less. was (omega (arith, less, apart)))
     (λ it is. absurd (none_some it is))
 
 pub returns : goal.returns

@@ -1,5 +1,5 @@
 -- The lowest bit is counted and goes.
-use Rattle.cover_merge.proofs.Common.{get_or, length-set, trailing_zeros, w32, ◌+◌, ◌∙◌}
+use Rattle.cover_merge.proofs.Common.{arith, get_or, length-set}
 use Rattle.cover_merge.proofs.BitCounts.{count_fits, fewer_bits, one_counted}
 use Rattle.cover_merge.proofs.refining.count_bits.Goals as goal
 
@@ -14,9 +14,4 @@ loop-left-smaller c =
     fewer_bits c.loop-left.counts c.args.counts.now c.loop-left.left c.args.bits c.loop-left.auto.left-fits.fits c.loop-left-test.true old.long old.counted
 
 pub loop-left-preserved : goal.loop-left-preserved
-loop-left-preserved c =
-    let old = c.loop-left.invariant in
-    let i = trailing_zeros w32 c.loop-left.left in record {
-      long = length-set c.loop-left.counts i (get_or c.loop-left.counts i 0 + 1) ∙ old.long;
-      counted = one_counted c.loop-left.counts c.args.counts.now c.loop-left.left c.args.bits c.loop-left.auto.left-fits.fits c.loop-left-test.true old.long old.counted;
-    }
+loop-left-preserved c = grind (arith, length-set, get_or, one_counted)

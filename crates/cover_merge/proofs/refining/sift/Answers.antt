@@ -1,9 +1,9 @@
 -- Each place taken out is a step, and those behind it still pass the up-check.
-use Rattle.cover_merge.proofs.Common.{All, AreMerges, IsLastFailing, IsOneRoute, IsTrue, LeadsWithin, List, PassesUp, PassesUpCheck, ap, arith, drop, generality, get_or, has_row, length, length-drop}
-use Rattle.cover_merge.proofs.Common.{length-set, length-take, merged_block, place_for, refl, set, subst, sym, take, take-append-drop, take-paste, take-set-le, take_all, take_rest, true, ℕ, ◌++◌, ◌+◌}
-use Rattle.cover_merge.proofs.Common.{◌-◌, ◌<◌, ◌↔◌, ◌∙◌, ◌≡◌, ◌≤◌}
-use Rattle.cover_merge.proofs.{Lists.All-right, KeptLemmasSteps.leads_on, KeptLemmasSteps.sift_leads, RefineLemmas.last_more, RefineLemmas.none_fails, SiftLemmas.all_pass, SiftLemmas.alike_behind}
-use Rattle.cover_merge.proofs.SiftLemmas.{begins_less, begins_twice, kept_now, last_within, left_many, out_count, out_in_range, out_last, out_now, sift_behind, sift_one, up_of}
+use Rattle.cover_merge.proofs.Common.{All, AreMerges, IsLastFailing, IsOneRoute, IsTrue, LeadsWithin, List, PassesUp, PassesUpCheck, ap, arith, drop, generality, get_or, has_row, inl, length}
+use Rattle.cover_merge.proofs.Common.{length-drop, length-set, length-take, merged_block, place_for, refl, set, subst, sym, take, take-append-drop, take-paste, take-set-le, take-take, take_all}
+use Rattle.cover_merge.proofs.Common.{take_rest, true, ℕ, ◌++◌, ◌+◌, ◌-◌, ◌<◌, ◌↔◌, ◌∙◌, ◌≡◌, ◌≤◌}
+use Rattle.cover_merge.proofs.{RefineLemmas.one_route_after, RefineLemmas.last_more, RefineLemmas.none_fails, Lists.All-right, KeptLemmasSteps.leads_on, SiftLemmas.all_pass, SiftLemmas.alike_behind}
+use Rattle.cover_merge.proofs.SiftLemmas.{begins_less, kept_now, last_within, left_many, out_count, out_in_range, out_last, out_now, sift_behind, sift_step, up_of}
 use Rattle.cover_merge.proofs.refining.sift.Goals.{After-truncate, then-loop-i-test+else-i-len-ge2, else-loop-i-test}
 use Rattle.cover_merge.proofs.refining.sift.Goals as goal
 
@@ -95,7 +95,7 @@ invariant_of-left c =
           let low : k < i - 1 = omega (arith, before, length-take (i - 1) c.deref-else-passes.result.now) in
           ap (λ l. get_or l k d) merges
           ∙ known.each k d (subst (λ l. k < length l) merges inside)
-          ∙ ap (merged_block rows) (sym (ap (take (k + 1)) front ∙ begins_twice (k + 1) (i - 1) xs (omega (arith, low)) ∙ begins_less (k + 1) i xs start (omega (arith, low)) old.before));
+          ∙ ap (merged_block rows) (sym (ap (take (k + 1)) front ∙ take-take (k + 1) (i - 1) xs (omega (arith, low)) ∙ begins_less (k + 1) i xs start (omega (arith, low)) old.before));
       many = omega (arith, ap length front, length-take (i - 1) xs, ap length merges, known.one_each, old.same, old.gap, old.within);
     }
 
@@ -124,36 +124,33 @@ loop-i-preserved c =
     let gone = out_now rows xs i w some old.gap old.within old.set in
     let read : take (i - 1) c.deref-else-passes.result.now ++ take (length c.deref-else-passes-2.result.now - w) (drop w c.deref-else-passes-2.result.now) ≡ new =
     ap (λ l. take (i - 1) l ++ take (length c.deref-else-passes-2.result.now - w) (drop w c.deref-else-passes-2.result.now)) c.deref-else-passes.ensures.value ∙ ap (λ l. take (i - 1) xs ++ l) (rest_of w c.deref-else-passes-2.result.now xs c.deref-else-passes-2.ensures.value) in
+    let step = sift_step rows now old.set c.args.table.sound.ordered c.loop-i.merged old.merge g general (i - 1) inside last new gone count two in
     let merge : c.merge_from-merged.result ≡ merged_block rows new = c.merge_from-merged.ensures ∙ ap (merged_block rows) read in record {
       gap = omega (arith, old.gap);
       within = old.within;
       same = old.same;
-      set = sift_one rows now old.set c.args.table.sound.ordered c.loop-i.merged old.merge g general (i - 1) inside last new gone count two;
+      set = one_route_after rows now old.set new (inl step);
       some = omega (arith, count, two);
       merge = merge;
       before = begins_less (i - 1) i xs c.args.set.now.items (omega (arith, some)) old.before;
       behind = sift_behind rows now old.set c.args.table.sound.ordered c.loop-i.merged old.merge g general (i - 1) inside last new gone count two c.merge_from-merged.result merge _ refl;
       leads = λ outer low.
-          leads_on rows outer low c.args.set.now.items now new (old.leads outer low) (sift_leads rows now old.set c.args.table.sound.ordered c.loop-i.merged old.merge g general (i - 1) inside last new gone count two outer low);
+          leads_on rows outer low c.args.set.now.items now new (old.leads outer low) (LeadsWithin.leads_up now new new two step (LeadsWithin.stands new));
     }
 
 -- the places that are left
 left_now : (c : After-truncate) → c.truncate.new.self.items ≡ take c.loop-i.i c.loop-i.set.items ++ drop c.loop-i.kept c.loop-i.set.items
-left_now c =
-    let xs = c.loop-i.set.items in
-    let old = c.loop-i.invariant in
-    let many = c.len-len.ensures ∙ c.loop-i.set.ok.0 in
-    let rest = length-drop c.loop-i.kept xs in
-    c.truncate.ensures.items
-    ∙ ap (take (c.loop-i.i + (c.len-len.result - c.loop-i.kept))) c.copy_within.ensures.items
-    ∙ take-paste xs c.loop-i.i (drop c.loop-i.kept xs) (c.len-len.result - c.loop-i.kept) (omega (arith, old.gap, old.within)) (omega (arith, many, rest))
-    ∙ ap (λ l. take c.loop-i.i xs ++ l) (take_all (c.len-len.result - c.loop-i.kept) (drop c.loop-i.kept xs) (omega (arith, many, rest)))
+left_now c = grind (arith, length-drop, take-paste, take_all)
 
 pub returns-then-len-lt2-clause-sifted : goal.returns-then-len-lt2-clause-sifted
 returns-then-len-lt2-clause-sifted c = grind (arith, left_now (goal.at.returns-then-len-lt2-clause-sifted c).After-truncate)
 
 pub returns-clause-sifted : goal.returns-clause-sifted
 returns-clause-sifted c =
+    let done : 2 ≤ length (take c.loop-i.i c.loop-i.set.items ++ drop c.loop-i.kept c.loop-i.set.items) → c.loop-i.i ≤ 0 = λ two. elim c.loop-i-test.branch [
+      | then-loop-i-test+else-i-len-ge2 w ↦ absurd (omega (arith, two, left_many c.args.table.rows.now c.loop-i.set.items c.loop-i.i c.loop-i.kept w.loop-i-test.true c.loop-i.invariant.gap c.loop-i.invariant.within c.loop-i.invariant.set, w.if-i-len-ge2.false, w.len-in-loop-i.ensures))
+      | else-loop-i-test w ↦ w.loop-i-test.false
+    ] in
     let rows = c.args.table.rows.now in
     let xs = c.loop-i.set.items in
     let i = c.loop-i.i in
@@ -168,9 +165,3 @@ returns-clause-sifted c =
       found_is = subst (λ l. (2 ≤ length l) × (c.loop-i.merged ≡ merged_block rows l) × (PassesUpCheck rows l)) (sym is)
           (two, old.merge, all_pass rows now old.set c.args.table.sound.ordered c.loop-i.merged old.merge _ refl (none_fails rows now (place_for rows (generality c.loop-i.merged)) i (done two) old.behind));
     }
-  where
-    done : 2 ≤ length (take c.loop-i.i c.loop-i.set.items ++ drop c.loop-i.kept c.loop-i.set.items) → c.loop-i.i ≤ 0
-    done two = elim c.loop-i-test.branch [
-      | then-loop-i-test+else-i-len-ge2 w ↦ absurd (omega (arith, two, left_many c.args.table.rows.now c.loop-i.set.items c.loop-i.i c.loop-i.kept w.loop-i-test.true c.loop-i.invariant.gap c.loop-i.invariant.within c.loop-i.invariant.set, w.if-i-len-ge2.false, w.len-in-loop-i.ensures))
-      | else-loop-i-test w ↦ w.loop-i-test.false
-    ]

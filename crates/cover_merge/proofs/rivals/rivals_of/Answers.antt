@@ -4,9 +4,7 @@ use Rattle.cover_merge.proofs.RivalLemmas.{numbered_all, numbered_more}
 use Rattle.cover_merge.proofs.rivals.rivals_of.Goals as goal
 
 pub loop-s-preserved : goal.loop-s-preserved
-loop-s-preserved c =
-    numbered_more c.args.table.rows.now c.loop-s.s c.loop-s.serials.items c.loop-s.of.items c.loop-s.invariant c.push.new.self.items c.push-in-loop-s.new.self.items c.in_ok-rivals_among.field-0
-    c.in_ok-push.ensures.items c.in_ok-push-2.ensures.items c.in_ok-rivals_among.ensures
+loop-s-preserved c = numbered_more _ _ _ _ c.loop-s.invariant _ _ _ c.in_ok-push.ensures.items c.in_ok-push-2.ensures.items c.in_ok-rivals_among.ensures
 
 pub returns : goal.returns
 returns c =
