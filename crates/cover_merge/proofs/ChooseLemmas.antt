@@ -1,8 +1,7 @@
 -- The places of a route, and pairs.
 use Rattle.cover_merge.proofs.Common.{All, All-cons, All-nil, AllPairs, AllPairs-cons, AreNexts, IsFirstLegalPair, IsFirstOfRoute, IsFirstPartner, IsLegalPair, IsMergeSet, IsNextOfRoute, IsOneRoute}
-use Rattle.cover_merge.proofs.Common.{List, Row, [], ap, append-nil, arith, cases_lt, cond, cond_both, eq-eqb, eqb-true, eqb_tells, false, get_or, get_or_default, inl, inr, length, length-take}
-use Rattle.cover_merge.proofs.Common.{merge_rows, ne_eqb, places_of, refl, same_route, subst, suc, sym, take, take_all, take_more, true, zero, ℕ, ◌++◌, ◌+◌, ◌-◌, ◌<◌, ◌==◌, ◌∙◌, ◌∷◌, ◌≡◌, ◌≢◌, ◌≤◌}
-use Rattle.cover_merge.proofs.Common.{◌⊎◌}
+use Rattle.cover_merge.proofs.Common.{List, Row, [], ap, append-nil, arith, cases_lt, cond, cond_both, eq-eqb, eqb-true, eqb_tells, get_or, get_or_default, inl, inr, length, length-take, merge_rows}
+use Rattle.cover_merge.proofs.Common.{ne_eqb, places_of, refl, same_route, subst, suc, sym, take, take_all, take_more, zero, ℕ, ◌++◌, ◌+◌, ◌-◌, ◌<◌, ◌==◌, ◌∙◌, ◌∷◌, ◌≡◌, ◌≢◌, ◌≤◌, ◌⊎◌}
 use Rattle.cover_merge.proofs.{Positions.pair_set, Lists.AllPairs-nil, Lists.cond_of}
 
 -- ---- the places of a route
@@ -61,14 +60,13 @@ places_of-one_route bits rows = grind (arith, places_ascend bits 0 rows, places_
 -- a route stands in the table, or has no places
 pub route_cases : (bits i : ℕ) (rows : List Row) → ((j : ℕ) × (j < length rows) × ((d : Row) → (get_or rows j d).route.bits ≡ bits)) ⊎ (places_of bits i rows ≡ [])
 route_cases bits i [] = inr refl
-route_cases bits i (r ∷ rows) = by_test (eqb_tells r.route.bits bits) (route_cases bits (suc i) rows)
-  where
-    by_test : ((r.route.bits == bits) ≡ true) × (r.route.bits ≡ bits) ⊎ ((r.route.bits == bits) ≡ false) × (r.route.bits ≢ bits)
-        → ((j : ℕ) × (j < length rows) × ((d : Row) → (get_or rows j d).route.bits ≡ bits)) ⊎ (places_of bits (suc i) rows ≡ [])
-        → ((j : ℕ) × (j < suc (length rows)) × ((d : Row) → (get_or (r ∷ rows) j d).route.bits ≡ bits)) ⊎ (cond (r.route.bits == bits) (i ∷ places_of bits (suc i) rows) (places_of bits (suc i) rows) ≡ [])
-    by_test (inl same) rest = inl (0, omega arith, λ d. same.1)
-    by_test (inr other) (inl found) = inl (suc found.0, omega (arith, found.1), found.2)
-    by_test (inr other) (inr none) = inr (ap (λ b. cond b (i ∷ places_of bits (suc i) rows) (places_of bits (suc i) rows)) other.0 ∙ none)
+route_cases bits i (r ∷ rows) = elim (eqb_tells r.route.bits bits) [
+  | inl same ↦ inl (0, omega arith, λ d. same.1)
+  | inr other ↦ elim (route_cases bits (suc i) rows) [
+    | inl found ↦ inl (suc found.0, omega (arith, found.1), found.2)
+    | inr none ↦ inr (ap (λ b. cond b (i ∷ places_of bits (suc i) rows) (places_of bits (suc i) rows)) other.0 ∙ none)
+  ]
+]
 
 -- ---- pairs
 

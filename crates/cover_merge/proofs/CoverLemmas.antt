@@ -178,8 +178,9 @@ so_far_more target start now new merges m so_far more chosen is =
       no_more = omega (arith, shorter now m.places legal.0, so_far.no_more);
       routes = routes_after now m.places legal.0 start so_far.routes;
       sound = legal.1;
-      goes_on = λ sets covered h. subst (λ l. Covers target start l covered) 
-          (sym (ap (λ l. l ++ sets) (map-append (λ (x : Merge). x.places) merges (m ∷ [])) ∙ append_assoc (sets_of merges) (m.places ∷ []) sets)) (so_far.goes_on (m.places ∷ sets) covered (merged now m.places sets covered more chosen h));
+      goes_on = λ sets covered h. subst (λ l. Covers target start l covered)
+          (sym (ap (λ l. l ++ sets) (map-append (λ (x : Merge). x.places) merges (m ∷ [])) ∙ append_assoc (sets_of merges) (m.places ∷ []) sets))
+          (so_far.goes_on (m.places ∷ sets) covered (merged now m.places sets covered more chosen h));
       serves = IsPermutation-trans (served start) (served now) (served (after now m.places)) so_far.serves (served_after now m.places legal.0);
     })
 

@@ -123,7 +123,8 @@ left_set P Q old now new c v inside is before others here = record {
 -- what is left where nothing is kept of one route
 pub forgotten : (kept : List (Option Kept)) (n : ℕ) → n < length kept → AreStillKept (λ k it. k ≢ n) kept (set kept n None)
 forgotten kept n low =
-    left_set (λ (k : ℕ) (it : Kept). k ≡ k) (λ (k : ℕ) (it : Kept). k ≢ n) kept kept _ n None low refl (record { one_each = refl; each = λ k it is. (is, refl) }) (λ k it apart same. apart) (λ it is. absurd (none_some it is))
+    left_set (λ (k : ℕ) (it : Kept). k ≡ k) (λ (k : ℕ) (it : Kept). k ≢ n) kept kept _ n None low refl
+    (record { one_each = refl; each = λ k it is. (is, refl) }) (λ k it apart same. apart) (λ it is. absurd (none_some it is))
 
 -- of one route more it is shown
 pub left_more : (P : Kept → Type 0) (old now : List (Option Kept)) (i : ℕ) → AreStillKept (λ k it. k < i → P it) old now → ((it : Kept) → get_or now i None ≡ Some it → P it) → AreStillKept (λ k it. k < i + 1 → P it) old now

@@ -243,4 +243,5 @@ module _ (rows : List Row) (merge : List ℕ) (ordered : IsOrdered rows) (set : 
       gone k j d at within out same =
           let here : j ≡ k = omega (arith, at) in
           let member : has_row merge k ≡ true = ap (has_row merge) (sym here) ∙ not-false (has_row merge j) out in
-          other k d member (ap (λ (r : Row). r.route.bits) (sym (get_or-insert_below rows p (merged_row rows merge) d k (All-has (λ t. t < p) merge k (members_before rows merge ordered set) member) p_le)) ∙ same)
+          other k d member (ap (λ (r : Row). r.route.bits) (sym (get_or-insert_below rows p (merged_row rows merge) d k
+          (All-has (λ t. t < p) merge k (members_before rows merge ordered set) member) p_le)) ∙ same)

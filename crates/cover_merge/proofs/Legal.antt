@@ -84,7 +84,8 @@ module _ (rows : List Row) (places : List ℕ) (sound : IsSound rows) (in_range 
       let row = front_row k d within in
       let same : k ≡ j = omega arith in
       let out : has_row places k ≡ false = not-true (has_row places k) (ap (λ i. not (has_row places i)) same ∙ pass) in
-      subst (λ (r : Row). Clears r (merged_row rows places)) (sym row.1) (Misses-merge (get_or rows k d).block (rows_at rows places) (rows_at-from (Misses (get_or rows k d).block) rows places (λ s e found.
+      subst (λ (r : Row). Clears r (merged_row rows places)) (sym row.1)
+      (Misses-merge (get_or rows k d).block (rows_at rows places) (rows_at-from (Misses (get_or rows k d).block) rows places (λ s e found.
       let inside : s < length rows = All-has (λ x. x < length rows) places s in_range found in
       subst (Misses (get_or rows k d).block) (get_or_default rows s d e inside) (elim (cases_order k s) [
         | inl here ↦ absurd (true≢false (sym found ∙ ap (has_row places) (sym here) ∙ out))

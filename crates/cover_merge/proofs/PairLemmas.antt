@@ -1,17 +1,12 @@
 -- A pair of rows that is legal after a merge was legal before it, where neither loses a row behind it by the merge.
-use Rattle.cover_merge.proofs.Common.{All, AreNoLater, AreRivalsAt, AreTouched, AreTriedUpTo, Block, HasSerial, IsFresh, IsLegal, IsLegalPair, IsMergeSet, IsSound, List, LosesNone, MeetsNone, Misses}
-use Rattle.cover_merge.proofs.Common.{PassesDown, PassesUp, Rival, Route, Row, Times, [], after, ap, arith, cases_Bool, false, generality, get_or, has_row, inl, inr, insert, insert_place, is_at_one}
-use Rattle.cover_merge.proofs.Common.{length, length-append, length-drop, length-take, map, merge_of, merged_block, merged_row, place_for, place_of_route, rows_at, subst, subst₂, sym, true}
-use Rattle.cover_merge.proofs.Common.{true≢false, ℕ, ◌<◌, ◌∙◌, ◌∷◌, ◌≡◌, ◌≤◌, ◌⊎◌}
+use Rattle.cover_merge.proofs.Common.{All, AreNoLater, AreRivalsAt, AreTouched, AreTriedUpTo, Block, IsFresh, IsLegal, IsLegalPair, IsMergeSet, IsSound, List, LosesNone, Misses, PassesDown, PassesUp}
+use Rattle.cover_merge.proofs.Common.{Rival, Route, Row, Times, [], after, ap, arith, cases_Bool, false, generality, get_or, has_row, inl, inr, insert, insert_place, is_at_one, length, length-append}
+use Rattle.cover_merge.proofs.Common.{length-drop, length-take, merged_block, merged_row, place_for, place_of_route, rows_at, subst, subst₂, sym, true, true≢false, ℕ, ◌<◌, ◌∙◌, ◌∷◌, ◌≡◌, ◌≤◌, ◌⊎◌}
 use Rattle.cover_merge.proofs.Positions.{both_of, member_le, pair_set, place_for-from, place_for-reach, All-has, at_one_of, has-at, rows_at-has, place_for-le}
 use Rattle.cover_merge.proofs.{KeptLemmasMoved.merged_get, KeptLemmasMoved.moved, KeptLemmasMoved.item_moved, KeptLemmasMoved.item_merged, KeptLemmasMoved.item_onto, Lists.picked_lengths}
 use Rattle.cover_merge.proofs.{Legal.Misses-members, Legal.legal_from_checks, Legal.up_from_legal, Legal.down_from_legal, ApplyLemmas.left, ApplyLemmas.after_is, ApplyLemmas.block_is}
 use Rattle.cover_merge.proofs.{ApplyLemmas.route_is, TriedLemmas.all_before, KeptLemmas.from_less, KeptLemmas.to_less, KeptLemmas.same_test, KeptLemmas.get_to, KeptLemmas.slice_to}
 use Rattle.cover_merge.proofs.KeptLemmas.{before_to}
-
--- the merge of the blocks of rows
-abbrev block_of : List Row → Block
-block_of rows = merge_of (map (λ (x : Row). x.block) rows)
 
 module _ (rows : List Row) (merge : List ℕ) (sound : IsSound rows) (set : IsMergeSet rows merge) (legal : IsLegal rows merge) where
   abbrev new : List Row
@@ -145,10 +140,9 @@ module _ (rows : List Row) (merge : List ℕ) (sound : IsSound rows) (set : IsMe
 -- a row of which no rival is at one of the places loses none
 pub none_lost : (rows : List Row) (serials places : List ℕ) (s : ℕ) (list : List Rival) → All (λ r. r < length rows) places → AreRivalsAt rows serials s list
     → ((n : ℕ) (e : Rival) → n < length list → is_at_one serials places (get_or list n e).serial ≡ false) → LosesNone rows places s
-none_lost rows serials places s list in_range rivals none r d found behind = by_case (rivals.all r behind (All-has (λ x. x < length rows) places r in_range found))
-  where
-    by_case : (MeetsNone rows r s) ⊎ (HasSerial list (get_or serials r 0)) → Misses (get_or rows r d).block (get_or rows s d)
-    by_case (inl missed) = missed d
-    by_case (inr it) =
-        let e : Rival = record { serial = 0; general = 0; bits = 0 } in
-        absurd (true≢false (sym (at_one_of serials places r found) ∙ ap (is_at_one serials places) (sym (it.found e)) ∙ none it.at e it.within))
+none_lost rows serials places s list in_range rivals none r d found behind = elim (rivals.all r behind (All-has (λ x. x < length rows) places r in_range found)) [
+  | inl missed ↦ missed d
+  | inr it ↦
+      let e : Rival = record { serial = 0; general = 0; bits = 0 } in
+      absurd (true≢false (sym (at_one_of serials places r found) ∙ ap (is_at_one serials places) (sym (it.found e)) ∙ none it.at e it.within))
+]

@@ -1,10 +1,10 @@
 -- Places of rows: those of a set, and the insertion place of a merge.
 use Rattle.cover_merge.proofs.Common.{All, All-cons, All-drop, All-head, All-nil, All-tail, All-take, AllPairs, AllPairs-cons, Any-from_list_any, Block, IsMergeSet, IsOrdered, List, None, Option, Row}
-use Rattle.cover_merge.proofs.Common.{SameRoute, Some, [], add_comm, ap, arith, cases_lt, cond, cons_option, count_by-le-length, drop, eq-eqb, eqb-true, false, filter_map-append, generality}
+use Rattle.cover_merge.proofs.Common.{SameRoute, Some, [], add_comm, ap, arith, cases_lt, cond, cons_option, count_by-le-length, drop, eq-eqb, eqb-true, filter_map-append, generality}
 use Rattle.cover_merge.proofs.Common.{generality-merge, get_or, get_or-drop, get_or-take, get_or_default, get_or_from_slice_get, has_row, inl, inr, insert_place, is_at_one, leb_tells, length}
 use Rattle.cover_merge.proofs.Common.{length-drop, length-take, list_any_at, map, map-append, merge_of, merge_of-push, merge_rows, merge_two, merged_block, nat_le, nat_tests, or_right, place_for}
 use Rattle.cover_merge.proofs.Common.{refl, rows_at, slice_get, slice_get-get_or, subst, suc, sum_by-append, sym, take, take_more, true, zero, zero-add, ℕ, ◌++◌, ◌+◌, ◌-◌, ◌<◌, ◌==◌, ◌∙◌, ◌∷◌, ◌≡◌}
-use Rattle.cover_merge.proofs.Common.{◌≤◌, ◌⊎◌}
+use Rattle.cover_merge.proofs.Common.{◌≤◌}
 use Rattle.cover_merge.proofs.Lists.{All-from_map, AllPairs-head, AllPairs-nil, AllPairs-tail}
 
 -- ---- places of a set
@@ -125,31 +125,29 @@ behind r rows g ordered above = place_for-none rows g (λ k d in_range. omega (a
 -- in an ordered table, the rows before the place are those of lesser or equal generality
 pub place_for-below : (rows : List Row) (g : ℕ) → IsOrdered rows → (k : ℕ) (d : Row) → k < place_for rows g → generality (get_or rows k d).block ≤ g
 place_for-below [] g ordered k d before = absurd (omega arith)
-place_for-below (r ∷ rows) g ordered k d before = by_head k (leb_tells (generality r.block) g) before (λ j h. place_for-below rows g (AllPairs-tail (λ (x y : Row). generality x.block ≤ generality y.block) r rows ordered) j d h)
-  where
-    by_head : (k : ℕ) → ((nat_le (generality r.block) g ≡ true) × (generality r.block ≤ g)) ⊎ ((nat_le (generality r.block) g ≡ false) × (g < generality r.block))
-        → k < place_for (r ∷ rows) g → ((j : ℕ) → j < place_for rows g → generality (get_or rows j d).block ≤ g) → generality (get_or (r ∷ rows) k d).block ≤ g
-    by_head zero (inl low) h rest = low.1
-    by_head (suc k) (inl low) h rest =
-        let count = place_for-cons r rows g ∙ ap (λ b. cond b 1 0 + place_for rows g) low.0 in
-        rest k (omega (arith, count))
-    by_head k (inr high) h rest =
-        let count = place_for-cons r rows g ∙ ap (λ b. cond b 1 0 + place_for rows g) high.0 in
-        absurd (omega (arith, count, behind r rows g ordered high.1))
+place_for-below (r ∷ rows) g ordered zero d before = elim (leb_tells (generality r.block) g) [
+  | inl low ↦ low.1
+  | inr high ↦ let count = place_for-cons r rows g ∙ ap (λ b. cond b 1 0 + place_for rows g) high.0 in absurd (omega (arith, count, behind r rows g ordered high.1))
+]
+place_for-below (r ∷ rows) g ordered (suc k) d before = elim (leb_tells (generality r.block) g) [
+  | inl low ↦
+      let count = place_for-cons r rows g ∙ ap (λ b. cond b 1 0 + place_for rows g) low.0 in
+      place_for-below rows g (AllPairs-tail (λ (x y : Row). generality x.block ≤ generality y.block) r rows ordered) k d (omega (arith, count))
+  | inr high ↦ let count = place_for-cons r rows g ∙ ap (λ b. cond b 1 0 + place_for rows g) high.0 in absurd (omega (arith, count, behind r rows g ordered high.1))
+]
 
 pub place_for-above : (rows : List Row) (g : ℕ) → IsOrdered rows → (k : ℕ) (d : Row) → k < length rows → generality (get_or rows k d).block ≤ g → k < place_for rows g
 place_for-above [] g ordered k d in_range le = absurd (omega arith)
-place_for-above (r ∷ rows) g ordered k d in_range le = by_head k (leb_tells (generality r.block) g) in_range le (λ j within h. place_for-above rows g (AllPairs-tail (λ (x y : Row). generality x.block ≤ generality y.block) r rows ordered) j d within h)
-  where
-    by_head : (k : ℕ) → ((nat_le (generality r.block) g ≡ true) × (generality r.block ≤ g)) ⊎ ((nat_le (generality r.block) g ≡ false) × (g < generality r.block))
-        → k < length (r ∷ rows) → generality (get_or (r ∷ rows) k d).block ≤ g → ((j : ℕ) → j < length rows → generality (get_or rows j d).block ≤ g → j < place_for rows g) → k < place_for (r ∷ rows) g
-    by_head zero (inl low) within h rest =
-        let count = place_for-cons r rows g ∙ ap (λ b. cond b 1 0 + place_for rows g) low.0 in omega (arith, count)
-    by_head (suc k) (inl low) within h rest =
-        let count = place_for-cons r rows g ∙ ap (λ b. cond b 1 0 + place_for rows g) low.0 in omega (arith, count, rest k (omega arith) h)
-    by_head zero (inr high) within h rest = absurd (omega (arith, high.1))
-    by_head (suc k) (inr high) within h rest =
-        absurd (omega (arith, high.1, AllPairs-head (λ (x y : Row). generality x.block ≤ generality y.block) r rows ordered k d (omega arith)))
+place_for-above (r ∷ rows) g ordered zero d in_range le = elim (leb_tells (generality r.block) g) [
+  | inl low ↦ let count = place_for-cons r rows g ∙ ap (λ b. cond b 1 0 + place_for rows g) low.0 in omega (arith, count)
+  | inr high ↦ absurd (omega (arith, high.1))
+]
+place_for-above (r ∷ rows) g ordered (suc k) d in_range le = elim (leb_tells (generality r.block) g) [
+  | inl low ↦
+      let count = place_for-cons r rows g ∙ ap (λ b. cond b 1 0 + place_for rows g) low.0 in
+      omega (arith, count, place_for-above rows g (AllPairs-tail (λ (x y : Row). generality x.block ≤ generality y.block) r rows ordered) k d (omega arith) le)
+  | inr high ↦ absurd (omega (arith, high.1, AllPairs-head (λ (x y : Row). generality x.block ≤ generality y.block) r rows ordered k d (omega arith)))
+]
 
 -- a row from the place on is more general, and a more general row stands there
 pub place_for-from : (rows : List Row) (g : ℕ) → IsOrdered rows → (k : ℕ) (d : Row) → k < length rows → place_for rows g ≤ k → g < generality (get_or rows k d).block

@@ -1,10 +1,10 @@
 -- The rivals of rows in the table after a merge.
 use Rattle.cover_merge.proofs.Common.{All, All-append, All-cons, All-drop, All-filter, All-head, All-tail, All-take, AllPairs, AllPairs-cons, AllPairs-filter, AreMet, AreRivalsAfter, AreRivalsAt}
 use Rattle.cover_merge.proofs.Common.{AreSpansOf, Block, Bool, HasSerial, IsLegal, IsMergeSet, IsPutIn, IsRivalBehind, IsRivalOf, IsRivaled, IsSound, List, MeetsNone, Misses, Rival, Rivals, Row, []}
-use Rattle.cover_merge.proofs.Common.{after, ap, arith, below_more, cases_eq, cases_lt, cond, drop, eq-eqb, false, false_from_ne_true, filter, filter_passes, generality, get_or, get_or-append_seam}
-use Rattle.cover_merge.proofs.Common.{get_or-drop, get_or-take, get_or_append_left, has_row, inl, inr, insert, insert_place, is_at_one, length, length-append, length-drop, length-insert, length-take}
-use Rattle.cover_merge.proofs.Common.{merge_rows, merged_block, merged_row, ne_eqb, not, not-true, not_from_false, place_for, refl, rivals_left, subst, suc, sym, take, take-append-drop, true, zero, ℕ}
-use Rattle.cover_merge.proofs.Common.{◌++◌, ◌+◌, ◌<◌, ◌==◌, ◌^◌, ◌||◌, ◌∙◌, ◌∷◌, ◌≡◌, ◌≢◌, ◌≤◌, ◌⊎◌}
+use Rattle.cover_merge.proofs.Common.{after, ap, arith, below_more, cases_eq, cases_lt, cond, cond_both, drop, eq-eqb, false, false_from_ne_true, filter, filter_passes, generality, get_or}
+use Rattle.cover_merge.proofs.Common.{get_or-append_seam, get_or-drop, get_or-take, get_or_append_left, has_row, inl, inr, insert, insert_place, is_at_one, length, length-append, length-drop}
+use Rattle.cover_merge.proofs.Common.{length-insert, length-take, merge_rows, merged_block, merged_row, ne_eqb, not, not-true, not_from_false, place_for, refl, rivals_left, subst, suc, sym, take}
+use Rattle.cover_merge.proofs.Common.{take-append-drop, true, zero, ℕ, ◌++◌, ◌+◌, ◌<◌, ◌==◌, ◌^◌, ◌||◌, ◌∙◌, ◌∷◌, ◌≡◌, ◌≢◌, ◌≤◌, ◌⊎◌}
 use Rattle.cover_merge.proofs.KeptLemmasMoved.{rank_length, merged_get, rank, moved, merged_at, moved_get, item_moved, item_merged, item_onto}
 use Rattle.cover_merge.proofs.{Lists.All-picked, Lists.AllPairs-append, Lists.AllPairs-left, Lists.AllPairs-right, Lists.AllPairs-across, Lists.picked_lengths, Legal.narrower_misses}
 use Rattle.cover_merge.proofs.{Legal.member_lies, Positions.has-place, Positions.place_for-le, ApplyLemmas.left, ApplyLemmas.members_before, ApplyLemmas.block_is, ApplyLemmas.route_is}
@@ -29,15 +29,12 @@ listed_case v list n is = by_place is.at is.within is.found
 -- one that passes the test stays
 listed_filter : (f : Rival → Bool) (list : List Rival) (n : ℕ) → ((v : Rival) → v.serial ≡ n → f v ≡ true) → HasSerial list n → HasSerial (filter f list) n
 listed_filter f [] n pass is = is
-listed_filter f (v ∷ list) n pass is = by_case (listed_case v list n is) (λ rest. listed_filter f list n pass rest)
-  where
-    by_test : (b : Bool) → HasSerial (filter f list) n → HasSerial (cond b (v ∷ filter f list) (filter f list)) n
-    by_test true rest = listed_cons v (filter f list) n rest
-    by_test false rest = rest
-
-    by_case : (v.serial ≡ n) ⊎ (HasSerial list n) → (HasSerial list n → HasSerial (filter f list) n) → HasSerial (filter f (v ∷ list)) n
-    by_case (inl here) behind = subst (λ b. HasSerial (cond b (v ∷ filter f list) (filter f list)) n) (sym (pass v here)) (listed_here v (filter f list) n here)
-    by_case (inr rest) behind = by_test (f v) (behind rest)
+listed_filter f (v ∷ list) n pass is = elim (listed_case v list n is) [
+  | inl here ↦ subst (λ b. HasSerial (cond b (v ∷ filter f list) (filter f list)) n) (sym (pass v here)) (listed_here v (filter f list) n here)
+  | inr rest ↦
+      let behind = listed_filter f list n pass rest in
+      cond_both (f v) (v ∷ filter f list) (filter f list) (λ l. HasSerial l n) (λ kept. listed_cons v (filter f list) n behind) (λ out. behind)
+]
 
 listed_insert : (list : List Rival) (p : ℕ) (v : Rival) (n : ℕ) → HasSerial list n → HasSerial (insert list p v) n
 listed_insert list zero v n is = listed_cons v list n is
@@ -96,27 +93,23 @@ module _ (rows : List Row) (serials places : List ℕ) (apart : (i j : ℕ) → 
 
     -- The merge meets an alias of the row: those that are merged go, and the merged row comes.
     pub renewed : (old new : List Rival) → ((d : Row) → Misses block (get_or rows s d) → ⊥) → AreRivalsAt rows serials s old → IsPutIn merged (rivals_left serials places old) new → AreRivalsAfter rows serials places block merged s new
-    renewed old new meets was put = record {
-      ordered = ordered_insert merged (rivals_left serials places old) new put (AllPairs-filter IsNoMore left_out old was.ordered);
-      each = all_insert IsRivalAfter merged (rivals_left serials places old) new put (inl (refl, meets)) left_each;
-      all = λ r behind inside out. by_case r inside out (was.all r behind inside);
-      own = inr (subst (λ l. HasSerial l merged.serial) (sym put.result) (listed_new (rivals_left serials places old) put.at merged put.within));
-    }
-      where
-        left_out : Rival → Bool
-        left_out v = not (is_at_one serials places v.serial)
-
-        left_each : All IsRivalAfter (rivals_left serials places old)
-        left_each k d within =
-            let it = All-filter left_out (IsRivalBehind rows serials s) old was.each k d within in
-            let passes = filter_passes left_out old k d within in
-            inr (it, sym (at_place places it.place in_range it.is.inside) ∙ ap (is_at_one serials places) (sym it.is.serial) ∙ not-true (is_at_one serials places (get_or (rivals_left serials places old) k d).serial) passes)
-
-        by_case : (r : ℕ) → r < length rows → has_row places r ≡ false → (MeetsNone rows r s) ⊎ (HasSerial old (get_or serials r 0)) → (MeetsNone rows r s) ⊎ (HasSerial new (get_or serials r 0))
-        by_case r inside out (inl none) = inl none
-        by_case r inside out (inr found) = inr (subst (λ l. HasSerial l (get_or serials r 0)) (sym put.result)
-            (listed_insert (rivals_left serials places old) put.at merged (get_or serials r 0)
-            (listed_filter left_out old (get_or serials r 0) (λ v is. not_from_false (is_at_one serials places v.serial) (ap (is_at_one serials places) is ∙ at_place places r in_range inside ∙ out)) found)))
+    renewed old new meets was put =
+        let left_out : Rival → Bool = λ v. not (is_at_one serials places v.serial) in
+        let left_each : All IsRivalAfter (rivals_left serials places old) = λ k d within.
+        let it = All-filter left_out (IsRivalBehind rows serials s) old was.each k d within in
+        let passes = filter_passes left_out old k d within in
+        inr (it, sym (at_place places it.place in_range it.is.inside) ∙ ap (is_at_one serials places) (sym it.is.serial)
+        ∙ not-true (is_at_one serials places (get_or (rivals_left serials places old) k d).serial) passes) in record {
+          ordered = ordered_insert merged (rivals_left serials places old) new put (AllPairs-filter IsNoMore left_out old was.ordered);
+          each = all_insert IsRivalAfter merged (rivals_left serials places old) new put (inl (refl, meets)) left_each;
+          all = λ r behind inside out. elim (was.all r behind inside) [
+            | inl none ↦ inl none
+            | inr found ↦ inr (subst (λ l. HasSerial l (get_or serials r 0)) (sym put.result)
+                (listed_insert (rivals_left serials places old) put.at merged (get_or serials r 0)
+                (listed_filter left_out old (get_or serials r 0) (λ v is. not_from_false (is_at_one serials places v.serial) (ap (is_at_one serials places) is ∙ at_place places r in_range inside ∙ out)) found)))
+          ];
+          own = inr (subst (λ l. HasSerial l merged.serial) (sym put.result) (listed_new (rivals_left serials places old) put.at merged put.within));
+        }
 
     -- The merge misses the row, so no member is a rival of it: the list stays.
     pub unmet : (list : List Rival) → IsMergeSet rows places → block ≡ merged_block rows places → ((d : Row) → Misses block (get_or rows s d)) → AreRivalsAt rows serials s list → AreRivalsAfter rows serials places block merged s list

@@ -39,7 +39,8 @@ returns-clause-touched c s e within =
           inl (λ r d found behind. narrower_misses m.block (get_or m.rows.now r d).block (get_or m.rows.now s d) (member_lies m.rows.now m.gaps.places.now m.legal.set m.block m.legal.block r d found) (missed d))
       | inr found ↦
           let at = has-place c.args.met.now s found in
-          subst (λ n. (LosesNone m.rows.now m.gaps.places.now n) ⊎ (IsFresh c.args.now (get_or c.loop-k.known.times.items n e))) at.2 (c.loop-k.invariant.done at.0 e (omega (arith, at.1, c.loop-k-test.false)))
+          subst (λ n. (LosesNone m.rows.now m.gaps.places.now n) ⊎ (IsFresh c.args.now (get_or c.loop-k.known.times.items n e))) at.2
+          (c.loop-k.invariant.done at.0 e (omega (arith, at.1, c.loop-k-test.false)))
     ]
 
 pub returns-clause-left : goal.returns-clause-left

@@ -34,7 +34,13 @@ invariant_of-behind c =
     let ready = c.in_ok-make_ready.ensures in record {
       behind = subst (AreChangesFrom c.loop-i.i (suc c.loop-i.i) rows c.deref.result.now c.args.links.now.next.items) (sym c.deref-in-loop-i.ensures.value)
           (subst (λ l. AreChangesFrom c.loop-i.i (suc c.loop-i.i) rows l c.args.links.now.next.items c.make_ready.new.changes.newer.items) (sym c.deref.ensures.value)
-          (record { inside = c.loop-i-test.true; one_each = c.loop-i.invariant.changes.linked.known.one_each; nexts = ready.changes.linked.links.next; newer = λ d k e f from. ready.own d k e f (omega arith); places = ready.changes.places }));
+          (record {
+            inside = c.loop-i-test.true;
+            one_each = c.loop-i.invariant.changes.linked.known.one_each;
+            nexts = ready.changes.linked.links.next;
+            newer = λ d k e f from. ready.own d k e f (omega arith);
+            places = ready.changes.places;
+          }));
     }
 
 pub returns-in-Some-clause-found : goal.returns-in-Some-clause-found
