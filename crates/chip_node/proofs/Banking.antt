@@ -17,8 +17,7 @@ unsent_first b h v k u xs has below read same first = grind (arith, first_item x
 
 -- what is left where the first copy is taken away
 pub popped_rest : (old new rest : List McCopy) (k : McCopy) (r : Option McCopy) → old ≡ k ∷ rest → old ≡ option_to_list r ++ new → (IsNone r → old ≡ []) → new ≡ rest
-popped_rest old new rest k None is items none = (let empty = none refl in cc)
-popped_rest old new rest k (Some x) is items none = (let both : x ∷ new ≡ k ∷ rest = sym items ∙ is in cc)
+popped_rest old new rest k r is items none = grind arith
 
 -- ---- the two halves of a turn
 
@@ -45,22 +44,14 @@ halves_act cap patience k a b c Waits Waits stays then = stays_on a b c stays th
 
 -- where a half moved nothing, nothing was done
 pub half_stays : (cap patience : ℕ) (One : List Item → Type 0) (a b : Holdings) (s : Turn) → s ≢ Moved → HalfActs cap patience One a s b → Stays a b
-half_stays cap patience One a b Moved none h = absurd (none refl)
-half_stays cap patience One a b Nothing none h = h
-half_stays cap patience One a b Waits none h = h
+half_stays cap patience One a b s none h = grind arith
 
 -- where a turn moved nothing, neither half did
 pub first_none : (s t : Turn) → turn_of_both s t ≢ Moved → s ≢ Moved
-first_none Moved t none = none
-first_none Nothing t none = λ e. cc
-first_none Waits t none = λ e. cc
+first_none s t none = grind arith
 
 pub second_none : (s t : Turn) → turn_of_both s t ≢ Moved → t ≢ Moved
-second_none Moved t none = absurd (none refl)
-second_none Nothing t none = none
-second_none Waits Moved none = none
-second_none Waits Nothing none = λ e. cc
-second_none Waits Waits none = λ e. cc
+second_none s t none = grind arith
 
 -- what cannot be got cannot have been got before
 pub cannot_get_before : (k : CoreBank) (a b : Holdings) → Stays a b → CannotGet k b → CannotGet k a

@@ -1,3 +1,4 @@
+use Rattle.std.proofs.Common.{arith}
 -- The names that the proofs of this crate cite from outside of them, passed on from one place. Declares nothing.
 pub use Rattle.chip_node.specs.Acting.{BankActs, BankMoves, CannotGet, GetsOne, HalfActs, IsReadyBank, IsReadyRouter, IsUnsentAt, RoutesOne, SendsOne, ServesOuts, place_at_router, place_in}
 pub use Rattle.chip_node.specs.{Acting.service_items, Acting.turn_of_both, Ends.IsInEndOf, Ends.IsOutEndOf, Going.AreEndsOf, Going.EndGoes, Going.EndHasRoom, Going.EndStays, Going.Goes}

@@ -14,10 +14,7 @@ sender_sends : (patience tries : ℕ) (k : McCopy) (x y : OutEnd) → y.link ≡
 sender_sends patience tries k x y link s = grind arith
 
 pub end_goes_sends : (cap patience tries : ℕ) (k : McCopy) (x y : End) → EndSends cap tries k x y → EndGoes cap patience (k ∷ []) [] [] x y
-end_goes_sends cap patience tries k Away y h = absurd h
-end_goes_sends cap patience tries k (Own a) y (b, is, items, below) = grind (arith, lane_sends cap patience k a.items b.items items below)
-end_goes_sends cap patience tries k (Sends a) y (b, is, link, s) = grind (arith, sender_sends patience tries k a b link s)
-end_goes_sends cap patience tries k (Takes a) y h = absurd h
+end_goes_sends cap patience tries k x y its_6 = grind (arith, lane_sends, sender_sends)
 
 -- ---- a copy was dumped
 
@@ -34,43 +31,25 @@ sender_refuses : (patience : ℕ) (k : McCopy) (x y : OutEnd) → y.link ≡ x.l
 sender_refuses patience k x y link r = grind (arith, append-nil (sending x.tx).sent, length-replicate patience (length (put_of (sending x.tx))))
 
 pub end_goes_refuses : (cap patience : ℕ) (k : McCopy) (x y : End) → EndRefuses cap patience x y → EndGoes cap patience [] [] (k ∷ []) x y
-end_goes_refuses cap patience k Away y h = absurd h
-end_goes_refuses cap patience k (Own a) y (is, full) = grind (arith, lane_refuses cap patience k a.items full)
-end_goes_refuses cap patience k (Sends a) y (b, is, link, r) = grind (arith, sender_refuses patience k a b link r)
-end_goes_refuses cap patience k (Takes a) y h = absurd h
+end_goes_refuses cap patience k x y its_5 = grind (arith, lane_refuses, sender_refuses)
 
 -- a copy that was refused, and not dumped
 pub end_stays_refuses : (cap tries : ℕ) (x y : End) → EndRefuses cap tries x y → EndStays x y
-end_stays_refuses cap tries Away y h = absurd h
-end_stays_refuses cap tries (Own a) y (is, full) = is
-end_stays_refuses cap tries (Sends a) y (b, is, link, r) = grind (arith, append-nil (sending a.tx).sent)
-end_stays_refuses cap tries (Takes a) y h = absurd h
+end_stays_refuses cap tries x y its_4 = grind (arith, append-nil)
 
 -- where an offer was refused, the queue was full
 pub end_refuses_full : (cap tries : ℕ) (x y : End) → 0 < tries → EndRefuses cap tries x y → IsFullEnd cap x
-end_refuses_full cap tries Away y some h = h
-end_refuses_full cap tries (Own a) y some (is, full) = full
-end_refuses_full cap tries (Sends a) y some (b, is, link, r) = r.full some
-end_refuses_full cap tries (Takes a) y some h = h
+end_refuses_full cap tries x y some its_5 = grind arith
 
 -- ---- a copy was taken
 
 pub end_goes_takes : (cap patience : ℕ) (k : McCopy) (x y : End) → EndTakes k x y → EndGoes cap patience [] (k ∷ []) [] x y
-end_goes_takes cap patience k Away y h = absurd h
-end_goes_takes cap patience k (Own a) y (b, is, items) = grind (arith, append-nil a.items, All-nil (IsFullMoment cap (length a.items) [] (k ∷ [])))
-end_goes_takes cap patience k (Sends a) y h = absurd h
-end_goes_takes cap patience k (Takes a) y (b, is, link, t) = grind arith
+end_goes_takes cap patience k x y its_5 = grind (arith, append-nil, All-nil)
 
 -- ---- nothing was there to take
 
 pub end_stays_lacks : (x y : End) → EndLacks x y → EndStays x y
-end_stays_lacks Away y h = h
-end_stays_lacks (Own a) y h = h.0
-end_stays_lacks (Sends a) y h = (a, h, sender_same a)
-end_stays_lacks (Takes a) y (b, is, link, f) = grind (arith, append-nil (taking a.rx).took)
+end_stays_lacks x y its_2 = grind (arith, sender_same, append-nil)
 
 pub end_lacks_idle : (x y : End) → EndLacks x y → IsIdle x
-end_lacks_idle Away y h = tt
-end_lacks_idle (Own a) y h = h.1
-end_lacks_idle (Sends a) y h = tt
-end_lacks_idle (Takes a) y (b, is, link, f) = f.whole
+end_lacks_idle x y its_2 = grind arith

@@ -49,10 +49,7 @@ lane_same cap patience x = grind (arith, append-nil x, All-nil (IsFullMoment cap
 -- ---- ends
 
 pub end_goes_none : (cap patience : ℕ) (x y : End) → EndStays x y → EndGoes cap patience [] [] [] x y
-end_goes_none cap patience Away y h = subst (λ (e : End). EndGoes cap patience [] [] [] Away e) (sym h) (refl, refl, refl)
-end_goes_none cap patience (Own a) y h = subst (λ (e : End). EndGoes cap patience [] [] [] (Own a) e) (sym h) (lane_same cap patience a.items)
-end_goes_none cap patience (Sends a) y (b, is, h) = grind arith
-end_goes_none cap patience (Takes a) y (b, is, h) = subst (λ (e : End). EndGoes cap patience [] [] [] (Takes a) e) (sym is) (refl, refl, h)
+end_goes_none cap patience x y its_4 = grind (arith, lane_same)
 
 both_empty : (c e : List McCopy) → c ≡ [] → e ≡ [] → c ++ e ≡ []
 both_empty c e none nothing = ap (λ l. l ++ e) none ∙ nothing
@@ -95,27 +92,7 @@ goes_none cap patience a b h = grind (arith, append-nil a.deliveries.items, appe
 
 -- one list of what was done after the other
 pub goes_on : (cap patience : ℕ) (a b c : Holdings) (xs ys : List Item) → Goes cap patience a xs b → Goes cap patience b ys c → Goes cap patience a (xs ++ ys) c
-goes_on cap patience a b c xs ys h k = record {
-  ends_long = k.ends_long ∙ h.ends_long;
-  ends = λ q x z at also.
-      (let y = end_before b.ends.items c.ends.items q z k.ends_long also in
-      let both = end_goes_on cap patience (entered q xs) (left q xs) (lost_at q xs) (entered q ys) (left q ys) (lost_at q ys) x y.0 z (h.ends q x y.0 at y.1) (k.ends q y.0 z y.1 also) in
-      subst (λ (l : List McCopy). EndGoes cap patience l (left q (xs ++ ys)) (lost_at q (xs ++ ys)) x z) (sym (flat_map-append (entered_by q) xs ys))
-      (subst (λ (l : List McCopy). EndGoes cap patience (entered q xs ++ entered q ys) l (lost_at q (xs ++ ys)) x z) (sym (flat_map-append (left_by q) xs ys))
-      (subst (λ (l : List McCopy). EndGoes cap patience (entered q xs ++ entered q ys) (left q xs ++ left q ys) l x z) (sym (flat_map-append (lost_by q) xs ys)) both)));
-  unsent_long = k.unsent_long ∙ h.unsent_long;
-  unsent = λ v.
-      h.unsent v ∙ (ap (λ l. sent_by v xs ++ l) (k.unsent v) ∙ (sym (append_assoc (sent_by v xs) (sent_by v ys) (slice_index_or c.unsent.items v []))
-      ∙ ap (λ l. l ++ slice_index_or c.unsent.items v []) (sym (flat_map-append (sent_in v) xs ys))));
-  delivered =
-      k.delivered ∙ (ap (λ l. l ++ deliveries ys) h.delivered ∙ (append_assoc a.deliveries.items (deliveries xs) (deliveries ys)
-      ∙ ap (λ l. a.deliveries.items ++ l) (sym (flat_map-append delivered_of xs ys))));
-  dumped =
-      k.dumped ∙ (ap (λ l. l ++ records ys) h.dumped ∙ (append_assoc a.dumps.items (records xs) (records ys)
-      ∙ ap (λ l. a.dumps.items ++ l) (sym (flat_map-append dumped_of xs ys))));
-  deliveries_room = k.deliveries_room ∙ h.deliveries_room;
-  dumps_room = k.dumps_room ∙ h.dumps_room;
-}
+goes_on cap patience a b c xs ys h k = grind (arith, end_before, end_goes_on, flat_map-append, append_assoc)
 
 -- nothing was done, and then these were
 pub stays_goes : (cap patience : ℕ) (a b c : Holdings) (xs : List Item) → Stays a b → Goes cap patience b xs c → Goes cap patience a xs c
@@ -128,22 +105,11 @@ goes_stays cap patience a b c xs h k = grind (arith, append-nil xs, goes_on cap 
 -- ---- what is held after what was done
 
 end_sends_on : (cap patience : ℕ) (c w d : List McCopy) (x y : End) → EndGoes cap patience c w d x y → IsSending x → IsSending y
-end_sends_on cap patience c w d Away y h sends = absurd sends
-end_sends_on cap patience c w d (Own x) Away h sends = absurd h
-end_sends_on cap patience c w d (Own x) (Own y) h sends = tt
-end_sends_on cap patience c w d (Own x) (Sends y) h sends = tt
-end_sends_on cap patience c w d (Own x) (Takes y) h sends = absurd h
-end_sends_on cap patience c w d (Sends x) Away h sends = absurd h
-end_sends_on cap patience c w d (Sends x) (Own y) h sends = tt
-end_sends_on cap patience c w d (Sends x) (Sends y) h sends = tt
-end_sends_on cap patience c w d (Sends x) (Takes y) h sends = absurd h
-end_sends_on cap patience c w d (Takes x) y h sends = absurd sends
+end_sends_on cap patience c w d x y h sends = grind arith
 
 -- a sending end that was held still is
 pub holds_sender_on : (cap patience : ℕ) (a b : Holdings) (xs : List Item) (q : ℕ) → Goes cap patience a xs b → HoldsSender a.ends.items q → HoldsSender b.ends.items q
-holds_sender_on cap patience a b xs q h s =
-    let y = end_before b.ends.items a.ends.items q s.end (sym h.ends_long) s.stands in
-    record { end = y.0; stands = y.1; sends = end_sends_on cap patience (entered q xs) (left q xs) (lost_at q xs) s.end y.0 (h.ends q s.end y.0 s.stands y.1) s.sends }
+holds_sender_on cap patience a b xs q h s = grind (arith, end_before, end_sends_on)
 
 -- A router that may begin its turn still may, and so may a bank. That ends of links are theirs is told by who changed them.
 pub ready_router_on : (cap patience : ℕ) (links : List Link) (r : RouterNode) (a b : Holdings) (xs : List Item) → Goes cap patience a xs b → AreEndsOf links b.ends.items →

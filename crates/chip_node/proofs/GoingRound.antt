@@ -11,17 +11,13 @@ IsPlaceOf start count steps at = (at ≡ start + steps) ⊎ (at + count ≡ star
 
 still_behind : (start count steps at j : ℕ) → start ≤ count → steps < count → at < count → j < count → IsPlaceOf start count steps at → j ≢ at → IsBehind start count (steps + 1) j →
     IsBehind start count steps j
-still_behind start count steps at j s n below inside (inl e) other (inl h) = inl (h.0, omega (arith, h.1))
-still_behind start count steps at j s n below inside (inl e) other (inr h) = absurd (omega arith)
-still_behind start count steps at j s n below inside (inr e) other (inl h) = inl (h.0, omega (arith, h.1))
-still_behind start count steps at j s n below inside (inr e) other (inr h) = inr (omega arith)
+still_behind start count steps at j s n below inside its_9 other its_11 = grind arith
 
 all_behind : (start count steps j : ℕ) → start ≤ count → j < count → count ≤ steps → IsBehind start count steps j
 all_behind start count steps j s inside end = elim (cases_lt j start) [ inl before ↦ inr (omega arith) | inr after ↦ inl (omega arith, omega arith) ]
 
 none_behind : (start count j : ℕ) → start ≤ count → j < count → IsBehind start count 0 j → ⊥
-none_behind start count j s inside (inl h) = omega (arith, h.0, h.1)
-none_behind start count j s inside (inr h) = omega arith
+none_behind start count j s inside its_5 = grind arith
 
 -- P holds at each place that was gone by
 pub record GoneBy (P : ℕ → Type 0) (start count steps : ℕ) : Type 0 where

@@ -1,4 +1,5 @@
 -- What a router sees at a port, and that there is room for what its turn needs.
+use Rattle.std.proofs.Common.{rules}
 use Rattle.chip_node.proofs.Common.{All, All-at, All-each, All-filter, All-nil, All-weaker, Away, Behind, Bool, End, EndHasRoom, EndLacks, EndTakes, Entry, Front, HasRoomBehind, HasRoomForOuts}
 use Rattle.chip_node.proofs.Common.{HasRoomIn, Holdings, IsIdle, IsIdleAt, IsReadyRouter, IsSeen, Link, List, McCopy, None, Option, Out, Own, Port, RouterNode, Sends, Some, Stays, Takes, [], all_outs}
 use Rattle.chip_node.proofs.Common.{arith, cond, false, get_or, has, last_hop, length, lookup, one_item_at, out_number, outputs_at, outs_of, place_in, port_place, refl, set, slice_get}
@@ -27,8 +28,7 @@ end_written ends n q old new at inside read = grind (arith, read_stands)
 -- where nothing was found, there was nothing
 pub lacks_at : (a b : Holdings) (q : ℕ) (old new : End) → Writes a.ends.items b.ends.items q old new → EndLacks old new → b.unsent.items ≡ a.unsent.items → b.deliveries ≡ a.deliveries →
     b.dumps ≡ a.dumps → Stays a b × IsIdleAt a.ends.items q
-lacks_at a b q old new w lacks unsent deliveries dumps =
-    (stays_at a b q old new w (end_stays_lacks old new lacks) unsent deliveries dumps, idle_at a.ends.items q old w.stood (end_lacks_idle old new lacks))
+lacks_at a b q old new w lacks unsent deliveries dumps = search (rules, stays_at, end_stays_lacks, idle_at, end_lacks_idle)
 
 -- ---- room
 
@@ -58,10 +58,7 @@ room_for_all cap entries r port k h room = by (k.hop == last_hop)
 
 -- what is taken of a queue whose front copy is seen is that copy
 pub seen_first : (f k : McCopy) (x y : End) → IsSeen (Front f) x → EndTakes k x y → f ≡ k
-seen_first f k Away y sees takes = absurd sees
-seen_first f k (Sends a) y sees takes = absurd sees
-seen_first f k (Takes a) y sees takes = absurd sees
-seen_first f k (Own a) y (rest, items) (b, is, taken) = let both : f ∷ rest ≡ k ∷ b.items = sym items ∙ taken in cc
+seen_first f k x y its_4 its_5 = grind arith
 
 -- what is taken at a port leaves the room behind the outputs
 pub room_kept : (cap : ℕ) (links : List Link) (r : RouterNode) (port : Port) (outs : List Out) (a b : Holdings) (old new : End) → IsReadyRouter links r a

@@ -25,8 +25,7 @@ rises_filter p low [] h = tt
 rises_filter p low (o ∷ os) h = step (p o) (rises_filter p (out_number o + 1) os h.2)
   where
     step : (b : Bool) → Rises (out_number o + 1) (filter p os) → Rises low (cond b (o ∷ filter p os) (filter p os))
-    step true rest = (h.0, h.1, rest)
-    step false rest = rises_lower low (out_number o + 1) (filter p os) (let from = h.0 in omega arith) rest
+    step b rest = grind (arith, rises_lower)
 
 rises_numbered : (low : ℕ) (os : List Out) → Rises low os → All IsOutput os
 rises_numbered low [] h = All-nil IsOutput
@@ -55,5 +54,4 @@ few_pass p [] = omega arith
 few_pass p (o ∷ os) = step (p o) (few_pass p os)
   where
     step : (b : Bool) → length (filter p os) ≤ length os → length (cond b (o ∷ filter p os) (filter p os)) ≤ length (o ∷ os)
-    step true few = omega arith
-    step false few = omega arith
+    step b few = grind arith

@@ -141,44 +141,19 @@ sent_goes cap patience tries i v k rest a b old new w sends below first unsent d
 }
   where
     each : (u : ℕ) → slice_index_or a.unsent.items u [] ≡ sent_by u (sent i v k ∷ []) ++ slice_index_or b.unsent.items u []
-    each u = elim (cases_eq u v) [
-      | inl here ↦
-          let now : slice_index_or b.unsent.items v [] ≡ rest = ap (λ (l : List (List McCopy)). slice_index_or l v []) unsent ∙ get_or-set_same a.unsent.items v rest [] below in
-          let at_v : slice_index_or a.unsent.items v [] ≡ sent_by v (sent i v k ∷ []) ++ slice_index_or b.unsent.items v [] =
-          first ∙ (ap (λ l. k ∷ l) (sym now) ∙ ap (λ l. l ++ slice_index_or b.unsent.items v []) (sym (only_here v (k ∷ [])))) in
-          subst (λ n. slice_index_or a.unsent.items n [] ≡ sent_by n (sent i v k ∷ []) ++ slice_index_or b.unsent.items n []) (sym here) at_v
-      | inr other ↦
-          let now : slice_index_or b.unsent.items u [] ≡ slice_index_or a.unsent.items u [] =
-          ap (λ (l : List (List McCopy)). slice_index_or l u []) unsent ∙ get_or-set_other a.unsent.items v u rest [] other in
-          sym now ∙ ap (λ l. l ++ slice_index_or b.unsent.items u []) (sym (not_other v u (k ∷ []) other))
-    ]
+    each u = grind (arith, cases_eq u v, get_or-set_same a.unsent.items v rest, only_here v (k ∷ []), get_or-set_other a.unsent.items v u rest, not_other)
 
 -- ---- an output was served
 
 -- where no queue stands behind the output, or one
 served_nowhere : (cap patience i : ℕ) (c : Chip) (s : Service) (a b : Holdings) → b.ends.items ≡ a.ends.items → b.unsent.items ≡ a.unsent.items → b.deliveries ≡ a.deliveries
     → b.dumps.items ≡ a.dumps.items ++ recorded c s s.fate → b.dumps.spare + length (recorded c s s.fate) ≡ a.dumps.spare → Goes cap patience a (served i c None s ∷ []) b
-served_nowhere cap patience i c s a b ends unsent deliveries dumped spare = record {
-  ends_long = ap length ends;
-  ends = λ q x y at also. (let same : x ≡ y = same_Some x y (sym at ∙ (ap (λ (l : List End). slice_get l q) (sym ends) ∙ also)) in end_goes_none cap patience x y
-      (subst (EndStays x) same (end_stays_same x)));
-  unsent_long = ap length unsent;
-  unsent = same_unsent a b unsent;
-  delivered = ap (λ (l : WithRoom Delivery). l.items) deliveries ∙ sym (append-nil a.deliveries.items);
-  dumped = dumped ∙ ap (λ l. a.dumps.items ++ l) (sym (append-nil (recorded c s s.fate)));
-  deliveries_room = ap (λ (l : WithRoom Delivery). l.spare + length l.items) deliveries;
-  dumps_room = grown a.dumps b.dumps (recorded c s s.fate) dumped spare;
-}
+served_nowhere cap patience i c s a b ends unsent deliveries dumped spare = grind (arith, same_Some, end_goes_none, end_stays_same, same_unsent, append-nil, grown)
 
 served_end : (cap patience i : ℕ) (c : Chip) (q : ℕ) (o : Out) (k : McCopy) (fate : Served) (old new : End) → EndServes cap patience (onward k) fate old new
     → EndGoes cap patience (entered q (served i c (Some q) (record { out = o; copy = k; fate = fate }) ∷ [])) (left q (served i c (Some q) (record { out = o; copy = k; fate = fate }) ∷ []))
     (lost_at q (served i c (Some q) (record { out = o; copy = k; fate = fate }) ∷ [])) old new
-served_end cap patience i c q o k Sent old new h =
-    subst (λ (l : List McCopy). EndGoes cap patience l [] (lost_at q (served i c (Some q) (record { out = o; copy = k; fate = Sent }) ∷ [])) old new) (sym (only_here q (onward k ∷ [])))
-    (subst (λ (l : List McCopy). EndGoes cap patience (onward k ∷ []) [] l old new) (sym (only_here q [])) (end_goes_sends cap patience patience (onward k) old new h))
-served_end cap patience i c q o k Dumped old new h =
-    subst (λ (l : List McCopy). EndGoes cap patience l [] (lost_at q (served i c (Some q) (record { out = o; copy = k; fate = Dumped }) ∷ [])) old new) (sym (only_here q []))
-    (subst (λ (l : List McCopy). EndGoes cap patience [] [] l old new) (sym (only_here q (k ∷ []))) (end_goes_refuses cap patience k old new h))
+served_end cap patience i c q o k fate old new h = grind (arith, only_here, end_goes_sends, end_goes_refuses)
 
 served_there : (cap patience i : ℕ) (c : Chip) (q : ℕ) (o : Out) (k : McCopy) (fate : Served) (a b : Holdings) → SendsThere cap patience q (onward k) fate a.ends.items b.ends.items
     → b.unsent.items ≡ a.unsent.items → b.deliveries ≡ a.deliveries → b.dumps.items ≡ a.dumps.items ++ recorded c (record { out = o; copy = k; fate = fate }) fate
@@ -213,5 +188,4 @@ served_goes cap patience i c (Some q) o k fate a b h unsent deliveries dumped sp
 -- a queue that is not behind the output is as it was
 pub served_elsewhere : (cap patience : ℕ) (place : Option ℕ) (k : McCopy) (fate : Served) (before after : List End) (q : ℕ) → SendsBehind cap patience place k fate before after →
     place ≢ Some q → slice_get after q ≡ slice_get before q
-served_elsewhere cap patience None k fate before after q h other = ap (λ (l : List End). slice_get l q) h.1
-served_elsewhere cap patience (Some p) k fate before after q h other = grind (arith, slice_get-set_other)
+served_elsewhere cap patience place k fate before after q h other = grind (arith, slice_get-set_other)

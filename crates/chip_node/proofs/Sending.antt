@@ -7,10 +7,7 @@ use Rattle.chip_node.proofs.Common.{slice_get_read, slice_get_within, subst, sym
 
 pub place_there : (behind : List (Option Behind)) (o : Out) (n : ℕ) (d : Option Behind) (b : Behind) → n ≡ out_number o → length behind ≡ 24 → IsOutput o → get_or behind n d ≡ Some b →
     place_at_router behind o ≡ Some b.place
-place_there behind o n d b number long numbered is =
-    let below = out_number_below o numbered in
-    let stands : slice_get behind (out_number o) ≡ Some (get_or behind n d) = ap (slice_get behind) (sym number) ∙ slice_get-get_or behind n d (omega arith) in
-    ap place_in (stands ∙ ap {B = Option (Option Behind)} (λ x. Some x) is)
+place_there behind o n d b number long numbered is = grind (arith, out_number_below, get_or, slice_get-get_or)
 
 -- ---- ends by which copies are sent
 
@@ -44,5 +41,4 @@ dumped_room c o k fate a b is more = subst (λ (f : Served). b + length (recorde
 
 -- behind an output without a queue a copy is dumped
 pub sent_nowhere : (cap patience : ℕ) (place : Option ℕ) (k : McCopy) (fate : Served) (before after : List End) → SendsBehind cap patience place k fate before after → place ≡ None → fate ≡ Dumped
-sent_nowhere cap patience None k fate before after h is = h.0
-sent_nowhere cap patience (Some q) k fate before after h is = cc
+sent_nowhere cap patience place k fate before after h is = grind arith

@@ -1,4 +1,5 @@
 -- What stays where nothing was done: what is not there to take, what is full, and room.
+use Rattle.std.proofs.Common.{rules}
 use Rattle.chip_node.proofs.Common.{All-at, Away, Delivery, DumpRec, End, EndHasRoom, EndStays, HasAmpleRoom, Holdings, InEnd, IsIdle, IsIdleAt, List, McCopy, OutEnd, Own, SenderGoes, Sends, Some}
 use Rattle.chip_node.proofs.Common.{Stays, TakerGoes, Takes, WithRoom, [], ap, append-nil, append_assoc, arith, get_or, length, length-append, refl, same_Some, sending, slice_get, slice_get-get_or}
 use Rattle.chip_node.proofs.Common.{slice_get_there, slice_get_within, subst, sym, taking, ℕ, ◌*◌, ◌++◌, ◌+◌, ◌∙◌, ◌≡◌, ◌≤◌}
@@ -9,17 +10,7 @@ pub patient_on : (p d e m n : ℕ) → p * d ≤ m → p * e ≤ n → p * (d + 
 patient_on p d e m n h k = omega (arith, h, k)
 
 pub sender_on : (patience : ℕ) (c d : List McCopy) (e f : List McCopy) (x y z : OutEnd) → SenderGoes patience c d x y → SenderGoes patience e f y z → SenderGoes patience (c ++ e) (d ++ f) x z
-sender_on patience c d e f x y z h k = record {
-  link = k.link ∙ h.link;
-  first = k.first ∙ h.first;
-  sent = k.sent ∙ (ap (λ l. l ++ e) h.sent ∙ append_assoc (sending x.tx).sent c e);
-  notes = h.notes ++ k.notes;
-  fulls = k.fulls ∙ (ap (λ l. l ++ k.notes) h.fulls ∙ append_assoc (sending x.tx).fulls h.notes k.notes);
-  patient =
-      let both = patient_on patience (length d) (length f) (length h.notes) (length k.notes) h.patient k.patient in
-      let noted = length-append h.notes k.notes in
-      subst (λ n. patience * n ≤ length (h.notes ++ k.notes)) (sym (length-append d f)) (subst (λ n. patience * (length d + length f) ≤ n) (sym noted) both);
-}
+sender_on patience c d e f x y z h k = grind (arith, append_assoc, patient_on, length-append)
 
 pub taker_on : (w v : List McCopy) (x y z : InEnd) → TakerGoes w x y → TakerGoes v y z → TakerGoes (w ++ v) x z
 taker_on w v x y z h k = grind (arith, append_assoc (taking x.rx).took w v)
@@ -34,10 +25,7 @@ taker_same x = record { link = refl; first = refl; took = sym (append-nil (takin
 -- ---- ends
 
 pub end_stays_same : (e : End) → EndStays e e
-end_stays_same Away = refl
-end_stays_same (Own a) = refl
-end_stays_same (Sends a) = (a, refl, sender_same a)
-end_stays_same (Takes a) = (a, refl, taker_same a)
+end_stays_same e = search (rules, sender_same, taker_same)
 
 pub end_stays_on : (x y z : End) → EndStays x y → EndStays y z → EndStays x z
 end_stays_on Away y z h k = subst (λ (e : End). EndStays e z) h k
@@ -46,16 +34,10 @@ end_stays_on (Sends a) y z (b, is, h) k = (let then : EndStays (Sends b) z = sub
 end_stays_on (Takes a) y z (b, is, h) k = (let then : EndStays (Takes b) z = subst (λ (e : End). EndStays e z) is k in (then.0, then.1, taker_on [] [] a b then.0 h then.2))
 
 end_idle_before : (x y : End) → EndStays x y → IsIdle y → IsIdle x
-end_idle_before Away y h idle = tt
-end_idle_before (Own a) y h idle = subst IsIdle h idle
-end_idle_before (Sends a) y h idle = tt
-end_idle_before (Takes a) y (b, is, h) idle = grind (arith, append-nil (taking a.rx).took)
+end_idle_before x y its_2 idle = grind (arith, append-nil)
 
 end_roomy_on : (cap : ℕ) (x y : End) → EndStays x y → EndHasRoom cap x → EndHasRoom cap y
-end_roomy_on cap Away y h room = subst (EndHasRoom cap) (sym h) tt
-end_roomy_on cap (Own a) y h room = subst (EndHasRoom cap) (sym h) room
-end_roomy_on cap (Sends a) y (b, is, h) room = subst (EndHasRoom cap) (sym is) tt
-end_roomy_on cap (Takes a) y (b, is, h) room = subst (EndHasRoom cap) (sym is) tt
+end_roomy_on cap x y its_3 room = grind arith
 
 -- ---- all that is held
 

@@ -1,4 +1,5 @@
 -- A router's turn: looks at its ports until one gives a copy, which is routed.
+use Rattle.std.proofs.Common.{rules}
 use Rattle.chip_node.proofs.Common.{East, Empty, Entry, Goes, Holdings, IsIdleAt, Item, List, Local, Look, Looks, McCopy, NoRoom, North, NorthEast, Out, Port, RouterNode, RoutesOne, ServesOuts, South}
 use Rattle.chip_node.proofs.Common.{SouthWest, Stays, Took, West, [], ap, arith, cases_lt, dir_number, dir_number_below, get_or, map, outputs_at, port_number, port_place, refl, service_items, suc}
 use Rattle.chip_node.proofs.Common.{took, zero, ℕ, ◌%◌, ◌+◌, ◌<◌, ◌∙◌, ◌∷◌, ◌≡◌, ◌≤◌}
@@ -21,8 +22,7 @@ port_step number steps low = grind (arith, cases_lt (number % 7 + steps) 7)
 
 -- what holds at each place that was gone by holds at each port
 pub ports_gone : (P : ℕ → Type 0) (start steps : ℕ) → 7 ≤ steps → GoneBy P start 7 steps → (port : Port) → P (port_number port)
-ports_gone P start steps end gone (Link d) = gone_all P start 7 steps end gone (dir_number d) (let below = dir_number_below d in omega arith)
-ports_gone P start steps end gone Local = gone_all P start 7 steps end gone 6 (omega arith)
+ports_gone P start steps end gone port = grind (arith, gone_all, dir_number_below)
 
 -- at the port of a number nothing is there to take, and was not before
 pub next_idle : (a b : Holdings) (i at : ℕ) (p : Port) → Stays a b → port_number p ≡ at → IsIdleAt b.ends.items (port_place i p) → (port : Port) → port_number port ≡ at →
@@ -35,23 +35,11 @@ abbrev pub seven_ports : List Port
 seven_ports = Link East ∷ Link NorthEast ∷ Link North ∷ Link West ∷ Link SouthWest ∷ Link South ∷ Local ∷ []
 
 pub port_at : (n : ℕ) → n < 7 → port_number (get_or seven_ports n (Link East)) ≡ n
-port_at zero low = refl
-port_at (suc zero) low = refl
-port_at (suc (suc zero)) low = refl
-port_at (suc (suc (suc zero))) low = refl
-port_at (suc (suc (suc (suc zero)))) low = refl
-port_at (suc (suc (suc (suc (suc zero))))) low = refl
-port_at (suc (suc (suc (suc (suc (suc zero)))))) low = refl
-port_at (suc (suc (suc (suc (suc (suc (suc n))))))) low = absurd (omega arith)
+port_at n low = grind arith
 
 -- a look after nothing was done is a look
 pub looks_on : (cap patience : ℕ) (entries : List Entry) (r : RouterNode) (port : Port) (a b : Holdings) (look : Look) (c : Holdings) → Stays a b →
     Looks cap patience entries r port b look c → Looks cap patience entries r port a look c
-looks_on most patience entries r port a b (Took t) c s l = record {
-  goes = stays_goes most patience a b c _ s l.goes;
-  given = l.given;
-  outs = l.outs;
-  room = l.room;
-}
+looks_on most patience entries r port a b (Took t) c s l = search (rules, stays_goes)
 looks_on most patience entries r port a b Empty c s l = (stays_on a b c s l.0, idle_before a b _ s l.1)
 looks_on most patience entries r port a b NoRoom c s l = (stays_on a b c s l.0, λ roomy. l.1 (roomy_on most a b s roomy))

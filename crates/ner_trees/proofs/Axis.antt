@@ -1,4 +1,5 @@
 -- Displacements along one axis: which way they lead, how far, and what a step does.
+use Rattle.std.proofs.Common.{rules}
 use Rattle.ner_trees.proofs.Common.{Ahead, Back, Bool, None, Some, Stay, Step, add-mod_right, ahead_by, ap, arith, back, cases_eq, cases_lt, cond, cond-false, cond-true, false, forth, inl, inr}
 use Rattle.ner_trees.proofs.Common.{is_ahead, is_back, lt-ltb, ltb, mod-eq_of_lt, mod_self, ne_eqb, negsuc, not, pos, refl, stepped, true, true≢false, ℕ, ℤ, ◌%◌, ◌+◌, ◌-◌, ◌<◌, ◌∙◌, ◌≡◌, ◌≤◌, ◌⊎◌}
 
@@ -36,13 +37,11 @@ pub record Reaches (wrap : Bool) (w p q : ℕ) (z : ℤ) : Type 0 where
   pub straight : wrap ≡ false → IsStraight (way z) p q
 
 pub gap_start : (b : Bool) (w p : ℕ) → p < w → gap b w p p ≡ 0
-gap_start true w p pw = omega (arith, ahead_cases w p p pw pw)
-gap_start false w p pw = omega (arith, ahead_cases w p p pw pw)
+gap_start b w p pw = grind (arith, ahead_cases)
 
 -- places that are equally far are one
 pub gap_same : (b : Bool) (w p n k : ℕ) → p < w → n < w → k < w → gap b w p n ≡ gap b w p k → n ≡ k
-gap_same true w p n k pw nw kw e = let f : ahead_by w p n ≡ ahead_by w p k = e in omega (arith, ahead_cases w p n pw nw, ahead_cases w p k pw kw)
-gap_same false w p n k pw nw kw e = let f : ahead_by w n p ≡ ahead_by w k p = e in omega (arith, ahead_cases w n p nw pw, ahead_cases w k p kw pw)
+gap_same b w p n k pw nw kw e = grind (arith, ahead_cases)
 
 abbrev pub StepsOn : Bool → Bool → ℕ → ℕ → ℕ → Step → Type 0
 StepsOn wrap b w p n s = (k : ℕ) × (stepped wrap w s n ≡ Some k) × (k < w) × (gap b w p k ≡ gap b w p n + 1)
@@ -103,11 +102,4 @@ line_back w p q n pw qw nw straight less = grind (arith, ahead_cases w q p qw pw
 -- What a step does that does not lead against the way: it leads on by one, or not at all.
 pub moves_on : (wrap b : Bool) (w p q n : ℕ) (s : Step) → p < w → q < w → n < w → (wrap ≡ false → IsStraight b p q) → goes (not b) s ≡ false →
     (goes b s ≡ true → gap b w p n < gap b w p q) → (k : ℕ) × (stepped wrap w s n ≡ Some k) × (k < w) × (gap b w p k ≡ gap b w p n + cond (goes b s) 1 0)
-moves_on wrap true w p q n Stay pw qw nw straight none some = (n, refl, nw, omega arith)
-moves_on wrap false w p q n Stay pw qw nw straight none some = (n, refl, nw, omega arith)
-moves_on true true w p q n Ahead pw qw nw straight none some = ring_ahead w p q n pw qw nw (some refl)
-moves_on false true w p q n Ahead pw qw nw straight none some = line_ahead w p q n pw qw nw (straight refl) (some refl)
-moves_on wrap true w p q n Back pw qw nw straight none some = absurd (true≢false none)
-moves_on true false w p q n Back pw qw nw straight none some = ring_back w p q n pw qw nw (some refl)
-moves_on false false w p q n Back pw qw nw straight none some = line_back w p q n pw qw nw (straight refl) (some refl)
-moves_on wrap false w p q n Ahead pw qw nw straight none some = absurd (true≢false none)
+moves_on wrap b w p q n s pw qw nw straight none some = search (rules, ring_ahead, line_ahead, true≢false, ring_back, line_back)

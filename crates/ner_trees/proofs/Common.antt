@@ -1,3 +1,4 @@
+use Rattle.std.proofs.Common.{arith}
 -- The names that the proofs of this crate cite from outside of them, passed on from one place. Declares nothing.
 pub use Rattle.machine_desc.proofs.{Far.far_from, Far.far_inside, Far.index_below, Far.inside_from, Far.inside_parts, Far.same_index, Same.below_six, Same.same_chip, Same.same_edge}
 pub use Rattle.machine_desc.proofs.TreeLemmas.{chip_in, more_chips, more_path, path_in, path_more, tree_cases, tree_end}

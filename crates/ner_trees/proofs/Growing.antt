@@ -37,26 +37,11 @@ near_on_table m root on tree t near root_in inside tells (inl found) = grind (ar
 near_on_table m root on tree t near root_in inside tells (inr none) = grind arith
 
 pub next_inside : (m : Description) (c : Chip) (d : Dir) → IsInside m c → IsInside m (next_of m c d)
-next_inside m c d c_in = go (far_of m c d) refl
-  where
-    go : (o : Option Chip) → far_of m c d ≡ o → IsInside m (or_stay c o)
-    go None e = c_in
-    go (Some f) e = far_inside m c f d c_in e
+next_inside m c d c_in = grind (arith, far_inside)
 
 pub added_is : (m : Description) (root : Chip) (on : List Bool) (tree : List Edge) (j : Join) (walk : List Dir) (links : List Edge) → TellsTree m root on tree →
     walk ≡ ldf_of (displacement_of m j.near j.target) → IsCutAt m on j.near walk j.start links → IsAdded m root tree j links
-added_is m root on tree j walk links tells is cut = record {
-  passed = cut.passed;
-  rest = cut.rest;
-  walk = sym is ∙ cut.walk_is;
-  start_is = cut.start_is;
-  on_tree = (tells j.start cut.start_inside).0 cut.start_on;
-  added_is = cut.added_is;
-  off_tree = λ k d within there.
-      let e : Edge = get_or links k d in
-      let e_in : IsInside m e.chip = cut.added_inside k d within in
-      true≢false (sym ((tells (next_of m e.chip e.dir) (next_inside m e.chip e.dir e_in)).1 there) ∙ cut.added_off k d within);
-}
+added_is m root on tree j walk links tells is cut = grind (arith, get_or, true≢false, next_inside)
 
 -- the table with the branch noted tells the tree with the branch
 pub tells_more : (m : Description) (root : Chip) (old new : List Bool) (tree links whole : List Edge) → whole ≡ tree ++ links → TellsTree m root old tree → IsMarkedBy m old new links →

@@ -26,8 +26,7 @@ sum-longest_first w (r ∷ rs) = grind (arith, sum-put w r (longest_first rs), s
 
 -- how much the steps along one dimension weigh, of which the forward or the backward ones are none
 run_weighs : (w : Dir → ℕ) (d : Dir) (z : ℤ) → sum_by w (run_links (link_run_of d z)) ≡ forth z * w d + back z * w (opposite_of d)
-run_weighs w d (pos n) = sum_by-replicate w n d ∙ (grind arith)
-run_weighs w d (negsuc n) = sum_by-replicate w (suc n) (opposite_of d) ∙ (grind arith)
+run_weighs w d z = grind (arith, sum_by-replicate)
 
 -- the three numbers of steps of a displacement
 abbrev pub x_of : Disp → ℤ
@@ -46,8 +45,7 @@ ldf_weighs w d = grind (arith, sum-longest_first, sum_by-append, run_weighs)
 
 -- what is above and below 0 of a difference
 less_parts : (z : ℤ) (m n : ℕ) → z ≡ pos m -ℤ pos n → (forth z ≡ m - n) × (back z ≡ n - m)
-less_parts (pos k) m n e = (omega (arith, ints, e), omega (arith, ints, e))
-less_parts (negsuc k) m n e = (omega (arith, ints, e), omega (arith, ints, e))
+less_parts z m n e = grind (arith, ints)
 
 -- what the six numbers of steps come to
 pub record Counts (d : Disp) : Type 0 where
@@ -58,8 +56,7 @@ pub record Counts (d : Disp) : Type 0 where
   pub all : (forth (x_of d) + back (x_of d)) + ((forth (y_of d) + back (y_of d)) + (forth (z_of d) + back (z_of d))) ≡ max (forth d.a) (forth d.b) + max (back d.a) (back d.b)
 
 pub one_sided : (z : ℤ) → (forth z ≡ 0) ⊎ (back z ≡ 0)
-one_sided (pos n) = inr refl
-one_sided (negsuc n) = inl refl
+one_sided z = grind arith
 
 one_way : (e w n s : ℕ) → (e ≡ 0) ⊎ (w ≡ 0) → (n ≡ 0) ⊎ (s ≡ 0) → ((e + min w s) - (w + min e n)) + (min e n - min w s) ≡ e
 one_way e w n s p q = omega arith
@@ -129,8 +126,7 @@ pub ldf_below : (d : Disp) → count_by (λ e. is_back (y_step e)) (ldf_of d) �
 ldf_below d = omega (arith, ldf_weighs (λ e. cond (is_back (y_step e)) 1 0) d, (counts d).below)
 
 signed_is : (z : ℤ) → pos (forth z) -ℤ pos (back z) ≡ z
-signed_is (pos n) = omega (arith, ints)
-signed_is (negsuc n) = omega (arith, ints)
+signed_is z = grind (arith, ints)
 
 pub ldf_sum : (d : Disp) → sum_of (ldf_of d) ≡ d
 ldf_sum d = grind (arith, ldf_ahead d, ldf_behind d, signed_is d.a, ldf_above d, ldf_below d, signed_is d.b)

@@ -47,10 +47,7 @@ module _ (m : Description) (root t : Chip) where
   ]
     where
       first : (e : Chip) → Contains (chips ++ c ∷ []) e → new ≤ nearness m t e
-      first e has = elim (Contains-push_cases chips c e has) [
-        | inl was ↦ let low : old ≤ nearness m t e = known.first e was in let less : new ≤ old = not_above_first old (nearness m t c) new is in omega (arith, low, less)
-        | inr now ↦ subst (λ (x : Chip). new ≤ nearness m t x) now (not_above_second old (nearness m t c) new is)
-      ]
+      first e has = grind (arith, Contains-push_cases chips c e has, not_above_first old (nearness m t c) new is, not_above_second old (nearness m t c) new is)
 
   pub least_more : (chips : List Chip) (i : ℕ) (d : Chip) (old new : ℕ) → i < length chips → IsLeastOf m t (root ∷ take i chips) old → new ≡ min old (nearness m t (get_or chips i d)) →
       IsLeastOf m t (root ∷ take (i + 1) chips) new
@@ -76,8 +73,7 @@ module _ (m : Description) (root t : Chip) where
       (known : IsLeastNearness m root tree t least) where
     index_few : (c : Chip) → IsTreeChip m root tree c → index_of m c < 4096
     index_few c on =
-        let most : m.width * m.height ≤ 64 * 64 = mul-le m.width m.height 64 64 size.width_to_64 size.height_to_64 in
-        let below : index_of m c < m.width * m.height = index_below m c (on_inside m root tree root_in inside c on) in omega (arith, most, below)
+        grind (arith, mul-le m.width m.height 64 64 size.width_to_64 size.height_to_64, index_below m c (on_inside m root tree root_in inside c on), on_inside m root tree root_in inside c on)
 
     pub index_told : least % 4096 ≡ index_of m known.chip
     index_told = last_digit (distance_of m known.chip t) (index_of m known.chip) least known.is (index_few known.chip known.on)

@@ -16,17 +16,11 @@ round_is k w n sum is at = ap (λ s. s % w) is ∙ mod-mul-add k w n at
 
 -- a place of a line, from the first of the window
 line : (w p q r i : ℕ) → p < w → q + i ≡ p + r → place_at false w q r i ≡ Some p
-line w p q r i at sum =
-    let low : r ≤ q + i = omega arith in
-    let is : q + i - r ≡ p = omega arith in
-    let high : q + i - r < w = omega arith in
-    cond-false (ltb (q + i) r) None (cond (ltb (q + i - r) w) (Some (q + i - r)) None) (le-ltb (q + i) r low)
-    ∙ (cond-true (ltb (q + i - r) w) (Some (q + i - r)) None (lt-ltb (q + i - r) w high) ∙ ap Some is)
+line w p q r i at sum = grind (arith, cond-false, le-ltb, cond-true, lt-ltb)
 
 -- the window has each place that is near enough, as far from its middle as the displacement says
 place_covers : (wrap : Bool) (w p q r : ℕ) (z : ℤ) → Reaches wrap w p q z → forth z + back z ≤ r → (i : ℕ) × (i + forth z ≡ r + back z) × (place_at wrap w q r i ≡ Some p)
 place_covers true w p q r (pos n) reach near =
-    let far : ahead_by w p q ≡ n + 0 = reach.far in
     let at : p < w = reach.from_inside in (
       r - n,
       omega arith,
@@ -42,7 +36,6 @@ place_covers true w p q r (pos n) reach near =
       ],
     )
 place_covers true w p q r (negsuc n) reach near =
-    let far : ahead_by w q p ≡ 0 + suc n = reach.far in
     let at : p < w = reach.from_inside in (
       r + suc n,
       omega arith,
@@ -58,7 +51,6 @@ place_covers true w p q r (negsuc n) reach near =
       ],
     )
 place_covers false w p q r (pos n) reach near =
-    let far : ahead_by w p q ≡ n + 0 = reach.far in
     let at : p < w = reach.from_inside in
     let straight : p ≤ q = reach.straight refl in (
       r - n,
@@ -66,7 +58,6 @@ place_covers false w p q r (pos n) reach near =
       line w p q r (r - n) at (omega (arith, ahead_cases w p q reach.from_inside reach.to_inside)),
     )
 place_covers false w p q r (negsuc n) reach near =
-    let far : ahead_by w q p ≡ 0 + suc n = reach.far in
     let at : p < w = reach.from_inside in
     let straight : q ≤ p = reach.straight refl in (
       r + suc n,
@@ -100,10 +91,7 @@ ring_covers m t e r size t_in e_in is = sides (one_sided d.a) (one_sided d.b)
         ∙ ap (λ (z : Option ℕ). chip_at (Some e.x) z) (ap (λ n. place_at m.wrap m.height t.y r n) (sym ey) ∙ y.2)
 
     ends : (p q n : ℕ) → n ≡ max p q → (p ≡ n) ⊎ (q ≡ n)
-    ends p q n top = elim (cases_lt p q) [
-      | inl less ↦ inr (omega (arith, top))
-      | inr more ↦ inl (omega (arith, top))
-    ]
+    ends p q n top = grind (arith, cases_lt p q)
 
     sides : (forth d.a ≡ 0) ⊎ (back d.a ≡ 0) → (forth d.b ≡ 0) ⊎ (back d.b ≡ 0) → (s : ℕ) × (s < r + 1) × AtStep m t r s e
     sides (inr a) (inr b) =
@@ -113,14 +101,8 @@ ring_covers m t e r size t_in e_in is = sides (one_sided d.a) (one_sided d.b)
           | inl far ↦ (y.0, omega (arith, iy, b), inl (at 0 y.0 (omega (arith, ix, a, far)) refl))
           | inr far ↦ (x.0, omega (arith, ix, a), inr (inl (at x.0 0 refl (omega (arith, iy, b, far)))))
         ]
-    sides (inr a) (inl b) =
-        let ix : x.0 + forth d.a ≡ r + back d.a = x.1 in
-        let iy : y.0 + forth d.b ≡ r + back d.b = y.1 in
-        (x.0, omega (arith, ix, a), inr (inr (inl (at x.0 (r + x.0) refl (omega (arith, ix, iy, a, b, length_at))))))
-    sides (inl a) (inr b) =
-        let ix : x.0 + forth d.a ≡ r + back d.a = x.1 in
-        let iy : y.0 + forth d.b ≡ r + back d.b = y.1 in
-        (y.0, omega (arith, iy, b), inr (inr (inr (inl (at (r + y.0) y.0 (omega (arith, ix, iy, a, b, length_at)) refl)))))
+    sides (inr a) (inl b) = grind (arith, at x.0 (r + x.0) refl (omega (arith, (x.1), (y.1), a, b, length_at)))
+    sides (inl a) (inr b) = grind (arith, at (r + y.0) y.0 (omega (arith, (x.1), (y.1), a, b, length_at)) refl)
     sides (inl a) (inl b) =
         let ix : x.0 + forth d.a ≡ r + back d.a = x.1 in
         let iy : y.0 + forth d.b ≡ r + back d.b = y.1 in
@@ -159,11 +141,7 @@ module _ (m : Description) (on : List Bool) (t : Chip) (r : ℕ) where
   pub all_sides : (s : ℕ) (best one two three four five six : Option Chip) → IsBetter m on t r (AtOffsets m t r 0 s) best one → IsBetter m on t r (AtOffsets m t r s 0) one two →
       IsBetter m on t r (AtOffsets m t r s (r + s)) two three → IsBetter m on t r (AtOffsets m t r (r + s) s) three four → IsBetter m on t r (AtOffsets m t r (r + s) (2 * r)) four five →
       IsBetter m on t r (AtOffsets m t r (2 * r) (r + s)) five six → IsBetter m on t r (AtStep m t r s) best six
-  all_sides s best one two three four five six a b c d e f =
-      both (AtOffsets m t r 0 s) _ best one six a
-      (both (AtOffsets m t r s 0) _ one two six b
-      (both (AtOffsets m t r s (r + s)) _ two three six c
-      (both (AtOffsets m t r (r + s) s) _ three four six d (both (AtOffsets m t r (r + s) (2 * r)) (AtOffsets m t r (2 * r) (r + s)) four five six e f))))
+  all_sides s best one two three four five six a b c d e f = grind (arith, both (AtOffsets m t r (r + s) (2 * r)) (AtOffsets m t r (2 * r) (r + s)) four five six e f)
 
   -- what the search of a ring has found after so many steps
   abbrev pub Stepped : ℕ → Chip → Type 0

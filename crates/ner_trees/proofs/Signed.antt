@@ -4,36 +4,20 @@ use Rattle.ner_trees.proofs.Common.{length_of, lesser_disp, link_run_of, longest
 use Rattle.ner_trees.specs.Geometry.{displacement_of, on_torus}
 
 pub length_is : (d : Disp) → length_of d ≡ max (forth d.a) (forth d.b) + max (back d.a) (back d.b)
-length_is d = parts d.a d.b
-  where
-    parts : (a b : ℤ) → unsigned_abs (int_max (int_max a b) (pos 0) -ℤ int_min (int_min a b) (pos 0)) ≡ max (forth a) (forth b) + max (back a) (back b)
-    parts (pos m) (pos n) = grind (arith, ints)
-    parts (pos m) (negsuc n) = grind (arith, ints)
-    parts (negsuc m) (pos n) = grind (arith, ints)
-    parts (negsuc m) (negsuc n) = grind (arith, ints)
+length_is d = grind (arith, ints)
 
 pub abs_is : (z : ℤ) → unsigned_abs z ≡ forth z + back z
-abs_is (pos n) = omega arith
-abs_is (negsuc n) = omega arith
+abs_is z = grind arith
 
 -- the median of a, b and 0, as what the two have in common
 pub less_median : (a b : ℤ) → a -ℤ median a b (pos 0) ≡ pos (forth a + min (back a) (back b)) -ℤ pos (back a + min (forth a) (forth b))
-less_median (pos m) (pos n) = grind (arith, ints)
-less_median (pos m) (negsuc n) = grind (arith, ints)
-less_median (negsuc m) (pos n) = grind (arith, ints)
-less_median (negsuc m) (negsuc n) = grind (arith, ints)
+less_median a b = grind (arith, ints)
 
 pub less_median_second : (a b : ℤ) → b -ℤ median a b (pos 0) ≡ pos (forth b + min (back a) (back b)) -ℤ pos (back b + min (forth a) (forth b))
-less_median_second (pos m) (pos n) = grind (arith, ints)
-less_median_second (pos m) (negsuc n) = grind (arith, ints)
-less_median_second (negsuc m) (pos n) = grind (arith, ints)
-less_median_second (negsuc m) (negsuc n) = grind (arith, ints)
+less_median_second a b = grind (arith, ints)
 
 pub minus_median : (a b : ℤ) → neg_ℤ (median a b (pos 0)) ≡ pos (min (back a) (back b)) -ℤ pos (min (forth a) (forth b))
-minus_median (pos m) (pos n) = grind (arith, ints)
-minus_median (pos m) (negsuc n) = grind (arith, ints)
-minus_median (negsuc m) (pos n) = grind (arith, ints)
-minus_median (negsuc m) (negsuc n) = grind (arith, ints)
+minus_median a b = grind (arith, ints)
 
 -- what the four displacements on a torus come to
 pub torus_steps : (w h a b : ℕ) (za zb zx zy : ℤ) (r s t : Disp) → za ≡ pos a → zb ≡ pos b → zx ≡ pos a -ℤ pos w → zy ≡ pos b -ℤ pos h →

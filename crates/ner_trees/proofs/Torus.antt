@@ -44,26 +44,14 @@ shorter d e = grind (arith, cases_Bool (is_before e d), cond-true, differs_true,
 
 -- to lead back all the way is heavier than to stay
 round_a : (w : ℕ) (z y : ℤ) → 0 < w → forth z ≡ 0 → back z ≡ w → weight (disp (pos 0) y) < weight (disp z y)
-round_a w z y some f b =
-    rw (weight_is (disp (pos 0) y), weight_is (disp z y), f, b) (numbers w (forth y) (back y) some)
-  where
-    numbers : (w m n : ℕ) → 0 < w → (max 0 m + max 0 n) * 65536 + (0 + 0) * 256 + (m + n) < (max 0 m + max w n) * 65536 + (0 + w) * 256 + (m + n)
-    numbers w m n some = omega arith
+round_a w z y some f b = grind (arith, weight_is)
 
 round_b : (w : ℕ) (z y : ℤ) → 0 < w → forth z ≡ 0 → back z ≡ w → weight (disp y (pos 0)) < weight (disp y z)
-round_b w z y some f b =
-    rw (weight_is (disp y (pos 0)), weight_is (disp y z), f, b) (numbers w (forth y) (back y) some)
-  where
-    numbers : (w m n : ℕ) → 0 < w → (max m 0 + max n 0) * 65536 + (m + n) * 256 + (0 + 0) < (max m 0 + max n w) * 65536 + (m + n) * 256 + (0 + w)
-    numbers w m n some = omega arith
+round_b w z y some f b = grind (arith, weight_is)
 
 -- a number less another that is greater
 pub behind : (a w : ℕ) → a < w → (forth (pos a -ℤ pos w) ≡ 0) × (back (pos a -ℤ pos w) ≡ w - a)
-behind a w less = parts (pos a -ℤ pos w) refl
-  where
-    parts : (z : ℤ) → z ≡ pos a -ℤ pos w → (forth z ≡ 0) × (back z ≡ w - a)
-    parts (pos k) e = (omega (arith, ints, e), omega (arith, ints, e))
-    parts (negsuc k) e = (refl, omega (arith, ints, e))
+behind a w less = grind (arith, ints)
 
 -- the length of the displacement on a torus: the least of the lengths of the four
 pub torus_length : (w h a b : ℕ) → a < w → b < h →
@@ -122,35 +110,17 @@ torus_ways w h a b aw bh ws hs =
     below p q = omega arith
 
     heavy_a : (y : ℤ) → a ≡ 0 → weight (disp (pos a -ℤ pos w) y) ≤ weight (disp (pos a) y) → ⊥
-    heavy_a y none light =
-        let bx = behind a w aw in
-        let whole : back (pos a -ℤ pos w) ≡ w = bx.1 ∙ omega arith in
-        let some : 0 < w = omega arith in
-        let less : weight (disp (pos 0) y) < weight (disp (pos a -ℤ pos w) y) = round_a w (pos a -ℤ pos w) y some bx.0 whole in
-        let same : weight (disp (pos a) y) ≡ weight (disp (pos 0) y) = ap (λ k. weight (disp (pos k) y)) none in
-        omega arith
+    heavy_a y none light = grind (arith, behind a w aw, round_a w (pos a -ℤ pos w) y (omega arith) (behind a w aw).0 ((behind a w aw).1 ∙ omega arith))
 
     heavy_b : (y : ℤ) → b ≡ 0 → weight (disp y (pos b -ℤ pos h)) ≤ weight (disp y (pos b)) → ⊥
-    heavy_b y none light =
-        let by = behind b h bh in
-        let whole : back (pos b -ℤ pos h) ≡ h = by.1 ∙ omega arith in
-        let some : 0 < h = omega arith in
-        let less : weight (disp y (pos 0)) < weight (disp y (pos b -ℤ pos h)) = round_b h (pos b -ℤ pos h) y some by.0 whole in
-        let same : weight (disp y (pos b)) ≡ weight (disp y (pos 0)) = ap (λ k. weight (disp y (pos k))) none in
-        omega arith
+    heavy_b y none light = grind (arith, behind b h bh, round_b h (pos b -ℤ pos h) y (omega arith) (behind b h bh).0 ((behind b h bh).1 ∙ omega arith))
 
     ways : (r : Disp) → (r ≡ disp (pos a) (pos b)) ⊎ ((r ≡ disp (pos a -ℤ pos w) (pos b)) ⊎ ((r ≡ disp (pos a) (pos b -ℤ pos h)) ⊎ (r ≡ disp (pos a -ℤ pos w) (pos b -ℤ pos h)))) →
         weight r ≤ weight (disp (pos a) (pos b)) → weight r ≤ weight (disp (pos a -ℤ pos w) (pos b)) → weight r ≤ weight (disp (pos a) (pos b -ℤ pos h)) →
         AheadOrBack w a r.a × AheadOrBack h b r.b
     ways r (inl one) p q s = (inl (ap (λ (d : Disp). d.a) one), inl (ap (λ (d : Disp). d.b) one))
-    ways r (inr (inl two)) p q s = elim (cases_eq a 0) [
-      | inl none ↦ absurd (heavy_a (pos b) none (subst (λ (d : Disp). weight d ≤ weight (disp (pos a) (pos b))) two p))
-      | inr some ↦ (inr (ap (λ (d : Disp). d.a) two, omega arith), inl (ap (λ (d : Disp). d.b) two))
-    ]
-    ways r (inr (inr (inl three))) p q s = elim (cases_eq b 0) [
-      | inl none ↦ absurd (heavy_b (pos a) none (subst (λ (d : Disp). weight d ≤ weight (disp (pos a) (pos b))) three p))
-      | inr some ↦ (inl (ap (λ (d : Disp). d.a) three), inr (ap (λ (d : Disp). d.b) three, omega arith))
-    ]
+    ways r (inr (inl two)) p q s = grind (arith, cases_eq a 0, heavy_a)
+    ways r (inr (inr (inl three))) p q s = grind (arith, cases_eq b 0, heavy_b)
     ways r (inr (inr (inr four))) p q s = elim (cases_eq a 0) [
       | inl none ↦ absurd (heavy_a (pos b -ℤ pos h) none (subst (λ (d : Disp). weight d ≤ weight (disp (pos a) (pos b -ℤ pos h))) four s))
       | inr some ↦ elim (cases_eq b 0) [

@@ -182,12 +182,10 @@ pub record Walks (m : Description) (from to : Chip) : Type 0 where
 
 -- the chip to which a target is joined is in the tree, and no farther from the target than the root
 near_on : (m : Description) (root : Chip) (tree : List Edge) (t near : Chip) → IsNear m root tree t near → IsTreeChip m root tree near
-near_on m root tree t near (inl found) = found.0.0
-near_on m root tree t near (inr none) = inl none.1
+near_on m root tree t near its_5 = grind arith
 
 near_low : (m : Description) (root : Chip) (tree : List Edge) (t near : Chip) → IsNear m root tree t near → distance_of m near t ≤ distance_of m root t
-near_low m root tree t near (inr none) = let e : distance_of m near t ≡ distance_of m root t = ap (λ (c : Chip). distance_of m c t) none.1 in omega arith
-near_low m root tree t near (inl found) = grind (arith, cases_lt 20 (distance_of m root t))
+near_low m root tree t near its_5 = grind (arith, cases_lt)
 
 -- What comes of growing: the tree spans its targets, has edges out of all other chips, and few edges.
 pub record Outcome (m : Description) (root : Chip) (targets : List Chip) (tree whole : List Edge) (joins : List Join) : Type 0 where

@@ -1,4 +1,5 @@
 -- The walk between two chips goes one way along each axis, and arrives.
+use Rattle.std.proofs.Common.{rules}
 use Rattle.ner_trees.proofs.Common.{Ahead, Back, Bool, Chip, Description, Dir, Disp, East, HasSize, IsInside, List, North, NorthEast, Some, South, SouthWest, Stay, Step, West, [], ahead_by, ap, arith}
 use Rattle.ner_trees.proofs.Common.{back, cases_Bool, chip_eq, chip_eq_true, cond, cond-false, cond-true, count_by, disp, end_of_walk, false, far_from, far_of, forth, inl, inr, inside_from}
 use Rattle.ner_trees.proofs.Common.{inside_parts, ints, is_ahead, is_back, ldf_of, negsuc, next_of, not, on_torus, or_stay, pos, refl, same_chip, subst, sum_by-cons, sym, true, true≢false, x_step}
@@ -9,54 +10,26 @@ use Rattle.ner_trees.proofs.{LongestFirst.ldf_behind, LongestFirst.ldf_above, Lo
 
 -- what a displacement on a ring, or on an open axis, says of the places
 reach_ring : (w p q : ℕ) (z : ℤ) → p < w → q < w → AheadOrBack w (ahead_by w p q) z → Reaches true w p q z
-reach_ring w p q z pw qw (inl ahead) = grind (arith, Reaches, true≢false)
-reach_ring w p q (pos k) pw qw (inr behind) = grind (arith, ahead_below w p q pw qw, ints)
-reach_ring w p q (negsuc k) pw qw (inr behind) = grind (arith, ahead_below w p q pw qw, ints, ahead_cases w p q pw qw, ahead_cases w q p qw pw, true≢false)
+reach_ring w p q z pw qw its_6 = grind (arith, Reaches, true≢false, ahead_below, ints, ahead_cases)
 
 reach_line : (w p q : ℕ) (z : ℤ) → p < w → q < w → z ≡ pos q -ℤ pos p → Reaches false w p q z
-reach_line w p q (pos k) pw qw is = grind (arith, ints, ahead_cases w p q pw qw)
-reach_line w p q (negsuc k) pw qw is = grind (arith, ints, ahead_cases w q p qw pw)
+reach_line w p q z pw qw is = grind (arith, ints, ahead_cases)
 
 -- The displacement between two chips of a machine leads from one to the other along each axis.
 pub reaches : (m : Description) (p q : Chip) → HasSize m → IsInside m p → IsInside m q →
     Reaches m.wrap m.width p.x q.x (displacement_of m p q).a × Reaches m.wrap m.height p.y q.y (displacement_of m p q).b
 unfolding displacement_of
-reaches m p q size p_in q_in =
-    let torus : Disp = on_torus m.width m.height (ahead_by m.width p.x q.x) (ahead_by m.height p.y q.y) in
-    let grid : Disp = disp (pos q.x -ℤ pos p.x) (pos q.y -ℤ pos p.y) in
-    let Both : Bool → Disp → Type 0 = λ b d. Reaches b m.width p.x q.x d.a × Reaches b m.height p.y q.y d.b in
-    let pa = inside_parts m p p_in in
-    let qa = inside_parts m q q_in in
-    elim (cases_Bool m.wrap) [
-      | inl e ↦
-          let ways = torus_ways m.width m.height (ahead_by m.width p.x q.x) (ahead_by m.height p.y q.y) (ahead_below m.width p.x q.x pa.0 qa.0)
-          (ahead_below m.height p.y q.y pa.1 qa.1) size.width_to_64 size.height_to_64 in
-          subst (λ (d : Disp). Both m.wrap d) (sym (cond-true m.wrap torus grid e)) (subst (λ (b : Bool). Both b torus) (sym e)
-          (reach_ring m.width p.x q.x torus.a pa.0 qa.0 ways.0, reach_ring m.height p.y q.y torus.b pa.1 qa.1 ways.1))
-      | inr e ↦
-          subst (λ (d : Disp). Both m.wrap d) (sym (cond-false m.wrap torus grid e)) (subst (λ (b : Bool). Both b grid) (sym e)
-          (reach_line m.width p.x q.x grid.a pa.0 qa.0 refl, reach_line m.height p.y q.y grid.b pa.1 qa.1 refl))
-    ]
+reaches m p q size p_in q_in = search (rules, Reaches, inside_parts, cases_Bool, torus_ways, ahead_below, cond-true, reach_ring, cond-false, reach_line)
 
 abbrev pub one_if : Bool → ℕ
 one_if b = cond b 1 0
 
 -- each link leads along some axis
 some_step : (d : Dir) → (x_step d ≡ Stay) → (y_step d ≡ Stay) → ⊥
-some_step East x y = true≢false (ap is_ahead x)
-some_step NorthEast x y = true≢false (ap is_ahead x)
-some_step North x y = true≢false (ap is_ahead y)
-some_step West x y = true≢false (ap is_back x)
-some_step SouthWest x y = true≢false (ap is_back x)
-some_step South x y = true≢false (ap is_back y)
+some_step d x y = grind (arith, true≢false)
 
 step_goes : (b : Bool) (s : Step) → goes (not b) s ≡ false → (s ≡ Stay) ⊎ (goes b s ≡ true)
-step_goes true Ahead against = inr refl
-step_goes true Stay against = inl refl
-step_goes true Back against = absurd (true≢false against)
-step_goes false Ahead against = absurd (true≢false against)
-step_goes false Stay against = inl refl
-step_goes false Back against = inr refl
+step_goes b s against = grind (arith, true≢false, against)
 
 one_goes : (bx by : Bool) (d : Dir) → goes (not bx) (x_step d) ≡ false → goes (not by) (y_step d) ≡ false →
     0 < one_if (goes bx (x_step d)) + one_if (goes by (y_step d))
@@ -81,13 +54,7 @@ module _ (m : Description) (p q : Chip) (p_in : IsInside m p) (q_in : IsInside m
       gap bx m.width p.x c.x + count_by (λ d. goes bx (x_step d)) ds ≡ gap bx m.width p.x q.x →
       gap by m.height p.y c.y + count_by (λ d. goes by (y_step d)) ds ≡ gap by m.height p.y q.y →
       Rises m (λ e. gap bx m.width p.x e.x + gap by m.height p.y e.y) c ds × (end_of_walk m c ds ≡ q)
-  rising [] c c_in none_x none_y left_x left_y =
-      let pa = inside_parts m p p_in in
-      let qa = inside_parts m q q_in in
-      let ca = inside_parts m c c_in in
-      let ex : gap bx m.width p.x c.x ≡ gap bx m.width p.x q.x = (omega arith) ∙ left_x in
-      let ey : gap by m.height p.y c.y ≡ gap by m.height p.y q.y = (omega arith) ∙ left_y in
-      (tt, same_chip c q (gap_same bx m.width p.x c.x q.x pa.0 ca.0 qa.0 ex) (gap_same by m.height p.y c.y q.y pa.1 ca.1 qa.1 ey))
+  rising [] c c_in none_x none_y left_x left_y = grind (arith, inside_parts, gap, same_chip, gap_same)
   rising (d ∷ ds) c c_in none_x none_y left_x left_y =
       let pa = inside_parts m p p_in in
       let qa = inside_parts m q q_in in
@@ -120,27 +87,17 @@ module _ (m : Description) (p q : Chip) (p_in : IsInside m p) (q_in : IsInside m
       Rises m (λ e. gap bx m.width p.x e.x + gap by m.height p.y e.y) f ds) × (end_of_walk m f ds ≡ q)) (sym next) ((far, rise, rest.0), rest.1)
     where
       differ : (c e : Chip) → gap bx m.width p.x c.x + gap by m.height p.y c.y < gap bx m.width p.x e.x + gap by m.height p.y e.y → chip_eq c e ≡ false
-      differ c e less = elim (cases_Bool (chip_eq c e)) [
-        | inr other ↦ other
-        | inl same ↦
-            let is : c ≡ e = chip_eq_true c e same in
-            let flat : gap bx m.width p.x c.x + gap by m.height p.y c.y ≡ gap bx m.width p.x e.x + gap by m.height p.y e.y =
-            ap (λ (f : Chip). gap bx m.width p.x f.x + gap by m.height p.y f.y) is in
-            absurd (omega arith)
-      ]
+      differ c e less = grind (arith, cases_Bool (chip_eq c e), gap bx m.width p.x c.x, gap by m.height p.y c.y, gap bx m.width p.x e.x, gap by m.height p.y e.y, chip_eq_true)
 
 -- of a number, what leads its way and what leads against it
 against : (z : ℤ) (f b : ℕ) → f ≡ forth z → b ≡ back z → (cond (way z) b f ≡ 0) × (cond (way z) f b ≡ forth z + back z)
-against (pos n) f b ef eb = (eb, (omega arith))
-against (negsuc n) f b ef eb = (ef, (omega arith))
+against z f b ef eb = grind arith
 
 count_goes : (b : Bool) (step : Dir → Step) (ds : List Dir) → count_by (λ d. goes b (step d)) ds ≡ cond b (count_by (λ d. is_ahead (step d)) ds) (count_by (λ d. is_back (step d)) ds)
-count_goes true step ds = refl
-count_goes false step ds = refl
+count_goes b step ds = grind arith
 
 not_cond : (b : Bool) (x y : ℕ) → cond (not b) x y ≡ cond b y x
-not_cond true x y = refl
-not_cond false x y = refl
+not_cond b x y = grind arith
 
 -- The walk of `ldf` from one chip to another leads over the grid, never twice to one chip, and arrives.
 pub ldf_walks : (m : Description) (p q : Chip) → HasSize m → IsInside m p → IsInside m q → Walks m p q

@@ -1,3 +1,5 @@
+use Rattle.std.proofs.Common.{arith}
+use Rattle.std.proofs.Common.{rules}
 -- The names that the proofs of this crate cite from outside of them, passed on from one place. Declares nothing.
 pub use Rattle.app_graph.specs.{ValidGraph.HaveDifferentDevices, declared.graphs.Vertex.Vertex}
 pub use Rattle.machine_desc.proofs.{Far.inside_parts, Far.live_inside, Same.below_six, Same.same_dir, Same.same_edge, Same.same_spot, Sites.usable_site}

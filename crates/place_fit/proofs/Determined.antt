@@ -27,20 +27,11 @@ one_core : (m : Description) (order : List Chip) (vs : List Vertex) (ss : List S
 one_core m order vs ss v s t a b = grind (arith, one_first (HasRoom m vs ss v) (choices order v.at) s.chip t.chip a.chip b.chip, same_spot)
 
 one_spot : (m : Description) (order : List Chip) (vs : List Vertex) (ss : List Spot) (v : Vertex) (s t : Spot) → IsSpotFor m order vs ss v s → IsSpotFor m order vs ss v t → s ≡ t
-one_spot m order vs ss v s t = by_device v.device
-  where
-    by_device : (o : Option Edge) → MatchOption o (IsCoreFor m order vs ss v s) (λ d. HasDeviceRoom m d × (s ≡ device_spot d)) → MatchOption o (IsCoreFor m order vs ss v t) (λ d. HasDeviceRoom m d × (t ≡ device_spot d)) → s ≡ t
-    by_device None a b = one_core m order vs ss v s t a b
-    by_device (Some d) a b = a.1 ∙ sym b.1
+one_spot m order vs ss v s t = grind (arith, one_core)
 
 -- a vertex that has a spot finds room
 spot_has_room : (m : Description) (order : List Chip) (vs : List Vertex) (ss : List Spot) (v : Vertex) (s : Spot) → IsSpotFor m order vs ss v s → FindsNoRoom m order vs ss v → ⊥
-spot_has_room m order vs ss v s = by_device v.device
-  where
-    by_device : (o : Option Edge) → MatchOption o (IsCoreFor m order vs ss v s) (λ d. HasDeviceRoom m d × (s ≡ device_spot d))
-        → MatchOption o (All (λ c. HasRoom m vs ss v c → ⊥) (choices order v.at)) (λ d. HasDeviceRoom m d → ⊥) → ⊥
-    by_device None at none = none_first (HasRoom m vs ss v) (choices order v.at) s.chip at.chip none
-    by_device (Some d) at none = none at.0
+spot_has_room m order vs ss v s = grind (arith, none_first)
 
 module _ (m : Description) (order : List Chip) (vertices : List Vertex) where
   -- the spot at a place is that of the vertex there, where these stand before it
@@ -48,10 +39,7 @@ module _ (m : Description) (order : List Chip) (vertices : List Vertex) where
   Follows before n s = (v : Vertex) × (slice_get vertices n ≡ Some v) × IsSpotFor m order (take n vertices) before v s
 
   same_follower : (before : List Spot) (n : ℕ) (x y : Spot) → Follows before n x → Follows before n y → x ≡ y
-  same_follower before n x y a b =
-      let one : Some a.0 ≡ Some b.0 = sym a.1 ∙ b.1 in
-      let vertex : a.0 ≡ b.0 = cc in
-      one_spot m order (take n vertices) before b.0 x y (subst (λ z. IsSpotFor m order (take n vertices) before z x) vertex a.2) b.2
+  same_follower before n x y a b = grind (arith, one_spot)
 
   followed : (xs : List Spot) → AreFirstSpots m order vertices xs → EachFollows Follows same_follower xs
   followed xs first n x is = grind (arith, slice_get_there vertices n (omega (arith, slice_get_within xs n x is, first.few)), slice_get_within xs n x is)

@@ -155,10 +155,7 @@ pub high_bit : (m : Description) (c : Chip) (cores p : ℕ) → cores < 2 ^ 18 �
 high_bit m c cores p few high = grind (arith, cases_Bool (is_usable m (core_spot c p)), bit_at_above cores 18 p few high, usable_parts, cond-false)
 
 cond_or : (a b : Bool) → cond b 1 (cond a 1 0) ≡ cond (a || b) (let one : ℕ = 1 in one) 0
-cond_or true true = refl
-cond_or true false = refl
-cond_or false true = refl
-cond_or false false = refl
+cond_or a b = grind arith
 
 pub free_with : (spots : List Spot) (m n : Description) (old new : Board) → AreFreeOn m old → IsWith spots m n → AreGiven spots old new → AreFreeOn n new
 free_with spots m n old new free more given = record {

@@ -70,11 +70,7 @@ module _ (m : Description) (vs : List Vertex) (ss : List Spot) (b : Board) (stan
     }
 
     pub memory_is : need_of v ≡ v.sdram → r.memory ≡ memory_of vs ss v r.spot
-    memory_is plain =
-        let some = cores_with_room m vs ss r.spot.chip (get_or b.cores.items place 0) (get_or b.rooms place 0) here v.sdram found.enough in
-        let left = here.left some in
-        let used : b.sdram + 1 - get_or b.rooms place 0 ≡ used_on r.spot.chip vs ss = omega (arith, left, stands.sdram) in
-        filled.memory ∙ (ap (cond (v.sdram == 0) 0) used ∙ ap (λ n. cond (n == 0) 0 (used_on r.spot.chip vs ss)) (sym plain))
+    memory_is plain = grind (arith, cores_with_room, get_or, here)
 
   none_by : (at : Option Chip) → MatchOption at (All (λ room. room ≤ v.sdram) b.rooms) (HasNoRoomAt b v.sdram)
       → All (λ c. HasRoom m vs ss v c → ⊥) (choices (filter (is_live_chip m) (hilbert b.level)) at)
@@ -130,11 +126,7 @@ module _ (m : Description) (vs : List Vertex) (ss : List Spot) (b : Board) (stan
         }
 
     pub stood : IsPut m b new v r → HasStood new r
-    stood = by_device v.device refl
-      where
-        by_device : (o : Option Edge) → v.device ≡ o → MatchOption o (IsPutOnCore b new v r) (λ device. IsPutAtLink m b new device r) → HasStood new r
-        by_device None is put = stood_on_core is put
-        by_device (Some device) is put = stood_at_link device is put
+    stood = grind (arith, stood_on_core, stood_at_link)
 
   pub finds_none : HasNoSpot m b v → FindsNoRoom m (filter (is_live_chip m) (hilbert b.level)) vs ss v
   finds_none = by_device v.device
@@ -248,8 +240,7 @@ module _ (m : Description) (order : List Chip) (vertices : List Vertex) (spots :
   core_usable vs ss v s at = (free_parts m ss s at.free).0
 
   site_of : (vs : List Vertex) (ss : List Spot) (v : Vertex) (s : Spot) (o : Option Edge) → MatchOption o (IsCoreFor m order vs ss v s) (λ device. HasDeviceRoom m device × (s ≡ device_spot device)) → IsSite m s
-  site_of vs ss v s None at = usable_site m s (core_usable vs ss v s at)
-  site_of vs ss v s (Some device) (room, is) = subst (IsSite m) (sym is) (device_site m device room)
+  site_of vs ss v s o its_5 = grind (arith, usable_site, core_usable, device_site)
 
   pub all_sites : All (IsSite m) spots
   all_sites j d inside =
@@ -281,10 +272,7 @@ module _ (m : Description) (order : List Chip) (vertices : List Vertex) (spots :
     by_device : (o p : Option Edge) → one.vertex.device ≡ o → other.vertex.device ≡ p
         → MatchOption o (IsCoreFor m order (take i vertices) (take i spots) one.vertex s) (λ d. HasDeviceRoom m d × (s ≡ device_spot d))
         → MatchOption p (IsCoreFor m order (take j vertices) (take j spots) other.vertex s) (λ d. HasDeviceRoom m d × (s ≡ device_spot d)) → ⊥
-    by_device o None is_o is_p mine its = absurd (both_ways _ (free_parts m (take j spots) s its.free).1 taken)
-    by_device None (Some e) is_o is_p mine its =
-        grind (arith, usable_parts m s (core_usable (take i vertices) (take i spots) one.vertex s mine), core_usable (take i vertices) (take i spots) one.vertex s mine)
-    by_device (Some d) (Some e) is_o is_p mine its = two_devices d e is_o is_p (same_device d e (sym mine.1 ∙ its.1))
+    by_device o p is_o is_p mine its = grind (arith, both_ways, free_parts, taken, usable_parts, core_usable, two_devices, same_device)
 
     pub not_twice : ⊥
     not_twice = by_device one.vertex.device other.vertex.device refl refl one.spot other.spot
@@ -298,8 +286,7 @@ module _ (m : Description) (order : List Chip) (vertices : List Vertex) (spots :
       (free_parts m (take j spots) (get_or spots j d) core.free).0
 
   pub all_differ : AllPairs HaveDifferentDevices vertices → AllPairs (λ a b. a ≢ b) spots
-  all_differ devices i j d ord inside same =
-      not_twice devices i j (get_or spots i d) ord (slice_get-get_or spots i d (omega arith)) (slice_get-get_or spots j d inside ∙ ap Some (sym same))
+  all_differ devices i j d ord inside same = grind (arith, not_twice, get_or, slice_get-get_or)
 
 -- a vertex that is no device stands on a usable core
 abbrev StandsOnCore : Description → Vertex → Spot → Type 0

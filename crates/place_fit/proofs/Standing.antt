@@ -18,8 +18,7 @@ is_taken spots s = list_any (spot_eq s) spots
 
 -- a bit that a test gives
 pub bit_yes : (b : Bool) → (cond b 1 0 ≡ (let one : ℕ = 1 in one)) → b ≡ true
-bit_yes true e = refl
-bit_yes false e = cc
+bit_yes b e = grind arith
 
 pub some_bits : (n i : ℕ) → bit_at n i ≡ 1 → 0 < n
 some_bits n i one = grind (arith, cases_eq n 0, bit_at-zero i)
@@ -86,8 +85,7 @@ or_last a b e = or_right a (b || false) (or_left b false e)
 
 -- nothing, whether or not it is on this chip
 cond_same : (b : Bool) (n : ℕ) → cond b n n ≡ n
-cond_same true n = refl
-cond_same false n = refl
+cond_same b n = grind arith
 
 -- ---- what a vertex needs
 

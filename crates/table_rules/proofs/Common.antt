@@ -1,3 +1,4 @@
+use Rattle.std.proofs.Common.{arith}
 -- The names that the proofs of this crate cite from outside of them, passed on from one place. Declares nothing.
 pub use Rattle.block_cuts.proofs.{HalfLaws.meets_tells, PieceLaws.are_pieces}
 pub use Rattle.block_cuts.specs.{Cuts.cut, Pieces.ArePieces, Pieces.HasPiece, Pieces.NoneHas}

@@ -3,19 +3,13 @@ use Rattle.table_rules.proofs.Common.{All-cons, All-head, All-nil, All-tail, Blo
 use Rattle.table_rules.proofs.Common.{find-append, first_with, inl, inr, none-some, option_or, refl, row_blocks, same_Some, sym, takes_key, true, ℕ, ◌++◌, ◌∙◌, ◌∷◌, ◌≡◌, ◌⊎◌}
 
 pub has_tells : (k : ℕ) (r : RoutedBlock) → ((takes_key k r ≡ true) × Matches r.block k) ⊎ ((takes_key k r ≡ false) × (Matches r.block k → ⊥))
-has_tells k r = elim (eqb_tells (bit_and k r.block.mask) r.block.key) [
-  | inl hit ↦ inl (hit.0, hit.1)
-  | inr miss ↦ inr (miss.0, miss.1)
-]
+has_tells k r = grind (arith, eqb_tells (bit_and k r.block.mask) r.block.key)
 
 pub first_hit : (r : RoutedBlock) (rows : List RoutedBlock) (k : ℕ) → Matches r.block k → first_with (r ∷ rows) k ≡ Some r
 first_hit r rows k hit = ap (λ b. cond b (Some r) (first_with rows k)) (eq-eqb (bit_and k r.block.mask) r.block.key hit)
 
 pub first_miss : (r : RoutedBlock) (rows : List RoutedBlock) (k : ℕ) → (Matches r.block k → ⊥) → first_with (r ∷ rows) k ≡ first_with rows k
-first_miss r rows k miss = elim (has_tells k r) [
-  | inl hit ↦ absurd (miss hit.1)
-  | inr other ↦ ap (λ b. cond b (Some r) (first_with rows k)) other.0
-]
+first_miss r rows k miss = grind (arith, has_tells k r)
 
 -- where none of the blocks has the key, no row is the first
 pub none_first : (rows : List RoutedBlock) (k : ℕ) → NoneHas (row_blocks rows) k → first_with rows k ≡ None

@@ -1,4 +1,5 @@
 -- Blocks that are joined have all keys of the blocks taken in, and none of the pieces behind.
+use Rattle.std.proofs.Common.{rules}
 use Rattle.table_rules.proofs.Common.{All, All-head, All-tail, Among, Block, Contains-filter, Contains-map, GoesBy, Intersects, LiesIn, LiesIn-merge, List, Matches, None, Route, RoutedBlock, []}
 use Rattle.table_rules.proofs.Common.{among_any, among_contains, among_filter, any_among, ap, arith, cases_Bool, contains_among, eq-eqb, eqb-true, eqb_tells, false, false≢true, filter, first_with}
 use Rattle.table_rules.proofs.Common.{fold, goes_by, inl, inr, joined_blocks, map, meets_one, meets_tells, merge_two, others, own_blocks, refl, row_blocks, row_by, rows_by_routes, same_route, subst}
@@ -106,10 +107,7 @@ module _ (route : Route) (pieces : List RoutedBlock) where
   to_others p among other = grind (arith, eqb_tells p.route.bits route.bits, among_contains p pieces among, contains_among, Contains-filter)
 
   own_block : (p : RoutedBlock) → Among p pieces → p.route.bits ≡ route.bits → Among p.block (own_blocks route pieces)
-  own_block p among same =
-      contains_among p.block (own_blocks route pieces)
-      (Contains-map (λ (r : RoutedBlock). r.block) (filter (goes_by route) pieces) p
-      (Contains-filter (goes_by route) pieces p (among_contains p pieces among) (eq-eqb p.route.bits route.bits same)))
+  own_block p among same = contains_among _ _ (Contains-map (λ (r : RoutedBlock). r.block) _ _ (Contains-filter _ _ _ (among_contains _ _ among) (eq-eqb _ _ same)))
 
   others_apart : AreApart pieces → AreApart (others route pieces)
   others_apart apart p q of_p of_q = apart p q (of_others p of_p).0 (of_others q of_q).0
@@ -123,20 +121,14 @@ module _ (route : Route) (pieces : List RoutedBlock) where
     all_clear (p ∷ ps) each = (each p (inl refl), all_clear ps (λ q among. each q (inr among)))
 
     own_clear : AllClear (others route pieces) (joined_blocks (others route pieces) (own_blocks route pieces))
-    own_clear =
-        clear_from (others route pieces) (own_blocks route pieces) [] tt
-        (all_clear (filter (goes_by route) pieces) (λ p among.
-        let parts = among_filter (goes_by route) p pieces among in
-        clear_own p parts.0 (eqb-true p.route.bits route.bits parts.1)))
+    own_clear = clear_from _ _ [] _ (all_clear _ (λ p among. let parts = among_filter (goes_by route) p pieces among in clear_own p parts.0 (eqb-true p.route.bits route.bits parts.1)))
 
     own_has : (p : RoutedBlock) (k : ℕ) → k < 2 ^ 32 → Among p pieces → p.route.bits ≡ route.bits → Matches p.block k → SomeHas (joined_blocks (others route pieces) (own_blocks route pieces)) k
-    own_has p k small among same hit =
-        all_had (others route pieces) k small (own_blocks route pieces) [] (some_has (own_blocks route pieces) p.block k (own_block p among same) hit)
+    own_has p k small among same hit = search (rules, all_had, some_has, own_block)
 
     others_miss : (p : RoutedBlock) (k : ℕ) → k < 2 ^ 32 → Among p pieces → (p.route.bits ≡ route.bits → ⊥) → Matches p.block k
         → SomeHas (joined_blocks (others route pieces) (own_blocks route pieces)) k → ⊥
-    others_miss p k small among other hit =
-        none_has (others route pieces) p (to_others p among other) k small hit (joined_blocks (others route pieces) (own_blocks route pieces)) own_clear
+    others_miss p k small among other hit = grind (arith, none_has, to_others, own_clear)
 
 module _ (p : RoutedBlock) (k : ℕ) (small : k < 2 ^ 32) (hit : Matches p.block k) where
   -- a key of a piece goes by its route, if that is one of the routes

@@ -1,4 +1,5 @@
 -- The rows of joined pieces say what the given rows say, and behind a wall no more.
+use Rattle.std.proofs.Common.{arith}
 use Rattle.table_rules.proofs.Common.{Among, AreJoinedRows, AreLeft, AreRoutesOf, Contains, GoesBy, HasNoNewKeys, IsFree, IsPermutation, IsPermutation-refl, IsShorterOf, IsSound, IsTableMadeOf}
 use Rattle.table_rules.proofs.Common.{KeepsRoutes, List, Matches, Original, Route, RoutedBlock, Row, Some, [], all_keys, among_contains, among_map, ap, by_row, contains_among, few, fewer, find-append}
 use Rattle.table_rules.proofs.Common.{first_with, many, map, map_among, no_fewer, option_or, others, pieces_of, refl, row_by, same_Some, served, subst, sym, takes_key, wall_of, walled, ℕ, ◌<◌, ◌^◌}
@@ -9,10 +10,7 @@ use Rattle.table_rules.proofs.{Joins.piece_is_missed, Joins.to_others, Sounds.Go
 -- what is so of the covered rows and of the joined ones is so of the shorter
 pub shorter_has : (P : List RoutedBlock → Type 0) (target : ℕ) (own pieces covered new : List RoutedBlock) → IsShorterOf target own pieces covered new → P covered
     → ((joined : List RoutedBlock) → AreJoinedRows own pieces joined → P joined) → P new
-shorter_has P target own pieces covered new (few short) this other = this
-shorter_has P target own pieces covered new (many more) this other = this
-shorter_has P target own pieces covered new (no_fewer joined are most) this other = this
-shorter_has P target own pieces covered new (fewer joined long little are less) this other = other joined are
+shorter_has P target own pieces covered new its_6 this other = grind arith
 
 -- a piece of the table has the key, and the route
 record HasPieceBy (table : List Row) (k : ℕ) (route : Route) : Type 0 where
@@ -28,9 +26,7 @@ routed_there own routes are p among =
 
 module _ (room : ℕ) (given : List RoutedBlock) (table : List Row) (made : IsTableMadeOf room given table) where
   goes_at : (o : Original) → Among o (served table) → GoesWhere table o
-  goes_at o among =
-      let place = among_contains o (served table) among in
-      subst (GoesWhere table) place.2 (all_go table (made_is_sound room given table made) place.0 o place.1)
+  goes_at o among = grind (arith, among_contains, GoesWhere, all_go, made_is_sound)
 
   apart : AreApart (pieces_of table)
   apart p q of_p of_q other meet =

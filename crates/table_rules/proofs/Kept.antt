@@ -6,9 +6,7 @@ use Rattle.table_rules.proofs.FirstRows.{first_hit, first_miss, none_first}
 
 -- where no row has the key, none is the first
 pub none_of : (rows : List Row) (k : ℕ) → All (λ (r : Row). Matches r.block k → ⊥) rows → first_with (map routed rows) k ≡ None
-none_of rows k none =
-    none_first (map routed rows) k
-    (All-map (λ (b : Block). Matches b k → ⊥) (λ (r : RoutedBlock). r.block) (map routed rows) (All-map (λ (r : RoutedBlock). Matches r.block k → ⊥) routed rows none))
+none_of rows k none = none_first _ _ (All-map (λ (b : Block). Matches b k → ⊥) (λ (r : RoutedBlock). r.block) _ (All-map (λ (r : RoutedBlock). Matches r.block k → ⊥) _ _ none))
 
 -- a row in front that has not the key changes nothing
 sent_behind : (r : RoutedBlock) (rows : List RoutedBlock) (k : ℕ) (port : Port) (route : Route) → (Matches r.block k → ⊥) → LeaveBy rows k port route → LeaveBy (r ∷ rows) k port route

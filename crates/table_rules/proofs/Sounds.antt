@@ -28,9 +28,7 @@ module _ (rows : List Row) (row : Row) (sound : IsSound rows) where
 
   below : All (λ (x : Row). generality x.block ≤ generality row.block) (take n rows)
   unfolding n
-  below k d within =
-      let before : k < n = omega (arith, within, length-take n rows) in
-      subst (λ (x : Row). generality x.block ≤ generality row.block) (sym (get_or-take n rows k d before)) (place_for-below rows (generality row.block) sound.ordered k d before)
+  below k d within = grind (arith, n, length-take, get_or-take, place_for-below)
 
   at_drop : (k : ℕ) → k < length (drop n rows) → n + k < length rows
   at_drop k within = omega (arith, within, length-drop n rows)

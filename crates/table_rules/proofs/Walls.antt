@@ -57,8 +57,7 @@ module _ (bits : ℕ) where
   at_places rows (s ∷ places) all = by_item (slice_get rows s) (λ r is. All-at AreWide rows s r all is) (at_places rows places all)
     where
       by_item : (o : Option Row) → ((r : Row) → o ≡ Some r → AreWide r) → All AreWide (rows_at rows places) → All AreWide (cons_option o (rows_at rows places))
-      by_item None here rest = rest
-      by_item (Some r) here rest = All-cons AreWide r (rows_at rows places) (here r refl) rest
+      by_item o here rest = grind (arith, All-cons)
 
   wide_merge : (rows : List Row) → All AreWide rows → AreWide (merge_rows rows)
   wide_merge [] all is = refl

@@ -4,10 +4,7 @@ use Rattle.table_rules.proofs.Turns.{blocks_more, more_rows, no_room, rows_all, 
 use Rattle.table_rules.proofs.making.made_table.Goals as goal
 
 pub returns-in_default-clause-made : goal.returns-in_default-clause-made
-returns-in_default-clause-made c =
-    c.loop-row.invariant.too_many
-    (no_room c.loop-row.left c.args.given.now c.loop-row.row-index c.loop-row.rows.items c.row-item.result c.loop-row.blocks.items c.loop-row-test.true c.row-item.is c.loop-row.invariant.blocks
-    (sym c.in_default.is ∙ (c.in_ok-pieces.ensures.cut ∙ ap (cut c.loop-row.left c.row-item.result.block) c.as_slice.ensures.value)))
+returns-in_default-clause-made c = grind (arith, no_room)
 
 pub loop-row-preserved : goal.loop-row-preserved
 loop-row-preserved c =

@@ -10,9 +10,7 @@ pieces_are : (c : After-len) → c.as_slice-all.result.now ≡ pieces_of c.args.
 pieces_are c = c.as_slice-all.ensures.value ∙ (c.in_ok-pieces.ensures ∙ ap pieces_of c.as_slice.ensures)
 
 short_from : (c : After-len) → IsShortFrom c.args.target c.args.room c.args.given.now c.in_ok-shorter.shorter
-short_from c =
-    is_short_from c.args.target c.args.room c.args.given.now c.args.table.rows c.in_ok-covered.covered.table.rows _ c.requires.long c.requires.made c.in_ok-covered.ensures.covered
-    c.as_slice-covering.result.now c.as_slice-all.result.now c.in_ok-left.left c.in_ok-shorter.shorter c.as_slice-covering.ensures c.in_ok-left.ensures (pieces_are c) c.in_ok-shorter.ensures
+short_from c = grind (arith, pieces_are c, is_short_from)
 
 pub returns-then-len-given-clause-rows : goal.returns-then-len-given-clause-rows
 returns-then-len-given-clause-rows c = shorter c.in_ok-shorter.shorter (short_from (goal.at.returns-then-len-given-clause-rows c).After-len) (omega arith)

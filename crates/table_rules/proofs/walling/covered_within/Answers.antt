@@ -25,11 +25,7 @@ own_are : (c : After-len) → c.as_slice-own.result.now ≡ others c.args.given.
 own_are c = c.as_slice-own.ensures.value ∙ (c.in_ok-rest.ensures ∙ ap (others c.args.given.route) (all_are c))
 
 short_within : (c : After-len) → IsShortWithin c.args.given.target c.args.room c.args.given.rows.now c.in_ok-shorter.shorter
-short_within c =
-    is_short_within c.args.given.target c.args.room c.args.given.rows.now c.args.given.route c.args.table.rows c.in_ok-covered.covered.table.rows _ c.args.given.long c.args.given.free
-    c.requires.made c.in_ok-covered.ensures.covered
-    c.as_slice-covering.result.now c.rows_before-before.result.now c.in_ok-left.left c.as_slice-covering.ensures c.rows_before-before.ensures c.in_ok-left.ensures
-    c.as_slice-own.result.now c.as_slice-all.result.now c.in_ok-shorter.shorter (own_are c) (all_are c) c.in_ok-shorter.ensures
+short_within c = grind (arith, own_are c, all_are c, is_short_within)
 
 says : (c : After-len) → KeepsRoutes c.args.given.rows.now c.in_ok-shorter.shorter × HasNoNewKeys c.args.given.rows.now c.in_ok-shorter.shorter
 says c =

@@ -9,7 +9,6 @@ returns-in-Some-clause-acts g c =
     let m = c.loop-step.hold in
     let v = c.index-vertex.result.now in
     let at = c.place_after.result in
-    let inside = c.place_after.ensures.inside (omega arith) in
     let below : at < length b.vertices.items = omega (arith, b.vertices.ok.0) in
     let there = vertex_there c.args.around.links.now b m at v c.loop-step.invariant.ready below c.index-vertex.ensures in
     let old = c.index_mut.result.now in

@@ -39,13 +39,7 @@ returns-in-Dumped-clause-acts g c =
     stays_at a _ (injection_place b.index) old new w (end_stays_refuses c.args.around.capacity 1 old new c.in-Dumped.ensures.served) refl refl refl
 
 pub returns-in-Dumped-clause-idle : goal.returns-in-Dumped-clause-idle
-returns-in-Dumped-clause-idle g c = λ is moved roomy.
-    inr (
-      c.index_mut.result.now,
-      sender_stands c.requires.sender c.index_mut.result.now c.index_mut.ensures.value,
-      end_refuses_full c.args.around.capacity 1 c.index_mut.result.now
-          c.send.new.self (omega arith) c.in-Dumped.ensures.served,
-    )
+returns-in-Dumped-clause-idle g c = grind (arith, sender_stands, end_refuses_full)
 
 pub returns-in-Dumped-clause-ready : goal.returns-in-Dumped-clause-ready
 returns-in-Dumped-clause-ready g c =

@@ -13,11 +13,7 @@ written ends xs i n port old new same number below read =
     end_written ends _ (port_place i port) old new at (omega arith) read
 
 pub returns-in-Nothing-clause-looks : goal.returns-in-Nothing-clause-looks
-returns-in-Nothing-clause-looks g c =
-    let at : 7 * c.args.self.index + c.from.result ≡ port_place c.args.self.index c.args.port = ap (λ n. 7 * c.args.self.index + n) (c.from.ensures ∙ c.number-number.ensures.number) in
-    let x = c.in-Some.end.now in
-    let stands = read_stands c.args.hold.now.ends.items c.deref.result.now _ _ x c.deref.ensures.value at c.in-Some.ensures.lookup.3.0 c.in-Some.ensures.lookup.1 in
-    (stays_same c.args.hold.now, idle_at c.args.hold.now.ends.items _ x stands (end_lacks_idle x x c.in-Nothing.ensures))
+returns-in-Nothing-clause-looks g c = grind (arith, stays_same c.args.hold.now, end_lacks_idle (c.in-Some.end.now) (c.in-Some.end.now) c.in-Nothing.ensures, read_stands, idle_at)
 
 pub returns-in-Some-take-clause-looks : goal.returns-in-Some-take-clause-looks
 returns-in-Some-take-clause-looks g c =
@@ -48,15 +44,7 @@ returns-in-Some-take-clause-ready g c =
     (All-set (IsEndOf c.args.around.links.now) c.args.hold.now.ends.items _ c.take.new.self c.in-Some-take.ensures.end c.requires.ends) c.requires
 
 pub returns-in-None-clause-looks : goal.returns-in-None-clause-looks
-returns-in-None-clause-looks g c =
-    let r = c.args.self in
-    let a = c.args.hold.now in
-    let old = c.index_mut.result.now in
-    let new = c.take.new.self in
-    let inside = c.in-Some.ensures.lookup.3.0 in
-    let w = written a.ends.items c.deref.result.now r.index c.from.result c.args.port old new c.deref.ensures.value (c.from.ensures ∙ c.number-number.ensures.number) inside
-    c.index_mut.ensures.value in
-    lacks_at a _ (port_place r.index c.args.port) old new w c.in-None.ensures.none refl refl refl
+returns-in-None-clause-looks g c = grind (arith, written, lacks_at)
 
 pub returns-then-finds_nothing-clause-looks : goal.returns-then-finds_nothing-clause-looks
 returns-then-finds_nothing-clause-looks g c =

@@ -1,3 +1,4 @@
+use Rattle.std.proofs.Common.{rules}
 use Rattle.place_fit.proofs.Common.{AreCores, Chip, Description, List, Some, [], ap, arith, cases_lt, get_or, get_or-set_other, get_or-set_same, get_or_append_left, get_or_from_slice_get, get_or_push}
 use Rattle.place_fit.proofs.Common.{inl, inr, is_usable, length, length-replicate, length-set, length_push, pow-add, room_left, set, slice_get, slice_get_within, subst, sym, ℕ, ◌*◌, ◌++◌, ◌+◌, ◌<◌}
 use Rattle.place_fit.proofs.Common.{◌^◌, ◌∙◌, ◌∷◌, ◌≡◌}
@@ -53,11 +54,4 @@ loop-place-preserved c =
     }
 
 pub returns-clause-free : goal.returns-clause-free
-returns-clause-free c = record {
-  level = c.level_of-level.ensures.level;
-  sdram = c.sdram-sdram.ensures;
-  free = λ q d is.
-      let e = c.as_slice-chip-items.ensures in
-      let here : slice_get c.as_slice-chip-items.result.now q ≡ Some d = ap (λ l. slice_get l q) e ∙ is in
-      c.loop-place.invariant.free q d (omega (arith, slice_get_within c.as_slice-chip-items.result.now q d here, c.loop-place-test.false)) here;
-}
+returns-clause-free c = search (rules, slice_get, slice_get_within)
