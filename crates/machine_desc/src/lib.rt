@@ -3,9 +3,8 @@
 //! from one chip to all chips that want it.
 //!
 //! Public calls: `Machine::new`, `Machine::copy`, the queries, each of constant time, and the law that each link leads
-//! there and back. `Tree` and `Edge` are the trees' types, `PerChip` and `LinkFlags` tables over the chips and links of a
-//! machine. Links and their numbers are those of the SpiNNaker datasheet; lists of dead parts and devices on links are this
-//! project's own.
+//! there and back. `Tree` and `Edge` are the trees' types, `PerChip` a table over a machine's chips. Links and their
+//! numbers are those of the SpiNNaker datasheet; lists of dead parts and devices on links are this project's own.
 //!
 //! Nets with their keys, spots and trees, the outputs that lead to spots, and what it means that routers' tables are right
 //! for nets.
@@ -15,7 +14,6 @@
 #![tactic(auto)]
 
 mod grids;
-mod link_flags;
 mod machines;
 mod nets;
 mod outputs;
@@ -24,7 +22,6 @@ mod per_chip;
 mod steps;
 mod trees;
 
-pub use link_flags::LinkFlags;
 pub use machines::Machine;
 pub use nets::NetPlan;
 pub use outputs::out_of;

@@ -42,13 +42,6 @@ impl<'m, T> PerChip<'m, T> {
         self.machine
     }
 
-    /// All items.
-    pub fn as_slice(&self) -> &[T]
-        ensures { result.now ≡ self.now.items.items }
-    {
-        &self.items
-    }
-
     /// The item of a chip.
     pub fn at(&self, chip: Chip) -> T
     where
