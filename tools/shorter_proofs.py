@@ -2,7 +2,8 @@
 """Makes the proofs of a crate shorter where antt finds by itself what a body spells out.
 
     tools/shorter_proofs.py bodies CRATE       from the top of the repository, with the libraries below the crate built
-    tools/shorter_proofs.py blocks CRATE       (tools/take_libraries.py); about a second of a processor for each try
+    tools/shorter_proofs.py folds CRATE        (tools/take_libraries.py); about a second of a processor for each try
+    tools/shorter_proofs.py blocks CRATE
     tools/shorter_proofs.py imports CRATE..    needs no prover
     tools/shorter_proofs.py common CRATE..     neither do these
     tools/shorter_proofs.py unused CRATE..
@@ -13,7 +14,9 @@ same call with `_` for the arguments that antt finds; one of these in place of s
 `where`; a body without a `let` that nothing names; and one that does without a lemma that no other one uses, with what that one cites. One
 `rt check` of the crate tries all of them, since one that fails keeps no other from being checked. Those that are not refused take the
 place of the first ones. Then the crate is checked again, and bodies that are refused come back: those of lemmas that no check came to,
-and of values on which a type rests. `blocks` does the same for the parts of a body that stays: a case, a field, a `let`. `imports` drops
+and of values on which a type rests. `folds` looks at lemmas that three equations or fewer use, in the crate's files: it tries these uses
+with what the lemma cites in its place, and where all of them pass, `unused` drops it. `blocks` does what `bodies` does for the parts of a
+body that stays: a case, a field, a `let`. `imports` drops
 the names that a file of proofs does not use, adds those of the tactics, and writes those of one folder on one line. `common` lets each
 file take what it names outside of its crate's proofs from one module, proofs/Common.antt. `unused` drops the lemmas that neither an
 answer, a definition, the code nor a promise needs.
@@ -531,7 +534,7 @@ def errors_in(crate, said):
 
 def shorten(crate, parts):
     before = {file: read(file) for file in files_of(crate)}
-    texts = glob.glob("crates/*/**/*.antt", recursive=True) + glob.glob("crates/*/src/**/*.rt", recursive=True)
+    texts = glob.glob("crates/*/[ps]*/**/*.antt", recursive=True) + glob.glob("crates/*/src/**/*.rt", recursive=True)
     words = collections.Counter(it.rpartition(".")[2] for file in texts for it in WORD.findall(re.sub(r"--.*", "", "\n".join(read(file))).replace("::", " ")))
     tries, places = {}, {}
     for file in before:
@@ -566,6 +569,201 @@ def shorten(crate, parts):
         put(before, [])
         count = gain = 0
     print(f"{crate}: {count} of {len(tries)} taken, {gain} lines fewer")
+    return 0
+
+
+@dataclasses.dataclass
+class Fold:
+    """What one use of a lemma may become: the file of the use, the lemma in which it stands, the lines of its equation, the texts that may stand
+    there, and the imports that these need; and which lemmas have to be public for them.
+    """
+
+    file: str
+    owner: Lemma
+    begin: int
+    end: int
+    texts: list
+    imports: list
+    public: list
+
+
+def known_in(lines):
+    """The names that a file knows: what it imports, each with its path, and what it declares."""
+    known = {exported(it): origin(passed_on(it)) for line in lines for it in items_of(line)}
+    for line in lines:
+        head = re.match(r"^ *(?:pub )?(?:abbrev |record |data |ruleset )*(?:pub )?([^\s(){}:,;=]+)(?= |$)", line)
+        if head and not line.startswith("use "):
+            known.setdefault(head[1], None)
+    return known
+
+
+def folds_of(crate, most=3):
+    """The lemmas of a crate that a few equations use, and nothing else, each with these uses."""
+    texts, files, every, uses = {}, files_of(crate), {}, {}
+    for file in files:
+        texts[file] = lines = read(file)
+        every[file] = lemmas_in(lines)
+    names = {it.name for file in files for it in every[file]}
+    words = collections.Counter()
+    for file in glob.glob("crates/*/[ps]*/**/*.antt", recursive=True) + glob.glob("crates/*/src/**/*.rt", recursive=True):
+        lines = texts.get(file) or read(file)
+        for it in WORD.findall(re.sub(r"--.*", "", "\n".join(it for it in lines if not re.match(r"(pub )?use ", it))).replace("::", " ")):
+            words[it.rpartition(".")[2]] += 1
+    for file in files:
+        for owner in every[file]:
+            for begin, end in owner.equations:
+                for name, count in collections.Counter(WORD.findall(re.sub(r"--.*", "", text_of(texts[file], [(begin, end)])))).items():
+                    if name in names and name != owner.name:
+                        uses.setdefault(name, []).append((file, owner, begin, end, count))
+    for file in files:
+        known, lines = cited_names(texts[file]) | {it.name for it in every[file]}, texts[file]
+        own_names = {it.name: it for it in every[file]}
+        for gone in every[file]:
+            own = re.sub(r"--.*", "", text_of(lines, [(gone.begin, gone.end)]))
+            found = uses.get(gone.name, [])
+            if "goal." in lines[gone.begin] or " abbrev " in f" {lines[gone.begin]}" or not 0 < len(found) <= most:
+                continue
+            if words[gone.name] != WORD.findall(own).count(gone.name) + sum(it[4] for it in found) or any(it[1] is gone for it in found):
+                continue
+            local = {it.name for it in gone.local}
+            parts = [*gone.equations, *([(gone.where, gone.end)] if gone.where else [])]
+            within = cited(text_of(lines, parts), known, {gone.name} | local)
+            if WORD.findall(re.sub(r"--.*", "", text_of(lines, gone.equations))).count(gone.name) > len(gone.equations):
+                continue
+            folds = [fold_of(crate, texts, every, known_in(lines), own_names, file, gone, within, it) for it in found]
+            gain = sum(min((it.end - it.begin - len(new) for new in laid(it, texts)), default=-99) for it in folds if it) + gone.end - gone.begin + 1
+            if all(folds) and gain - sum(len(it.imports) > 0 for it in folds) > 1:
+                yield gone, folds
+
+
+def laid(fold, texts):
+    """What may stand in place of an equation, as lines."""
+    head = head_of(texts[fold.file], fold.owner, fold.begin)
+    return [it for it in (laid_out(head[1], text, fold.owner.depth, 3) for text in fold.texts) if it]
+
+
+def fold_of(crate, texts, every, known, own_names, file, gone, within, use):
+    """The texts that may do without a lemma where it is used."""
+    there, owner, begin, end, _ = use
+    lines = texts[there]
+    head = head_of(lines, owner, begin)
+    if not head:
+        return None
+    lemmas = cited_names(lines) | {it.name for it in every[there]} | {it.name for it in owner.local}
+    body = body_of(lines, head, begin, end)
+    names = cited(body, lemmas, {owner.name, gone.name})
+    imports, public = [], []
+    if there != file:
+        knows = known_in(lines)
+        for name in within:
+            own = own_names.get(name)
+            path = f"Rattle.{crate}.proofs.{'.'.join(file[:-5].split('/proofs/')[1].split('/'))}.{name}" if own else known.get(name)
+            if name in knows:
+                if knows[name] != (origin(path) if path else None):
+                    return None
+                continue
+            if not path:
+                return None
+            if own:
+                public.append((file, own.begin))
+            imports.append(path)
+    listed = list(dict.fromkeys(names + within))
+    closed = [it for it in re.split(r", (?![^(]*\))", facts_of(body, lemmas, owner.name)[7:-1]) if it.split(" ")[0].strip("(") != gone.name]
+    tries = [*tactics_with(listed), f"grind ({', '.join(dict.fromkeys(['arith'] + closed[1:] + within))})"]
+    return Fold(there, owner, begin, end, list(dict.fromkeys(tries)), imports, public)
+
+
+def fold(crate):
+    """Does without lemmas that few equations use, each of which then cites what that lemma cites."""
+    before = {file: read(file) for file in files_of(crate)}
+    groups = list(folds_of(crate))
+    tries, added = {}, {}
+    for k, (gone, folds) in enumerate(groups):
+        for n, it in enumerate(folds):
+            for new in laid(it, before):
+                name = f"{it.owner.name}__{len(tries)}"
+                lines = before[it.file]
+                text = lines[it.owner.begin : it.begin] + new + lines[it.end : it.owner.end]
+                text = [re.sub(f"{BEFORE}{re.escape(it.owner.name)}{BEHIND}", name, line) for line in text]
+                text[0] = re.sub(r"^( *)pub ", r"\1", text[0])
+                added.setdefault(it.file, []).append((it.owner.end, text, name))
+                tries[name] = (k, n, new)
+    print(f"{crate}: {len(groups)} lemmas, {len(tries)} tries", flush=True)
+
+    def lay(chosen, more):
+        """Writes the files with these groups' imports and public lemmas, with the edits of those that are chosen, and with what is planted."""
+        edits = {file: [] for file in before}
+        for k, news in chosen.items():
+            for it, new in zip(groups[k][1], news):
+                edits[it.file].append((it.begin, it.end, new))
+                edits[it.file] += [(0, 0, [f"use {path.rpartition('.')[0]}.{{{path.rpartition('.')[2]}}}"]) for path in it.imports]
+                for file, at in it.public:
+                    edits[file].append((at, at + 1, [re.sub(r"^( *)(pub )?", r"\1pub ", before[file][at], count=1)]))
+        places = {}
+        for file, lines in before.items():
+            planted_here = more.get(file, [])
+            every = [(at, over, new, None) for at, over, new in edits[file] if at or over] + [(end, end, ["", *text], name) for end, text, name in planted_here]
+            whole = list(lines)
+            for at, over, new, _ in sorted({repr(it[:3]): it for it in every}.values(), key=lambda it: (it[0], it[1]), reverse=True):
+                whole[at:over] = new
+            first = next((k for k, it in enumerate(whole) if it.startswith("use ")), 0)
+            whole[first:first] = list(dict.fromkeys(new[0] for at, over, new in edits[file] if not (at or over)))
+            whole = with_tactics(whole)
+            write(file, whole)
+            for _, text, name in planted_here:
+                at = next(k for k, it in enumerate(whole) if it == text[0])
+                places[name] = range(at + 1, at + 1 + len(text))
+        return places
+
+    # The imports of all, and no edit: uses as they are, so that only what is planted can fail.
+    every_one = {k: [before[it.file][it.begin : it.end] for it in folds] for k, (_, folds) in enumerate(groups)}
+    places = lay(every_one, added)
+    said = said_of(crate)
+    lay({}, {})
+    if not said:
+        return 1
+    refused, broken = set(re.findall(r"([^\s`,()]+__\d+)", said)), set()
+    for file, line, text in errors_in(crate, said):
+        here = {name for name, rows in places.items() if groups[tries[name][0]][1][tries[name][1]].file == file and line in rows}
+        refused |= here
+        broken |= set() if here or "`" in text else {file}
+    passed = {}
+    for name, (k, n, new) in tries.items():
+        if name not in refused and groups[k][1][n].file not in broken:
+            passed.setdefault(k, {}).setdefault(n, []).append(new)
+    whole = {k: [min(it[n], key=lambda new: (len(new), sum(map(len, new)))) for n in sorted(it)] for k, it in passed.items() if len(it) == len(groups[k][1])}
+
+    def gain(k):
+        gone, folds = groups[k]
+        return gone.end - gone.begin + 1 + sum(it.end - it.begin - len(new) for it, new in zip(folds, whole[k])) - sum(len(it.imports) > 0 for it in folds)
+
+    taken, spans, users, left_out = {}, set(), set(), set()
+    for k in sorted(whole, key=gain, reverse=True):
+        gone, folds = groups[k]
+        here = {(it.file, it.begin) for it in folds}
+        owners = {it.owner.name for it in folds}
+        cites = {word for new in whole[k] for line in new for word in WORD.findall(line)}
+        if gain(k) < 2 or here & spans or owners & left_out or gone.name in users or cites & left_out:
+            continue
+        taken[k] = whole[k]
+        spans |= here
+        users |= owners | cites
+        left_out.add(gone.name)
+    print(f"{crate}: {len(whole)} lemmas can go, {len(taken)} at once", flush=True)
+    while taken:
+        lay(taken, {})
+        said = said_of(crate)
+        errors = errors_in(crate, said)
+        if said and not errors:
+            break
+        files = {file for file, _, _ in errors}
+        names = {(file, name) for file, _, text in errors for name in re.findall(r"[^\s`(),]+", text)}
+        left = {k: it for k, it in taken.items() if not any((fold.file, fold.owner.name) in names for fold in groups[k][1])}
+        taken = left if len(left) < len(taken) else {k: it for k, it in taken.items() if not any(fold.file in files for fold in groups[k][1])} if said and files else {}
+        print(f"{crate}: {len(taken)} left after {len(errors)} errors", flush=True)
+    if not taken:
+        lay({}, {})
+    print(f"{crate}: {len(taken)} lemmas taken out of what uses them, some {sum(map(gain, taken))} lines; then unused, imports and common")
     return 0
 
 
@@ -806,11 +1004,11 @@ def main(what, *crates):
     os.chdir(os.path.dirname(os.path.dirname(os.path.realpath(__file__))))
     if what == "unused":
         return drop_unused(*crates)
-    work = {"bodies": lambda it: shorten(it, bodies), "blocks": lambda it: shorten(it, blocks), "imports": tidy_imports, "common": common_names}[what]
+    work = {"bodies": lambda it: shorten(it, bodies), "folds": fold, "blocks": lambda it: shorten(it, blocks), "imports": tidy_imports, "common": common_names}[what]
     return max(map(work, crates))
 
 
 if __name__ == "__main__":
-    if len(sys.argv) < 3 or sys.argv[1] not in ("bodies", "blocks", "imports", "common", "unused"):
+    if len(sys.argv) < 3 or sys.argv[1] not in ("bodies", "folds", "blocks", "imports", "common", "unused"):
         sys.exit(__doc__)
     sys.exit(main(*sys.argv[1:]))
