@@ -3,6 +3,7 @@
 
     tools/shorter_proofs.py bodies CRATE       from the top of the repository, with the libraries below the crate built
     tools/shorter_proofs.py folds CRATE        (tools/take_libraries.py); about a second of a processor for each try
+    tools/shorter_proofs.py inline CRATE
     tools/shorter_proofs.py blocks CRATE
     tools/shorter_proofs.py imports CRATE..    needs no prover
     tools/shorter_proofs.py common CRATE..     neither do these
@@ -15,11 +16,11 @@ same call with `_` for the arguments that antt finds; one of these in place of s
 `rt check` of the crate tries all of them, since one that fails keeps no other from being checked. Those that are not refused take the
 place of the first ones. Then the crate is checked again, and bodies that are refused come back: those of lemmas that no check came to,
 and of values on which a type rests. `folds` looks at lemmas that three equations or fewer use, in the crate's files: it tries these uses
-with what the lemma cites in its place, and where all of them pass, `unused` drops it. `blocks` does what `bodies` does for the parts of a
-body that stays: a case, a field, a `let`. `imports` drops
-the names that a file of proofs does not use, adds those of the tactics, and writes those of one folder on one line. `common` lets each
-file take what it names outside of its crate's proofs from one module, proofs/Common.antt. `unused` drops the lemmas that neither an
-answer, a definition, the code nor a promise needs.
+with what the lemma cites in its place, and where all of them pass, `unused` drops it. `inline` does the same with the lemma's body in its
+place, where that is short. `blocks` does what `bodies` does for the parts of a body that stays: a case, a field, a `let`. `imports` drops
+the names that a file of proofs does not use, adds those of the tactics, and writes those of one folder on one line. `common` lets each file
+take what it names outside of its crate's proofs from one module, proofs/Common.antt. `unused` drops the lemmas that neither an answer, a
+definition, the code nor a promise needs.
 
 No verdict rests on it: `rt ci` proves what it leaves.
 """
@@ -33,6 +34,10 @@ import subprocess
 import sys
 
 WIDTH = 200
+# How long a text may be that stands in place of a lemma's name.
+SHORT = 80
+# How often tries are checked again where some were refused.
+ROUNDS = 5
 KIT = "/opt/rattle/rlibs"
 WORD = re.compile(r"[^\s(){}\[\],;]+")
 # What begins and ends a word in a proof.
@@ -574,22 +579,22 @@ def shorten(crate, parts):
 
 @dataclasses.dataclass
 class Fold:
-    """What one use of a lemma may become: the file of the use, the lemma in which it stands, the lines of its equation, the texts that may stand
-    there, and the imports that these need; and which lemmas have to be public for them.
+    """What one use of a lemma may become: the file of the use, the lemma in which it stands, the lines of its equation, what may stand in
+    place of these, and the imports that this needs; and which lemmas have to be public for it.
     """
 
     file: str
     owner: Lemma
     begin: int
     end: int
-    texts: list
+    news: list
     imports: list
     public: list
 
 
 def known_in(lines):
     """The names that a file knows: what it imports, each with its path, and what it declares."""
-    known = {exported(it): origin(passed_on(it)) for line in lines for it in items_of(line)}
+    known = {exported(it): it for line in lines for it in items_of(line)}
     for line in lines:
         head = re.match(r"^ *(?:pub )?(?:abbrev |record |data |ruleset )*(?:pub )?([^\s(){}:,;=]+)(?= |$)", line)
         if head and not line.startswith("use "):
@@ -597,7 +602,7 @@ def known_in(lines):
     return known
 
 
-def folds_of(crate, most=3):
+def folds_of(crate, kind, most=3):
     """The lemmas of a crate that a few equations use, and nothing else, each with these uses."""
     texts, files, every, uses = {}, files_of(crate), {}, {}
     for file in files:
@@ -630,19 +635,48 @@ def folds_of(crate, most=3):
             within = cited(text_of(lines, parts), known, {gone.name} | local)
             if WORD.findall(re.sub(r"--.*", "", text_of(lines, gone.equations))).count(gone.name) > len(gone.equations):
                 continue
-            folds = [fold_of(crate, texts, every, known_in(lines), own_names, file, gone, within, it) for it in found]
-            gain = sum(min((it.end - it.begin - len(new) for new in laid(it, texts)), default=-99) for it in folds if it) + gone.end - gone.begin + 1
-            if all(folds) and gain - sum(len(it.imports) > 0 for it in folds) > 1:
+            folds = [fold_of(crate, kind, texts, every, known_in(lines), own_names, file, gone, within, it) for it in found]
+            if all(folds) and gone.end - gone.begin + 1 + sum(it.end - it.begin - min(map(len, it.news)) - (len(it.imports) > 0) for it in folds) > 1:
                 yield gone, folds
 
 
-def laid(fold, texts):
-    """What may stand in place of an equation, as lines."""
-    head = head_of(texts[fold.file], fold.owner, fold.begin)
-    return [it for it in (laid_out(head[1], text, fold.owner.depth, 3) for text in fold.texts) if it]
+def inlined(lines, begin, end, gone_lines, gone):
+    """The lines of an equation with a lemma's body in place of the lemma, where that is one call on one line; else nothing."""
+    head = head_of(gone_lines, gone, gone.equations[0][0])
+    at = [k for k in range(begin, end) if gone.name in WORD.findall(lines[k])]
+    if len(gone.equations) > 1 or gone.where is not None or not head or len(at) != 1:
+        return None
+    names = patterns(head[1].strip()[len(gone.name) : -1])
+    body = re.sub(r"\s+", " ", re.sub(r"--.*", "", body_of(gone_lines, head, *gone.equations[0]))).strip()
+    line, found = lines[at[0]], re.search(f"{BEFORE}{re.escape(gone.name)}{BEHIND}", lines[at[0]])
+    if not found or len(body) > WIDTH or line.count(gone.name) > 1 or not all(re.match(r"^[^\s(){}\[\]]+$", it) for it in names) or len(set(names)) < len(names):
+        return None
+    parts, over = [], found.end()
+    for _ in names:
+        stop = end_of_part(line, over + 1) if line[over : over + 1] == " " and line[over + 1 : over + 2] not in ("", "{") else None
+        word = WORD.match(line, over + 1)
+        if stop is None or word and word[0] in STOPS:
+            return None
+        parts.append(line[over + 1 : stop])
+        over = stop
+    if any(set(re.split(r"[^\w'-]+", it)) & bound_in(body) for it in parts) or line[over : over + 1] == "." or re.match(r" [^\s)\]},;|]", line[over:]) and not re.match(r" (∙|in|≡|\+)( |$)", line[over:]):
+        return None
+    values = dict(zip(names, parts))
+
+    def put(word):
+        name, dot, rest = word[0].partition(".")
+        return values[name] + dot + rest if name in values else word[0]
+
+    term = WORD.sub(put, body)
+    if len(term) > SHORT:
+        return None
+    before, behind = line[: found.start()], line[over:]
+    bare = re.match(r"^[^\s(){}\[\]]+$", term) or before[-1:] == "(" and behind[:1] == ")"
+    new = before + (term if bare else f"({term})") + behind
+    return [*lines[begin : at[0]], new, *lines[at[0] + 1 : end]] if len(new) <= WIDTH else None
 
 
-def fold_of(crate, texts, every, known, own_names, file, gone, within, use):
+def fold_of(crate, kind, texts, every, known, own_names, file, gone, within, use):
     """The texts that may do without a lemma where it is used."""
     there, owner, begin, end, _ = use
     lines = texts[there]
@@ -659,7 +693,7 @@ def fold_of(crate, texts, every, known, own_names, file, gone, within, use):
             own = own_names.get(name)
             path = f"Rattle.{crate}.proofs.{'.'.join(file[:-5].split('/proofs/')[1].split('/'))}.{name}" if own else known.get(name)
             if name in knows:
-                if knows[name] != (origin(path) if path else None):
+                if not path or not knows[name] or origin(knows[name]) != origin(path):
                     return None
                 continue
             if not path:
@@ -670,17 +704,20 @@ def fold_of(crate, texts, every, known, own_names, file, gone, within, use):
     listed = list(dict.fromkeys(names + within))
     closed = [it for it in re.split(r", (?![^(]*\))", facts_of(body, lemmas, owner.name)[7:-1]) if it.split(" ")[0].strip("(") != gone.name]
     tries = [*tactics_with(listed), f"grind ({', '.join(dict.fromkeys(['arith'] + closed[1:] + within))})"]
-    return Fold(there, owner, begin, end, list(dict.fromkeys(tries)), imports, public)
+    # (more facts than these take much time and memory, and seldom help)
+    news = [laid_out(head[1], it, owner.depth, 3) for it in dict.fromkeys(tries) if kind == "folds" and len(listed) <= 10]
+    news = list(filter(None, [*news, inlined(lines, begin, end, texts[file], gone) if kind == "inline" else None]))
+    return Fold(there, owner, begin, end, news, imports, public) if news else None
 
 
-def fold(crate):
+def fold(crate, kind):
     """Does without lemmas that few equations use, each of which then cites what that lemma cites."""
     before = {file: read(file) for file in files_of(crate)}
-    groups = list(folds_of(crate))
+    groups = list(folds_of(crate, kind))
     tries, added = {}, {}
     for k, (gone, folds) in enumerate(groups):
         for n, it in enumerate(folds):
-            for new in laid(it, before):
+            for new in it.news:
                 name = f"{it.owner.name}__{len(tries)}"
                 lines = before[it.file]
                 text = lines[it.owner.begin : it.begin] + new + lines[it.end : it.owner.end]
@@ -689,48 +726,59 @@ def fold(crate):
                 added.setdefault(it.file, []).append((it.owner.end, text, name))
                 tries[name] = (k, n, new)
     print(f"{crate}: {len(groups)} lemmas, {len(tries)} tries", flush=True)
+    if not tries:
+        return 0
 
     def lay(chosen, more):
-        """Writes the files with these groups' imports and public lemmas, with the edits of those that are chosen, and with what is planted."""
-        edits = {file: [] for file in before}
+        """Writes the files with these groups' imports and public lemmas, with the edits of those that are chosen, and with what is planted.
+        Says which lines of which file are of which try, or of which group.
+        """
+        edits = {file: set() for file in before}
         for k, news in chosen.items():
             for it, new in zip(groups[k][1], news):
-                edits[it.file].append((it.begin, it.end, new))
-                edits[it.file] += [(0, 0, [f"use {path.rpartition('.')[0]}.{{{path.rpartition('.')[2]}}}"]) for path in it.imports]
+                edits[it.file].add((it.begin, it.end, tuple(new), k))
+                edits[it.file] |= {(0, 0, (f"use {path.rpartition('.')[0]}.{{{path.rpartition('.')[2]}}}",), None) for path in it.imports}
                 for file, at in it.public:
-                    edits[file].append((at, at + 1, [re.sub(r"^( *)(pub )?", r"\1pub ", before[file][at], count=1)]))
+                    edits[file].add((at, at + 1, (re.sub(r"^( *)(pub )?", r"\1pub ", before[file][at], count=1),), None))
         places = {}
         for file, lines in before.items():
-            planted_here = more.get(file, [])
-            every = [(at, over, new, None) for at, over, new in edits[file] if at or over] + [(end, end, ["", *text], name) for end, text, name in planted_here]
-            whole = list(lines)
-            for at, over, new, _ in sorted({repr(it[:3]): it for it in every}.values(), key=lambda it: (it[0], it[1]), reverse=True):
-                whole[at:over] = new
+            every = [it for it in edits[file] if it[1]] + [(end, end, ("", *text), name) for end, text, name in more.get(file, [])]
+            whole, marks = list(lines), [None] * len(lines)
+            for at, over, new, whose in sorted(every, key=lambda it: it[:2], reverse=True):
+                whole[at:over], marks[at:over] = new, [whose] * len(new)
             first = next((k for k, it in enumerate(whole) if it.startswith("use ")), 0)
-            whole[first:first] = list(dict.fromkeys(new[0] for at, over, new in edits[file] if not (at or over)))
-            whole = with_tactics(whole)
-            write(file, whole)
-            for _, text, name in planted_here:
-                at = next(k for k, it in enumerate(whole) if it == text[0])
-                places[name] = range(at + 1, at + 1 + len(text))
+            imports = sorted({it[2][0] for it in edits[file] if not it[1]})
+            whole[first:first], marks[first:first] = imports, [None] * len(imports)
+            shift = len(with_tactics(whole)) - len(whole)
+            write(file, with_tactics(whole))
+            places |= {(file, n + shift + 1): whose for n, whose in enumerate(marks) if whose is not None}
         return places
 
-    # The imports of all, and no edit: uses as they are, so that only what is planted can fail.
+    def refused_in(said, places):
+        """Whose lines a check refuses, and where it says something of another line."""
+        errors = errors_in(crate, said)
+        return {places[it[:2]] for it in errors if it[:2] in places}, {it[0] for it in errors if it[:2] not in places and "`" not in it[2]}
+
+    # The imports of all, and each use as it was, so that only what is planted can fail. A file is not looked at where one fails that it
+    # imports, so those that are refused go, and the rest is checked again.
     every_one = {k: [before[it.file][it.begin : it.end] for it in folds] for k, (_, folds) in enumerate(groups)}
-    places = lay(every_one, added)
-    said = said_of(crate)
-    lay({}, {})
-    if not said:
-        return 1
-    refused, broken = set(re.findall(r"([^\s`,()]+__\d+)", said)), set()
-    for file, line, text in errors_in(crate, said):
-        here = {name for name, rows in places.items() if groups[tries[name][0]][1][tries[name][1]].file == file and line in rows}
-        refused |= here
-        broken |= set() if here or "`" in text else {file}
+    for _ in range(ROUNDS):
+        planted_now = {file: [it for it in its if it[2] in tries] for file, its in added.items()}
+        places = lay(every_one, planted_now)
+        said = said_of(crate)
+        if not said:
+            lay({}, {})
+            return 1
+        refused, files = refused_in(said, places)
+        refused = {it for it in refused if it in tries} | {it for it in tries if re.search(rf"(?<![^\s`,(]){re.escape(it)}(?![^\s`,()])", said)}
+        refused |= {name for name, (k, n, _) in tries.items() if not refused and groups[k][1][n].file in files}
+        tries = {name: it for name, it in tries.items() if name not in refused}
+        print(f"{crate}: {len(tries)} tries left", flush=True)
+        if not refused:
+            break
     passed = {}
-    for name, (k, n, new) in tries.items():
-        if name not in refused and groups[k][1][n].file not in broken:
-            passed.setdefault(k, {}).setdefault(n, []).append(new)
+    for k, n, new in tries.values():
+        passed.setdefault(k, {}).setdefault(n, []).append(new)
     whole = {k: [min(it[n], key=lambda new: (len(new), sum(map(len, new)))) for n in sorted(it)] for k, it in passed.items() if len(it) == len(groups[k][1])}
 
     def gain(k):
@@ -751,16 +799,15 @@ def fold(crate):
         left_out.add(gone.name)
     print(f"{crate}: {len(whole)} lemmas can go, {len(taken)} at once", flush=True)
     while taken:
-        lay(taken, {})
+        places = lay(taken, {})
         said = said_of(crate)
         errors = errors_in(crate, said)
         if said and not errors:
             break
-        files = {file for file, _, _ in errors}
-        names = {(file, name) for file, _, text in errors for name in re.findall(r"[^\s`(),]+", text)}
-        left = {k: it for k, it in taken.items() if not any((fold.file, fold.owner.name) in names for fold in groups[k][1])}
-        taken = left if len(left) < len(taken) else {k: it for k, it in taken.items() if not any(fold.file in files for fold in groups[k][1])} if said and files else {}
-        print(f"{crate}: {len(taken)} left after {len(errors)} errors", flush=True)
+        refused, files = refused_in(said, places)
+        files |= set() if refused else {it[0] for it in errors}
+        taken = {k: it for k, it in taken.items() if said and k not in refused and (refused or not any(fold.file in files for fold in groups[k][1]))}
+        print(f"{crate}: {len(taken)} left after {len(errors)} errors", *[it for it in errors if it[:2] not in places], sep="\n    ", flush=True)
     if not taken:
         lay({}, {})
     print(f"{crate}: {len(taken)} lemmas taken out of what uses them, some {sum(map(gain, taken))} lines; then unused, imports and common")
@@ -1004,11 +1051,11 @@ def main(what, *crates):
     os.chdir(os.path.dirname(os.path.dirname(os.path.realpath(__file__))))
     if what == "unused":
         return drop_unused(*crates)
-    work = {"bodies": lambda it: shorten(it, bodies), "folds": fold, "blocks": lambda it: shorten(it, blocks), "imports": tidy_imports, "common": common_names}[what]
+    work = {"bodies": lambda it: shorten(it, bodies), "folds": lambda it: fold(it, "folds"), "inline": lambda it: fold(it, "inline"), "blocks": lambda it: shorten(it, blocks), "imports": tidy_imports, "common": common_names}[what]
     return max(map(work, crates))
 
 
 if __name__ == "__main__":
-    if len(sys.argv) < 3 or sys.argv[1] not in ("bodies", "folds", "blocks", "imports", "common", "unused"):
+    if len(sys.argv) < 3 or sys.argv[1] not in ("bodies", "folds", "inline", "blocks", "imports", "common", "unused"):
         sys.exit(__doc__)
     sys.exit(main(*sys.argv[1:]))
