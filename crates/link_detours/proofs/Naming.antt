@@ -1,9 +1,9 @@
 -- Words that name columns: those in which a set has more, and those beside them.
 use Rattle.link_detours.proofs.Common.{Ahead, All, All-set, Back, Bool, Chip, Description, IsIn, IsInside, IsSpread, IsSpreadAt, IsSpreadBut, List, Some, Stay, Step, and_le_l, ap, arith, bit_and}
 use Rattle.link_detours.proofs.Common.{bit_at, bit_at-lt, bit_at-zero, bit_at_and, bit_at_clear_other, bit_at_clear_same, bit_at_ones, bit_not, bit_or, bits, cases_eq, ext_get_or, far_parts, get_or}
-use Rattle.link_detours.proofs.Common.{get_or-set_other, get_or-set_same, inl, inr, inside_parts, length, length-set, min, stepped, subst, sym, w64, ℕ, ◌%◌, ◌*◌, ◌+◌, ◌-◌, ◌<◌, ◌^◌, ◌↔◌, ◌∙◌, ◌≡◌}
-use Rattle.link_detours.proofs.Common.{◌≢◌, ◌≤◌, ◌⊎◌}
-use Rattle.link_detours.proofs.{RoadBits.chip_of_column, Spreading.or_left, Spreading.or_right, TurnedWords.turned_ahead, TurnedWords.turned_back, TurnedWords.turned_stay}
+use Rattle.link_detours.proofs.Common.{get_or-set_other, get_or-set_same, inl, inr, inside_parts, length, length-set, stepped, subst, sym, w64, ℕ, ◌%◌, ◌*◌, ◌+◌, ◌-◌, ◌<◌, ◌^◌, ◌↔◌, ◌∙◌, ◌≡◌, ◌≢◌}
+use Rattle.link_detours.proofs.Common.{◌≤◌, ◌⊎◌}
+use Rattle.link_detours.proofs.{RoadBits.chip_of_column, Spreading.or_left, Spreading.or_right, TurnedWords.turned_ahead, TurnedWords.turned_back}
 
 -- the columns from which a step leads to one that is named
 pub beside : (columns up down width : ℕ) →
@@ -12,7 +12,7 @@ pub beside : (columns up down width : ℕ) →
     (wrap : Bool) (step : Step) (x k : ℕ) → x < width → stepped wrap width step x ≡ Some k → bit_at columns k ≡ 1 → bit_at (bit_or (bit_or columns up) down) x ≡ 1
 beside columns up down width ahead ahead_round back back_round wrap Ahead x k within leads bit =
     or_left (bit_or columns up) down x (or_right columns up x (turned_ahead columns up width ahead ahead_round wrap x k within leads ∙ bit))
-beside columns up down width ahead ahead_round back back_round wrap Stay x k within leads bit = grind (arith, or_left, turned_stay)
+beside columns up down width ahead ahead_round back back_round wrap Stay x k within leads bit = grind (arith, or_left)
 beside columns up down width ahead ahead_round back back_round wrap Back x k within leads bit = grind (arith, or_right, turned_back)
 
 -- outside the columns beside those that grew nothing changed beside a chip, so the newer set has spread there
@@ -40,17 +40,11 @@ module _ (left x : ℕ) (few : x < 64) (here : bit_at left x ≡ 1) where
   gone : bit_at (without left x) x ≡ 0
   gone = bit_at_clear_same w64 left x few
 
-  still : (k : ℕ) → k < 64 → k ≢ x → bit_at left k ≡ 1 → bit_at (without left x) k ≡ 1
+  pub still : (k : ℕ) → k < 64 → k ≢ x → bit_at left k ≡ 1 → bit_at (without left x) k ≡ 1
   still k within other bit = bit_at_clear_other w64 left x few k within other ∙ bit
 
-  was : (k : ℕ) → bit_at (without left x) k ≡ 1 → (k ≢ x) × (bit_at left k ≡ 1)
-  was k bit = (
-    λ same. (let none : bit_at (without left x) x ≡ 0 = gone in let one : bit_at (without left x) x ≡ 1 = subst (λ j. bit_at (without left x) j ≡ 1) same bit in omega (arith, none, one)),
-    first_set (bit_at left k) (bit_at (bit_not w64 (1 * 2 ^ x % 2 ^ bits w64)) k) (bit_at-lt left k) (sym (bit_at_and left (bit_not w64 (1 * 2 ^ x % 2 ^ bits w64)) k) ∙ bit),
-  )
-    where
-      first_set : (a b : ℕ) → a < 2 → min a b ≡ 1 → a ≡ 1
-      first_set a b p h = omega (arith, p, h)
+  pub was : (k : ℕ) → bit_at (without left x) k ≡ 1 → (k ≢ x) × (bit_at left k ≡ 1)
+  was k bit = grind (arith, gone, bit_at-lt, bit_at_and)
 
   -- a column less is left
   pub fewer : without left x < left
@@ -104,20 +98,6 @@ module _ (left x : ℕ) (few : x < 64) (here : bit_at left x ≡ 1) where
 
         unread : (k : ℕ) → k ≢ x → get_or new k 0 ≡ get_or words k 0
         unread k other = ap (λ s. get_or s k 0) at.is ∙ get_or-set_other words x k at.word 0 other
-
-    -- a place beyond the last column is passed over
-    pub spreading_skip : m.width ≤ x → Spreading m set_of words grown (without left x)
-    spreading_skip beyond = record {
-      long = now.long;
-      fits = now.fits;
-      rises = now.rises;
-      done = λ c inside off.
-          let low : c.x < m.width = (inside_parts m c inside).0 in
-          now.done c inside (λ bit. off (still c.x (omega (arith, low, narrow)) (λ same. omega (arith, low, beyond, same)) bit));
-      rest = λ k bit. now.rest k (was k bit).1;
-      told = now.told;
-      grew = now.grew;
-    }
 
 -- and where no column is named the set has not changed
 pub none_grew : (old new : List ℕ) (grown : ℕ) → length old ≡ length new → grown ≡ 0 →

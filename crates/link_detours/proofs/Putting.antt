@@ -1,8 +1,8 @@
 -- Chips put into a set, one after the other.
 use Rattle.link_detours.proofs.Common.{AreRoadsOf, Chip, Contains-push, Description, Edge, HasBitOf, IsIn, IsInside, IsTreeChip, List, None, Roads, Some, [], ap, arith, bit_at, bit_at-zero}
 use Rattle.link_detours.proofs.Common.{bit_at_set_other, bit_at_set_same, bit_or, bits, cases_eq, cases_lt, end_of, get_or, get_or-replicate, get_or-set_other, get_or-set_same, get_or_past, inl, inr}
-use Rattle.link_detours.proofs.Common.{inside_parts, length, length-replicate, more_chips, replicate, same_Some, same_chip, set, subst, sym, take, take_more, tree_cases, tree_end, tree_push_cases}
-use Rattle.link_detours.proofs.Common.{w64, ℕ, ◌%◌, ◌*◌, ◌++◌, ◌+◌, ◌<◌, ◌^◌, ◌↔◌, ◌∙◌, ◌∷◌, ◌≡◌, ◌≢◌}
+use Rattle.link_detours.proofs.Common.{inside_parts, length, length-replicate, more_chips, replicate, same_Some, same_chip, set, subst, sym, take, take_more, tree_end, tree_push_cases, w64, ℕ, ◌%◌}
+use Rattle.link_detours.proofs.Common.{◌*◌, ◌++◌, ◌+◌, ◌<◌, ◌^◌, ◌↔◌, ◌∙◌, ◌∷◌, ◌≡◌, ◌≢◌}
 use Rattle.link_detours.proofs.Searching.{cases_chip}
 
 -- a chip inside the grid has a bit in a set of the machine's chips
@@ -32,11 +32,6 @@ TellsTree m root edges chips = (c : Chip) → IsIn chips c ↔ IsTreeChip m root
 -- no chip is in a set of words that are 0
 pub none_in : (words : List ℕ) (n : ℕ) → words ≡ replicate n 0 → (c : Chip) → IsIn words c → ⊥
 none_in words n e c bit = grind (arith, cases_lt, get_or, get_or-replicate, bit_at-zero, get_or_past, length-replicate)
-
--- the root alone
-pub TellsTree-root : (m : Description) (root : Chip) (words chips : List ℕ) → ((c : Chip) → IsIn words c → ⊥) → IsIn chips root →
-    ((e : Chip) → e ≢ root → bit_at (get_or chips e.x 0) e.y ≡ bit_at (get_or words e.x 0) e.y) → TellsTree m root [] chips
-TellsTree-root m root words chips empty here others c = grind (arith, cases_chip c root, tree_cases m root)
 
 -- one edge more, into this chip
 pub TellsTree-push : (m : Description) (root : Chip) (tree : List Edge) (old chips : List ℕ) (f : Edge) (far : Chip) → end_of m f ≡ Some far →

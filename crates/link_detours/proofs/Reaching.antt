@@ -1,7 +1,7 @@
 -- What tables of flagged links and of marked chips say of trees.
 use Rattle.link_detours.proofs.Common.{All, All-contains, Bool, Chip, Contains, Contains-get_or, Contains-only, Description, Dir, Edge, EdgeStep, FlaggedStep, IsInside, IsLiveLink, IsReachedBy}
-use Rattle.link_detours.proofs.Common.{IsWholeTree, List, Some, Steps, [], arith, far_back, far_of, get_or, is_flagged, is_marked, live_back, live_ends, live_inside, opposite_of, opposite_of-opposite}
-use Rattle.link_detours.proofs.Common.{refl, subst, sym, true, ℕ, ◌↔◌, ◌∷◌, ◌≡◌}
+use Rattle.link_detours.proofs.Common.{IsWholeTree, List, Some, Steps, [], arith, far_back, far_of, get_or, is_flagged, is_marked, live_back, live_ends, live_inside, opposite_of, refl, subst, sym}
+use Rattle.link_detours.proofs.Common.{true, ℕ, ◌↔◌, ◌∷◌, ◌≡◌}
 use Rattle.link_detours.proofs.Stepping.{Steps-map}
 
 -- a live link begins inside the grid
@@ -24,10 +24,6 @@ edges_flagged m table edges flags inside a b step = grind (arith, All-contains)
 pub link_turned : (m : Description) (at b : Chip) (d : Dir) → IsLiveLink m b d → far_of m b d ≡ Some at →
     IsLiveLink m at (opposite_of d) × (far_of m at (opposite_of d) ≡ Some b)
 link_turned m at b d lives leads = (live_back m b at d leads lives, far_back m b at d (link_inside m b d lives) leads)
-
-pub turned_link : (m : Description) (at b : Chip) (d : Dir) → IsLiveLink m at (opposite_of d) → far_of m at (opposite_of d) ≡ Some b →
-    IsLiveLink m b d × (far_of m b d ≡ Some at)
-turned_link m at b d lives leads = grind (arith, link_turned m b at (opposite_of d) lives leads, opposite_of-opposite d)
 
 -- a table marks a chip exactly where the edges that another table flags join it to the root
 pub reach_edges : (m : Description) (root : Chip) (table : List Bool) (edges : List Edge) (marks : List Bool) →

@@ -1,7 +1,7 @@
 -- Words whose bits tell which links live.
-use Rattle.link_detours.proofs.Common.{Bool, Chip, Description, Dir, IsLiveLink, List, [], ap, arith, below_six, bit_at, bit_at_set_other, bit_at_set_same, bit_or, bits, cases_Bool, cases_eq}
-use Rattle.link_detours.proofs.Common.{dir_number, false, false_from_ne_true, false≢true, get_or, get_or_append_left, get_or_at, inl, inr, is_inside, is_live_link, length, length-append, live_ends}
-use Rattle.link_detours.proofs.Common.{live_inside, same_dir, same_from_place, subst, sym, true, w64, ℕ, ◌%◌, ◌*◌, ◌++◌, ◌+◌, ◌<◌, ◌^◌, ◌↔◌, ◌∙◌, ◌∷◌, ◌≡◌, ◌≤◌}
+use Rattle.link_detours.proofs.Common.{Chip, Description, Dir, IsLiveLink, List, [], ap, arith, below_six, bit_at, bit_at_set_other, bit_at_set_same, bit_or, bits, cases_eq, dir_number, false}
+use Rattle.link_detours.proofs.Common.{false≢true, get_or, get_or_append_left, get_or_at, inl, inr, is_live_link, length, length-append, same_dir, same_from_place, subst, sym, w64, ℕ, ◌%◌, ◌*◌, ◌++◌}
+use Rattle.link_detours.proofs.Common.{◌+◌, ◌<◌, ◌^◌, ◌↔◌, ◌∙◌, ◌∷◌, ◌≡◌, ◌≤◌}
 
 abbrev pub chip_of_column : ℕ → ℕ → Chip
 chip_of_column x y = record { x = x; y = y }
@@ -71,11 +71,3 @@ RoadsTo-more m words i x word d at tells so_far = record {
         (λ set. known.0 (ap (λ n. bit_at n y) (sym same) ∙ set), λ live. ap (λ n. bit_at n y) same ∙ known.1 live)
   ];
 }
-
--- a test that a bit is set tells whether a link lives, where the bit does
-pub same_from_bit : (b live : Bool) (n : ℕ) → (b ≡ true) ↔ (n ≡ 1) → (n ≡ 1) ↔ (live ≡ true) → b ≡ live
-same_from_bit b live n set told = grind (arith, cases_Bool live, cases_Bool b, false≢true)
-
--- a link of a chip outside the grid doesn't live
-pub dead_outside : (m : Description) (c : Chip) (d : Dir) → is_inside m c ≡ false → is_live_link m c d ≡ false
-dead_outside m c d outside = false_from_ne_true (is_live_link m c d) (λ lives. false≢true (sym outside ∙ live_inside m c (live_ends m c d lives).2))

@@ -1,9 +1,9 @@
 -- A search that marks chips until no flagged link leads from a marked chip to another.
 use Rattle.link_detours.proofs.Common.{All, All-contains, Bool, Chip, Contains, Contains-append_left, Contains-none, Contains-push, Contains-push_cases, Description, Dir, East, FlaggedStep, IsInside}
-use Rattle.link_detours.proofs.Common.{IsReachedBy, List, Some, [], all_dirs, ap, arith, below_six, cases_Bool, cases_eq, chip_eq, chip_eq-from_same, chip_eq_true, dir_number, dir_number-dir_at}
-use Rattle.link_detours.proofs.Common.{false, false≢true, far_inside, far_of, get_or, get_or-set_other, get_or-set_same, get_or_default, index_below, index_of, inl, inr, is_flagged, is_marked, length}
-use Rattle.link_detours.proofs.Common.{length-append, length-set, refl, same_Some, same_dir, same_index, set, subst, suc, sum_by, sum_by-set, sym, true, ℕ, ◌*◌, ◌++◌, ◌+◌, ◌<◌, ◌↔◌, ◌∙◌, ◌∷◌, ◌≡◌}
-use Rattle.link_detours.proofs.Common.{◌≢◌, ◌≤◌, ◌⊎◌}
+use Rattle.link_detours.proofs.Common.{IsReachedBy, List, Some, [], all_dirs, ap, arith, cases_Bool, cases_eq, chip_eq, chip_eq-from_same, chip_eq_true, dir_number, dir_number-dir_at, false}
+use Rattle.link_detours.proofs.Common.{false≢true, far_inside, far_of, get_or, get_or-set_other, get_or-set_same, get_or_default, index_below, index_of, inl, inr, is_flagged, is_marked, length}
+use Rattle.link_detours.proofs.Common.{length-append, length-set, refl, rules, same_Some, same_dir, same_index, set, subst, suc, sum_by, sum_by-set, sym, true, ℕ, ◌*◌, ◌++◌, ◌+◌, ◌<◌, ◌↔◌, ◌∙◌, ◌∷◌}
+use Rattle.link_detours.proofs.Common.{◌≡◌, ◌≢◌, ◌≤◌, ◌⊎◌}
 use Rattle.link_detours.proofs.Stepping.{reached_has}
 
 -- two chips are the same or not
@@ -51,13 +51,7 @@ module _ (m : Description) (table : List Bool) (seeds : List Chip) where
   -- the marks before the search: those of the seeds
   pub start : (marks : List Bool) → length marks ≡ m.width * m.height → All (IsInside m) seeds →
       ((c : Chip) → IsInside m c → (is_marked m marks c ≡ true) ↔ Contains seeds c) → Ongoing marks seeds (λ c j. Contains seeds c)
-  start marks long inside told = record {
-    long = long;
-    known = λ c has. let within = All-contains (IsInside m) seeds c inside has in (within, (told c within).1 has);
-    at_seeds = λ a has. (told a (All-contains (IsInside m) seeds a inside has)).1 has;
-    walks = λ c within marked. (0, (c, (told c within).0 marked, refl));
-    near = λ c e d within marked flagged leads. inl ((told c within).0 marked);
-  }
+  start marks long inside told = grind (arith, All-contains)
 
   -- the last of the chips that are left is taken, and its links are still to be looked at
   pub start_looking : (marks : List Bool) (before left : List Chip) (at : Chip) → before ≡ left ++ at ∷ [] → Ongoing marks before (λ c j. Contains before c) → Looking marks left at 0
@@ -82,17 +76,7 @@ module _ (m : Description) (table : List Bool) (seeds : List Chip) where
   -- a link that leads nowhere, or to a marked chip
   pub look_past : (marks : List Bool) (left : List Chip) (at : Chip) (i : ℕ) (d : Dir) → dir_number d ≡ i →
       ((e : Chip) → is_flagged m table at d ≡ true → far_of m at d ≡ Some e → is_marked m marks e ≡ true) → Looking marks left at i → Looking marks left at (i + 1)
-  look_past marks left at i d link fine now = record {
-    at_inside = now.at_inside;
-    at_marked = now.at_marked;
-    ongoing = record {
-      long = now.ongoing.long;
-      known = now.ongoing.known;
-      at_seeds = now.ongoing.at_seeds;
-      walks = now.ongoing.walks;
-      near = λ c e g inside marked flagged leads. grind (arith, now.ongoing.near c e g inside marked flagged leads, cases_eq (dir_number g) i, same_dir g d);
-    };
-  }
+  look_past marks left at i d link fine now = grind (arith, cases_eq, same_dir)
 
   -- a link that leads to an unmarked chip: it is marked, and left to be looked at
   pub look_at_end : (marks : List Bool) (left : List Chip) (at e : Chip) (i : ℕ) (d : Dir) → dir_number d ≡ i → is_flagged m table at d ≡ true → far_of m at d ≡ Some e →
@@ -128,24 +112,7 @@ module _ (m : Description) (table : List Bool) (seeds : List Chip) where
 
       near_after : (c f : Chip) (g : Dir) → far_of m c g ≡ Some f → WaitsFrom left at i c (dir_number g) ⊎ (is_marked m marks f ≡ true) →
           WaitsFrom (left ++ e ∷ []) at (i + 1) c (dir_number g) ⊎ (is_marked m (set marks (index_of m e) true) f ≡ true)
-      near_after c f g goes (inl (inl waits)) = inl (inl (Contains-append_left left (e ∷ []) c waits))
-      near_after c f g goes (inl (inr here)) = elim (cases_eq (dir_number g) i) [
-        | inr other ↦ inl (inr (here.0, (let from : i ≤ dir_number g = here.1 in omega arith)))
-        | inl same ↦
-            let leads_here : far_of m at d ≡ Some f = ap (λ (o : Dir). far_of m at o) (sym (same_dir g d (same ∙ sym link))) ∙ (ap (λ (x : Chip). far_of m x g) (sym here.0) ∙ goes) in
-            inr (marked_here marks e f now.ongoing.long (far_inside m at e d now.at_inside leads) (same_Some f e (sym leads_here ∙ leads)))
-      ]
-      near_after c f g goes (inr done) = inr (still_marked marks e f now.ongoing.long (far_inside m at e d now.at_inside leads) done)
-
-  -- all six links of a chip were looked at
-  pub end_links : (marks : List Bool) (left : List Chip) (at : Chip) (i : ℕ) → 6 ≤ i → Ongoing marks left (WaitsFrom left at i) → Ongoing marks left (λ c j. Contains left c)
-  end_links marks left at i past now = record {
-    long = now.long;
-    known = now.known;
-    at_seeds = now.at_seeds;
-    walks = now.walks;
-    near = λ c e d inside marked flagged leads. grind (arith, now.near c e d inside marked flagged leads, below_six d);
-  }
+      near_after c f g goes its_4 = search (rules, Contains-append_left, cases_eq, same_dir, marked_here, far_inside, same_Some, still_marked)
 
   -- when no chip is left, the marked chips are those that walks reach
   pub marked_reached : (marks : List Bool) (left : List Chip) → left ≡ [] → All (IsInside m) seeds → Ongoing marks left (λ c j. Contains left c) → (c : Chip) → IsInside m c →

@@ -1,5 +1,5 @@
 -- How a set of chips spreads over live links, link by link and column by column.
-use Rattle.link_detours.proofs.Common.{Chip, Description, Dir, IsLiveLink, IsSpread, LeadsInto, List, Some, ap, arith, bit_and, bit_at, bit_at-lt, bit_at_and, bit_at_or, bit_or, cases_eq, dir_number}
+use Rattle.link_detours.proofs.Common.{Chip, Description, Dir, IsLiveLink, IsSpread, LeadsInto, List, Some, arith, bit_and, bit_at, bit_at-lt, bit_at_and, bit_at_or, bit_or, cases_eq, dir_number}
 use Rattle.link_detours.proofs.Common.{far_of, far_parts, get_or, inl, inr, le_or_l, live_ends, same_dir, stepped, subst, sym, x_step, y_step, ℕ, ◌+◌, ◌<◌, ◌↔◌, ◌∙◌, ◌≡◌, ◌≤◌}
 use Rattle.link_detours.proofs.RoadBits.{chip_of_column}
 
@@ -31,9 +31,7 @@ leading_told m set x y beyond column turned road d told at_column is at_bit = (
 )
   where
     reads : (e : Chip) → far_of m (chip_of_column x y) d ≡ Some e → bit_at turned y ≡ bit_at (get_or set e.x 0) e.y
-    reads e leads =
-        let parts = far_parts m (chip_of_column x y) e d leads in
-        at_bit e.y parts.1 ∙ ap (λ n. bit_at n e.y) (is ∙ ap (λ k. get_or set k 0) (at_column e.x parts.0))
+    reads e leads = grind (arith, far_parts m (chip_of_column x y) e d leads, chip_of_column x y, get_or)
 
 -- a column's word, with the chips from which the links so far lead to the set
 pub record SpreadTo (m : Description) (set : List ℕ) (x word i : ℕ) : Type 0 where

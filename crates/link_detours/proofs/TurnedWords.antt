@@ -1,7 +1,7 @@
 -- Words turned by one bit, and the coordinates to which links lead.
-use Rattle.link_detours.proofs.Common.{Ahead, Back, Bool, Some, Stay, add-mod_right, add-one, add-zero, ap, arith, bit_and, bit_at, bit_at-lt, bit_at-suc, bit_at-zero, bit_at_above, bit_at_and}
-use Rattle.link_detours.proofs.Common.{bit_at_cat_high, bit_at_cat_low, bit_at_lowest, bit_at_ones, bit_at_ones_above, bit_at_or, bit_or, cases_eq, cases_lt, cond-false, cond-true, div-add-mod'}
-use Rattle.link_detours.proofs.Common.{eq-eqb, false, le-ltb, lit<, lt-ltb, mod-eq_of_lt, mod_self, ne_eqb, pow_pos, stepped, sym, true, ℕ, ◌%◌, ◌*◌, ◌+◌, ◌-◌, ◌/◌, ◌<◌, ◌^◌, ◌∙◌, ◌≡◌, ◌≤◌, ◌⊎◌}
+use Rattle.link_detours.proofs.Common.{Ahead, Back, Bool, Some, add-mod_right, add-one, add-zero, ap, arith, bit_and, bit_at, bit_at-lt, bit_at-suc, bit_at-zero, bit_at_above, bit_at_and}
+use Rattle.link_detours.proofs.Common.{bit_at_cat_high, bit_at_cat_low, bit_at_ones, bit_at_ones_above, bit_at_or, bit_or, cases_eq, cases_lt, cond-false, cond-true, div-add-mod', eq-eqb, false}
+use Rattle.link_detours.proofs.Common.{le-ltb, lit<, lt-ltb, mod-eq_of_lt, mod_self, ne_eqb, pow_pos, stepped, sym, true, ℕ, ◌%◌, ◌*◌, ◌+◌, ◌-◌, ◌/◌, ◌<◌, ◌^◌, ◌∙◌, ◌≡◌, ◌≤◌, ◌⊎◌}
 
 -- the low bits of a number are those of its remainder
 bit_at-mod : (n w i : ℕ) → i < w → bit_at (n % 2 ^ w) i ≡ bit_at n i
@@ -44,25 +44,18 @@ down_inside word rest y some few =
 
 pub down_round : (word rest : ℕ) → bit_at (down_word word rest) 0 ≡ bit_at word rest
 down_round word rest =
-    let clear : bit_at (word * 2 ^ 1 % 2 ^ 64) 0 ≡ 0 = bit_at-mod (word * 2 ^ 1) 64 0 (lit< tt) ∙ moved_low word 1 0 (lit< tt) in
-    let low : bit_at (word / 2 ^ rest) 0 ≡ bit_at word rest = bit_at_lowest (word / 2 ^ rest) in
     omega (arith, bit_at_or (word * 2 ^ 1 % 2 ^ 64) (bit_and (word / 2 ^ rest) 1) 0, bit_at_and (word / 2 ^ rest) 1 0, bit_at-lt (word / 2 ^ rest) 0)
 
 -- where a step ahead leads
 pub ahead_cases : (wrap : Bool) (places n k : ℕ) → n < places → stepped wrap places Ahead n ≡ Some k →
     ((n + 1 < places) × (k ≡ n + 1)) ⊎ ((n + 1 ≡ places) × (k ≡ 0))
-ahead_cases true places n k within leads = grind (arith, cases_lt (n + 1) places, mod_self places, mod-eq_of_lt)
-ahead_cases false places n k within leads = grind (arith, cases_lt (n + 1) places, cond-true, lt-ltb, cond-false, le-ltb)
+ahead_cases wrap places n k within leads = grind (arith, cases_lt, mod_self, mod-eq_of_lt, cond-true, lt-ltb, cond-false, le-ltb)
 
 -- and a step back
 pub back_cases : (wrap : Bool) (places n k : ℕ) → n < places → stepped wrap places Back n ≡ Some k →
     ((0 < n) × (k ≡ n - 1)) ⊎ ((n ≡ 0) × (k ≡ places - 1))
 back_cases true places n k within leads = grind (arith, cases_eq n 0, add-mod_right (n - 1) places, mod-eq_of_lt)
 back_cases false places n k within leads = grind (arith, cases_eq n 0, cond-true, eq-eqb, cond-false, ne_eqb)
-
-pub stay_is : (wrap : Bool) (places n k : ℕ) → stepped wrap places Stay n ≡ Some k → n ≡ k
-stay_is true places n k leads = cc
-stay_is false places n k leads = cc
 
 -- a word turned so that its bits are of the coordinates to which a step leads
 pub turned_ahead : (word result places : ℕ) → ((y : ℕ) → y + 1 < places → bit_at result y ≡ bit_at word (y + 1)) →
@@ -74,6 +67,3 @@ pub turned_back : (word result places : ℕ) → ((y : ℕ) → 0 < y → y < pl
     bit_at result 0 ≡ bit_at word (places - 1) → (wrap : Bool) (y k : ℕ) → y < places →
     stepped wrap places Back y ≡ Some k → bit_at result y ≡ bit_at word k
 turned_back word result places inside round wrap y k within leads = grind (arith, back_cases wrap places y k within leads)
-
-pub turned_stay : (word places : ℕ) (wrap : Bool) (y k : ℕ) → stepped wrap places Stay y ≡ Some k → bit_at word y ≡ bit_at word k
-turned_stay word places wrap y k leads = ap (λ n. bit_at word n) (stay_is wrap places y k leads)

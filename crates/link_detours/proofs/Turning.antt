@@ -1,18 +1,12 @@
 -- Edges from their other ends, and which of them a search from the targets reaches.
 use Rattle.link_detours.proofs.Common.{All, All-contains, Bool, Chip, Contains, Contains-filter, Contains-filter_map, Contains-from_filter, Contains-from_filter_map, Contains-get_or, Description, Dir}
-use Rattle.link_detours.proofs.Common.{Edge, EdgeStep, FlaggedStep, IsInside, IsReachedBy, LeadsToTarget, List, None, Option, Some, Steps, ap, arith, far_back, far_inside, far_of, filter, filter_map}
+use Rattle.link_detours.proofs.Common.{Edge, EdgeStep, FlaggedStep, IsInside, IsReachedBy, LeadsToTarget, List, Option, Some, Steps, ap, arith, far_back, far_inside, far_of, filter, filter_map}
 use Rattle.link_detours.proofs.Common.{get_or, is_flagged, is_marked, opposite_of, opposite_of-opposite, option_map, other_end_of, refl, same_Some, same_edge, subst, sym, true, ℕ, ◌↔◌, ◌∙◌, ◌≡◌}
 use Rattle.link_detours.proofs.{Reaching.flagged_edges, Reaching.edges_flagged, Stepping.Steps-turn}
 
 -- a turned edge leads back
-turned_parts : (m : Description) (e f : Edge) (o : Option Chip) → far_of m e.chip e.dir ≡ o →
-    option_map (λ (c : Chip). let g : Edge = record { chip = c; dir = opposite_of e.dir } in g) o ≡ Some f →
-    (far_of m e.chip e.dir ≡ Some f.chip) × (f.dir ≡ opposite_of e.dir)
-turned_parts m e f None leads is = cc
-turned_parts m e f (Some c) leads is = grind arith
-
 pub turned_leads : (m : Description) (e f : Edge) → other_end_of m e ≡ Some f → (far_of m e.chip e.dir ≡ Some f.chip) × (f.dir ≡ opposite_of e.dir)
-turned_leads m e f is = turned_parts m e f (far_of m e.chip e.dir) refl is
+turned_leads m e f is = grind arith
 
 pub turned_is : (m : Description) (e : Edge) (c : Chip) → far_of m e.chip e.dir ≡ Some c → other_end_of m e ≡ Some (record { chip = c; dir = opposite_of e.dir })
 turned_is m e c leads = ap (λ (o : Option Chip). option_map (λ (x : Chip). let g : Edge = record { chip = x; dir = opposite_of e.dir } in g) o) leads

@@ -1,25 +1,11 @@
 -- Waves of chips, and the walks that lead back over them.
-use Rattle.link_detours.proofs.Common.{All, AreWaves, Chip, Description, Dir, Edge, IsBestStep, IsDetour, IsIn, IsInside, IsLastLink, IsReachedBy, IsSpread, IsStepFrom, IsStepLevel, IsTreeChip}
+use Rattle.link_detours.proofs.Common.{AreWaves, Chip, Description, Dir, Edge, IsBestStep, IsDetour, IsIn, IsInside, IsLastLink, IsReachedBy, IsSpread, IsStepFrom, IsStepLevel, IsTreeChip}
 use Rattle.link_detours.proofs.Common.{IsTreeLevel, IsWave, IsWithinLinks, LeadsTo, List, [], ap, append-nil, append_assoc, arith, between, between_to_end, cases_eq, cases_lt, dir_number, drop}
-use Rattle.link_detours.proofs.Common.{drop_at, far_inside, get_or, inl, inr, length, length-append, opposite_of, refl, same_dir, subst, suc, sum_by, sum_by-cons, sum_by-le, sym, take, take_at, zero}
-use Rattle.link_detours.proofs.Common.{ℕ, ◌*◌, ◌++◌, ◌+◌, ◌-◌, ◌<◌, ◌^◌, ◌↔◌, ◌∙◌, ◌∷◌, ◌≡◌, ◌≤◌}
+use Rattle.link_detours.proofs.Common.{drop_at, far_inside, get_or, inl, inr, length, length-append, opposite_of, refl, same_dir, subst, suc, sum_by, sum_by-cons, sym, take, take_at, zero, ℕ, ◌++◌}
+use Rattle.link_detours.proofs.Common.{◌+◌, ◌-◌, ◌<◌, ◌↔◌, ◌∙◌, ◌∷◌, ◌≡◌, ◌≤◌}
 use Rattle.link_detours.proofs.{Reaching.link_inside, Reaching.link_turned, Stepping.IsReachedBy-map, Stepping.reached_has}
 
 module _ (m : Description) (IsStart : Chip → Type 0) where
-  -- the wave of number 0 has the starts
-  pub first_wave : (set : List ℕ) → length set ≡ m.width → ((c : Chip) → (IsIn set c → IsStart c) × (IsStart c → IsIn set c)) → IsWave m IsStart 0 set
-  first_wave set long starts = record {
-    long = long;
-    told = λ c inside. (
-      λ bit. (0, omega arith, (c, (starts c).0 bit, refl)),
-      λ within. (starts c).1 (at_zero c within.0 within.1 within.2),
-    );
-  }
-    where
-      at_zero : (c : Chip) (k : ℕ) → k ≤ 0 → IsReachedBy (LeadsTo m) IsStart k c → IsStart c
-      at_zero c zero low by = subst (λ (x : Chip). IsStart x) by.2 by.1
-      at_zero c (suc k) low by = absurd (omega (arith, low))
-
   -- the next wave is the last one spread
   pub next_wave : (n : ℕ) (set more : List ℕ) → IsWave m IsStart n set → length more ≡ m.width →
       ((c : Chip) → IsInside m c → IsIn more c ↔ IsSpread m set c) → IsWave m IsStart (suc n) more
@@ -40,13 +26,7 @@ module _ (m : Description) (IsStart : Chip → Type 0) where
 
       came : (c : Chip) → IsInside m c → (k : ℕ) → k ≤ suc n → IsReachedBy (LeadsTo m) IsStart k c → IsSpread m set c
       came c inside zero low by = inl ((wave.told c inside).1 (0, omega arith, by))
-      came c inside (suc k) low by =
-          let b : Chip = by.2.0 in
-          let link = by.2.2 in
-          let b_inside : IsInside m b = link_inside m b link.0 link.1 in
-          let bit : IsIn set b = (wave.told b b_inside).1 (k, omega (arith, low), (by.0, by.1, by.2.1)) in
-          let back = link_turned m c b link.0 link.1 link.2 in
-          inr (opposite_of link.0, (b, back.0, back.1, bit))
+      came c inside (suc k) low by = grind (arith, link_inside m (by.2.0) (by.2.2).0 (by.2.2).1, link_turned m c (by.2.0) (by.2.2).0 (by.2.2).1 (by.2.2).2)
 
   -- a set that has the starts and spreads no more has all chips that are reached
   pub dry : (set more : List ℕ) → ((c : Chip) → IsInside m c → IsStart c → IsIn set c) → more ≡ set →
@@ -76,23 +56,11 @@ module _ (m : Description) (IsStart : Chip → Type 0) where
   -- the last wave has the last words, and those before it the others
   pub last_wave : (n : ℕ) (words : List ℕ) → 0 < length words → AreWaves m IsStart n words → (k : ℕ) × (n ≡ suc k) × (m.width ≤ length words)
       × ((at : ℕ) → at + m.width ≡ length words → AreWaves m IsStart k (take at words) × IsWave m IsStart k (drop at words))
-  last_wave zero words some none = absurd (let is : length words ≡ 0 = ap length none in omega (arith, some, is))
-  last_wave (suc k) words some (before, wave, is, waves, last) =
-      let long : length words ≡ length before + length wave = ap length is ∙ length-append before wave in
-      let wide : length wave ≡ m.width = last.long in (
-        k,
-        refl,
-        omega (arith, long, wide),
-        λ at so. let place : length before ≡ at = omega (arith, long, wide, so) in (
-          subst (λ ws. AreWaves m IsStart k ws) (sym (ap (take at) is ∙ take_at before wave at place)) waves,
-          subst (λ ws. IsWave m IsStart k ws) (sym (ap (drop at) is ∙ drop_at before wave at place)) last,
-        ),
-      )
+  last_wave n words some its_3 = grind (arith, length-append, take_at, drop_at)
 
   -- no words, no waves
   pub no_waves : (n : ℕ) (words : List ℕ) → 0 < m.width → length words ≡ 0 → AreWaves m IsStart n words → n ≡ 0
-  no_waves zero words wide none waves = refl
-  no_waves (suc k) words wide none (before, wave, is, waves, last) = grind (arith, length-append before wave)
+  no_waves n words wide none its_4 = grind (arith, length-append)
 
 -- over other words for the same starts
 pub AreWaves-same : (m : Description) (P Q : Chip → Type 0) → ((c : Chip) → P c → Q c) → ((c : Chip) → Q c → P c) → (n : ℕ) (words : List ℕ) →
@@ -149,11 +117,6 @@ module _ (m : Description) (root : Chip) (tree : List Edge) where
 pub added_words : (old last new : List ℕ) (from : ℕ) → new ≡ old ++ last → from ≡ length old → between from (length new) new ≡ last
 added_words old last new from is at = between_to_end new from (length new) (omega arith) ∙ (ap (drop from) is ∙ drop_at old last from (sym at))
 
--- a step by the first link that has one is the best
-pub best_step : (m : Description) (set : List ℕ) (at : Chip) (i : ℕ) (e : Edge) → dir_number e.dir ≡ i → IsStepFrom m set at e →
-    ((f : Edge) → IsStepFrom m set at f → i ≤ dir_number f.dir) → IsBestStep m set at e
-best_step m set at i e is step from = (step, λ f f_step. let low : i ≤ dir_number f.dir = from f f_step in omega (arith, is, low))
-
 -- words that rise, and with them their sum
 pub sums_rise : (xs ys : List ℕ) → length xs ≡ length ys → ((k : ℕ) → get_or xs k 0 ≤ get_or ys k 0) →
     (sum_by (λ n. n) xs ≤ sum_by (λ n. n) ys) × (sum_by (λ n. n) xs ≡ sum_by (λ n. n) ys → xs ≡ ys)
@@ -178,9 +141,3 @@ pub next_link : (m : Description) (set : List ℕ) (at : Chip) (i : ℕ) (d : Di
     ((b : Chip) → IsStepFrom m set at (record { chip = b; dir = d }) → ⊥) → ((f : Edge) → IsStepFrom m set at f → i ≤ dir_number f.dir) →
     (f : Edge) → IsStepFrom m set at f → i + 1 ≤ dir_number f.dir
 next_link m set at i d is none from f step = grind (arith, cases_eq (dir_number f.dir) i, same_dir)
-
--- a set that spreads to another has a smaller sum
-pub sum_rises : (m : Description) (last next : List ℕ) → length last ≡ m.width → length next ≡ m.width → All (λ w. w < 2 ^ 64) next →
-    ((k : ℕ) → get_or last k 0 ≤ get_or next k 0) → (next ≡ last → ⊥) →
-    m.width * 18446744073709551615 - sum_by (λ n. n) next < m.width * 18446744073709551615 - sum_by (λ n. n) last
-sum_rises m last next short long fits rises other = grind (arith, sums_rise last next (short ∙ sym long) rises, sum_by-le, get_or, cases_eq)

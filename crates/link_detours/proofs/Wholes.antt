@@ -1,13 +1,12 @@
 -- Trees whose every chip is reached from the root, and what a detour adds to one.
 use Rattle.link_detours.proofs.Common.{Chip, Contains, Contains-append_cases, Contains-append_left, Contains-append_right, Contains-cases, Contains-first, Contains-later, Description, Edge, EdgeStep}
 use Rattle.link_detours.proofs.Common.{IsDetour, IsLastLink, IsLiveLink, IsTreeChip, IsTreeLevel, IsWholeTree, Joins, LeadsTo, List, Some, Steps, [], ap, append-nil, arith, chip_in, end_of, inl, inr}
-use Rattle.link_detours.proofs.Common.{refl, same_Some, subst, suc, sym, tree_cases, tree_end, zero, ℕ, ◌++◌, ◌∙◌, ◌∷◌, ◌≡◌, ◌≤◌, ◌⊎◌}
+use Rattle.link_detours.proofs.Common.{same_Some, subst, suc, sym, tree_cases, tree_end, ℕ, ◌++◌, ◌∙◌, ◌∷◌, ◌≡◌, ◌≤◌, ◌⊎◌}
 use Rattle.link_detours.proofs.Stepping.{Steps-map}
 
 -- a step by an edge leads to a chip of the tree
 pub steps_on_tree : (m : Description) (root : Chip) (tree : List Edge) (n : ℕ) (c : Chip) → Steps (EdgeStep m tree) n root c → IsTreeChip m root tree c
-steps_on_tree m root tree zero c walk = inl (sym walk)
-steps_on_tree m root tree (suc n) c walk = grind (arith, tree_end m root tree (record { chip = walk.0; dir = walk.2.0 }) c walk.2.1 walk.2.2)
+steps_on_tree m root tree n c walk = grind (arith, tree_end)
 
 -- an edge is a step
 pub edge_step : (m : Description) (tree : List Edge) (e : Edge) (c : Chip) → Contains tree e → end_of m e ≡ Some c → EdgeStep m tree e.chip c
@@ -19,10 +18,7 @@ live_steps m root tree is = Steps-map _ _ (λ a b step. (step.0, is.live (record
 
 -- a list has the items that it has without one
 with_one : (tree walk : List Edge) (e f : Edge) → Contains (tree ++ walk) f → Contains (tree ++ e ∷ walk) f
-with_one tree walk e f has = elim (Contains-append_cases tree walk f has) [
-  | inl old ↦ Contains-append_left tree (e ∷ walk) f old
-  | inr later ↦ Contains-append_right tree (e ∷ walk) f (Contains-later e walk f later)
-]
+with_one tree walk e f has = grind (arith, Contains-append_cases tree walk f has, Contains-append_left, Contains-append_right, Contains-later)
 
 -- What a tree with a detour is: whole, with the chip where the detour ends, and with no chip that is farther off than that one.
 pub record Detoured (m : Description) (root : Chip) (tree : List Edge) (c : Chip) (more : List Edge) : Type 0 where
@@ -81,10 +77,7 @@ detour_more m root tree walk c e last rest = record {
     mine = Contains-append_right tree (e ∷ walk) e (Contains-first e walk)
 
     parts : (f : Edge) → Contains (tree ++ e ∷ walk) f → (f ≡ e) ⊎ Contains (tree ++ walk) f
-    parts f has = elim (Contains-append_cases tree (e ∷ walk) f has) [
-      | inl old ↦ inr (Contains-append_left tree walk f old)
-      | inr new ↦ elim (Contains-cases e walk f new) [ inl here ↦ inl (sym here) | inr later ↦ inr (Contains-append_right tree walk f later) ]
-    ]
+    parts f has = grind (arith, Contains-append_cases tree (e ∷ walk) f has, Contains-append_left, Contains-cases, Contains-append_right)
 
     kept : (n : ℕ) (x : Chip) → Steps (EdgeStep m (tree ++ walk)) n root x → Steps (EdgeStep m (tree ++ e ∷ walk)) n root x
     kept n x = Steps-map _ _ (λ a b step. (step.0, with_one tree walk e (record { chip = a; dir = step.0 }) step.1, step.2)) n root x
@@ -105,11 +98,7 @@ detour_more m root tree walk c e last rest = record {
 -- A whole tree stays one with a detour, one link after the other.
 pub detoured : (m : Description) (root : Chip) (tree : List Edge) → IsWholeTree m root tree → (c : Chip) (walk : List Edge) → IsDetour m root tree c walk →
     Detoured m root tree c (tree ++ walk)
-detoured m root tree is c [] detour = subst (Detoured m root tree c) (sym (append-nil tree)) (record {
-  whole = is;
-  there = detour;
-  near = λ x on. (0, record { reached = (x, on, refl); least = λ k by. omega arith }, λ n level. omega arith);
-})
+detoured m root tree is c [] detour = grind (arith, append-nil tree)
 detoured m root tree is c (e ∷ walk) detour = detour_more m root tree walk c e detour.0 (detoured m root tree is e.chip walk detour.1)
 
 -- one target more is joined

@@ -1,13 +1,12 @@
 -- What every mesh has stays when one list changes, and when a mesh is made.
 use Rattle.mesh_core.proofs.Common.{All, All-at, All-nil, All-replicate, All-set, All-tail, AllPairs, ByLink, Chip, Delivery, Description, Dir, DumpRec, FitsHand, FitsQueue, Hand, HasSize, IfSome}
 use Rattle.mesh_core.proofs.Common.{IsInside, IsMesh, IsSite, List, Local, McCopy, None, Option, Port, Setup, Some, State, [], ap, arith, cases_eq, dir_number_below, drop_front, empty_mesh, false}
-use Rattle.mesh_core.proofs.Common.{get_or-replicate, index_below, index_of, is_live_chip, is_live_link, length, length-replicate, length-set, lit<, live_inside, port_number, queue_at, refl}
-use Rattle.mesh_core.proofs.Common.{replicate, same_index, set, slice_get, slice_get-get_or, slice_get-set_other, slice_get-set_same, true, ℕ, ◌*◌, ◌<◌, ◌^◌, ◌∙◌, ◌∷◌, ◌≡◌, ◌≢◌, ◌≤◌}
+use Rattle.mesh_core.proofs.Common.{get_or-replicate, index_below, index_of, is_live_chip, is_live_link, length, length-replicate, length-set, live_inside, port_number, queue_at, refl, replicate}
+use Rattle.mesh_core.proofs.Common.{rules, same_index, set, slice_get, slice_get-get_or, slice_get-set_other, slice_get-set_same, true, ℕ, ◌*◌, ◌<◌, ◌^◌, ◌∙◌, ◌∷◌, ◌≡◌, ◌≢◌, ◌≤◌}
 
 -- what a port's number is below
 pub port_below : (port : Port) → port_number port < 7
-port_below (ByLink d) = omega (arith, dir_number_below d)
-port_below Local = lit< tt
+port_below port = grind (arith, dir_number_below)
 
 pub queue_at-below : (m : Description) (c : Chip) (port : Port) → IsInside m c → queue_at m c port < 7 * (m.width * m.height)
 queue_at-below m c port inside = omega (arith, index_below m c inside, port_below port)
@@ -28,41 +27,24 @@ IsMesh-lists s h unsent unsent_long at_start hands hands_long some none_dead cor
 
 -- a list of unsent copies that have passed no router
 pub IsMesh-unsent : (s : State) (i : ℕ) (q : List McCopy) → IsMesh s → All (λ k. k.hop ≡ 0) q → IsMesh (record s { unsent = set s.unsent i q })
-IsMesh-unsent s i q h start =
-    IsMesh-lists s h (set s.unsent i q) (length-set s.unsent i q ∙ h.unsent_lists) (All-set (λ l. All (λ k. k.hop ≡ 0) l) s.unsent i q start h.unsent_at_start)
-    s.hands h.hand_list h.hands_fit h.no_hand_on_dead_chips s.cores h.core_lists h.cores_within s.delivered s.dumped
+IsMesh-unsent s i q h start = search (rules, IsMesh-lists, length-set, All-set)
 
 -- a core's queue that its copies fit into
 pub IsMesh-cores : (s : State) (i : ℕ) (q : List McCopy) → IsMesh s → FitsQueue s.setup.capacity q → IsMesh (record s { cores = set s.cores i q })
-IsMesh-cores s i q h fits =
-    IsMesh-lists s h s.unsent h.unsent_lists h.unsent_at_start s.hands h.hand_list h.hands_fit h.no_hand_on_dead_chips
-    (set s.cores i q) (length-set s.cores i q ∙ h.core_lists) (All-set (FitsQueue s.setup.capacity) s.cores i q fits h.cores_within) s.delivered s.dumped
-
--- a live chip is no dead one
-two_chips : (m : Description) (c e : Chip) → is_live_chip m c ≡ true → is_live_chip m e ≡ false → e ≡ c → ⊥
-two_chips m c e live dead same = let lives : is_live_chip m e ≡ true = ap (is_live_chip m) same ∙ live in cc
+IsMesh-cores s i q h fits = search (rules, IsMesh-lists, length-set, All-set)
 
 -- what the router of a live chip may hold in hand
 pub IsMesh-hands : (s : State) (c : Chip) (hand : Option Hand) → IsMesh s → is_live_chip s.setup.machine c ≡ true → IfSome hand FitsHand →
     IsMesh (record s { hands = set s.hands (index_of s.setup.machine c) hand })
-IsMesh-hands s c hand h live some =
-    let i : ℕ = index_of s.setup.machine c in
-    IsMesh-lists s h s.unsent h.unsent_lists h.unsent_at_start
-    (set s.hands i hand) (length-set s.hands i hand ∙ h.hand_list) (All-set (λ x. IfSome x FitsHand) s.hands i hand some h.hands_fit)
-    (λ e dead inside.
-    slice_get-set_other s.hands i (index_of s.setup.machine e) hand (λ same. two_chips s.setup.machine c e live dead (same_index s.setup.machine e c inside (live_inside s.setup.machine c live) same))
-    ∙ h.no_hand_on_dead_chips e dead inside)
-    s.cores h.core_lists h.cores_within s.delivered s.dumped
+IsMesh-hands s c hand h live some = search (rules, IsMesh-lists, length-set, All-set, slice_get-set_other, same_index, live_inside)
 
 -- whatever was delivered
 pub IsMesh-delivered : (s : State) (d : List Delivery) → IsMesh s → IsMesh (record s { delivered = d })
-IsMesh-delivered s d h =
-    IsMesh-lists s h s.unsent h.unsent_lists h.unsent_at_start s.hands h.hand_list h.hands_fit h.no_hand_on_dead_chips s.cores h.core_lists h.cores_within d s.dumped
+IsMesh-delivered s d h = grind (arith, IsMesh-lists)
 
 -- whatever was dumped
 pub IsMesh-dumped : (s : State) (d : List DumpRec) → IsMesh s → IsMesh (record s { dumped = d })
-IsMesh-dumped s d h =
-    IsMesh-lists s h s.unsent h.unsent_lists h.unsent_at_start s.hands h.hand_list h.hands_fit h.no_hand_on_dead_chips s.cores h.core_lists h.cores_within s.delivered d
+IsMesh-dumped s d h = grind (arith, IsMesh-lists)
 
 -- an input queue is empty where no copy may wait
 still_empty : (inputs : List (List McCopy)) (i j : ℕ) (q : List McCopy) → (j ≡ i → q ≡ []) → slice_get inputs j ≡ Some [] → slice_get (set inputs i q) j ≡ Some []

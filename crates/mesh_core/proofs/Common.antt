@@ -12,15 +12,15 @@ pub use Rattle.mesh_core.specs.{HasRun.DropsNone, Ledger.Asked, Ledger.Label, Le
 pub use Rattle.mesh_core.specs.Ledger.{delivered_marks, dumped_marks, hand_marks, input_marks, label_of, marks_at, marks_of, port_of, unsent_marks}
 pub use Rattle.mesh_core.specs.Opened.{AreOfNets, MeetsJobLedger, asked_at, asked_by, asked_in, copy_from, empty_mesh, first_copy, label_in, opened_mesh, unsent_of}
 pub use Rattle.mesh_core.specs.{PutBack.after_put_back, PutBack.put_back_of, Queues.drop_front, Queues.front_of, Searches.IsEdgeInto, Searches.IsFound, Searches.IsMarkThere, Searches.IsOfCore}
-pub use Rattle.mesh_core.specs.{Searches.IsOfOutput, Searches.IsOfPort, Searches.is_held, Searches.port_behind, Serving.copy_served, Serving.cores_after, Serving.hands_after, Serving.inputs_after}
-pub use Rattle.mesh_core.specs.{Serving.queue_named, State.FitsHand, State.FitsQueue, State.Hand, State.IsMesh, State.Queue, State.Setup, State.State, State.behind, State.behind_link, State.core}
-pub use Rattle.mesh_core.specs.{State.core_queue_of, State.input, State.nowhere, State.queue_at, State.vertex_behind, Step.after_event, Step.after_events, Step.after_serving, Step.answer}
-pub use Rattle.mesh_core.specs.Step.{collect_of, dump_of, has_room, has_room_behind, in_hand as held_for, inject_of, outputs, outs_without, push_at, push_behind, send_of, serves, step_of, take_of}
-pub use Rattle.mesh_core.specs.Trail.{IsUnderWayAt, Mark, Station, at_core, comes_in_there, delivered, dumped, in_hand, in_queue, is_on_trail, is_packet_on_trail, leaves_there, on_trail, unsent}
-pub use Rattle.mesh_core.specs.{VertexTable.IsSpotPlace, VertexTable.TellsVertices, VertexTable.spot_place, Waiting.queue_of, Whereabouts.IsFoundThere, Whereabouts.IsTracked, Whereabouts.IsWhere}
-pub use Rattle.mesh_core.specs.{Whereabouts.TellsStation, Whole.state_of, declared.places.Did.Did, declared.places.Did.TheVariants.Idle, declared.places.Did.TheVariants.Moved}
-pub use Rattle.mesh_core.specs.declared.places.{Place.TheVariants.CoreQueue, Place.TheVariants.Hand as HandAt, Place.TheVariants.InQueue, Where.TheVariants.At, Where.TheVariants.Delivered}
-pub use Rattle.mesh_core.specs.declared.places.Where.{TheVariants.Dumped, TheVariants.Unsent, Where}
+pub use Rattle.mesh_core.specs.{Searches.IsOfOutput, Searches.IsOfPort, Searches.is_held, Searches.port_behind, Serving.cores_after, Serving.hands_after, Serving.inputs_after, State.FitsHand}
+pub use Rattle.mesh_core.specs.State.{FitsQueue, Hand, IsMesh, Queue, Setup, State, behind, behind_link, core, core_queue_of, input, nowhere, queue_at, vertex_behind}
+pub use Rattle.mesh_core.specs.Step.{after_event, after_events, after_serving, answer, collect_of, dump_of, has_room, has_room_behind, in_hand as held_for, outputs, outs_without, push_at, push_behind}
+pub use Rattle.mesh_core.specs.{Step.send_of, Step.serves, Step.step_of, Step.take_of, Trail.IsUnderWayAt, Trail.Mark, Trail.Station, Trail.at_core, Trail.comes_in_there, Trail.delivered}
+pub use Rattle.mesh_core.specs.{Trail.dumped, Trail.in_hand, Trail.in_queue, Trail.is_on_trail, Trail.is_packet_on_trail, Trail.leaves_there, Trail.on_trail, Trail.unsent, VertexTable.IsSpotPlace}
+pub use Rattle.mesh_core.specs.{VertexTable.TellsVertices, VertexTable.spot_place, Waiting.queue_of, Whereabouts.IsFoundThere, Whereabouts.IsTracked, Whereabouts.IsWhere, Whereabouts.TellsStation}
+pub use Rattle.mesh_core.specs.{Whole.state_of, declared.places.Did.Did, declared.places.Did.TheVariants.Idle, declared.places.Did.TheVariants.Moved, declared.places.Place.TheVariants.CoreQueue}
+pub use Rattle.mesh_core.specs.declared.places.{Place.TheVariants.Hand as HandAt, Place.TheVariants.InQueue, Where.TheVariants.At, Where.TheVariants.Delivered, Where.TheVariants.Dumped}
+pub use Rattle.mesh_core.specs.declared.places.Where.{TheVariants.Unsent, Where}
 pub use Rattle.spin_base.proofs.{Counts.count_by-agree, Counts.count_by-append, Counts.count_by-cons, Counts.count_by-map, Counts.count_by-none, Equality.chip_eq_same, Equality.chip_eq_true}
 pub use Rattle.spin_base.proofs.Equality.{out_eq_same, out_eq_true, port_eq_same, port_eq_true, port_number_injective, spot_eq_same, spot_eq_true}
 pub use Rattle.spin_base.proofs.Exchange.{PutIn, TakenOut, among_taken_out, count_put_in, count_taken_out, put_in_after, put_in_before, taken_out_after, taken_out_before}
@@ -30,15 +30,15 @@ pub use Rattle.spin_base.proofs.Members.{among_contains, among_either, among_fil
 pub use Rattle.spin_base.proofs.{Members.position_there, Once.outs_once, Outputs.dir_number_below, Outputs.no_high_bit, Pairs.AllPairs-apart, Pairs.AllPairs-head, Pairs.AllPairs-tail, Places.All-at}
 pub use Rattle.spin_base.proofs.{Places.All-each, Places.set-slice_get, Places.slice_get-mapped, Places.slice_get-set_other, Places.slice_get-set_same, Places.slice_get_there, Spots.dir_at-dir_number}
 pub use Rattle.spin_base.proofs.Spots.{out_of-core, out_of-device, out_of-has_bit, spot_of_core, spot_of_link}
-pub use Rattle.spin_base.specs.{Equality.chip_eq, Equality.out_eq, Equality.port_eq, Equality.spot_eq, Gathered.gathered, Hops.last_hop, Hops.onward, Links.dir_at, Links.dir_number, Links.opposite_of}
+pub use Rattle.spin_base.specs.{Equality.chip_eq, Equality.out_eq, Equality.port_eq, Equality.spot_eq, Gathered.gathered, Hops.last_hop, Hops.onward, Links.dir_number, Links.opposite_of}
 pub use Rattle.spin_base.specs.{Links.port_number, Lookup.lookup, Outputs.IsOutput, Outputs.all_outs, Outputs.has, Outputs.out_of, Outputs.outs_of, declared.blocks.Entry.Entry}
 pub use Rattle.spin_base.specs.declared.chips.{Chip.Chip, Dir.Dir, Dir.TheVariants.East, Dir.TheVariants.North, Dir.TheVariants.NorthEast, Dir.TheVariants.South, Dir.TheVariants.SouthWest}
 pub use Rattle.spin_base.specs.declared.{chips.Dir.TheVariants.West, chips.Port.Port, chips.Port.TheVariants.Link as ByLink, chips.Port.TheVariants.Local, chips.Spot.Spot, copies.Delivery.Delivery}
 pub use Rattle.spin_base.specs.declared.copies.{DumpRec.DumpRec, Event.Event, Event.TheVariants.Collect, Event.TheVariants.Dump, Event.TheVariants.Inject, Event.TheVariants.Send}
 pub use Rattle.spin_base.specs.declared.{copies.Event.TheVariants.Take, copies.McCopy.McCopy, copies.Packet.Packet, routes.Out.Out, routes.Out.TheVariants.Core, routes.Out.TheVariants.Link}
 pub use Rattle.spin_base.specs.declared.routes.Route.{Route}
-pub use Rattle.std.proofs.Common.{Bool, IsNone, IsTrue, List, None, Option, Some, [], ap, append-nil, arith, cond, count_by, false, get_or, if◌then◌else◌, inl, inr, is_some, length, lit<, map, min}
-pub use Rattle.std.proofs.Common.{nat_lt, not, option_to_list, refl, set, subst, suc, sym, take, true, zero, zero-add, ℕ, ◌%◌, ◌&&◌, ◌*◌, ◌++◌, ◌+◌, ◌-◌, ◌/◌, ◌<◌, ◌==◌, ◌^◌, ◌||◌, ◌↔◌, ◌∙◌, ◌∷◌, ◌≡◌}
+pub use Rattle.std.proofs.Common.{Bool, IsNone, IsTrue, List, None, Option, Some, [], ap, append-nil, arith, cond, count_by, false, get_or, if◌then◌else◌, inl, inr, is_some, length, map, min, nat_lt}
+pub use Rattle.std.proofs.Common.{not, option_to_list, refl, rules, set, subst, suc, sym, take, true, zero, zero-add, ℕ, ◌%◌, ◌&&◌, ◌*◌, ◌++◌, ◌+◌, ◌-◌, ◌/◌, ◌<◌, ◌==◌, ◌^◌, ◌||◌, ◌↔◌, ◌∙◌, ◌∷◌, ◌≡◌}
 pub use Rattle.std.proofs.Common.{◌≢◌, ◌≤◌, ◌⊎◌}
 pub use Rattle.std.proofs.{Math.Bool.and-false, Math.Nat.add-zero, Math.Nat.mul-le-mul_left, lemmas.Bool.and_from, lemmas.Bool.and_parts, lemmas.Bool.cases_eq, lemmas.Bool.cases_order}
 pub use Rattle.std.proofs.lemmas.{Bool.eq-eqb, Bool.eqb-false, Bool.eqb-true, Bool.lt-ltb, Bool.ltb-false, Bool.ltb-true, Bool.ne_eqb, Iterator.Adapters.position_from-zero, List.Elements.All-contains}

@@ -11,10 +11,7 @@ count_all p (x ∷ xs) all =
 
 -- what is counted is counted by one test or passes the other
 one_of_two : (p q : Bool) → (let n : ℕ = if p then 1 else 0 in let m : ℕ = if q then 1 else 0 in let r : ℕ = if p && not q then 1 else 0 in n ≤ m + r)
-one_of_two true true = omega arith
-one_of_two true false = omega arith
-one_of_two false true = omega arith
-one_of_two false false = omega arith
+one_of_two p q = grind arith
 
 count_split : {X : Type 0} (p q : X → Bool) (xs : List X) → count_by p xs ≤ count_by q xs + count_by (λ x. p x && not (q x)) xs
 count_split p q [] = omega arith
@@ -46,11 +43,7 @@ count_covered {X} {W} test (w ∷ ws) p xs covered once =
     omega arith
   where
     others : (x : X) → Among x xs → (p x && not (test w x)) ≡ true → (v : W) × Among v ws × (test v x ≡ true)
-    others x a passes = by_test (covered x a ((and_parts (p x) (not (test w x)) passes).0))
-      where
-        by_test : (v : W) × Among v (w ∷ ws) × (test v x ≡ true) → (v : W) × Among v ws × (test v x ≡ true)
-        by_test (v, inl same, yes') = absurd (and_not_right (p x) (test w x) passes (ap (λ (u : W). test u x) (sym same) ∙ yes'))
-        by_test (v, inr later, yes') = (v, later, yes')
+    others x a passes = grind (arith, and_parts, Among, and_not_right)
 
 -- So a list is no longer than the tests, where each of its items passes one, and at most one item passes each.
 pub length_covered : {X W : Type 0} (test : W → X → Bool) (ws : List W) (xs : List X) →
@@ -90,8 +83,7 @@ count_gathered_part f p i (z ∷ xs) (suc j) x at = grind (arith, count_gathered
 
 -- two different items that pass a test count two
 pub counts_one : (b : Bool) → b ≡ true → (let n : ℕ = if b then 1 else 0 in n ≡ 1)
-counts_one true e = refl
-counts_one false e = cc
+counts_one b e = grind arith
 
 pub count_some : {X : Type 0} (p : X → Bool) (x : X) (xs : List X) → p x ≡ true → Among x xs → 1 ≤ count_by p xs
 count_some p x [] passes a = absurd a
@@ -107,9 +99,7 @@ count_two p x y (z ∷ xs) apart px py (inr later) (inr last) = grind (arith, co
 
 -- a test that passes where another does counts no less
 one_below : (p q : Bool) → (p ≡ true → q ≡ true) → (let n : ℕ = if p then 1 else 0 in let m : ℕ = if q then 1 else 0 in n ≤ m)
-one_below true q then' = rw (then' refl) (omega arith)
-one_below false true then' = omega arith
-one_below false false then' = omega arith
+one_below p q then' = grind arith
 
 pub count_le : {X : Type 0} (p q : X → Bool) (xs : List X) → ((x : X) → Among x xs → p x ≡ true → q x ≡ true) → count_by p xs ≤ count_by q xs
 count_le p q [] then' = omega arith
@@ -118,15 +108,9 @@ count_le p q (x ∷ xs) then' =
     let first = one_below (p x) (q x) (then' x (inl refl)) in
     omega (arith, count_by-cons p x xs, count_by-cons q x xs)
 
--- what is counted is there
-counted_by : {X : Type 0} (p : X → Bool) (x : X) (xs : List X) (b : Bool) → p x ≡ b → (1 ≤ count_by p xs → (y : X) × Among y xs × (p y ≡ true)) →
-    1 ≤ (if b then 1 else 0) + count_by p xs → (y : X) × Among y (x ∷ xs) × (p y ≡ true)
-counted_by p x xs true is later some = (x, inl refl, is)
-counted_by p x xs false is later some = let rest = later (omega (arith, some)) in (rest.0, inr rest.1, rest.2)
-
 pub counted : {X : Type 0} (p : X → Bool) (xs : List X) → 1 ≤ count_by p xs → (y : X) × Among y xs × (p y ≡ true)
 counted p [] some = absurd (omega (arith, some))
-counted p (x ∷ xs) some = counted_by p x xs (p x) refl (counted p xs) (subst (λ n. 1 ≤ n) (count_by-cons p x xs) some)
+counted p (x ∷ xs) some = grind (arith, counted p xs, count_by-cons p x xs)
 
 -- tests that agree on the items count the same
 pub count_agree : {X : Type 0} (p q : X → Bool) (xs : List X) → ((x : X) → Among x xs → p x ≡ q x) → count_by p xs ≡ count_by q xs

@@ -1,8 +1,8 @@
 -- A mesh at rest that meets the ledger of a job, without a dump, has delivered what the job asks for.
 use Rattle.mesh_core.proofs.Common.{Among, AreAsExpected, Bool, Contains, Delivery, Exit, IsAskedFor, IsAtRest, IsTracked, IsWayOn, Label, List, Mark, McCopy, MeetsJobLedger, NetPlan, None, Packet}
-use Rattle.mesh_core.proofs.Common.{Some, Spot, State, [], among_contains, and_from, and_parts, ap, append-nil, asked_by, at_core, both_ways, chip_of, contains_among, count_by, count_by-map}
-use Rattle.mesh_core.proofs.Common.{delivered, delivered_marks, eqb-true, gathered_of_none, hand_marks, in_queue, inr, is_packet_on_trail, label_in, label_of, length, map_among, marks_at, marks_of}
-use Rattle.mesh_core.proofs.Common.{port_of, refl, slice_get, subst, sym, true, unsent, ℕ, ◌%◌, ◌&&◌, ◌+◌, ◌/◌, ◌==◌, ◌∙◌, ◌≡◌}
+use Rattle.mesh_core.proofs.Common.{Some, Spot, State, [], among_contains, and_from, and_parts, ap, append-nil, arith, asked_by, at_core, chip_of, contains_among, count_by, count_by-map, delivered}
+use Rattle.mesh_core.proofs.Common.{delivered_marks, eqb-true, gathered_of_none, hand_marks, in_queue, inr, is_packet_on_trail, label_in, label_of, length, map_among, marks_at, marks_of, port_of}
+use Rattle.mesh_core.proofs.Common.{refl, slice_get, subst, sym, true, unsent, ℕ, ◌%◌, ◌&&◌, ◌+◌, ◌/◌, ◌==◌, ◌∙◌, ◌≡◌}
 use Rattle.mesh_core.proofs.{Tracked.asked_tracked, Tracked.on_net, Tracked.once_on_way, MarkTests.copies_alike, WalkingUp.ends_on, AskedPackets.asks, AskedPackets.asked_parts}
 use Rattle.mesh_core.proofs.{AskedPackets.asked_from, Moves.mark, Counting.count_agree}
 
@@ -66,7 +66,7 @@ module _ (s : State) (nets : List NetPlan) (packets : List Packet) (job : MeetsJ
       q d = (d.copy.packet == i) && (d.vertex == to)
 
       agrees : (d : Delivery) → Among d s.delivered → q d ≡ is_packet_on_trail i from to branch (mark_of d)
-      agrees d a = both_ways (q d) (is_packet_on_trail i from to branch (mark_of d)) forth back
+      agrees d a = grind (arith, q, forth, and_parts, and_from)
         where
           forth : q d ≡ true → is_packet_on_trail i from to branch (mark_of d) ≡ true
           forth yes' =
@@ -75,11 +75,6 @@ module _ (s : State) (nets : List NetPlan) (packets : List Packet) (job : MeetsJ
               and_from (d.copy.packet == i) ((d.vertex == to) && (d.copy.hop == length branch)) parts.0
               (ends_on s net i (tracked i p net at is) target w.is_target branch from to w (mark_of d) there (eqb-true d.copy.packet i parts.0)
               (d.vertex, w.ends ∙ ap Some (sym (eqb-true d.vertex to parts.1)), inr refl))
-
-          back : is_packet_on_trail i from to branch (mark_of d) ≡ true → q d ≡ true
-          back yes' =
-              let parts = and_parts (d.copy.packet == i) ((d.vertex == to) && (d.copy.hop == length branch)) yes' in
-              and_from (d.copy.packet == i) (d.vertex == to) parts.0 ((and_parts (d.vertex == to) (d.copy.hop == length branch) parts.1).0)
 
   pub delivered_as_expected : AreAsExpected s nets packets
   delivered_as_expected = record { no_other = asked_for; each_once = each_once }

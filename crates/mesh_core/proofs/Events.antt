@@ -1,6 +1,6 @@
 -- Each event that is enabled is one move of a copy that is under way.
 use Rattle.mesh_core.proofs.Common.{Bool, ByLink, Chip, Collect, Core, Delivery, Dir, Dump, DumpRec, Event, Hand, Inject, IsInside, IsMesh, IsUnderWayAt, Link, List, Local, Mark, McCopy, None, Option}
-use Rattle.mesh_core.proofs.Common.{Out, Port, PutIn, Queue, Send, Some, Spot, State, Take, TakenOut, [], after_serving, and_parts, ap, append-nil, arith, at_core, behind, behind_link, core}
+use Rattle.mesh_core.proofs.Common.{Out, Port, PutIn, Queue, Send, Some, Spot, State, Take, TakenOut, [], after_serving, and_parts, append-nil, arith, at_core, behind, behind_link, core}
 use Rattle.mesh_core.proofs.Common.{core_queue_of, delivered, dumped, false, far_inside, far_of, get_or_from_slice_get, hand_marks, has_room, has_room_behind, held_for, if◌then◌else◌, in_hand}
 use Rattle.mesh_core.proofs.Common.{in_queue, index_of, inl, input, inr, is_live_chip, is_live_link, list_any, live_ends, live_inside, map, marks_of, onward, opposite_of, out_eq, out_eq_true, outputs}
 use Rattle.mesh_core.proofs.Common.{outs_without, push_at, push_behind, queue_at, refl, serves, site_parts, slice_get, slice_get_within, slice_set, step_of, subst, sym, taken_out_after, true, unsent}
@@ -16,12 +16,10 @@ MovesOn s t = (x : Exchange s t) × IsUnderWayAt x.leaves.station
 -- ---- a queue with room is there
 
 pub room_is_there : (capacity : ℕ) (q : Option (List McCopy)) → has_room capacity q ≡ true → (l : List McCopy) × (q ≡ Some l)
-room_is_there capacity (Some l) room = (l, refl)
-room_is_there capacity None room = cc
+room_is_there capacity q room = grind arith
 
 appended_is : (lists : List (List McCopy)) (i : ℕ) (k : McCopy) (q : Option (List McCopy)) (l : List McCopy) → q ≡ Some l → slice_set lists i (l ++ k ∷ []) ≡ push_at lists i k q
-appended_is lists i k (Some l') l e = let same : l ≡ l' = cc in ap (λ v. slice_set lists i (v ++ k ∷ [])) same
-appended_is lists i k None l e = cc
+appended_is lists i k q l e = grind arith
 
 -- the copy that arrives in an input queue with room
 arrives_at_input : (s : State) (c : Chip) (port : Port) → IsInside s.setup.machine c → (k : McCopy) →

@@ -1,8 +1,8 @@
 -- The ledger of copies is kept by every event, by every list of events and by putting a copy back: for a list of nets, for
 -- asked packets and for a job.
 use Rattle.mesh_core.proofs.Common.{AreRight, Asked, Contains, DumpRec, Err, Event, IsMesh, Label, List, Mark, MeetsJobLedger, MeetsLedger, MeetsLedgerFor, NetPlan, Ok, OnErr, OnOk, Option, Packet}
-use Rattle.mesh_core.proofs.Common.{Queue, Result, Setup, Some, State, [], after_event, after_events, after_put_back, among_contains, among_taken_out, asked_by, behind, core, dumped, has_room_behind}
-use Rattle.mesh_core.proofs.Common.{input, label_of, marks_of, nowhere, onward, push_behind, put_back_of, refl, step_of, subst, sym, true, ℕ, ◌∙◌, ◌∷◌, ◌≡◌}
+use Rattle.mesh_core.proofs.Common.{Queue, Result, Setup, Some, State, [], after_event, after_events, after_put_back, among_contains, among_taken_out, arith, asked_by, behind, dumped, has_room_behind}
+use Rattle.mesh_core.proofs.Common.{label_of, marks_of, onward, push_behind, put_back_of, refl, step_of, subst, sym, true, ℕ, ◌∙◌, ◌∷◌, ◌≡◌}
 use Rattle.mesh_core.proofs.{Enabled.after_answer, Enabled.if_some, Changes.IsMesh-dumped, Events.event_exchange, Events.arrives, Fixed.push_behind_leaves, Keeping.IsMesh-step_of}
 use Rattle.mesh_core.proofs.{Keeping.IsMesh-push_behind, Keeping.onward_below, Keeping.may_wait-behind, LedgerLaw.Bag, LedgerLaw.bag_of_event, LedgerLaw.bag_keeps_ledger, LedgerLaw.bag_adds_no_packet}
 use Rattle.mesh_core.proofs.{LedgerLaw.bag_keeps_packets, LedgerLaw.right_before, LedgerLaw.right_small, Moves.mark, Moves.Exchange, Moves.dumped_out}
@@ -24,13 +24,7 @@ pub record Keeps (s t : State) (nets : List NetPlan) (labels : ℕ → Label) : 
 
 keeps_itself : (s : State) (nets : List NetPlan) (labels : ℕ → Label) → IsMesh s → AreRight s.setup.machine s.setup.tables nets → MeetsLedger s nets labels →
     Keeps s s nets labels
-keeps_itself s nets labels mesh right ledger = record {
-  mesh = mesh;
-  right = right;
-  ledger = ledger;
-  no_new = λ k has. (k, has, refl);
-  none_lost = λ k has. (k, has, refl);
-}
+keeps_itself s nets labels mesh right ledger = grind arith
 
 move_keeps : (s t : State) (nets : List NetPlan) (labels : ℕ → Label) → IsMesh s → AreRight s.setup.machine s.setup.tables nets → MeetsLedger s nets labels →
     IsMesh t → Exchange s t → Keeps s t nets labels
@@ -77,9 +71,7 @@ IsMesh-after_events s (e ∷ es) mesh =
 
 -- the dump records change no queue
 pub same_room : (s : State) (rest : List DumpRec) (b : Queue) → has_room_behind (record s { dumped = rest }) b ≡ has_room_behind s b
-same_room s rest (input i) = refl
-same_room s rest (core v) = refl
-same_room s rest nowhere = refl
+same_room s rest b = grind arith
 
 -- putting a copy back is one move, to a mesh
 pub record IsPutBack (s t : State) : Type 0 where
@@ -145,19 +137,16 @@ put_back_keeps_for s nets asked mesh right before =
 
 pub events_keep_job : (s : State) (nets : List NetPlan) (packets : List Packet) → IsMesh s → AreRight s.setup.machine s.setup.tables nets → MeetsJobLedger s nets packets →
     (es : List Event) → MeetsJobLedger (after_events s es) nets packets
-events_keep_job s nets packets mesh right job es =
-    record { of_nets = job.of_nets; ledger = events_keep_for s nets (asked_by nets packets) mesh right job.ledger es }
+events_keep_job s nets packets mesh right job es = grind (arith, events_keep_for s nets (asked_by nets packets) mesh right job.ledger es)
 
 pub put_back_keeps_job : (s : State) (nets : List NetPlan) (packets : List Packet) → IsMesh s → AreRight s.setup.machine s.setup.tables nets → MeetsJobLedger s nets packets →
     MeetsJobLedger (after_put_back s) nets packets
-put_back_keeps_job s nets packets mesh right job =
-    record { of_nets = job.of_nets; ledger = put_back_keeps_for s nets (asked_by nets packets) mesh right job.ledger }
+put_back_keeps_job s nets packets mesh right job = grind (arith, put_back_keeps_for s nets (asked_by nets packets) mesh right job.ledger)
 
 -- ---- a step that may be refused
 
 -- the ledger of any nets for which the tables are right stays
 pub ledger-after_result : {T E : Type 0} (r : Result T E) (s t : State) (e : Event) → IsMesh s → OnOk r (t ≡ after_event s e) → OnErr r (t ≡ s) →
     (nets : List NetPlan) (labels : ℕ → Label) → AreRight s.setup.machine s.setup.tables nets → MeetsLedger s nets labels → MeetsLedger t nets labels
-ledger-after_result (Ok x) s t e mesh moves stays nets labels right ledger =
-    subst (λ (u : State). MeetsLedger u nets labels) (sym moves) (event_keeps s nets labels mesh right ledger e).ledger
+ledger-after_result (Ok x) s t e mesh moves stays nets labels right ledger = grind (arith, event_keeps s nets labels mesh right ledger e)
 ledger-after_result (Err x) s t e mesh moves stays nets labels right ledger = subst (λ (u : State). MeetsLedger u nets labels) (sym stays) ledger

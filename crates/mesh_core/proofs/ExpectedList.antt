@@ -1,9 +1,9 @@
 -- The deliveries of a mesh that has delivered what its job asks for, in their order, are the list that the job asks for.
 use Rattle.mesh_core.proofs.Common.{All-contains, AllPairs, AllPairs-apart, AllPairs-head, AllPairs-tail, Among, AreAsExpected, AreNetsOn, Bool, Contains, Contains-permutation, Delivery, IsAskedFor}
 use Rattle.mesh_core.proofs.Common.{IsDeliveryNotAfter, IsMesh, IsPermutation, IsPermutation-sym, List, McCopy, NetPlan, None, Option, Packet, Some, Spot, State, [], among_any, among_contains}
-use Rattle.mesh_core.proofs.Common.{among_gathered, among_map, and_from, and_parts, any_among, ap, arith, cases_order, cond, contains_among, count_by, count_by-cons, deliveries_of, delivery_at}
-use Rattle.mesh_core.proofs.Common.{eq-eqb, eqb-true, expected_deliveries, false, first_copy, gathered_among, if◌then◌else◌, inl, inr, list_any, map, map_among, refl, slice_get, spot_eq, spot_eq_same}
-use Rattle.mesh_core.proofs.Common.{spot_eq_true, subst, sum_by-IsPermutation, sym, true, without_hop, ℕ, ◌&&◌, ◌+◌, ◌<◌, ◌==◌, ◌∙◌, ◌∷◌, ◌≡◌, ◌≤◌, ◌⊎◌}
+use Rattle.mesh_core.proofs.Common.{among_gathered, among_map, and_from, and_parts, any_among, ap, arith, cases_order, contains_among, count_by, count_by-cons, deliveries_of, delivery_at, eq-eqb}
+use Rattle.mesh_core.proofs.Common.{eqb-true, expected_deliveries, first_copy, gathered_among, if◌then◌else◌, inl, inr, map, map_among, refl, slice_get, spot_eq, spot_eq_same, spot_eq_true, subst}
+use Rattle.mesh_core.proofs.Common.{sum_by-IsPermutation, sym, true, without_hop, ℕ, ◌&&◌, ◌+◌, ◌<◌, ◌==◌, ◌∙◌, ◌∷◌, ◌≡◌, ◌≤◌, ◌⊎◌}
 use Rattle.mesh_core.proofs.{AskedPackets.net_in_list, Counting.count_some, Counting.counted, Ordered.Ordered, Ordered.ordered_gathered, Ordered.same_ordered, Ways.vertex_at_stands, Ways.some_way}
 
 -- by the packet's number, then by the position of the vertex, and not the same in both
@@ -11,10 +11,7 @@ abbrev pub ComesBefore : Delivery → Delivery → Type 0
 ComesBefore a b = (a.copy.packet < b.copy.packet) ⊎ ((a.copy.packet ≡ b.copy.packet) × (a.vertex < b.vertex))
 
 one_way_only : (a b : Delivery) → ComesBefore a b → ComesBefore b a → ⊥
-one_way_only a b (inl x) (inl y) = omega arith
-one_way_only a b (inl x) (inr y) = (let e = y.0 in omega (arith, e))
-one_way_only a b (inr x) (inl y) = (let e = x.0 in omega (arith, e))
-one_way_only a b (inr x) (inr y) = (let e = x.1 in let f = y.1 in omega (arith, e, f))
+one_way_only a b its_2 its_3 = grind arith
 
 -- whether a delivery is of a packet and at a vertex
 abbrev pub is_of : ℕ → ℕ → Delivery → Bool
@@ -29,9 +26,6 @@ is_of_parts i v d e = grind (arith, and_parts, eqb-true)
 -- the delivery of a packet at a vertex, without its hop number
 abbrev pub bare : ℕ → ℕ → NetPlan → Packet → Delivery
 bare v i net p = record { vertex = v; copy = first_copy i net p }
-
-bare_alike : (v w i j : ℕ) (net net' : NetPlan) (p q : Packet) → v ≡ w → i ≡ j → net ≡ net' → p ≡ q → bare v i net p ≡ bare w j net' q
-bare_alike v w i j net net' p q e f g h = cc
 
 -- ---- lists in order
 
@@ -58,12 +52,7 @@ strictly (x ∷ xs) pairs once = (
         omega (arith, all, split, some)
 
     before : (z : Delivery) → Among z xs → IsDeliveryNotAfter x z → ComesBefore (without_hop x) (without_hop z)
-    before z a (inl less) = inl less
-    before z a (inr (same, le)) = elim (cases_order x.vertex z.vertex) [
-      | inl e ↦ absurd (twice z a same e)
-      | inr (inl less) ↦ inr (same, less)
-      | inr (inr more) ↦ absurd (omega (arith, le))
-    ]
+    before z a its_2 = grind (arith, cases_order, twice)
 
 -- ---- the list that a job asks for
 
@@ -73,20 +62,11 @@ record IsAt (i : ℕ) (net : NetPlan) (p : Packet) (v : ℕ) (spot : Spot) (y : 
   is_delivery : y ≡ bare v i net p
 
 at_parts : (i : ℕ) (net : NetPlan) (p : Packet) (v : ℕ) (spot : Spot) (y : Delivery) → Among y (delivery_at i net p v spot) → IsAt i net p v spot y
-at_parts i net p v spot y a = by_test (list_any (spot_eq spot) net.targets) refl a
-  where
-    by_test : (b : Bool) → list_any (spot_eq spot) net.targets ≡ b → Among y (if b then bare v i net p ∷ [] else []) → IsAt i net p v spot y
-    by_test true e (inl here) =
-        let found = any_among (spot_eq spot) net.targets e in
-        let same : spot ≡ found.0 = spot_eq_true spot found.0 found.2 in
-        record { is_target = subst (Contains net.targets) (sym same) (among_contains found.0 net.targets found.1); is_delivery = here }
-    by_test true e (inr later) = absurd later
-    by_test false e none = absurd none
+at_parts i net p v spot y a = grind (arith, Among, any_among, spot_eq_true, among_contains)
 
 at_target : (i : ℕ) (net : NetPlan) (p : Packet) (v : ℕ) (spot : Spot) → Contains net.targets spot → Among (bare v i net p) (delivery_at i net p v spot)
 at_target i net p v spot has =
-    let any : list_any (spot_eq spot) net.targets ≡ true = among_any (spot_eq spot) spot net.targets (contains_among spot net.targets has) (spot_eq_same spot) in
-    subst (λ (b : Bool). Among (bare v i net p) (if b then bare v i net p ∷ [] else [])) (sym any) (inl refl)
+    grind (arith, among_any (spot_eq spot) spot net.targets (contains_among spot net.targets has) (spot_eq_same spot), contains_among spot net.targets has, spot_eq_same spot, Among)
 
 -- a delivery of the list, with its packet, net and vertex
 record IsListed (spots : List Spot) (nets : List NetPlan) (packets : List Packet) (y : Delivery) : Type 0 where
@@ -142,11 +122,7 @@ module _ (spots : List Spot) (nets : List NetPlan) (packets : List Packet) where
   packet_of i p net y a = ap (λ (d : Delivery). d.copy.packet) (of_net_parts i p net y a).2.3.is_delivery
 
   one_at : (i : ℕ) (net : NetPlan) (p : Packet) (v : ℕ) (spot : Spot) → Ordered ComesBefore (delivery_at i net p v spot)
-  one_at i net p v spot = by_test (list_any (spot_eq spot) net.targets)
-    where
-      by_test : (b : Bool) → Ordered ComesBefore (if b then bare v i net p ∷ [] else [])
-      by_test true = (λ y a. absurd a, tt)
-      by_test false = tt
+  one_at i net p v spot = grind (arith, Ordered)
 
   packet_in_order : (i : ℕ) (p : Packet) (net : Option NetPlan) → Ordered ComesBefore (deliveries_of spots i p net)
   packet_in_order i p (Some net) =
@@ -197,7 +173,7 @@ module _ (s : State) (nets : List NetPlan) (packets : List Packet) (mesh : IsMes
 
   -- so a delivery of the list was made
   pub listed_made : (y : Delivery) → Among y the_list → (d : Delivery) × Among d s.delivered × (without_hop d ≡ y)
-  listed_made y there = grind (arith, listed_parts, listed_once, counted, asked, is_of_parts, asked_bare, bare_alike)
+  listed_made y there = grind (arith, listed_parts, listed_once, counted, asked, is_of_parts, asked_bare)
 
   pub in_order_is_list : (sorted : List Delivery) → IsPermutation s.delivered sorted → AllPairs IsDeliveryNotAfter sorted → map without_hop sorted ≡ the_list
   in_order_is_list sorted perm pairs =
@@ -214,8 +190,4 @@ module _ (s : State) (nets : List NetPlan) (packets : List Packet) (mesh : IsMes
       made d a = contains_among d s.delivered (Contains-permutation sorted s.delivered d (IsPermutation-sym s.delivered sorted perm) (among_contains d sorted a))
 
       once : (d : Delivery) → Among d sorted → count_by (is_of d.copy.packet d.vertex) sorted ≤ 1
-      once d a =
-          let one : count_by (is_of d.copy.packet d.vertex) s.delivered ≡ 1 = listed_once (without_hop d) (is_listed d (made d a)) in
-          let same : count_by (is_of d.copy.packet d.vertex) sorted ≡ count_by (is_of d.copy.packet d.vertex) s.delivered =
-          sum_by-IsPermutation (λ (e : Delivery). cond (is_of d.copy.packet d.vertex e) 1 0) s.delivered sorted perm in
-          omega (arith, one, same)
+      once d a = grind (arith, listed_once (without_hop d) (is_listed d (made d a)), is_listed d (made d a), sum_by-IsPermutation)

@@ -26,14 +26,9 @@ found-below o os i e = (at_zero o os i (found_from o os 0 i (sym (position_from-
 pub without-found : (o : Out) (os : List Out) (i : ℕ) → position (out_eq o) os ≡ Some i → outs_without o os ≡ remove os i
 without-found o os i e = (at_zero o os i (found_from o os 0 i (sym (position_from-zero (out_eq o) os) ∙ e))).1
 
-none_step : (o x : Out) (os : List Out) (n : ℕ) → (position_from (out_eq o) (n + 1) os ≡ None → outs_without o os ≡ os) →
-    (b : Bool) → out_eq o x ≡ b → cond b (Some n) (position_from (out_eq o) (n + 1) os) ≡ None → outs_without o (x ∷ os) ≡ x ∷ os
-none_step o x os n later true here e = cc
-none_step o x os n later false here e = ap (λ b. if b then os else x ∷ outs_without o os) here ∙ ap (λ l. x ∷ l) (later e)
-
 none_from : (o : Out) (os : List Out) (n : ℕ) → position_from (out_eq o) n os ≡ None → outs_without o os ≡ os
 none_from o [] n e = refl
-none_from o (x ∷ os) n e = none_step o x os n (none_from o os (n + 1)) (out_eq o x) refl e
+none_from o (x ∷ os) n e = grind (arith, none_from o os (n + 1))
 
 pub without-none : (o : Out) (os : List Out) → position (out_eq o) os ≡ None → outs_without o os ≡ os
 without-none o os e = none_from o os 0 (sym (position_from-zero (out_eq o) os) ∙ e)

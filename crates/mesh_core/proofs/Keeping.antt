@@ -1,10 +1,9 @@
 -- Whatever happens, a mesh keeps what every mesh has.
 use Rattle.mesh_core.proofs.Common.{All, All-at, All-head, All-push, All-tail, Bool, ByLink, Chip, Collect, Core, Description, Dir, Dump, Event, FitsHand, FitsQueue, Hand, IfSome, Inject, IsInside}
 use Rattle.mesh_core.proofs.Common.{IsMesh, IsSite, Link, List, Local, McCopy, None, Option, Out, Port, Queue, Send, Setup, Some, State, Take, [], after_serving, and_parts, ap, arith, behind}
-use Rattle.mesh_core.proofs.Common.{behind_link, core, core_queue_of, eqb-false, false, far_of, has_room, has_room_behind, if◌then◌else◌, index_of, input, is_live_chip, is_live_link, last_hop, length}
-use Rattle.mesh_core.proofs.Common.{length_push, list_any, live_back, live_ends, live_inside, lookup, ltb-true, nowhere, onward, opposite_of, out_eq, outputs, outs_of, outs_without, port_number}
-use Rattle.mesh_core.proofs.Common.{port_number_injective, push_at, push_behind, queue_at, refl, same_index, serves, set, site_parts, slice_get, step_of, subst, sym, table_at, true, vertex_behind, ℕ}
-use Rattle.mesh_core.proofs.Common.{◌++◌, ◌+◌, ◌<◌, ◌==◌, ◌^◌, ◌∙◌, ◌∷◌, ◌≡◌, ◌≢◌, ◌≤◌}
+use Rattle.mesh_core.proofs.Common.{behind_link, core, core_queue_of, eqb-false, false, far_of, has_room, has_room_behind, index_of, input, is_live_chip, is_live_link, length_push, list_any}
+use Rattle.mesh_core.proofs.Common.{live_back, live_ends, live_inside, ltb-true, nowhere, onward, opposite_of, out_eq, outputs, outs_without, port_number_injective, push_at, push_behind, queue_at}
+use Rattle.mesh_core.proofs.Common.{refl, rules, same_index, serves, set, site_parts, slice_get, step_of, subst, sym, true, vertex_behind, ℕ, ◌++◌, ◌+◌, ◌<◌, ◌^◌, ◌∙◌, ◌∷◌, ◌≡◌, ◌≢◌}
 use Rattle.mesh_core.specs.Step.{in_hand}
 use Rattle.mesh_core.proofs.{Enabled.FoundBy, Enabled.event_found, Changes.port_below, Changes.IsMesh-unsent, Changes.IsMesh-cores, Changes.IsMesh-hands, Changes.IsMesh-delivered}
 use Rattle.mesh_core.proofs.Changes.{IsMesh-dumped, IsMesh-inputs}
@@ -28,11 +27,7 @@ core_is_somewhere same = cc
 
 -- queues of one place are those of one chip and port
 pub same_queue : (m : Description) (c e : Chip) (p q : Port) → IsInside m c → IsInside m e → queue_at m c p ≡ queue_at m e q → (c ≡ e) × (p ≡ q)
-same_queue m c e p q in_c in_e same =
-    let small_p : port_number p < 7 = port_below p in
-    let small_q : port_number q < 7 = port_below q in
-    let index : index_of m c ≡ index_of m e = omega arith in
-    (same_index m c e in_c in_e index, port_number_injective p q (omega arith))
+same_queue m c e p q in_c in_e same = grind (arith, port_below, same_index, port_number_injective)
 
 -- a copy may wait at this place: it is of no port whose link isn't live, and of no chip that isn't live
 pub record MayWait (m : Description) (i : ℕ) : Type 0 where
@@ -67,8 +62,7 @@ MayWaitBehind m nowhere = Unit {0}
 
 may_wait-core : (m : Description) (v : Option ℕ) → MayWaitBehind m (core_queue_of v)
 unfolding MayWaitBehind
-may_wait-core m (Some v) = tt
-may_wait-core m None = tt
+may_wait-core m v = grind arith
 
 may_wait-by_link : (u : Setup) (c : Chip) (d : Dir) (b : Bool) (e : Option Chip) → is_live_link u.machine c d ≡ b → far_of u.machine c d ≡ e → MayWaitBehind u.machine (behind_link u c d b e)
 unfolding MayWaitBehind
@@ -90,15 +84,11 @@ may_wait-behind u c (Core p) = may_wait-core u.machine (vertex_behind u.spots c 
 
 -- one more copy fits into a queue with room
 one_more_fits : (capacity : ℕ) (q : List McCopy) (k : McCopy) → FitsQueue capacity q → has_room capacity (Some q) ≡ true → k.hop < 2 ^ 32 → FitsQueue capacity (q ++ k ∷ [])
-one_more_fits capacity q k fits room low =
-    let short : length q < capacity = ltb-true (length q) capacity room in
-    record { within = omega (arith, length_push q k); hops = All-push (λ (j : McCopy). j.hop < 2 ^ 32) q k fits.hops low }
+one_more_fits capacity q k fits room low = search (rules, ltb-true, length_push, All-push)
 
 -- so do those behind the first
 rest_fits : (capacity : ℕ) (k : McCopy) (rest : List McCopy) → FitsQueue capacity (k ∷ rest) → FitsQueue capacity rest
-rest_fits capacity k rest fits =
-    let within : length (k ∷ rest) ≤ capacity = fits.within in
-    record { within = omega arith; hops = All-tail (λ (j : McCopy). j.hop < 2 ^ 32) k rest fits.hops }
+rest_fits capacity k rest fits = search (rules, All-tail)
 
 arrived_input : (s : State) (i : ℕ) (k : McCopy) (q : Option (List McCopy)) → IsMesh s → slice_get s.inputs i ≡ q → MayWait s.setup.machine i → has_room s.setup.capacity q ≡ true → k.hop < 2 ^ 32 →
     IsMesh (record s { inputs = push_at s.inputs i k q })
@@ -116,22 +106,15 @@ arrived_core s v k None h at room low = cc
 -- a mesh where a copy came into a queue with room, at which copies may wait
 pub IsMesh-push_behind : (s : State) (b : Queue) (k : McCopy) → IsMesh s → MayWaitBehind s.setup.machine b → has_room_behind s b ≡ true → k.hop < 2 ^ 32 → IsMesh (push_behind s b k)
 unfolding MayWaitBehind
-IsMesh-push_behind s (input i) k h may room low = arrived_input s i k (slice_get s.inputs i) h refl may room low
-IsMesh-push_behind s (core v) k h may room low = arrived_core s v k (slice_get s.cores v) h refl room low
-IsMesh-push_behind s nowhere k h may room low = h
+IsMesh-push_behind s b k h may room low = search (rules, arrived_input, arrived_core)
 
 -- a hand that took a copy or served an output may hold what it holds
 in_hand-fits : (k : McCopy) (port : Port) (os : List Out) → (os ≢ [] → k.hop + 1 < 2 ^ 32) → IfSome (in_hand k port os) FitsHand
-in_hand-fits k port [] low = tt
-in_hand-fits k port (o ∷ os) low = record { outputs = λ e. cc; hop = low (λ e. cc) }
+in_hand-fits k port os low = grind arith
 
 -- a copy of the last hop number is given no output
 not_last : (u : Setup) (c : Chip) (port : Port) (k : McCopy) → k.hop < 2 ^ 32 → outputs u c port k ≢ [] → k.hop + 1 < 2 ^ 32
-not_last u c port k low some = by_test (k.hop == last_hop) refl some
-  where
-    by_test : (b : Bool) → (k.hop == last_hop) ≡ b → (if b then [] else outs_of (lookup (table_at u.machine u.tables c) k.key port)) ≢ [] → k.hop + 1 < 2 ^ 32
-    by_test true is none = absurd (none refl)
-    by_test false is some' = let other = eqb-false k.hop last_hop is in omega (arith, low, other)
+not_last u c port k low some = grind (arith, eqb-false)
 
 -- a queue without its front is empty where no copy may wait: there was none
 nothing_waited : {X : Type 0} (xs : List (List X)) (i j : ℕ) (x : X) (rest : List X) → slice_get xs i ≡ Some (x ∷ rest) → slice_get xs j ≡ Some [] → j ≡ i → rest ≡ []
@@ -150,9 +133,7 @@ IsMesh-after_serving s c o held h at serving =
 
 -- what a hand holds changes no room
 room_after : (s : State) (c : Chip) (o : Out) (held : Hand) (b : Queue) → has_room_behind s b ≡ true → has_room_behind (after_serving s c o held) b ≡ true
-room_after s c o held (input i) room = room
-room_after s c o held (core v) room = room
-room_after s c o held nowhere room = room
+room_after s c o held b room = grind arith
 
 IsMesh-found : (s t : State) (e : Event) → IsMesh s → FoundBy s e t → IsMesh t
 IsMesh-found s t (Inject v) h (spot, k, rest, at_spot, at_unsent, room, is) =

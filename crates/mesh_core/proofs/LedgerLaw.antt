@@ -1,9 +1,8 @@
 -- The ledger of copies is kept by every bag of moves, of which an event is one move.
 use Rattle.mesh_core.proofs.Common.{All, All-contains, Among, AreNetsOn, AreRight, Bool, Contains, Exit, HaveDisjointBlocks, IsKeyOf, IsMesh, IsRoutingTree, IsWayOn, Label, List, Mark, MeetsLedger}
-use Rattle.mesh_core.proofs.Common.{NetPlan, RoutesByTree, Setup, Spot, State, Station, [], among_contains, and_parts, ap, arith, at_core, cases_order, contains_among, count_by, count_by-cons}
-use Rattle.mesh_core.proofs.Common.{count_by-none, count_put_in, count_taken_out, delivered, dumped, eqb-true, false, get_or_default, if◌then◌else◌, in_hand, in_queue, inl, inr, is_on_trail}
-use Rattle.mesh_core.proofs.Common.{is_packet_on_trail, last_hop, length, marks_of, on_trail, refl, slice_get_within, slice_index_or, subst, suc, sym, true, unsent, zero, ℕ, ◌&&◌, ◌+◌, ◌<◌, ◌==◌, ◌∙◌}
-use Rattle.mesh_core.proofs.Common.{◌∷◌, ◌≡◌, ◌≤◌, ◌⊎◌}
+use Rattle.mesh_core.proofs.Common.{NetPlan, RoutesByTree, Setup, Spot, State, Station, [], among_contains, and_parts, ap, arith, cases_order, contains_among, count_by, count_by-cons, count_by-none}
+use Rattle.mesh_core.proofs.Common.{count_put_in, count_taken_out, eqb-true, false, get_or_default, if◌then◌else◌, inl, inr, is_on_trail, is_packet_on_trail, last_hop, length, marks_of, on_trail}
+use Rattle.mesh_core.proofs.Common.{refl, slice_get_within, subst, suc, sym, true, zero, ℕ, ◌+◌, ◌<◌, ◌==◌, ◌∙◌, ◌∷◌, ◌≡◌, ◌≤◌, ◌⊎◌}
 use Rattle.mesh_core.proofs.{Counting.counts_one, Counting.count_some, Counting.counted, Counting.count_agree, Moves.Exchange, Moves.IsMove, MarkTests.mark_eq, MarkTests.mark_eq_same}
 use Rattle.mesh_core.proofs.{MarkTests.mark_eq_true, MarkTests.rank, MarkTests.move_raises, Ways.Stands, Ways.short_branch, Ways.OnSomeTrail, Law.move_comes, Law.move_counts, Law.comes_parts}
 use Rattle.mesh_core.proofs.Law.{leaves_parts}
@@ -13,16 +12,10 @@ use Rattle.mesh_core.proofs.Law.{leaves_parts}
 -- the net in whose block a key is, is one
 pub one_net : (nets : List NetPlan) → HaveDisjointBlocks nets → (a b : NetPlan) → Contains nets a → Contains nets b → (key : ℕ) →
     IsKeyOf a.block key → IsKeyOf b.block key → a ≡ b
-one_net nets disjoint a b in_a in_b key key_a key_b = elim (cases_order in_a.0 in_b.0) [
-  | inl same ↦ sym in_a.2 ∙ (ap (λ k. slice_index_or nets k a) same ∙ (get_or_default nets in_b.0 a b in_b.1 ∙ in_b.2))
-  | inr (inl before) ↦ absurd (never a b in_a in_b before key_a key_b)
-  | inr (inr after) ↦ absurd (never b a in_b in_a after key_b key_a)
-]
+one_net nets disjoint a b in_a in_b key key_a key_b = grind (arith, cases_order in_a.0 in_b.0, get_or_default nets in_b.0 a b in_b.1)
   where
     never : (x y : NetPlan) (in_x : Contains nets x) (in_y : Contains nets y) → in_x.0 < in_y.0 → IsKeyOf x.block key → IsKeyOf y.block key → ⊥
-    never x y in_x in_y before key_x key_y =
-        disjoint in_x.0 in_y.0 x before in_y.1 key (subst (λ (n : NetPlan). IsKeyOf n.block key) (sym in_x.2) key_x)
-        (subst (λ (n : NetPlan). IsKeyOf n.block key) (sym (get_or_default nets in_y.0 x y in_y.1 ∙ in_y.2)) key_y)
+    never x y in_x in_y before key_x key_y = grind (arith, get_or_default nets in_y.0 x y in_y.1)
 
 -- ---- counts of one packet
 
@@ -32,10 +25,7 @@ count_of_packet : (n m from to : ℕ) (branch : List Exit) (come : List Mark) �
     (same ≡ true → count_by (is_on_trail from to branch) come ≡ (if is_on_trail from to branch leaves then 1 else 0)) →
     count_by (is_packet_on_trail n from to branch) come ≡ (if is_packet_on_trail n from to branch leaves then 1 else 0)
 count_of_packet n m from to branch come of_m true is leaves leaves_m counts = grind (arith, count_agree)
-count_of_packet n m from to branch come of_m false is leaves leaves_m counts =
-    count_agree (is_packet_on_trail n from to branch) (λ y. false) come
-    (λ y a. ap (λ b. b && is_on_trail from to branch y) (ap (λ k. k == n) (of_m y a) ∙ is))
-    ∙ (count_by-none come ∙ ap (λ b. if b && is_on_trail from to branch leaves then 1 else 0) (sym (ap (λ k. k == n) leaves_m ∙ is)))
+count_of_packet n m from to branch come of_m false is leaves leaves_m counts = grind (arith, count_by-none come, count_agree)
 
 -- ---- bags of moves
 
@@ -77,8 +67,7 @@ bag_of_event s t e small = record {
 
 among_of_count_by : (x y : Mark) (xs : List Mark) (b : Bool) → mark_eq x y ≡ b → (1 ≤ count_by (mark_eq x) xs → Among x xs) →
     1 ≤ (if b then 1 else 0) + count_by (mark_eq x) xs → Among x (y ∷ xs)
-among_of_count_by x y xs true same later some = inl (mark_eq_true x y same)
-among_of_count_by x y xs false other later some = inr (later (omega arith))
+among_of_count_by x y xs b its_4 later some = grind (arith, mark_eq_true)
 
 among_of_count : (x : Mark) (xs : List Mark) → 1 ≤ count_by (mark_eq x) xs → Among x xs
 among_of_count x [] some = absurd (omega arith)
@@ -153,15 +142,7 @@ module _ (s t : State) (nets : List NetPlan) (labels : ℕ → Label)
       omega arith
     where
       hop_on_trail : (from to : ℕ) (branch : List Exit) (hop : ℕ) (at : Station) → on_trail from to branch hop at ≡ true → hop ≤ length branch
-      hop_on_trail from to branch hop (unsent v) on = let zero_hop = eqb-true hop 0 ((and_parts (v == from) (hop == 0) on).1) in omega arith
-      hop_on_trail from to branch hop (in_queue c port) on =
-          let there = comes_parts branch hop c port on in let below = slice_get_within branch hop there.exit there.at in omega arith
-      hop_on_trail from to branch hop (in_hand c o) on =
-          let below = slice_get_within branch hop (record { chip = c; out = o }) (leaves_parts branch hop c o on) in omega arith
-      hop_on_trail from to branch hop (at_core v) on = let last = eqb-true hop (length branch) ((and_parts (v == to) (hop == length branch) on).1) in omega arith
-      hop_on_trail from to branch hop (delivered v) on = let last = eqb-true hop (length branch) ((and_parts (v == to) (hop == length branch) on).1) in omega arith
-      hop_on_trail from to branch hop (dumped c o) on =
-          let below = slice_get_within branch hop (record { chip = c; out = o }) (leaves_parts branch hop c o on) in omega arith
+      hop_on_trail from to branch hop at on = grind (arith, eqb-true, and_parts, comes_parts, slice_get_within, leaves_parts)
 
   module _ (bag : Bag s t) where
     -- a mark that was there, or came
@@ -181,21 +162,11 @@ module _ (s t : State) (nets : List NetPlan) (labels : ℕ → Label)
       | inr (inr more) ↦ (w, inl refl, among_of_count k w.come (omega arith))
     ]
 
-    -- a mark that passes on one side of the balance is on the other
-    occurs_of_count : (k : Mark) → 1 ≤ count_by (mark_eq k) (marks_of s) + count_come (mark_eq k) bag.moves → Occurs k
-    occurs_of_count k some = grind (arith, cases_order, count_by, mark_eq, come_counts, among_of_count)
-
     leaves_occurs : (v : Moved s) → Among v bag.moves → Occurs v.leaves
-    leaves_occurs v a =
-        let left = left_counts (mark_eq v.leaves) v bag.moves a (mark_eq_same v.leaves) in
-        let even = bag.balance (mark_eq v.leaves) in
-        occurs_of_count v.leaves (omega arith)
+    leaves_occurs v a = grind (arith, left_counts, mark_eq, mark_eq_same, cases_order, count_by, come_counts, among_of_count)
 
     now_occurs : (k : Mark) → Among k (marks_of t) → Occurs k
-    now_occurs k a =
-        let some = count_some (mark_eq k) k (marks_of t) (mark_eq_same k) a in
-        let even = bag.balance (mark_eq k) in
-        occurs_of_count k (omega arith)
+    now_occurs k a = grind (arith, count_some, mark_eq, mark_eq_same, cases_order, count_by, come_counts, among_of_count)
 
     -- every mark that was there or came is right: by induction on how far it is on
     right_below : (n : ℕ) (k : Mark) → rank k < n → Occurs k → IsRight k
@@ -213,8 +184,7 @@ module _ (s t : State) (nets : List NetPlan) (labels : ℕ → Label)
     one_move : (n : ℕ) (net : NetPlan) → Contains nets net → IsKeyOf net.block (labels n).key →
         (target : Spot) (branch : List Exit) (from to : ℕ) → IsWayOn s.setup.machine s.setup.spots net target branch from to → (v : Moved s) → Among v bag.moves →
         count_by (is_packet_on_trail n from to branch) v.come ≡ (if is_packet_on_trail n from to branch v.leaves then 1 else 0)
-    one_move n net has key target branch from to w v a =
-        count_of_packet n v.leaves.copy.packet from to branch v.come packets (v.leaves.copy.packet == n) refl v.leaves refl counted
+    one_move n net has key target branch from to w v a = grind (arith, count_of_packet n v.leaves.copy.packet from to branch v.come packets (v.leaves.copy.packet == n) refl v.leaves refl counted)
       where
         r : IsRight v.leaves
         r = all_right v.leaves (leaves_occurs v a)
@@ -277,7 +247,6 @@ module _ (s t : State) (nets : List NetPlan) (labels : ℕ → Label)
             let p : Mark → Bool = is_packet_on_trail n from to branch in
             let w_s : IsWayOn s.setup.machine s.setup.spots net target branch from to = subst (λ (u : Setup). IsWayOn u.machine u.spots net target branch from to) bag.setup w in
             let label_key : IsKeyOf net.block (labels n).key = subst (λ i. IsKeyOf net.block i) r.key key in
-            let even = bag.balance p in
             let moved = all_moves n net in_list label_key target branch from to w_s bag.moves (λ v a. a) in
             let old = right_before r.origin r.was_there in
             let origin_key : IsKeyOf net.block r.origin.copy.key =
@@ -298,7 +267,6 @@ module _ (s t : State) (nets : List NetPlan) (labels : ℕ → Label)
         let n : ℕ = k.copy.packet in
         let p : Mark → Bool = is_packet_on_trail n r.trail.from r.trail.to r.trail.branch in
         let label_key : IsKeyOf r.net.block (labels n).key = subst (λ i. IsKeyOf r.net.block i) r.key r.is_key in
-        let even = bag.balance p in
         let moved = all_moves n r.net r.in_nets label_key r.trail.target r.trail.branch r.trail.from r.trail.to r.trail.way bag.moves (λ v a. a) in
         let before = ledger.once_on_each k has r.net r.in_nets r.is_key r.trail.target r.trail.branch r.trail.from r.trail.to r.trail.way in
         let found = counted p (marks_of t) (omega arith) in (

@@ -42,20 +42,12 @@ pub record ComesAlone (k : McCopy) (ys : List Mark) : Type 0 where
   pub payload : comes.copy.payload ≡ k.payload
 
 crossed : (s : State) (k : McCopy) (c : Chip) (o : Out) (ys : List Mark) → Crosses s k c o ys → ComesAlone k ys
-crossed s k c o ys (inl (d, e, out, live, far, is)) =
-    record { comes = mark (onward k) (in_queue e (ByLink (opposite_of d))); alone = is; packet = refl; key = refl; payload = refl }
-crossed s k c o ys (inr (v, dead, vertex, is)) = record { comes = mark (onward k) (at_core v); alone = is; packet = refl; key = refl; payload = refl }
+crossed s k c o ys its_5 = grind arith
 
 -- In the place of a mark comes one alone, or, of one in a queue, one for each output that lookup gives.
 pub alone_or_taken : (s : State) (k : McCopy) (at : Station) (ys : List Mark) → IsMoveOf s k at ys →
     ComesAlone k ys ⊎ ((c : Chip) × (port : Port) × (at ≡ in_queue c port) × (ys ≡ map (λ o. mark k (in_hand c o)) (outputs s.setup c port k)))
-alone_or_taken s k (unsent v) ys m = inl (record { comes = mark k (in_queue m.0.chip Local); alone = m.2; packet = refl; key = refl; payload = refl })
-alone_or_taken s k (in_queue c port) ys m = inr (c, port, refl, m)
-alone_or_taken s k (in_hand c o) ys (inl m) = inl (record { comes = mark k (dumped c o); alone = m; packet = refl; key = refl; payload = refl })
-alone_or_taken s k (in_hand c o) ys (inr m) = inl (crossed s k c o ys m)
-alone_or_taken s k (at_core v) ys m = inl (record { comes = mark k (delivered v); alone = m; packet = refl; key = refl; payload = refl })
-alone_or_taken s k (delivered v) ys m = absurd m
-alone_or_taken s k (dumped c o) ys m = inl (crossed s k c o ys m)
+alone_or_taken s k at ys its_4 = grind (arith, crossed)
 
 -- What an event that is enabled does, or putting a copy back: one move.
 pub record Exchange (s t : State) : Type 0 where
@@ -70,13 +62,7 @@ pub record Exchange (s t : State) : Type 0 where
 -- ---- the numbers of queues
 
 pub port_of-port_number : (port : Port) → port_of (port_number port) ≡ port
-port_of-port_number (ByLink East) = refl
-port_of-port_number (ByLink NorthEast) = refl
-port_of-port_number (ByLink North) = refl
-port_of-port_number (ByLink West) = refl
-port_of-port_number (ByLink SouthWest) = refl
-port_of-port_number (ByLink South) = refl
-port_of-port_number Local = refl
+port_of-port_number port = grind arith
 
 -- the station of a queue's number
 pub station_of_queue : (m : Description) (c : Chip) (port : Port) → IsInside m c → in_queue (chip_of m ((0 + queue_at m c port) / 7)) (port_of ((0 + queue_at m c port) % 7)) ≡ in_queue c port
@@ -95,8 +81,7 @@ pub made_in : {X : Type 0} (f : X → Mark) (x : X) (xs : List X) → PutIn (f x
 made_in f x xs = record { front = map f xs; back = []; before_is = sym (append-nil (map f xs)); after_is = map-append f xs (x ∷ []) }
 
 pub hand_marks-held : (c : Chip) (k : McCopy) (port : Port) (os : List Out) → hand_marks c (held_for k port os) ≡ map (λ o. mark k (in_hand c o)) os
-hand_marks-held c k port [] = refl
-hand_marks-held c k port (o ∷ os) = refl
+hand_marks-held c k port os = grind arith
 
 -- ---- one list of the mesh changes, so the marks of the mesh change
 
@@ -126,18 +111,14 @@ module _ (R : List Mark → List Mark → Type 0) (parts : HoldsByParts R) where
   made_changes : {X : Type 0} (f : ℕ → X → List Mark) (i : ℕ) (xs : List X) (j : ℕ) (old new : X) → slice_get xs j ≡ Some old →
       R (f (i + j) old) (f (i + j) new) → R (gathered f i xs) (gathered f i (slice_set xs j new))
   made_changes f i [] j old new at r = cc
-  made_changes {X} f i (x ∷ xs) zero old new at r =
-      let same : x ≡ old = cc in
-      let n_is : i + 0 ≡ i = omega arith in
-      parts.earlier (f i x) (f i new) (gathered f (i + 1) xs) (subst (λ (y : X). R (f i y) (f i new)) (sym same) (subst (λ n. R (f n old) (f n new)) n_is r))
+  made_changes {X} f i (x ∷ xs) zero old new at r = grind arith
   made_changes f i (x ∷ xs) (suc j) old new at r =
       let n_is : i + suc j ≡ (i + 1) + j = omega arith in
       parts.later (f i x) (gathered f (i + 1) xs) (gathered f (i + 1) (slice_set xs j new))
       (made_changes f (i + 1) xs j old new at (subst (λ n. R (f n old) (f n new)) n_is r))
 
   third_later : (a b c before after : List Mark) → R before after → R (a ++ (b ++ (c ++ before))) (a ++ (b ++ (c ++ after)))
-  third_later a b c before after r =
-      parts.later a (b ++ (c ++ before)) (b ++ (c ++ after)) (parts.later b (c ++ before) (c ++ after) (parts.later c before after r))
+  third_later a b c before after r = grind arith
 
   pub unsent_changes : (s : State) (v : ℕ) (old new : List McCopy) → slice_get s.unsent v ≡ Some old →
       R (marks_at (unsent v) old) (marks_at (unsent v) new) → R (marks_of s) (marks_of (record s { unsent = slice_set s.unsent v new }))
@@ -177,18 +158,10 @@ module _ (R : List Mark → List Mark → Type 0) (parts : HoldsByParts R) where
 
   pub delivered_changes : (s : State) (d : List Delivery) → R (delivered_marks s) (delivered_marks (record s { delivered = d })) →
       R (marks_of s) (marks_of (record s { delivered = d }))
-  delivered_changes s d r =
-      let s' : State = record s { delivered = d } in
-      third_later (unsent_marks s) (input_marks s) (all_hand_marks s) (behind_hands s) (behind_hands s')
-      (parts.later (core_marks s) (delivered_marks s ++ dumped_marks s) (delivered_marks s' ++ dumped_marks s)
-      (parts.earlier (delivered_marks s) (delivered_marks s') (dumped_marks s) r))
+  delivered_changes s d r = grind (arith, third_later)
 
   pub dumped_changes : (s : State) (d : List DumpRec) → R (dumped_marks s) (dumped_marks (record s { dumped = d })) → R (marks_of s) (marks_of (record s { dumped = d }))
-  dumped_changes s d r =
-      let s' : State = record s { dumped = d } in
-      third_later (unsent_marks s) (input_marks s) (all_hand_marks s) (behind_hands s) (behind_hands s')
-      (parts.later (core_marks s) (delivered_marks s ++ dumped_marks s) (delivered_marks s ++ dumped_marks s')
-      (parts.later (delivered_marks s) (dumped_marks s) (dumped_marks s') r))
+  dumped_changes s d r = grind (arith, third_later)
 
 -- the first dump record leaves
 pub dumped_out : (s : State) (r : DumpRec) (rest : List DumpRec) → s.dumped ≡ r ∷ rest →

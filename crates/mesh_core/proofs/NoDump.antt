@@ -1,21 +1,18 @@
 -- Where a queue has room for a copy of each packet that is under way, no copy is dumped.
 use Rattle.mesh_core.proofs.Common.{All-contains, Among, Bool, Chip, Contains, Did, Dump, Err, Event, Hand, Idle, IfOk, IsMesh, Label, List, Mark, McCopy, MeetsJobLedger, MeetsLedger, Moved, NetPlan}
 use Rattle.mesh_core.proofs.Common.{None, Ok, OnlyUnderWay, Option, Out, Packet, Queue, Result, Some, State, among_contains, and_parts, answer, ap, arith, asked_by, behind, contains_among, core}
-use Rattle.mesh_core.proofs.Common.{count_by, count_by-cons, count_by-none, dump_of, eq-eqb, eqb-true, false, has_room, has_room_behind, if◌then◌else◌, in_hand, index_of, inl, input, inr}
-use Rattle.mesh_core.proofs.Common.{is_live_chip, is_some, label_of, length, length-range_with_len, list_any, live_inside, lt-ltb, marks_of, not, nowhere, out_eq, queue_of, range_with_len, refl}
-use Rattle.mesh_core.proofs.Common.{serves, slice_get, subst, sym, true, ℕ, ◌&&◌, ◌+◌, ◌<◌, ◌==◌, ◌∙◌, ◌∷◌, ◌≡◌, ◌≢◌, ◌≤◌}
+use Rattle.mesh_core.proofs.Common.{count_by, count_by-cons, count_by-none, dump_of, eq-eqb, eqb-true, false, has_room_behind, if◌then◌else◌, in_hand, index_of, inl, input, inr, is_live_chip, is_some}
+use Rattle.mesh_core.proofs.Common.{label_of, length, length-range_with_len, list_any, live_inside, lt-ltb, marks_of, not, nowhere, out_eq, queue_of, range_with_len, refl, serves, slice_get, subst}
+use Rattle.mesh_core.proofs.Common.{sym, true, ℕ, ◌&&◌, ◌+◌, ◌<◌, ◌==◌, ◌∙◌, ◌∷◌, ◌≡◌, ◌≢◌, ◌≤◌}
 use Rattle.mesh_core.proofs.{Standing.among_outs, Standing.held_mark, Counting.length_covered, Counting.count_le, Moves.mark, OnlyUnderWay.of_job, Queued.FreeBehind, Queued.free_behind}
 use Rattle.mesh_core.proofs.Queued.{once_in_queue, waiting_mark}
 
 -- a queue that is shorter than the capacity has room
 room_of : (s : State) (b : Queue) (q : List McCopy) → queue_of s b ≡ Some q → length q < s.setup.capacity → has_room_behind s b ≡ true
-room_of s (input i) q at short = ap (has_room s.setup.capacity) at ∙ lt-ltb (length q) s.setup.capacity short
-room_of s (core v) q at short = ap (has_room s.setup.capacity) at ∙ lt-ltb (length q) s.setup.capacity short
-room_of s nowhere q at short = cc
+room_of s b q at short = grind (arith, lt-ltb, short)
 
 one_more : (b : Bool) (n : ℕ) → (b ≡ true → n ≤ 0) → n ≤ 1 → (if b then 1 else 0) + n ≤ 1
-one_more true n none few = let zero_more = none refl in omega arith
-one_more false n none few = omega arith
+one_more b n none few = grind arith
 
 module _ (s : State) (nets : List NetPlan) (labels : ℕ → Label) (numbers : List ℕ) (mesh : IsMesh s) (ledger : MeetsLedger s nets labels)
     (only : OnlyUnderWay numbers s) (roomy : length numbers ≤ s.setup.capacity) where

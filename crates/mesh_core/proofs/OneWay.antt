@@ -1,7 +1,7 @@
 -- A net that stands on a machine has one way to each target.
 use Rattle.mesh_core.proofs.Common.{All-contains, AreNetsOn, ComesBy, Contains, Description, Edge, Exit, ExitLeads, IsBranch, IsRoutingTree, IsWayOn, List, Local, NetPlan, Some, Spot, [], ap, arith}
-use Rattle.mesh_core.proofs.Common.{comes_by, exit_leads, exit_of, get_or, inl, inr, last_exit, length, map, one_edge_into, refl, same_Some, same_exit, same_lists, same_place, slice_get}
-use Rattle.mesh_core.proofs.Common.{slice_get-get_or, slice_get_there, slice_get_within, subst, suc, sym, zero, ℕ, ◌+◌, ◌-◌, ◌<◌, ◌∙◌, ◌∷◌, ◌≡◌}
+use Rattle.mesh_core.proofs.Common.{comes_by, exit_leads, exit_of, get_or, last_exit, length, map, one_edge_into, refl, same_Some, same_exit, same_lists, same_place, slice_get, slice_get-get_or}
+use Rattle.mesh_core.proofs.Common.{slice_get_there, slice_get_within, subst, suc, sym, zero, ℕ, ◌+◌, ◌-◌, ◌∙◌, ◌∷◌, ◌≡◌}
 use Rattle.mesh_core.proofs.Ways.{vertex_at_stands}
 
 module _ (m : Description) (net : NetPlan) (tree : IsRoutingTree m net.tree.root net.tree.edges net.targets) where
@@ -15,9 +15,7 @@ module _ (m : Description) (net : NetPlan) (tree : IsRoutingTree m net.tree.root
       (i, there.1 ∙ ap Some (by_end there.0 (exit_leads m net.tree.edges t net.tree.root (x ∷ xs) i there.0 is there.1)), omega arith)
     where
       by_end : (z : Exit) → ExitLeads m net.tree.edges t (x ∷ xs) (length xs) z → z ≡ last_exit t
-      by_end z (inl (d, out, in_tree, (y, far, next))) =
-          let past : suc (length xs) < length (x ∷ xs) = slice_get_within (x ∷ xs) (suc (length xs)) y next in absurd (omega arith)
-      by_end z (inr (chip, out, long)) = same_exit z (last_exit t) (sym chip) out
+      by_end z its_1 = grind (arith, slice_get_within, same_exit, last_exit)
 
   module _ (t : Spot) (xs ys : List Exit) (is : IsBranch m net.tree.root net.tree.edges t xs) (also : IsBranch m net.tree.root net.tree.edges t ys) where
     one_length : length xs ≡ length ys

@@ -1,17 +1,12 @@
 -- Which packets are under way: no event brings one that was not, and the packets of a job have the numbers below their number.
 use Rattle.mesh_core.proofs.Common.{Among, Contains, Contains-get_or, Event, IsMesh, List, Mark, MeetsJobLedger, NetPlan, OnlyUnderWay, Packet, PutIn, State, TakenOut, after_event, among_contains}
-use Rattle.mesh_core.proofs.Common.{among_either, among_left, among_map, among_only, among_right, among_taken_out, ap, arith, contains_among, get_or-range_with_len, in_hand, inl, inr, length}
-use Rattle.mesh_core.proofs.Common.{length-range_with_len, marks_of, outputs, range_with_len, step_of, subst, sym, ℕ, ◌++◌, ◌+◌, ◌∙◌, ◌∷◌, ◌≡◌, ◌⊎◌}
+use Rattle.mesh_core.proofs.Common.{among_either, among_left, among_map, among_only, among_right, among_taken_out, arith, contains_among, get_or-range_with_len, inl, inr, length}
+use Rattle.mesh_core.proofs.Common.{length-range_with_len, marks_of, range_with_len, subst, sym, ℕ, ◌++◌, ◌+◌, ◌∙◌, ◌∷◌, ◌≡◌, ◌⊎◌}
 use Rattle.mesh_core.proofs.{Moves.alone_or_taken, Moves.mark, Moves.IsMove, Enabled.after_answer, Events.event_exchange, Events.MovesOn, FewMarks.number_below}
 
 -- what comes is of the packet that leaves
 same_packet : (s : State) (x : Mark) (come : List Mark) → IsMove s x come → (y : Mark) → Among y come → y.copy.packet ≡ x.copy.packet
-same_packet s x come move y came = elim (alone_or_taken s x.copy x.station come move) [
-  | inl one ↦ ap (λ (m : Mark). m.copy.packet) (among_only one.comes y come one.alone came) ∙ one.packet
-  | inr (c, port, at, are) ↦
-      ap (λ (m : Mark). m.copy.packet)
-      (among_map (λ o. mark x.copy (in_hand c o)) y (outputs s.setup c port x.copy) (subst (λ (l : List Mark). Among y l) are came)).2
-]
+same_packet s x come move y came = grind (arith, alone_or_taken s x.copy x.station come move, among_only, among_map, mark, Among)
 
 -- what is there after an exchange came, or was there
 came_or_was : {X : Type 0} (x : X) (come before rest after : List X) → TakenOut x before rest → PutIn come rest after → (y : X) → Among y after → Among y come ⊎ Among y before
@@ -30,8 +25,7 @@ came_or_was x come before rest after out put y a = elim (among_either y put.fron
 
 -- Where only these packets are under way, only these are after an event.
 pub only_after : (numbers : List ℕ) (s : State) → IsMesh s → OnlyUnderWay numbers s → (e : Event) → OnlyUnderWay numbers (after_event s e)
-only_after numbers s mesh only e =
-    after_answer (OnlyUnderWay numbers) s only (step_of s e) (λ t is. by_move t (event_exchange s mesh e t is))
+only_after numbers s mesh only e = after_answer _ _ only _ (λ t is. by_move t (event_exchange s mesh e t is))
   where
     by_move : (t : State) → MovesOn s t → OnlyUnderWay numbers t
     by_move t m k has waits = elim (came_or_was m.0.leaves m.0.come (marks_of s) m.0.rest (marks_of t) m.0.out m.0.put k (contains_among k (marks_of t) has)) [

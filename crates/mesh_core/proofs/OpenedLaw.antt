@@ -7,7 +7,7 @@ use Rattle.mesh_core.proofs.Common.{label_in, label_of, length, length-map-range
 use Rattle.mesh_core.proofs.Common.{range_with_len, refl, same_Some, slice_get, slice_get_within, slice_index_or, subst, sym, true, unsent, unsent_marks, unsent_of, vertex_at, ℕ, ◌&&◌, ◌+◌, ◌<◌, ◌==◌}
 use Rattle.mesh_core.proofs.Common.{◌∙◌, ◌≡◌, ◌≢◌}
 use Rattle.mesh_core.proofs.{Changes.IsMesh-lists, Ways.some_way, Ways.vertex_at_stands, Ways.vertex_there, AskedPackets.asked_parts, AskedPackets.asked_from, AskedPackets.asked_of_net}
-use Rattle.mesh_core.proofs.{AskedPackets.net_in_list, AskedPackets.key_of_net, Moves.mark, LedgerLaw.one_net}
+use Rattle.mesh_core.proofs.{AskedPackets.net_in_list, Moves.mark, LedgerLaw.one_net}
 
 -- a copy that a vertex sends, and of what packet it is
 record IsSent (spots : List Spot) (nets : List NetPlan) (p : Packet) (i v : ℕ) (k : McCopy) : Type 0 where
@@ -17,8 +17,7 @@ record IsSent (spots : List Spot) (nets : List NetPlan) (p : Packet) (i v : ℕ)
   copy : k ≡ first_copy i net p
 
 same_vertex : (w : Option ℕ) (v : ℕ) → option_map_or (λ n. n == v) w false ≡ true → w ≡ Some v
-same_vertex (Some w) v e = ap Some (eqb-true w v e)
-same_vertex None v e = cc
+same_vertex w v e = grind (arith, eqb-true)
 
 sent_parts : (spots : List Spot) (nets : List NetPlan) (p : Packet) (i v : ℕ) (k : McCopy) (net : Option NetPlan) → slice_get nets p.net ≡ net →
     copy_from spots v i p net ≡ Some k → IsSent spots nets p i v k
@@ -133,7 +132,7 @@ module _ (setup : Setup) (nets : List NetPlan) (packets : List Packet) where
     unsent_number k u = ap (λ (c : McCopy). c.packet) u.sent.copy
 
     unsent_is_key : (k : Mark) (u : IsUnsent k) → IsKeyOf u.sent.net.block k.copy.key
-    unsent_is_key k u = grind (arith, unsent_key k u, key_of_net nets packets of_nets u.number_is u.packet u.sent.net u.at u.sent.is_net)
+    unsent_is_key k u = grind (arith, unsent_key, same_Some)
 
     labelled : (k : Mark) → Contains (marks_of opened) k →
         (k.copy.key ≡ (label_of (asked_by nets packets k.copy.packet)).key) × (k.copy.payload ≡ (label_of (asked_by nets packets k.copy.packet)).payload)

@@ -38,15 +38,8 @@ module _ {X : Type 0} (R : X → X → Type 0) where
   at_most_one p (x ∷ xs) up never =
       subst (λ n. n ≤ 1) (sym (count_by-cons p x xs)) (by_test (p x) refl (at_most_one p xs up.1 never))
     where
-      none : p x ≡ true → count_by p xs ≤ 0
-      none passes = elim (cases_order (count_by p xs) 0) [
-        | inl same ↦ omega (arith, same)
-        | inr (inl less) ↦ absurd (omega (arith, less))
-        | inr (inr some) ↦ let y = counted p xs (omega (arith, some)) in absurd (never x y.0 (up.0 y.0 y.1) passes y.2)
-      ]
-
       by_test : (b : Bool) → p x ≡ b → count_by p xs ≤ 1 → (if b then 1 else 0) + count_by p xs ≤ 1
-      by_test true e few = let rest = none e in omega (arith, rest)
+      by_test true e few = grind (arith, cases_order, count_by, counted)
       by_test false e few = omega (arith, few)
 
   module _ (one_way : (x y : X) → R x y → R y x → ⊥) where
@@ -74,9 +67,7 @@ module _ {X : Type 0} (R : X → X → Type 0) where
 
 -- a spot is at most once among different spots
 pub one_spot : (xs : List Spot) → AllPairs (λ a b. a ≢ b) xs → (w : Spot) → count_by (λ x. spot_eq x w) xs ≤ 1
-one_spot xs different w =
-    at_most_one (λ a b. a ≢ b) (λ x. spot_eq x w) xs (ordered_from (λ a b. a ≢ b) xs different)
-    (λ x y apart px py. apart (spot_eq_true x w px ∙ sym (spot_eq_true y w py)))
+one_spot xs different w = at_most_one (λ a b. a ≢ b) (λ x. spot_eq x w) _ (ordered_from (λ a b. a ≢ b) _ different) (λ x y apart px py. apart (spot_eq_true x w px ∙ sym (spot_eq_true y w py)))
 
 -- different spots of a list are at most as many as the list has
 pub few_different : (spots ts : List Spot) → AllPairs (λ a b. a ≢ b) ts → All (Contains spots) ts → length ts ≤ length spots

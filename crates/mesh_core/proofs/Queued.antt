@@ -1,12 +1,11 @@
 -- Where a packet waits, in a mesh that meets the ledger: behind each output that a hand still has to serve there is a queue
 -- without a copy of the hand's packet, and no queue has two copies of one packet.
-use Rattle.mesh_core.proofs.Common.{All, All-contains, All-each, AllPairs-apart, Among, Bool, ByLink, Chip, Contains, Core, Dir, Exit, ExitLeads, IsInside, IsLiveLink, IsMesh, IsRoutingTree, IsSite}
-use Rattle.mesh_core.proofs.Common.{IsTracked, Label, Link, List, Mark, McCopy, MeetsLedger, NetPlan, Out, Port, Queue, Setup, Some, State, Station, all_hand_marks, among_contains, and_from}
-use Rattle.mesh_core.proofs.Common.{and_parts, ap, arith, at_core, behind, behind_link, cases_order, chip_of, contains_among, core, core_marks, core_queue_of, count_by, count_by-append, count_by-map}
-use Rattle.mesh_core.proofs.Common.{delivered_marks, dumped_marks, end_is_no_live_link, eq-eqb, eqb-true, exit_leads, false, far_inside, far_of, get_or_from_slice_get, in_hand, in_queue, inl, input}
-use Rattle.mesh_core.proofs.Common.{input_marks, inr, is_live_link, is_on_trail, is_packet_on_trail, length, live_ends, live_inside, marks_at, marks_of, nowhere, opposite_of, out_of, port_of}
-use Rattle.mesh_core.proofs.Common.{queue_at, queue_of, refl, same_site, slice_get, slice_get_there, slice_get_within, subst, suc, sym, true, unsent_marks, vertex_behind, ℕ, ◌%◌, ◌++◌, ◌+◌, ◌/◌, ◌<◌}
-use Rattle.mesh_core.proofs.Common.{◌==◌, ◌∙◌, ◌≡◌, ◌≢◌, ◌≤◌}
+use Rattle.mesh_core.proofs.Common.{All, All-contains, All-each, AllPairs-apart, Among, Bool, ByLink, Chip, Contains, Dir, Exit, ExitLeads, IsInside, IsLiveLink, IsMesh, IsRoutingTree, IsSite}
+use Rattle.mesh_core.proofs.Common.{IsTracked, Label, Link, List, Mark, McCopy, MeetsLedger, NetPlan, Out, Port, Queue, Setup, Some, State, Station, among_contains, and_from, and_parts, ap, arith}
+use Rattle.mesh_core.proofs.Common.{at_core, behind, behind_link, cases_order, chip_of, contains_among, core, core_marks, count_by, count_by-append, count_by-map, end_is_no_live_link, eq-eqb}
+use Rattle.mesh_core.proofs.Common.{eqb-true, exit_leads, far_inside, far_of, get_or_from_slice_get, in_hand, in_queue, inl, input, input_marks, inr, is_on_trail, is_packet_on_trail, length}
+use Rattle.mesh_core.proofs.Common.{live_ends, live_inside, marks_at, marks_of, nowhere, opposite_of, out_of, port_of, queue_at, queue_of, refl, same_site, slice_get, slice_get_there}
+use Rattle.mesh_core.proofs.Common.{slice_get_within, subst, suc, sym, true, unsent_marks, vertex_behind, ℕ, ◌%◌, ◌++◌, ◌+◌, ◌/◌, ◌<◌, ◌==◌, ◌∙◌, ◌≡◌, ◌≢◌, ◌≤◌}
 use Rattle.mesh_core.proofs.{Ways.OnSomeTrail, Ways.vertex_at_stands, Ways.vertex_behind_there, Ways.vertex_behind_stands, Ways.leads_to, Tracked.on_net, Tracked.once_on_way, Standing.input_mark}
 use Rattle.mesh_core.proofs.{Standing.queued_mark, Standing.core_mark, Changes.queue_at-below, Counting.count_two, Counting.count_le, Counting.counted, Counting.count_gathered_part, Law.leaves_parts}
 use Rattle.mesh_core.proofs.{Law.comes_parts, Moves.behind_inputs, Moves.mark, WalkingUp.comes_on, WalkingUp.ends_on}
@@ -102,11 +101,7 @@ module _ (s : State) (nets : List NetPlan) (labels : ℕ → Label) (ledger : Me
         )
       where
         to_vertex : (p : Out) → p ≡ out_of t.trail.target.core → (v : ℕ) → vertex_behind s.setup.spots c p ≡ Some v → IsSite s.setup.machine t.trail.target → behind s.setup c p ≡ core v
-        to_vertex (Link d) is v vertex site =
-            let dead : is_live_link s.setup.machine c d ≡ false =
-            ap (λ (z : Chip). is_live_link s.setup.machine z d) (sym chip) ∙ end_is_no_live_link s.setup.machine t.trail.target d site (sym is) in
-            ap (λ b. behind_link s.setup c d b (far_of s.setup.machine c d)) dead ∙ ap core_queue_of vertex
-        to_vertex (Core p) is v vertex site = ap core_queue_of vertex
+        to_vertex p is v vertex site = grind (arith, end_is_no_live_link)
 
     by_end : ExitLeads s.setup.machine t.net.tree.edges t.trail.target t.trail.branch k.hop (record { chip = c; out = o }) → FreeBehind s c o k.packet
     by_end (inl (d, out, in_tree, (y, far, next))) =
@@ -128,15 +123,7 @@ module _ (s : State) (nets : List NetPlan) (labels : ℕ → Label) (ledger : Me
   in_input_marks p = grind (arith, behind_inputs s, count_by-append p (unsent_marks s) (input_marks s ++ (behind_inputs s)), count_by-append p (input_marks s) (behind_inputs s))
 
   in_core_marks : (p : Mark → Bool) → count_by p (core_marks s) ≤ count_by p (marks_of s)
-  in_core_marks p =
-      let last : List Mark = delivered_marks s ++ dumped_marks s in
-      omega (
-        arith,
-        count_by-append p (unsent_marks s) (input_marks s ++ (all_hand_marks s ++ (core_marks s ++ last))),
-        count_by-append p (input_marks s) (all_hand_marks s ++ (core_marks s ++ last)),
-        count_by-append p (all_hand_marks s) (core_marks s ++ last),
-        count_by-append p (core_marks s) last,
-      )
+  in_core_marks p = grind (arith, count_by-append)
 
   -- a queue whose copies have this station, and whose marks of one packet are on one trail
   once_at : (at : Station) (q : List McCopy) → ((j : McCopy) → Among j q → Contains (marks_of s) (mark j at)) →
@@ -167,9 +154,7 @@ module _ (s : State) (nets : List NetPlan) (labels : ℕ → Label) (ledger : Me
   queue_station nowhere = at_core 0
 
   pub waiting_mark : (b : Queue) (q : List McCopy) → queue_of s b ≡ Some q → (j : McCopy) → Among j q → Contains (marks_of s) (mark j (queue_station b))
-  waiting_mark (input i) q at j among = among_contains (mark j (queue_station (input i))) (marks_of s) (input_mark s i j q at among)
-  waiting_mark (core v) q at j among = among_contains (mark j (at_core v)) (marks_of s) (core_mark s v j q at among)
-  waiting_mark nowhere q at j among = cc
+  waiting_mark b q at j among = grind (arith, among_contains, mark, input_mark, core_mark)
 
   pub once_in_queue : (b : Queue) (q : List McCopy) → queue_of s b ≡ Some q → (n : ℕ) → count_by (λ j. j.packet == n) q ≤ 1
   once_in_queue (input i) q at n =

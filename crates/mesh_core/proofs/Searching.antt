@@ -2,9 +2,9 @@
 use Rattle.mesh_core.proofs.Common.{All, All-contains, Among, At, Bool, Chip, Contains, CoreQueue, Delivered, Delivery, Description, DumpRec, Dumped, Edge, Hand, HandAt, InQueue, IsFound, IsInside}
 use Rattle.mesh_core.proofs.Common.{IsMarkThere, IsMesh, IsOfCore, IsOfOutput, IsOfPort, IsRoutingTree, IsTracked, List, Mark, McCopy, NetPlan, None, Option, Out, Port, Some, Spot, State, Station}
 use Rattle.mesh_core.proofs.Common.{TellsStation, Where, among_any, among_contains, and_from, and_parts, any_among, ap, arith, at_core, chip_eq, chip_eq_same, chip_eq_true, contains_among, delivered}
-use Rattle.mesh_core.proofs.Common.{dumped, eq-eqb, eqb-true, false, get_or, in_hand, in_queue, index_of, index_of-chip_of, inl, inr, is_held, length, list_any, live_ends, live_inside, marks_of}
-use Rattle.mesh_core.proofs.Common.{out_eq, out_eq_same, out_eq_true, position, position_nowhere, position_there, queue_at, refl, same_Some, slice_get, slice_get-get_or, slice_get_within}
-use Rattle.mesh_core.proofs.Common.{slice_index_or, subst, sym, true, vertex_at, ℕ, ◌&&◌, ◌<◌, ◌==◌, ◌∙◌, ◌≡◌, ◌⊎◌}
+use Rattle.mesh_core.proofs.Common.{dumped, eq-eqb, eqb-true, false, get_or, in_hand, in_queue, index_of, index_of-chip_of, inl, inr, is_held, list_any, live_ends, live_inside, marks_of, out_eq}
+use Rattle.mesh_core.proofs.Common.{out_eq_same, out_eq_true, position, position_nowhere, position_there, queue_at, refl, same_Some, slice_get, slice_get-get_or, slice_get_within, slice_index_or}
+use Rattle.mesh_core.proofs.Common.{subst, sym, true, vertex_at, ℕ, ◌&&◌, ◌==◌, ◌∙◌, ◌≡◌, ◌⊎◌}
 use Rattle.mesh_core.proofs.Standing.{among_outs, StandsAt, mark_stands, queued_mark, held_mark, core_mark, delivered_mark, dumped_mark, place_of_queue}
 use Rattle.mesh_core.proofs.{MarkTests.two_alike, Moves.mark, Ways.vertex_at_stands}
 
@@ -16,13 +16,11 @@ module _ (s : State) (packet : ℕ) where
   -- a mark of a copy of the packet at such a station is found there
   found_mark : (IsThere : Station → Type 0) (k : McCopy) (at : Station) (w : Where) → Among (mark k at) (marks_of s) → k.packet ≡ packet → IsThere at →
       TellsStation s k at w → IsMarkThere s packet IsThere w
-  found_mark IsThere k at w a is there told =
-      let y : Mark = mark k at in record { mark = y; is_mark = among_contains y (marks_of s) a; is_packet = is; there = there; told = told }
+  found_mark IsThere k at w a is there told = grind (arith, mark k at, mark, among_contains (mark k at) (marks_of s) a)
 
   -- a queue without a copy of the packet
   none_among : (q : List McCopy) (k : McCopy) → list_any (λ d. d.packet == packet) q ≡ false → Among k q → k.packet ≡ packet → ⊥
-  none_among q k none a is =
-      let found : list_any (λ (d : McCopy). d.packet == packet) q ≡ true = among_any (λ (d : McCopy). d.packet == packet) k q a (eq-eqb k.packet packet is) in cc
+  none_among q k none a is = grind (arith, eq-eqb k.packet packet is, among_any)
 
   -- ---- an input queue
 
@@ -129,12 +127,7 @@ module _ (s : State) (packet : ℕ) where
 -- the queue of a vertex's core is in the list
 pub core_queue_there : (s : State) → IsMesh s → (spot : Spot) (v : ℕ) → vertex_at s.setup.spots spot ≡ Some v → (q d : List McCopy) →
     d ≡ slice_index_or s.cores v d → q ≡ d → slice_get s.cores v ≡ Some q
-core_queue_there s mesh spot v is_vertex q d is same =
-    let on_spot : slice_get s.setup.spots v ≡ Some spot = vertex_at_stands s.setup.spots spot v is_vertex in
-    let below : v < length s.setup.spots = slice_get_within s.setup.spots v spot on_spot in
-    let lists : length s.cores ≡ length s.setup.spots = mesh.core_lists in
-    let within : v < length s.cores = omega arith in
-    slice_get-get_or s.cores v d within ∙ ap Some (sym is ∙ sym same)
+core_queue_there s mesh spot v is_vertex q d is same = grind (arith, vertex_at_stands, slice_get_within, slice_get-get_or)
 
 -- the edges of a tracked packet's net begin inside the grid
 pub edges_inside : (s : State) (net : NetPlan) (packet : ℕ) → IsTracked s net packet → All (λ e. IsInside s.setup.machine e.chip) net.tree.edges

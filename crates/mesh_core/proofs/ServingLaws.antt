@@ -1,11 +1,11 @@
 -- Serving an output: the hands after it, and the queue behind it.
 use Rattle.mesh_core.proofs.Common.{All, All-head, All-tail, Bool, Chip, Core, Description, Dir, Entry, Hand, IsSite, Link, List, McCopy, None, Option, Out, Port, Some, Spot, State, [], and_from}
-use Rattle.mesh_core.proofs.Common.{and_parts, ap, arith, both_ways, chip_eq_same, chip_eq_true, cond, dir_at, dir_at-dir_number, dir_number, false, get_or, get_or_from_slice_get, hands_after}
-use Rattle.mesh_core.proofs.Common.{if◌then◌else◌, index_of, is_some, last_hop, leads_to_spot, length, lookup, out_eq_same, out_eq_true, out_of, out_of-core, out_of-device, outputs, outs_of}
-use Rattle.mesh_core.proofs.Common.{outs_without, position-Some, position_from, position_from-zero, refl, same_spot, set, set-set, set-slice_get, site_parts, slice_get, slice_get-get_or, spot_eq}
-use Rattle.mesh_core.proofs.Common.{spot_eq_same, spot_eq_true, spot_of_core, spot_of_link, subst, sym, true, vertex_at, vertex_behind, ℕ, ◌+◌, ◌-◌, ◌<◌, ◌==◌, ◌∙◌, ◌∷◌, ◌≡◌, ◌≤◌}
+use Rattle.mesh_core.proofs.Common.{and_parts, ap, arith, both_ways, chip_eq_same, chip_eq_true, cond, dir_at-dir_number, dir_number, false, get_or, get_or_from_slice_get, hands_after, if◌then◌else◌}
+use Rattle.mesh_core.proofs.Common.{index_of, is_some, last_hop, leads_to_spot, length, lookup, out_eq_same, out_eq_true, out_of, out_of-core, out_of-device, outputs, outs_of, outs_without}
+use Rattle.mesh_core.proofs.Common.{position-Some, position_from, position_from-zero, refl, rules, same_spot, set, set-set, set-slice_get, site_parts, slice_get, slice_get-get_or, spot_eq}
+use Rattle.mesh_core.proofs.Common.{spot_eq_same, spot_eq_true, spot_of_core, spot_of_link, sym, true, vertex_at, vertex_behind, ℕ, ◌+◌, ◌-◌, ◌<◌, ◌==◌, ◌∙◌, ◌∷◌, ◌≡◌}
 use Rattle.mesh_core.specs.Step.{in_hand}
-use Rattle.mesh_core.proofs.{Ways.none_from, Ways.vertex_behind_stands, VertexTableLaws.vertex_at-from}
+use Rattle.mesh_core.proofs.VertexTableLaws.{vertex_at-from}
 
 -- a hand served an output
 pub hands_after-some : (hands : List (Option Hand)) (i : ℕ) (o : Out) (d x r : Option Hand) (h : Hand) → i < length hands → get_or hands i d ≡ Some h →
@@ -32,11 +32,7 @@ leads_there : (o : Out) (t s : Spot) → o ≡ out_of t.core → spot_eq t s ≡
 leads_there o t s is same = grind (arith, spot_eq_true t s same, chip_eq_same t.chip, out_eq_same o, and_from)
 
 leads_back : (o : Out) (t s : Spot) → (out_of s.core ≡ o → s.core ≡ t.core) → leads_to_spot t.chip o s ≡ true → spot_eq t s ≡ true
-leads_back o t s number leads =
-    let parts = and_parts _ _ leads in
-    let chips : s.chip ≡ t.chip = chip_eq_true s.chip t.chip parts.0 in
-    let same : s ≡ t = same_spot s t chips (number (out_eq_true (out_of s.core) o parts.1)) in
-    subst (λ (x : Spot). spot_eq t x ≡ true) (sym same) (spot_eq_same t)
+leads_back o t s number leads = search (rules, and_parts, chip_eq_true, same_spot, out_eq_true, spot_eq_same)
 
 -- the vertex behind an output is the vertex on the spot to which it leads
 vertex_behind-is : (spots : List Spot) (o : Out) (t : Spot) → o ≡ out_of t.core → All (λ s. out_of s.core ≡ o → s.core ≡ t.core) spots → vertex_behind spots t.chip o ≡ vertex_at spots t
@@ -47,43 +43,21 @@ vertex_behind-is spots o t is numbers =
     ∙ sym (vertex_at-from spots t))
 
 pub vertex_behind-core : (spots : List Spot) (t : Spot) → t.core < 18 → vertex_behind spots t.chip (Core t.core) ≡ vertex_at spots t
-vertex_behind-core spots t small =
-    vertex_behind-is spots (Core t.core) t (sym (out_of-core t.core small)) (λ k d below e. (spot_of_core (get_or spots k d).core t.core e).0)
+vertex_behind-core spots t small = grind (arith, out_of-core t.core small, vertex_behind-is, spot_of_core, get_or)
 
 pub vertex_behind-link : (m : Description) (spots : List Spot) (t : Spot) (d : Dir) → t.core ≡ 18 + dir_number d → All (IsSite m) spots → vertex_behind spots t.chip (Link d) ≡ vertex_at spots t
-vertex_behind-link m spots t d is sites =
-    let number : t.core - 18 ≡ dir_number d = omega (arith, is) in
-    let out : Link d ≡ out_of t.core = ap Link (sym (dir_at-dir_number d) ∙ ap dir_at (sym number)) ∙ sym (out_of-device t.core (omega (arith, is))) in
-    vertex_behind-is spots (Link d) t out
-    (λ k e below f. spot_of_link (get_or spots k e).core d (site_parts m (get_or spots k e) (sites k e below)).1 f ∙ sym is)
-
--- no vertex is behind a core beyond 17
-pub vertex_behind-beyond : (spots : List Spot) (c : Chip) (p : ℕ) → 18 ≤ p → vertex_behind spots c (Core p) ≡ None
-vertex_behind-beyond spots c p beyond = none_from (vertex_behind spots c (Core p)) (λ v is.
-    let t = vertex_behind_stands spots c (Core p) v is in
-    let same = spot_of_core t.0.core p t.3 in
-    omega (arith, beyond, same.0, same.1))
+vertex_behind-link m spots t d is sites = grind (arith, dir_at-dir_number d, out_of-device t.core (omega (arith, is)), vertex_behind-is, spot_of_link, get_or, site_parts)
 
 -- a vertex on a spot is one of those that there are
 pub vertex_at-below : (spots : List Spot) (s : Spot) (v : ℕ) → vertex_at spots s ≡ Some v → v < length spots
 vertex_at-below spots s v e = (position-Some (spot_eq s) spots v s e).0
 
--- the outputs that a router gives, by the table that was looked up
-outputs_read : (s : State) (c : Chip) (port : Port) (k : McCopy) (n : ℕ) (table : List Entry) → n ≡ index_of s.setup.machine c → slice_get s.setup.tables n ≡ Some table →
-    (if k.hop == last_hop then [] else outs_of (lookup table k.key port)) ≡ outputs s.setup c port k
-outputs_read s c port k n table at here = grind (arith, get_or_from_slice_get s.setup.tables n table, get_or)
-
 -- the same, by the table at a place of a list
 pub outputs_at : (s : State) (c : Chip) (port : Port) (k : McCopy) (n : ℕ) (tables : List (List Entry)) (table d : List Entry) → n ≡ index_of s.setup.machine c →
     tables ≡ s.setup.tables → n < length tables → table ≡ get_or tables n d →
     (if k.hop == last_hop then [] else outs_of (lookup table k.key port)) ≡ outputs s.setup c port k
-outputs_at s c port k n tables table d at same below here =
-    outputs_read s c port k n table at (ap (λ l. slice_get l n) (sym same) ∙ (slice_get-get_or tables n d below ∙ ap Some (sym here)))
+outputs_at s c port k n tables table d at same below here = grind (arith, slice_get-get_or, get_or_from_slice_get, get_or)
 
 -- a hand that isn't there
 pub no_hand : (hands : List (Option Hand)) (i : ℕ) (x : Option Hand) → i < length hands → x ≡ get_or hands i x → is_some x ≡ false → slice_get hands i ≡ Some None
-no_hand hands i x below read none = slice_get-get_or hands i x below ∙ ap Some (sym read ∙ is_none_from x none)
-  where
-    is_none_from : (x : Option Hand) → is_some x ≡ false → x ≡ None
-    is_none_from None e = refl
-    is_none_from (Some h) e = cc
+no_hand hands i x below read none = grind (arith, slice_get-get_or, is_some)

@@ -1,22 +1,15 @@
 -- Which marks a mesh has, by their stations: those of the lists' items there.
 use Rattle.mesh_core.proofs.Common.{Among, Chip, Delivery, Description, DumpRec, Hand, IsInside, List, Mark, McCopy, None, Option, Out, Port, Some, State, Station, all_hand_marks, among_either}
-use Rattle.mesh_core.proofs.Common.{among_gathered, among_left, among_map, among_right, any_among, ap, arith, at_core, chip_of, core_marks, delivered, delivered_marks, dumped, dumped_marks, gathered}
+use Rattle.mesh_core.proofs.Common.{among_gathered, among_left, among_map, among_right, any_among, arith, at_core, chip_of, core_marks, delivered, delivered_marks, dumped, dumped_marks, gathered}
 use Rattle.mesh_core.proofs.Common.{gathered_among, hand_marks, in_hand, in_queue, index_of, index_of-chip_of, inl, input_marks, inr, list_any, map_among, marks_at, marks_of, out_eq, out_eq_true}
-use Rattle.mesh_core.proofs.Common.{port_number, port_of, queue_at, refl, slice_get, subst, suc, sym, true, unsent, unsent_marks, zero, zero-add, ℕ, ◌%◌, ◌++◌, ◌+◌, ◌/◌, ◌<◌, ◌∙◌, ◌≡◌}
+use Rattle.mesh_core.proofs.Common.{port_number, port_of, queue_at, refl, slice_get, subst, sym, true, unsent, unsent_marks, zero-add, ℕ, ◌%◌, ◌++◌, ◌+◌, ◌/◌, ◌<◌, ◌≡◌}
 use Rattle.mesh_core.proofs.Moves.{behind_hands, behind_inputs, behind_unsent, mark, chip_of-index_of, station_of_queue}
 
 -- ---- chips and ports by number
 
 -- the number of the port of a number below 7 is that number
 pub port_number-port_of : (n : ℕ) → n < 7 → port_number (port_of n) ≡ n
-port_number-port_of zero low = refl
-port_number-port_of (suc zero) low = refl
-port_number-port_of (suc (suc zero)) low = refl
-port_number-port_of (suc (suc (suc zero))) low = refl
-port_number-port_of (suc (suc (suc (suc zero)))) low = refl
-port_number-port_of (suc (suc (suc (suc (suc zero))))) low = refl
-port_number-port_of (suc (suc (suc (suc (suc (suc zero)))))) low = refl
-port_number-port_of (suc (suc (suc (suc (suc (suc (suc n))))))) low = absurd (omega arith)
+port_number-port_of n low = grind arith
 
 -- the place of the queues of a chip and port is one
 pub place_of_queue : (m : Description) (c : Chip) (port : Port) (i : ℕ) → IsInside m c → chip_of m (i / 7) ≡ c → port_of (i % 7) ≡ port →
@@ -42,10 +35,7 @@ as_mark s k c at is stands = subst (λ (m : Mark). StandsAt s m.copy m.station) 
 -- a mark of lists of queues is of a copy in one of them
 of_queues : (at : ℕ → Station) (lists : List (List McCopy)) (k : Mark) → Among k (gathered (λ v q. marks_at (at v) q) 0 lists) →
     (v : ℕ) × (q : List McCopy) × (c : McCopy) × (slice_get lists v ≡ Some q) × Among c q × (k ≡ mark c (at v))
-of_queues at lists k a =
-    let there = among_gathered (λ v (q : List McCopy). marks_at (at v) q) k lists a in
-    let m = among_map (λ (c : McCopy). mark c (at there.0)) k there.1 there.3 in
-    (there.0, there.1, m.0, there.2, m.1, m.2)
+of_queues at lists k a = grind (arith, among_gathered, among_map, mark)
 
 -- a mark of the mesh stands in its lists
 pub mark_stands : (s : State) (k : Mark) → Among k (marks_of s) → StandsAt s k.copy k.station
@@ -94,11 +84,7 @@ input_mark s i k q at a =
 
 pub queued_mark : (s : State) (c : Chip) (port : Port) → IsInside s.setup.machine c → (k : McCopy) (q : List McCopy) →
     slice_get s.inputs (queue_at s.setup.machine c port) ≡ Some q → Among k q → Among (mark k (in_queue c port)) (marks_of s)
-queued_mark s c port inside k q at a =
-    let at_zero : (n : ℕ) → in_queue (chip_of s.setup.machine ((0 + n) / 7)) (port_of ((0 + n) % 7)) ≡ in_queue (chip_of s.setup.machine (n / 7)) (port_of (n % 7)) =
-    λ n. ap (λ i. in_queue (chip_of s.setup.machine (i / 7)) (port_of (i % 7))) (zero-add n) in
-    subst (λ p. Among (mark k p) (marks_of s)) (sym (at_zero (queue_at s.setup.machine c port)) ∙ station_of_queue s.setup.machine c port inside)
-    (input_mark s (queue_at s.setup.machine c port) k q at a)
+queued_mark s c port inside k q at a = grind (arith, station_of_queue s.setup.machine c port inside, input_mark s (queue_at s.setup.machine c port) k q at a, zero-add, Among, mark)
 
 -- an output that is found among a hand's is one of them
 pub among_outs : (o : Out) (os : List Out) → list_any (out_eq o) os ≡ true → Among o os

@@ -1,6 +1,6 @@
 -- A tracked packet of a net: each of its marks is on the trail of a target of the net, and each such trail has one.
-use Rattle.mesh_core.proofs.Common.{Asked, Contains, Exit, IsKeyOf, IsTracked, IsWayOn, List, Mark, MeetsLedgerFor, NetPlan, Option, Some, Spot, State, ap, count_by, is_packet_on_trail, label_of}
-use Rattle.mesh_core.proofs.Common.{marks_of, subst, sym, ℕ, ◌∙◌, ◌≡◌}
+use Rattle.mesh_core.proofs.Common.{Asked, Contains, Exit, IsKeyOf, IsTracked, IsWayOn, List, Mark, MeetsLedgerFor, NetPlan, Option, Some, Spot, State, ap, arith, count_by, is_packet_on_trail}
+use Rattle.mesh_core.proofs.Common.{label_of, marks_of, subst, sym, ℕ, ◌∙◌, ◌≡◌}
 use Rattle.mesh_core.proofs.{Ways.OnSomeTrail, LedgerLaw.one_net}
 
 module _ (s : State) (net : NetPlan) (packet : ℕ) (tracked : IsTracked s net packet) where
@@ -26,9 +26,7 @@ module _ (s : State) (net : NetPlan) (packet : ℕ) (tracked : IsTracked s net p
 
   pub once_on_way : (target : Spot) (branch : List Exit) (from to : ℕ) → IsWayOn s.setup.machine s.setup.spots net target branch from to →
       count_by (is_packet_on_trail packet from to branch) (marks_of s) ≡ 1
-  once_on_way target branch from to way =
-      subst (λ n. count_by (is_packet_on_trail n from to branch) (marks_of s) ≡ 1) tracked.is_packet
-      (tracked.ledger.once_on_each tracked.mark tracked.is_mark net tracked.in_nets tracked.is_key target branch from to way)
+  once_on_way target branch from to way = grind (arith, count_by)
 
 -- a packet that was asked for is tracked
 pub asked_tracked : (s : State) (nets : List NetPlan) (asked : ℕ → Option Asked) → MeetsLedgerFor s nets asked → (i : ℕ) (a : Asked) → asked i ≡ Some a →

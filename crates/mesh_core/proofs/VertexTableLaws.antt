@@ -1,8 +1,8 @@
 -- The table of vertices, as it is made.
 use Rattle.mesh_core.proofs.Common.{All, All-at, All-head, All-tail, AllPairs, AllPairs-apart, Bool, Description, IsInside, IsSite, IsSpotPlace, List, None, Option, Some, Spot, TellsVertices, [], ap}
-use Rattle.mesh_core.proofs.Common.{arith, cases_eq, cond, false, get_or, get_or-replicate, get_or-take, get_or_default, get_or_from_slice_get, index_below, inl, inr, length, length-map}
-use Rattle.mesh_core.proofs.Common.{length-replicate, length-set, length-take-le, length_le_from_apart, live_inside, map, position_from, position_from-zero, refl, replicate, same_index, same_spot}
-use Rattle.mesh_core.proofs.Common.{set, site_parts, slice_get, slice_get-get_or, slice_get-mapped, slice_get-set_other, slice_get-set_same, slice_get_there, spot_eq, spot_eq_same, spot_eq_true}
+use Rattle.mesh_core.proofs.Common.{arith, cases_eq, cond, false, get_or, get_or-replicate, get_or-take, get_or_default, get_or_from_slice_get, index_below, length, length-map, length-replicate}
+use Rattle.mesh_core.proofs.Common.{length-set, length-take-le, length_le_from_apart, live_inside, map, position_from, position_from-zero, refl, replicate, rules, same_index, same_spot, set}
+use Rattle.mesh_core.proofs.Common.{site_parts, slice_get, slice_get-get_or, slice_get-mapped, slice_get-set_other, slice_get-set_same, slice_get_there, spot_eq, spot_eq_same, spot_eq_true}
 use Rattle.mesh_core.proofs.Common.{spot_place, subst, sym, take, take_more, true, vertex_at, ℕ, ◌*◌, ◌++◌, ◌+◌, ◌<◌, ◌∙◌, ◌∷◌, ◌≡◌, ◌≢◌, ◌≤◌}
 use Rattle.mesh_core.proofs.Ways.{none_from, vertex_at_stands}
 
@@ -54,27 +54,19 @@ position-push_new t (x ∷ xs) y n same none =
 pub vertex_at-from : (spots : List Spot) (s : Spot) → vertex_at spots s ≡ position_from (spot_eq s) 0 spots
 vertex_at-from spots s = position_from-zero (spot_eq s) spots
 
-other_spot : (a b : Spot) → a ≢ b → (t : Bool) → spot_eq a b ≡ t → t ≡ false
-other_spot a b other true e = absurd (other (spot_eq_true a b e))
-other_spot a b other false e = refl
-
 pub differs : (a b : Spot) → a ≢ b → spot_eq a b ≡ false
-differs a b other = other_spot a b other (spot_eq a b) refl
-
-same_eq : (a b : Spot) → a ≡ b → spot_eq a b ≡ true
-same_eq a b e = subst (λ (s : Spot). spot_eq a s ≡ true) e (spot_eq_same a)
+differs a b other = grind (arith, spot_eq_true)
 
 -- a spot that no chip of the machine has is no vertex's
 pub vertex_at-nowhere : (m : Description) (spots : List Spot) (s : Spot) → All (IsSite m) spots → IsSpotPlace m s None → vertex_at spots s ≡ None
-vertex_at-nowhere m spots s sites nowhere = none_from (vertex_at spots s) (λ v is.
-    let inside = site_inside m s (All-at (IsSite m) spots v s sites (vertex_at_stands spots s v is)) in nowhere inside.0 inside.1)
+vertex_at-nowhere m spots s sites nowhere = none_from _ (λ v is. let inside = site_inside m s (All-at (IsSite m) spots v s sites (vertex_at_stands spots s v is)) in nowhere inside.0 inside.1)
 
 -- the vertex on a spot, where one vertex more is known
 vertex_at-push_other : (spots : List Spot) (y s : Spot) → s ≢ y → vertex_at (spots ++ y ∷ []) s ≡ vertex_at spots s
 vertex_at-push_other spots y s other = grind (arith, vertex_at-from, position-push_other, differs)
 
 vertex_at-push_new : (spots : List Spot) (y s : Spot) → s ≡ y → All (λ x. y ≢ x) spots → vertex_at (spots ++ y ∷ []) s ≡ Some (length spots)
-vertex_at-push_new spots y s same different = grind (arith, differs, vertex_at-from, position-push_new, same_eq)
+vertex_at-push_new spots y s same different = grind (arith, differs, vertex_at-from, position-push_new, spot_eq_same)
 
 -- what the table has at a spot's place is the vertex there
 pub vertex_told : (m : Description) (spots : List Spot) (table : List (Option ℕ)) (s : Spot) (place : ℕ) (x d : Option ℕ) → TellsVertices m spots table →
@@ -97,16 +89,7 @@ pub TellsVertices-more : (m : Description) (spots : List Spot) (i : ℕ) (y : Sp
     AllPairs (λ a b. a ≢ b) spots → IsInside m y.chip → y.core < 24 → TellsVertices m (take i spots) table →
     TellsVertices m (take (i + 1) spots) (set table (spot_place m y) (Some i))
 TellsVertices-more m spots i y table below is_y different y_inside y_small tells =
-    record {
-      long = length-set table (spot_place m y) (Some i) ∙ tells.long;
-      told = λ s inside small. elim (cases_eq (spot_place m s) (spot_place m y)) [
-        | inl here ↦ at_y s inside small here
-        | inr there ↦
-            slice_get-set_other table (spot_place m y) (spot_place m s) (Some i) there
-            ∙ (tells.told s inside small
-            ∙ ap Some (sym (ap (λ l. vertex_at l s) more ∙ vertex_at-push_other (take i spots) y s (λ e. there (ap (spot_place m) e)))))
-      ];
-    }
+    search (rules, length-set, cases_eq, slice_get-set_other, more, vertex_at-push_other, same_spot_place, slice_get-set_same, vertex_at-push_new, earlier, taken)
   where
     more : take (i + 1) spots ≡ take i spots ++ y ∷ []
     more = take_more spots i y below ∙ ap (λ x. take i spots ++ x ∷ []) (sym is_y)
@@ -115,25 +98,9 @@ TellsVertices-more m spots i y table below is_y different y_inside y_small tells
     taken = length-take-le i spots (omega arith)
 
     earlier : All (λ x. y ≢ x) (take i spots)
-    earlier = λ k d k_below e.
-        let k_small : k < i = omega (arith, taken) in
-        let same : get_or spots k y ≡ get_or spots i y = get_or_default spots k y d (omega arith) ∙ (sym (get_or-take i spots k d k_small) ∙ (sym e ∙ is_y)) in
-        different k i y k_small below same
-
-    at_y : (s : Spot) → IsInside m s.chip → s.core < 24 → spot_place m s ≡ spot_place m y → slice_get (set table (spot_place m y) (Some i)) (spot_place m s) ≡ Some (vertex_at (take (i + 1) spots) s)
-    at_y s inside small here =
-        let same : s ≡ y = same_spot_place m s y inside y_inside small y_small here in
-        ap (λ p. slice_get (set table (spot_place m y) (Some i)) p) here
-        ∙ (slice_get-set_same table (spot_place m y) (vertex_at (take i spots) y) (Some i) (tells.told y y_inside y_small)
-        ∙ ap Some (sym (ap (λ l. vertex_at l s) more ∙ (vertex_at-push_new (take i spots) y s same earlier ∙ ap Some taken))))
+    earlier = search (rules, taken, get_or, get_or_default, get_or-take)
 
 -- the table stays where no chip has the spot of one vertex more
 pub TellsVertices-beyond : (m : Description) (spots : List Spot) (i : ℕ) (y : Spot) (table : List (Option ℕ)) → i < length spots → y ≡ get_or spots i y →
     IsSpotPlace m y None → TellsVertices m (take i spots) table → TellsVertices m (take (i + 1) spots) table
-TellsVertices-beyond m spots i y table below is_y nowhere tells = record {
-  long = tells.long;
-  told = λ s inside small.
-      let more : take (i + 1) spots ≡ take i spots ++ y ∷ [] = take_more spots i y below ∙ ap (λ x. take i spots ++ x ∷ []) (sym is_y) in
-      let other : s ≢ y = λ e. nowhere (subst (λ (t : Spot). IsInside m t.chip) e inside) (subst (λ (t : Spot). t.core < 24) e small) in
-      tells.told s inside small ∙ ap Some (sym (ap (λ l. vertex_at l s) more ∙ vertex_at-push_other (take i spots) y s other));
-}
+TellsVertices-beyond m spots i y table below is_y nowhere tells = grind (arith, take_more spots i y below, vertex_at-push_other)

@@ -1,10 +1,10 @@
 -- Walking up a branch from its target finds the target's copy of a packet.
 use Rattle.mesh_core.proofs.Common.{All, All-contains, AreNetsOn, ByLink, Chip, ComesBy, Contains, Edge, Exit, IsBranch, IsEdgeInto, IsFound, IsFoundThere, IsInside, IsLiveChip, IsMarkThere, IsMesh}
-use Rattle.mesh_core.proofs.Common.{IsOfCore, IsOfOutput, IsOfPort, IsRoutingTree, IsSite, IsTracked, IsWayOn, IsWhere, Link, List, Local, Mark, McCopy, NetPlan, None, Option, Out, Port, Some, Spot}
-use Rattle.mesh_core.proofs.Common.{State, Station, TellsStation, Unsent, Where, among_contains, and_from, and_parts, ap, arith, arrival_at, at_core, branch_inside, branch_short, cases_order}
-use Rattle.mesh_core.proofs.Common.{comes_by, count_by, delivered, dumped, end_of, eq-eqb, eqb-true, exit_of, in_hand, in_queue, inl, inr, is_on_trail, is_packet_on_trail, length, map, marks_of}
-use Rattle.mesh_core.proofs.Common.{on_trail, one_edge_into, opposite_of, out_of, port_behind, refl, same_place, site_parts, slice_get, slice_get_within, subst, suc, sym, true, unsent, way_first}
-use Rattle.mesh_core.proofs.Common.{zero, ℕ, ◌&&◌, ◌*◌, ◌+◌, ◌<◌, ◌==◌, ◌∙◌, ◌≡◌, ◌≢◌, ◌≤◌, ◌⊎◌}
+use Rattle.mesh_core.proofs.Common.{IsOfCore, IsOfOutput, IsOfPort, IsRoutingTree, IsSite, IsTracked, IsWayOn, IsWhere, Link, List, Local, Mark, NetPlan, None, Option, Out, Port, Some, Spot, State}
+use Rattle.mesh_core.proofs.Common.{Station, TellsStation, Unsent, Where, among_contains, and_from, and_parts, ap, arith, arrival_at, at_core, branch_inside, branch_short, cases_order, comes_by}
+use Rattle.mesh_core.proofs.Common.{count_by, delivered, dumped, end_of, eq-eqb, eqb-true, exit_of, in_hand, in_queue, inl, inr, is_on_trail, is_packet_on_trail, length, map, marks_of, on_trail}
+use Rattle.mesh_core.proofs.Common.{one_edge_into, opposite_of, out_of, port_behind, refl, rules, same_place, site_parts, slice_get, slice_get_within, subst, suc, sym, true, unsent, way_first, zero}
+use Rattle.mesh_core.proofs.Common.{ℕ, ◌&&◌, ◌*◌, ◌+◌, ◌<◌, ◌==◌, ◌∙◌, ◌≡◌, ◌≢◌, ◌≤◌, ◌⊎◌}
 use Rattle.mesh_core.proofs.{MarkTests.two_alike, Ways.OnSomeTrail, Ways.some_way, Tracked.on_net, Tracked.once_on_way, OneWay.same_branch, OneWay.last_place, Counting.counted, Law.leaves_parts}
 use Rattle.mesh_core.proofs.Law.{leaves_from, ComesThere, comes_parts, comes_from}
 
@@ -82,24 +82,13 @@ module _ (s : State) (net : NetPlan) (packet : ℕ) (tracked : IsTracked s net p
 
     leaves_on : (k : Mark) → Contains (marks_of s) k → k.copy.packet ≡ packet → (i : ℕ) (c : Chip) (o : Out) →
         slice_get xs i ≡ Some (record { chip = c; out = o }) → IsOfOutput c o k.station → is_on_trail from to xs k ≡ true
-    leaves_on k has is_packet i c o at there = by_station there
+    leaves_on k has is_packet i c o at there = grind (arith, on_by, leaves_from, leaves, leaves_parts)
       where
         u : OnSomeTrail s net k
         u = on_net s net packet tracked k has is_packet
 
         leaves : slice_get u.branch k.copy.hop ≡ Some (record { chip = c; out = o }) → slice_get xs k.copy.hop ≡ Some (record { chip = c; out = o })
-        leaves on =
-            let one = one_place_of target u.target xs u.branch way.is_branch u.way.is_branch i k.copy.hop
-            (record { chip = c; out = o }) (record { chip = c; out = o }) at on refl in
-            ap (slice_get xs) (sym one.0) ∙ at
-
-        by_station : IsOfOutput c o k.station → is_on_trail from to xs k ≡ true
-        by_station (inl is) =
-            let on = sym (ap (on_trail u.from u.to u.branch k.copy.hop) is) ∙ u.on in
-            on_by k (in_hand c o) is (leaves_from xs k.copy.hop c o (leaves (leaves_parts u.branch k.copy.hop c o on)))
-        by_station (inr is) =
-            let on = sym (ap (on_trail u.from u.to u.branch k.copy.hop) is) ∙ u.on in
-            on_by k (dumped c o) is (leaves_from xs k.copy.hop c o (leaves (leaves_parts u.branch k.copy.hop c o on)))
+        leaves on = grind (arith, one_place_of target u.target xs u.branch way.is_branch u.way.is_branch i k.copy.hop (record { chip = c; out = o }) (record { chip = c; out = o }) at on refl)
 
     pub comes_on : (k : Mark) → Contains (marks_of s) k → k.copy.packet ≡ packet → (i : ℕ) (c : Chip) (o : Out) (port : Port) →
         slice_get xs i ≡ Some (record { chip = c; out = o }) → k.station ≡ in_queue c port → is_on_trail from to xs k ≡ true
@@ -120,7 +109,7 @@ module _ (s : State) (net : NetPlan) (packet : ℕ) (tracked : IsTracked s net p
 
     -- a mark at the target's vertex
     pub ends_on : (k : Mark) → Contains (marks_of s) k → k.copy.packet ≡ packet → IsOfCore s target k.station → is_on_trail from to xs k ≡ true
-    ends_on k has is_packet there = by_station there.2
+    ends_on k has is_packet there = grind (arith, on_by, v, at_end)
       where
         u : OnSomeTrail s net k
         u = on_net s net packet tracked k has is_packet
@@ -140,10 +129,6 @@ module _ (s : State) (net : NetPlan) (packet : ℕ) (tracked : IsTracked s net p
             let one = same_branch s.setup.machine s.setup.spots tracked.nets stand net tracked.in_nets u.target target u.branch xs u.from from to other way in
             and_from (v == to) (k.copy.hop == length xs) (eq-eqb v to is_to) (eq-eqb k.copy.hop (length xs) (hop ∙ ap length one))
 
-        by_station : (k.station ≡ at_core v) ⊎ (k.station ≡ delivered v) → is_on_trail from to xs k ≡ true
-        by_station (inl is) = on_by k (at_core v) is (at_end (sym (ap (on_trail u.from u.to u.branch k.copy.hop) is) ∙ u.on))
-        by_station (inr is) = on_by k (delivered v) is (at_end (sym (ap (on_trail u.from u.to u.branch k.copy.hop) is) ∙ u.on))
-
     -- ---- answers
 
     only_one : count_by (is_packet_on_trail packet from to xs) (marks_of s) ≡ 1
@@ -151,27 +136,12 @@ module _ (s : State) (net : NetPlan) (packet : ℕ) (tracked : IsTracked s net p
 
     told_by : (k : Mark) → Contains (marks_of s) k → k.copy.packet ≡ packet → is_on_trail from to xs k ≡ true → (w : Where) →
         TellsStation s k.copy k.station w → IsFoundThere s packet xs from to w
-    told_by k has is_packet on w told =
-        grind (arith, only_one, and_from (k.copy.packet == packet) (is_on_trail from to xs k) (eq-eqb k.copy.packet packet is_packet) on, eq-eqb k.copy.packet packet is_packet)
+    told_by k has is_packet on w told = grind (arith, only_one, and_from, eq-eqb)
 
     -- the packet's mark on the trail, where none is but unsent
     told_unsent : ((k : Mark) → Contains (marks_of s) k → k.copy.packet ≡ packet → is_on_trail from to xs k ≡ true → IsBefore 0 k.copy.hop k.station) →
         IsFoundThere s packet xs from to Unsent
-    told_unsent before =
-        let k = counted (is_packet_on_trail packet from to xs) (marks_of s) (omega (arith, only_one)) in
-        let has = among_contains k.0 (marks_of s) k.1 in
-        let of_packet : k.0.copy.packet ≡ packet =
-        eqb-true k.0.copy.packet packet ((and_parts (k.0.copy.packet == packet) (is_on_trail from to xs k.0) k.2).0) in
-        let on = (and_parts (k.0.copy.packet == packet) (is_on_trail from to xs k.0) k.2).1 in
-        told_by k.0 has of_packet on Unsent (by_station k.0.copy k.0.station (before k.0 has of_packet on))
-      where
-        by_station : (d : McCopy) (at : Station) → IsBefore 0 d.hop at → TellsStation s d at Unsent
-        by_station d (unsent v) b = refl
-        by_station d (in_queue c port) b = absurd (omega (arith, b))
-        by_station d (in_hand c o) b = absurd (omega (arith, b))
-        by_station d (at_core v) b = absurd b
-        by_station d (delivered v) b = absurd b
-        by_station d (dumped c o) b = absurd (omega (arith, b))
+    told_unsent before = grind (arith, counted, only_one, among_contains, eqb-true, and_parts, told_by)
 
   -- ---- the steps of the walk
 
@@ -180,16 +150,14 @@ module _ (s : State) (net : NetPlan) (packet : ℕ) (tracked : IsTracked s net p
   found_by : (IsThere : Station → Type 0) → ((xs : List Exit) (from to : ℕ) → IsWayOn s.setup.machine s.setup.spots net target xs from to →
       (k : Mark) → Contains (marks_of s) k → k.copy.packet ≡ packet → IsThere k.station → is_on_trail from to xs k ≡ true) →
       (w : Where) → IsMarkThere s packet IsThere w → IsWhere s net packet target w
-  found_by IsThere on w found xs from to way =
-      told_by xs from to way found.mark found.is_mark found.is_packet (on xs from to way found.mark found.is_mark found.is_packet found.there) w found.told
+  found_by IsThere on w found xs from to way = search (rules, told_by)
 
   pub found_at_core : (w : Where) → IsMarkThere s packet (IsOfCore s target) w → IsWhere s net packet target w
   found_at_core = found_by (IsOfCore s target) ends_on
 
   pub found_at_output : (steps : ℕ) (chip : Chip) (out : Out) → Walked s net packet target steps chip out →
       (w : Where) → IsMarkThere s packet (IsOfOutput chip out) w → IsWhere s net packet target w
-  found_at_output steps chip out walked = found_by (IsOfOutput chip out) (λ xs from to way k has is_packet there.
-      let on = walked xs from to way in leaves_on xs from to way k has is_packet on.place chip out on.at there)
+  found_at_output steps chip out walked = found_by _ (λ xs from to way k has is_packet there. let on = walked xs from to way in leaves_on xs from to way k has is_packet on.place chip out on.at there)
 
   pub found_at_port : (steps : ℕ) (chip : Chip) (out : Out) (port : Port) → Walked s net packet target steps chip out →
       (w : Where) → IsMarkThere s packet (IsOfPort chip port) w → IsWhere s net packet target w
@@ -206,22 +174,15 @@ module _ (s : State) (net : NetPlan) (packet : ℕ) (tracked : IsTracked s net p
       by_station : (i : ℕ) → i + 1 ≡ length xs → (k : Mark) → Contains (marks_of s) k → k.copy.packet ≡ packet → (at : Station) → k.station ≡ at →
           on_trail from to xs k.copy.hop at ≡ true → IsBefore (i + 1) k.copy.hop at
       by_station i long k has is_packet (unsent v) is on = tt
-      by_station i long k has is_packet (in_queue c port) is on =
-          let there : ComesThere xs k.copy.hop c port = comes_parts xs k.copy.hop c port on in
-          let within : k.copy.hop < length xs = slice_get_within xs k.copy.hop there.exit there.at in
-          omega arith
-      by_station i long k has is_packet (in_hand c o) is on =
-          let within : k.copy.hop < length xs = slice_get_within xs k.copy.hop (record { chip = c; out = o }) (leaves_parts xs k.copy.hop c o on) in
-          omega arith
+      by_station i long k has is_packet (in_queue c port) is on = grind (arith, ComesThere, comes_parts, slice_get_within)
+      by_station i long k has is_packet (in_hand c o) is on = grind (arith, slice_get_within, leaves_parts)
       by_station i long k has is_packet (at_core v) is on =
           let same : v ≡ to = eqb-true v to ((and_parts (v == to) (k.copy.hop == length xs) on).0) in
           none k has is_packet (v, way.ends ∙ ap Some (sym same), inl is)
       by_station i long k has is_packet (delivered v) is on =
           let same : v ≡ to = eqb-true v to ((and_parts (v == to) (k.copy.hop == length xs) on).0) in
           none k has is_packet (v, way.ends ∙ ap Some (sym same), inr is)
-      by_station i long k has is_packet (dumped c o) is on =
-          let within : k.copy.hop < length xs = slice_get_within xs k.copy.hop (record { chip = c; out = o }) (leaves_parts xs k.copy.hop c o on) in
-          omega arith
+      by_station i long k has is_packet (dumped c o) is on = grind (arith, slice_get_within, leaves_parts)
 
   -- the walk is at a chip inside the grid
   pub walk_inside : IsMesh s → (steps : ℕ) (chip : Chip) (out : Out) → Walked s net packet target steps chip out → IsInside s.setup.machine chip
@@ -236,7 +197,6 @@ module _ (s : State) (net : NetPlan) (packet : ℕ) (tracked : IsTracked s net p
   walk_short mesh steps chip out walked many =
       let w = a_way in
       let on = walked w.0 w.1 w.2 w.3 in
-      let place : on.place + 1 + steps ≡ length w.0 = on.is_place in
       let short : length w.0 ≤ s.setup.machine.width * s.setup.machine.height =
       branch_short s.setup.machine net.tree.root net.tree.edges (map (λ x. x.chip) net.targets) tree (root_lives mesh) target w.0 w.3.is_branch in
       omega arith
@@ -271,13 +231,7 @@ module _ (s : State) (net : NetPlan) (packet : ℕ) (tracked : IsTracked s net p
     where
       -- the hop number is below the place, or the mark's exit is that of the place
       lower : (x : Exit) → slice_get xs k.copy.hop ≡ Some x → k.copy.hop < i + 1 → (k.copy.hop ≡ i → x ≡ record { chip = c; out = o } → ⊥) → k.copy.hop < i
-      lower x its below never = elim (cases_order k.copy.hop i) [
-        | inl same ↦
-            let both : Some x ≡ Some (record { chip = c; out = o }) = sym its ∙ (ap (slice_get xs) same ∙ at) in
-            absurd (never same (let e : x ≡ record { chip = c; out = o } = cc in e))
-        | inr (inl less) ↦ less
-        | inr (inr more) ↦ absurd (omega arith)
-      ]
+      lower x its below never = grind (arith, cases_order k.copy.hop i)
 
       leaving : (d : Chip) (p : Out) → (let x : Exit = record { chip = d; out = p } in x ≡ record { chip = c; out = o }) →
           (k.station ≡ in_hand d p) ⊎ (k.station ≡ dumped d p) → ⊥
@@ -313,13 +267,7 @@ module _ (s : State) (net : NetPlan) (packet : ℕ) (tracked : IsTracked s net p
       by_place : (i : ℕ) → i + 1 + steps ≡ length xs → Prior xs i (Some e) →
           ((k : Mark) → Contains (marks_of s) k → k.copy.packet ≡ packet → is_on_trail from to xs k ≡ true → IsBefore i k.copy.hop k.station) →
           WalkedOn s packet xs from to (steps + 1) e.chip (Link e.dir)
-      by_place zero long prior before = absurd prior
-      by_place (suc i) long prior before = record {
-        place = i;
-        is_place = omega arith;
-        at = prior;
-        before = λ k has is_packet on'. let n_is : suc i ≡ i + 1 = omega arith in subst (λ n. IsBefore n k.copy.hop k.station) n_is (before k has is_packet on');
-      }
+      by_place i long prior before = grind arith
 
   -- where no edge leads into the chip, the copy is unsent
   pub walk_ends : (steps : ℕ) (chip : Chip) (out : Out) → Walked s net packet target steps chip out → IsFound s packet (IsOfOutput chip out) None →

@@ -1,10 +1,10 @@
 -- Facts on the ways of a net: their ends are vertices, their places are few, and each wanted output lies on one.
 use Rattle.mesh_core.proofs.Common.{All, All-contains, AreNetsOn, Bool, Chip, ComesIn, Contains, Description, Dir, Edge, Exit, ExitLeads, IsBranch, IsLiveChip, IsMesh, IsOutput, IsRoutingTree, IsSite}
-use Rattle.mesh_core.proofs.Common.{IsWayOn, Link, List, Local, Mark, NetPlan, None, Option, Out, RoutesByTree, Some, Spot, State, and_from, ap, arith, arrival_at, branch_short, chip_eq, chip_eq_same}
+use Rattle.mesh_core.proofs.Common.{IsWayOn, Link, List, Local, Mark, NetPlan, None, Option, Out, RoutesByTree, Some, Spot, State, and_from, ap, arith, arrival_at, branch_short, chip_eq_same}
 use Rattle.mesh_core.proofs.Common.{comes_by, contains_among, edge_wanted, end_on_branch, end_wanted, exit_leads, exit_of, inl, inr, is_on_trail, is_wanted, last_exit, last_hop, leads_to_spot, length}
-use Rattle.mesh_core.proofs.Common.{link_on_branch, map, min, mul-le-mul_left, out_eq, out_eq_same, out_of, out_of-has_bit, position, position-Some, position_nowhere, refl, same_exit, same_place}
-use Rattle.mesh_core.proofs.Common.{site_parts, slice_get, slice_get-get_or, slice_index_or, spot_eq, spot_eq_same, spot_eq_true, spot_of_out, subst, suc, sym, true, vertex_at, vertex_behind}
-use Rattle.mesh_core.proofs.Common.{wanted_cases, way_first, zero, ℕ, ◌*◌, ◌+◌, ◌<◌, ◌∙◌, ◌≡◌, ◌≤◌, ◌⊎◌}
+use Rattle.mesh_core.proofs.Common.{link_on_branch, map, min, mul-le-mul_left, out_eq_same, out_of, out_of-has_bit, position, position-Some, position_nowhere, refl, same_exit, same_place, site_parts}
+use Rattle.mesh_core.proofs.Common.{slice_get, slice_get-get_or, slice_index_or, spot_eq, spot_eq_same, spot_eq_true, spot_of_out, suc, sym, true, vertex_at, vertex_behind, wanted_cases, way_first}
+use Rattle.mesh_core.proofs.Common.{zero, ℕ, ◌*◌, ◌+◌, ◌<◌, ◌∙◌, ◌≡◌, ◌≤◌, ◌⊎◌}
 
 -- ---- vertices on cores
 
@@ -17,8 +17,7 @@ vertex_at_stands spots t v is =
 
 -- what is never a number is none
 pub none_from : (r : Option ℕ) → ((i : ℕ) → r ≡ Some i → ⊥) → r ≡ None
-none_from (Some i) never = absurd (never i refl)
-none_from None never = refl
+none_from r never = grind arith
 
 -- what passes a test in a list has a first place
 first_place : (p : Spot → Bool) (spots : List Spot) (t : Spot) → Contains spots t → p t ≡ true → (v : ℕ) × (position p spots ≡ Some v)
@@ -55,9 +54,7 @@ target_site s net stands t has =
 
 -- the root of a tree that stands is live
 pub root_lives : (s : State) (net : NetPlan) → Stands s net → IsLiveChip s.setup.machine net.tree.root
-root_lives s net stands =
-    let site : IsSite s.setup.machine net.source = All-contains (IsSite s.setup.machine) s.setup.spots net.source stands.mesh.sites stands.source in
-    subst (λ (c : Chip). IsLiveChip s.setup.machine c) (sym stands.root) (site_parts s.setup.machine net.source site).0
+root_lives s net stands = grind (arith, All-contains, site_parts)
 
 -- a branch is shorter than hop numbers go
 pub short_branch : (s : State) (net : NetPlan) → Stands s net → (t : Spot) (branch : List Exit) →
@@ -90,10 +87,7 @@ branch_comes_in s net t xs is (suc i) x at = grind (arith, comes_by s.setup.mach
 
 -- a spot is one to which an output of its chip leads
 pub leads_to : (c : Chip) (o : Out) (t : Spot) → t.chip ≡ c → o ≡ out_of t.core → leads_to_spot c o t ≡ true
-leads_to c o t at out =
-    and_from (chip_eq t.chip c) (out_eq (out_of t.core) o)
-    (ap (chip_eq t.chip) (sym at) ∙ chip_eq_same t.chip)
-    (ap (out_eq (out_of t.core)) out ∙ out_eq_same (out_of t.core))
+leads_to c o t at out = grind (arith, and_from, chip_eq_same, out_eq_same)
 
 -- the vertex behind an output stands on a spot to which the output leads
 pub vertex_behind_stands : (spots : List Spot) (c : Chip) (o : Out) (v : ℕ) → vertex_behind spots c o ≡ Some v →
@@ -112,11 +106,8 @@ pub exit_wanted : (s : State) (net : NetPlan) → (t : Spot) → Contains net.ta
 exit_wanted s net t has xs is i x at = by_end (exit_leads s.setup.machine net.tree.edges t net.tree.root xs i x is at)
   where
     by_end : ExitLeads s.setup.machine net.tree.edges t xs i x → is_wanted net.tree.edges net.targets x.chip x.out ≡ true
-    by_end (inl (d, out, in_tree, next)) =
-        subst (λ (o : Out). is_wanted net.tree.edges net.targets x.chip o ≡ true) (sym out) (edge_wanted net.tree.edges net.targets (record { chip = x.chip; dir = d }) in_tree)
-    by_end (inr (chip, out, last)) =
-        subst (λ (c : Chip). is_wanted net.tree.edges net.targets c x.out ≡ true) chip
-        (subst (λ (o : Out). is_wanted net.tree.edges net.targets t.chip o ≡ true) (sym out) (end_wanted net.tree.edges net.targets t has))
+    by_end (inl (d, out, in_tree, next)) = grind (arith, edge_wanted net.tree.edges net.targets (record { chip = x.chip; dir = d }) in_tree)
+    by_end (inr (chip, out, last)) = grind (arith, end_wanted net.tree.edges net.targets t has)
 
 -- the exits of a branch are outputs that a route can name
 pub exit_is_output : (s : State) (net : NetPlan) → (t : Spot) → (xs : List Exit) →
@@ -124,8 +115,7 @@ pub exit_is_output : (s : State) (net : NetPlan) → (t : Spot) → (xs : List E
 exit_is_output s net t xs is i x at = by_end (exit_leads s.setup.machine net.tree.edges t net.tree.root xs i x is at)
   where
     by_end : ExitLeads s.setup.machine net.tree.edges t xs i x → IsOutput x.out
-    by_end (inl (d, out, in_tree, next)) = let link : IsOutput (Link d) = tt in subst IsOutput (sym out) link
-    by_end (inr (chip, out, last)) = subst IsOutput (sym out) (out_of-has_bit t.core)
+    by_end its_0 = grind (arith, out_of-has_bit)
 
 -- each wanted output lies on a branch, at the chip's place
 pub record OnBranch (s : State) (net : NetPlan) (x : Exit) : Type 0 where
@@ -140,9 +130,7 @@ pub wanted_on_branch : (s : State) (net : NetPlan) → Stands s net → (x : Exi
 wanted_on_branch s net stands x wanted = by_case (wanted_cases net.tree.edges net.targets x.chip x.out wanted)
   where
     lies : (t : Spot) → Contains net.targets t → (z : Exit) → z ≡ x → (xs : List Exit) × IsBranch s.setup.machine net.tree.root net.tree.edges t xs × Contains xs z → OnBranch s net x
-    lies t has z same way =
-        let at : slice_get way.0 way.2.0 ≡ Some x = slice_get-get_or way.0 way.2.0 z way.2.1 ∙ ap Some (way.2.2 ∙ same) in
-        record { target = t; is_target = has; branch = way.0; is_branch = way.1; place = way.2.0; at = at }
+    lies t has z same way = grind (arith, slice_get-get_or way.0 way.2.0 z way.2.1)
 
     by_case : ((d : Dir) × (x.out ≡ Link d) × Contains net.tree.edges (record { chip = x.chip; dir = d }))
         ⊎ ((t : Spot) × Contains net.targets t × (t.chip ≡ x.chip) × (x.out ≡ out_of t.core)) → OnBranch s net x

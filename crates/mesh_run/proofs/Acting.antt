@@ -1,11 +1,9 @@
 -- What one turn of the actor at a place does to a share, and turns one after the other.
-use Rattle.mesh_run.proofs.Common.{ActsAt, All, All-append, All-each, All-nil, All-weaker, AreEndsOf, AreOf, BankActs, Bool, Core, CoreBank, DoesAt, Goes, Holdings, HoldsSender, IsBankOf, IsInRun}
+use Rattle.mesh_run.proofs.Common.{ActsAt, All, All-append, All-each, All-nil, All-weaker, AreEndsOf, AreOf, BankActs, Bool, CoreBank, DoesAt, Goes, Holdings, HoldsSender, IsBankOf, IsInRun}
 use Rattle.mesh_run.proofs.Common.{IsLiveIndex, IsNoted, IsOutput, IsReadyBank, IsReadyRouter, IsRouterOf, IsShareOf, Item, List, Moved, MovesAt, Nothing, Out, PlaysOne, PlaysRound, PlaysTurns}
 use Rattle.mesh_run.proofs.Common.{QueueLink, RouterActs, RouterNode, Setup, Share, SharePlays, Some, Stays, Turn, Waits, [], actor_of, ap, arith, bank_place, both_none, cases_eq, chip_of}
-use Rattle.mesh_run.proofs.Common.{div-add-mod', false, goes_none, goes_on, grid_size, holds_sender_on, index_of, index_of-chip_of, injection_place, inl, inr, length, live_inside, mod_below}
-use Rattle.mesh_run.proofs.Common.{out_number, place_at_router, place_behind, port_number, port_place, refl, router_place, slice_get_within, stays_same, subst, sym, true, ℕ, ◌%◌, ◌*◌, ◌++◌, ◌+◌, ◌/◌}
-use Rattle.mesh_run.proofs.Common.{◌<◌, ◌∙◌, ◌≡◌, ◌≢◌, ◌≤◌, ◌⊎◌}
-use Rattle.spin_base.specs.declared.routes.Out.TheVariants.{Link}
+use Rattle.mesh_run.proofs.Common.{div-add-mod', false, goes_none, goes_on, grid_size, holds_sender_on, index_of, index_of-chip_of, injection_place, length, live_inside, mod_below, place_at_router}
+use Rattle.mesh_run.proofs.Common.{place_behind, port_number, port_place, refl, router_place, slice_get_within, stays_same, subst, sym, true, ℕ, ◌%◌, ◌*◌, ◌++◌, ◌+◌, ◌/◌, ◌<◌, ◌∙◌, ◌≡◌, ◌≢◌, ◌≤◌, ◌⊎◌}
 use Rattle.mesh_run.proofs.{Apart.not_to_itself, Apart.one_output, Turns.IsNotOf, Turns.bank_by, Turns.bank_turns, Turns.routed_by, Turns.routed_some, Turns.routed_turns, Turns.turns_beside}
 use Rattle.mesh_run.proofs.Turns.{turns_none, turns_on}
 
@@ -19,13 +17,9 @@ odd_place at odd = omega (arith, odd, div-add-mod' at 2, mod_below at 2 (omega a
 
 -- ---- what a share has for an actor
 
-bit_within : (o : Out) → out_number o < 24 → IsOutput o
-bit_within (Link d) below = tt
-bit_within (Core p) below = omega (arith, below)
-
 -- an output behind which a router knows a queue has a bit
 has_bit : (r : RouterNode) (o : Out) (q : ℕ) → place_at_router r.behind.now o ≡ Some q → IsOutput o
-has_bit r o q is = grind (arith, bit_within, slice_get_within)
+has_bit r o q is = grind (arith, slice_get_within)
 
 module _ (u : Setup) (links : List QueueLink) (s : Share) where
   pub ready_router : (i : ℕ) (r : RouterNode) → IsRouterOf u i r → IsShareOf u links s → IsInRun s.from s.to (router_place i) → IsReadyRouter links r s.hold
@@ -100,41 +94,26 @@ module _ (u : Setup) (patience : ℕ) where
   router_does cap at i r s t Nothing is of place acts = acts
   router_does cap at i r s t Waits is of place acts = acts
 
-  bank_does : (cap at i : ℕ) (k : CoreBank) (s t : Share) (turn : Turn) → cap ≡ u.capacity → IsLiveIndex u i → IsBankOf u i k → bank_place i ≡ at →
-      BankActs cap patience k s.hold turn t.hold → DoesAt u patience at s turn t
-  bank_does cap at i k s t Moved is live of place acts = grind (arith, bank_turns u i k acts.0 live of acts.1, bank_by u k acts.0 acts.1, All-weaker)
-  bank_does cap at i k s t Nothing is live of place acts = acts
-  bank_does cap at i k s t Waits is live of place acts = acts
-
   pub router_acts : (cap at i : ℕ) (r : RouterNode) (s t : Share) (turn : Turn) → t.from ≡ s.from → t.to ≡ s.to → t.moved ≡ s.moved → cap ≡ u.capacity → IsRouterOf u i r → router_place i ≡ at →
       RouterActs cap patience r.table.now r s.hold turn t.hold → ActsAt u patience at s turn t
   router_acts cap at i r s t turn from to moved is of place acts = record { from = from; to = to; moved = moved; does = router_does cap at i r s t turn is of place acts }
 
   pub bank_acts : (cap at i : ℕ) (k : CoreBank) (s t : Share) (turn : Turn) → t.from ≡ s.from → t.to ≡ s.to → t.moved ≡ s.moved → cap ≡ u.capacity → IsLiveIndex u i → IsBankOf u i k →
       bank_place i ≡ at → BankActs cap patience k s.hold turn t.hold → ActsAt u patience at s turn t
-  bank_acts cap at i k s t turn from to moved is live of place acts = record { from = from; to = to; moved = moved; does = bank_does cap at i k s t turn is live of place acts }
+  bank_acts cap at i k s t turn from to moved is live of place acts = grind (arith, bank_turns, bank_by, All-weaker)
 
   -- ---- what is noted
 
   noted_none : (x y : Bool) → y ≡ x → IsNoted x [] y
-  noted_none x true same = inl (sym same)
-  noted_none x false same = (sym same, refl)
+  noted_none x y same = grind arith
 
   noted_on : (x y z : Bool) (xs ys : List Item) → IsNoted x xs y → IsNoted y ys z → IsNoted x (xs ++ ys) z
-  noted_on x true true xs ys h k = grind (arith, both_none)
-  noted_on x false true xs ys h k = grind (arith, both_none)
-  noted_on x true false xs ys h k = absurd (let differ : true ≡ false = k.0 in cc)
-  noted_on x false false xs ys h k = (h.0, ap (λ l. l ++ ys) h.1 ∙ k.1)
+  noted_on x y z xs ys h k = grind (arith, both_none)
 
   -- ---- one turn, noted
 
   pub one_stays : (at : ℕ) (s t : Share) → t.from ≡ s.from → t.to ≡ s.to → t.moved ≡ s.moved → Stays s.hold t.hold → PlaysOne u patience at s t
-  one_stays at s t from to moved stays = record {
-    items = [];
-    plays = record { from = from; to = to; goes = goes_none u.capacity patience s.hold t.hold stays; own = All-nil (λ x. IsInRun s.from s.to (actor_of x)); turns_are = turns_none u 1 };
-    of_it = All-nil (λ x. actor_of x ≡ at);
-    noted = noted_none s.moved t.moved moved;
-  }
+  one_stays at s t from to moved stays = grind (arith, goes_none u.capacity patience s.hold t.hold stays, turns_none u 1, noted_none s.moved t.moved moved, All-nil)
 
   pub one_moves : (at : ℕ) (s t : Share) → t.from ≡ s.from → t.to ≡ s.to → t.moved ≡ true → IsInRun s.from s.to at → MovesAt u patience at s t → PlaysOne u patience at s t
   one_moves at s t from to moved within h = grind (arith, All-weaker)
@@ -178,10 +157,7 @@ module _ (u : Setup) (patience : ℕ) where
   }
     where
       apart : (a : ℕ) → IsNotOf u a h.items ⊎ IsNotOf u a k.items
-      apart a = elim (cases_eq a at) [
-        | inl here ↦ inl (All-weaker (λ x. actor_of x < at) (λ x. actor_of x ≢ a) (λ x below same. omega (arith, below, same, here)) h.items h.before)
-        | inr other ↦ inr (All-weaker (λ x. actor_of x ≡ at) (λ x. actor_of x ≢ a) (λ x is same. other (sym same ∙ is)) k.items k.of_it)
-      ]
+      apart a = grind (arith, cases_eq a at, All-weaker)
 
   -- ---- turns of a round
 

@@ -1,16 +1,13 @@
 -- The mesh to which a whole round leads, and that it was played to it.
 use Rattle.mesh_run.proofs.Common.{All, All-head, All-tail, IsDoneOn, IsPlayedBy, Item, List, McCopy, Setup, State, [], ap, arith, cases_lt, deliveries, get_or, get_or-append_right}
-use Rattle.mesh_run.proofs.Common.{get_or_append_left, get_or_past, got, inl, inr, length, port_count, records, refl, sent, sent_by, sent_in, served, slice_get_within, slice_index_or, subst, sym}
-use Rattle.mesh_run.proofs.Common.{took, ℕ, ◌++◌, ◌+◌, ◌-◌, ◌<◌, ◌∙◌, ◌∷◌, ◌≡◌, ◌≤◌}
+use Rattle.mesh_run.proofs.Common.{get_or_append_left, get_or_past, inl, inr, length, port_count, records, refl, sent, sent_by, sent_in, slice_get_within, slice_index_or, subst, sym, ℕ, ◌++◌, ◌+◌}
+use Rattle.mesh_run.proofs.Common.{◌-◌, ◌<◌, ◌∙◌, ◌∷◌, ◌≡◌, ◌≤◌}
 use Rattle.mesh_run.proofs.{Apart.elsewhere, EachQueue.AfterRound, EachQueue.queue_after, EachVertex.VertexAfter, EachVertex.vertex_after, Together.joined, Together.listed, WholeRound.Whole}
 use Rattle.mesh_run.proofs.WholeRound.{parts, whole_turns}
 
 -- no vertex that is not there sent a copy
 none_sent_of : (u : Setup) (v : ℕ) → length u.spots ≤ v → (x : Item) → IsDoneOn u x → sent_in v x ≡ []
-none_sent_of u v past (took i port k) done = refl
-none_sent_of u v past (served i c place s) done = refl
-none_sent_of u v past (sent i n k) done = elsewhere n v (k ∷ []) (λ same. let inside = slice_get_within u.spots n done.1.spot done.1.stands in omega (arith, inside, same, past))
-none_sent_of u v past (got i n place k) done = refl
+none_sent_of u v past x done = grind (arith, elsewhere, slice_get_within)
 
 none_sent : (u : Setup) (v : ℕ) → length u.spots ≤ v → (items : List Item) → All (IsDoneOn u) items → sent_by v items ≡ []
 none_sent u v past [] done = refl

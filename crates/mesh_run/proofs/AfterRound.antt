@@ -1,6 +1,6 @@
 -- What a whole round logged is what its items tell, and the mesh to which it leads is split as it was.
-use Rattle.mesh_run.proofs.Common.{Bool, Goes, IsNoted, IsRaisedFrom, Item, List, MeshLogs, PlaysTo, RaisedMesh, Share, Vec, [], ap, ap₂, arith, delivered_of, deliveries, dumped_of, false, flat_map}
-use Rattle.mesh_run.proofs.Common.{get_or, get_or_default, length, list_any, records, refl, slice_get-get_or, subst, sym, ℕ, ◌++◌, ◌<◌, ◌||◌, ◌∙◌, ◌≡◌}
+use Rattle.mesh_run.proofs.Common.{Bool, Goes, IsNoted, IsRaisedFrom, Item, List, MeshLogs, PlaysTo, RaisedMesh, Share, Vec, [], ap, ap₂, arith, deliveries, dumped_of, false, flat_map, get_or}
+use Rattle.mesh_run.proofs.Common.{get_or_default, length, list_any, records, refl, slice_get-get_or, subst, sym, ℕ, ◌++◌, ◌<◌, ◌||◌, ◌∙◌, ◌≡◌}
 use Rattle.mesh_run.proofs.{AfterLinks.whole_no_logs, AfterLinks.whole_up, GatheringLaws.Gathered, Going.each_two, AfterMesh.mesh, AfterMesh.whole_played, AfterRuns.whole_shared}
 use Rattle.mesh_run.proofs.{AfterSplit.whole_lanes, AfterSplit.whole_unsent, Together.flat_map_joined, Together.joined, WholeRound.Whole, WholeRound.dealt_long, WholeRound.parts}
 use Rattle.mesh_run.proofs.WholeRound.{played_parts, whole_noted}
@@ -49,9 +49,6 @@ module _ (w : Whole) where
       (one.0 ∙ ap (λ (l : List Item). deliveries l) same, one.1 ∙ ap (λ (l : List Item). records l) same)
 
   -- what all shares logged
-  pub whole_delivered : flat_map (λ (s : Share). s.hold.deliveries.items) w.collected ≡ deliveries (joined (parts w))
-  whole_delivered = grind (arith, flat_map_joined delivered_of (parts w), parts w, parts_many, collected_long, flat_same, logged)
-
   pub whole_dumped : flat_map (λ (s : Share). s.hold.dumps.items) w.collected ≡ records (joined (parts w))
   whole_dumped = grind (arith, flat_map_joined dumped_of (parts w), parts w, parts_many, collected_long, flat_same, logged)
 
@@ -68,7 +65,8 @@ module _ (w : Whole) where
     stands = record w.r { standing = w.standing; shares = shares; logs = logs }
 
     whole_raised : (moved : Bool) → Gathered w.collected w.cleared w.r.logs logs moved → IsRaisedFrom (mesh w) 0 stands
-    whole_raised moved gathered = grind (arith, whole_played, whole_shared, mesh, whole_lanes, whole_unsent, whole_up, whole_no_logs, whole_delivered, whole_dumped)
+    whole_raised moved gathered =
+        grind (arith, whole_played, whole_shared, mesh, whole_lanes, whole_unsent, whole_up, whole_no_logs, whole_dumped, flat_map_joined, parts, parts_many, collected_long, flat_same, logged)
 
     pub whole_plays : (moved : Bool) → Gathered w.collected w.cleared w.r.logs logs moved → PlaysTo w.patience w.turns w.m moved stands
     whole_plays moved gathered = record {

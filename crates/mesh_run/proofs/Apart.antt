@@ -48,10 +48,7 @@ module _ (u : Setup) where
 
   -- an output that leads somewhere has a bit
   pub leads_bit : (c : Chip) (o : Out) (q : ℕ) → IsInside u.machine c → place_behind u c o ≡ Some q → IsOutput o
-  leads_bit c o q inside is = elim (behind_at c o q inside is) [
-    | to_port d e out live far in_e at place ↦ let link : IsOutput (Link d) = tt in subst IsOutput (sym out) link
-    | to_core v below at place ↦ let end = one_end u c o v at in subst IsOutput end.3 (out_of-has_bit end.0.core)
-  ]
+  leads_bit c o q inside is = grind (arith, behind_at c o q inside is, one_end, out_of-has_bit)
 
   -- a place behind an output is one of all places
   pub place_below : (c : Chip) (o : Out) (q : ℕ) → IsInside u.machine c → place_behind u c o ≡ Some q → q < vertex_place u (length u.spots)

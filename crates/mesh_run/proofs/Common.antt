@@ -2,14 +2,14 @@
 pub use Rattle.chip_node.proofs.{Flows.goes_none, Flows.goes_on, Flows.holds_sender_on, Stays.end_before, Stays.stays_same}
 pub use Rattle.chip_node.specs.Acting.{BankActs, BankMoves, GetsOne, IsReadyBank, IsReadyRouter, RouterActs, RoutesOne, SendsOne, place_at_router, place_in, service_items}
 pub use Rattle.chip_node.specs.Going.{AreEndsOf, EndGoes, Goes, HoldsSender, IsEndOf, IsFullMoment, LaneGoes, SenderGoes, Stays, TakerGoes}
-pub use Rattle.chip_node.specs.Items.{Item, Service, brought, delivered_of, deliveries, dumped_of, entered, entered_by, getting_of, gettings, got, injection_place, left, left_by, lost_at, lost_by}
-pub use Rattle.chip_node.specs.Items.{port_place, records, sending_of, sendings, sent, sent_by, sent_in, served, service_of, services, taking_of, takings, took, where_same, where_there}
+pub use Rattle.chip_node.specs.Items.{Item, Service, brought, deliveries, dumped_of, entered, entered_by, getting_of, gettings, got, injection_place, left, left_by, lost_at, lost_by, port_place}
+pub use Rattle.chip_node.specs.Items.{records, sending_of, sendings, sent, sent_by, sent_in, served, service_of, services, taking_of, takings, took, where_same, where_there}
 pub use Rattle.chip_node.specs.{Routing.outputs_at, declared.ends.End.End, declared.ends.End.TheVariants.Away, declared.ends.End.TheVariants.Own, declared.ends.End.TheVariants.Sends}
-pub use Rattle.chip_node.specs.declared.ends.{End.TheVariants.Takes, InEnd.InEnd, OutEnd.OutEnd, Served.Served, Served.TheVariants.Dumped, Served.TheVariants.Sent}
-pub use Rattle.chip_node.specs.declared.{flags.Flags.Flags, holdings.Holdings.Holdings, holdings.Turn.TheVariants.Moved, holdings.Turn.TheVariants.Nothing, holdings.Turn.TheVariants.Waits}
-pub use Rattle.chip_node.specs.declared.{holdings.Turn.Turn, nodes.Behind.Behind, nodes.CoreBank.CoreBank, nodes.RouterNode.RouterNode}
-pub use Rattle.link_queue.specs.{Ends.IsRx, Ends.IsTx, Ends.cap_of, Ends.sending, Ends.taking, TheRule.IsFullNote, TheRule.put_of, Ups.NoNotes, Ups.Rests, declared.known.Known.Known}
-pub use Rattle.link_queue.specs.declared.links.{Link.Link, Link.Link as QueueLink, LinkEnds.LinkEnds, Rx.Rx, Tx.Tx}
+pub use Rattle.chip_node.specs.declared.{ends.End.TheVariants.Takes, ends.InEnd.InEnd, ends.OutEnd.OutEnd, ends.Served.Served, ends.Served.TheVariants.Dumped, flags.Flags.Flags}
+pub use Rattle.chip_node.specs.declared.holdings.{Holdings.Holdings, Turn.TheVariants.Moved, Turn.TheVariants.Nothing, Turn.TheVariants.Waits, Turn.Turn}
+pub use Rattle.chip_node.specs.declared.nodes.{Behind.Behind, CoreBank.CoreBank, RouterNode.RouterNode}
+pub use Rattle.link_queue.specs.{Ends.IsRx, Ends.IsTx, Ends.cap_of, Ends.sending, Ends.taking, TheRule.IsFullNote, TheRule.put_of, Ups.NoNotes, Ups.Rests, declared.links.Link.Link}
+pub use Rattle.link_queue.specs.declared.links.{Link.Link as QueueLink, LinkEnds.LinkEnds, Rx.Rx, Tx.Tx}
 pub use Rattle.machine_desc.proofs.{Far.far_back, Far.far_inside, Far.far_parts, Far.index_below, Far.live_back, Far.live_ends, Far.live_inside, Far.opposite_of-opposite, Live.chip_of-inside}
 pub use Rattle.machine_desc.proofs.Live.{index_of-chip_of}
 pub use Rattle.machine_desc.specs.{Description.Description, Description.HasSize, Live.IsInside, Live.IsLiveLink, Live.IsSite, Live.chip_of, Live.far_of, Live.index_of, Live.is_live_chip}
@@ -37,13 +37,13 @@ pub use Rattle.spin_base.proofs.{Members.Contains-from_filter_map, Members.among
 pub use Rattle.spin_base.proofs.{Outputs.out_number_injective, Pairs.All-from_map, Pairs.AllPairs-apart, Places.All-at, Places.All-each, Places.both_none, Places.one_item_at, Places.set-slice_get}
 pub use Rattle.spin_base.proofs.Places.{slice_get-append_left, slice_get-mapped, slice_get-push_cases, slice_get-pushed, slice_get-set_other, slice_get-set_same, slice_get_there, take_more_at}
 pub use Rattle.spin_base.proofs.{Spots.dir_number-dir_at, Spots.out_of-has_bit, Spots.same_link, Tests.answers_none}
-pub use Rattle.spin_base.specs.{Equality.chip_eq, Equality.out_eq, Hops.last_hop, Links.all_dirs, Links.dir_at, Links.opposite_of, Links.port_number, Lookup.lookup, Outputs.IsOutput, Outputs.all_outs}
-pub use Rattle.spin_base.specs.{Outputs.has, Outputs.out_number, Outputs.out_of, Outputs.outs_of, WithRoom.WithRoom, declared.blocks.Entry.Entry, declared.chips.Chip.Chip, declared.chips.Dir.Dir}
+pub use Rattle.spin_base.specs.{Equality.chip_eq, Equality.out_eq, Hops.last_hop, Links.dir_at, Links.opposite_of, Links.port_number, Lookup.lookup, Outputs.IsOutput, Outputs.all_outs, Outputs.has}
+pub use Rattle.spin_base.specs.{Outputs.out_number, Outputs.out_of, Outputs.outs_of, WithRoom.WithRoom, declared.blocks.Entry.Entry, declared.chips.Chip.Chip, declared.chips.Dir.Dir}
 pub use Rattle.spin_base.specs.declared.{chips.Port.Port, chips.Port.TheVariants.Link as ByLink, chips.Port.TheVariants.Local, chips.Spot.Spot, copies.McCopy.McCopy, routes.Out.Out}
 pub use Rattle.spin_base.specs.declared.routes.Out.TheVariants.{Core}
 pub use Rattle.std.proofs.Common.{Bool, Err, List, None, Ok, OnErr, Option, Result, Some, [], ap, append-nil, append_assoc, ap₂, arith, count_by, drop, false, get_or, if◌then◌else◌, inl, inr, length}
-pub use Rattle.std.proofs.Common.{length-append, map, min, nat_eq, refl, replicate, set, subst, suc, sym, take, true, zero, ℕ, ◌%◌, ◌&&◌, ◌*◌, ◌++◌, ◌+◌, ◌-◌, ◌/◌, ◌<◌, ◌==◌, ◌^◌, ◌||◌, ◌∙◌, ◌∷◌, ◌≡◌}
-pub use Rattle.std.proofs.Common.{◌≢◌, ◌≤◌, ◌⊎◌}
+pub use Rattle.std.proofs.Common.{length-append, map, min, nat_eq, refl, replicate, rules, set, subst, suc, sym, take, true, zero, ℕ, ◌%◌, ◌&&◌, ◌*◌, ◌++◌, ◌+◌, ◌-◌, ◌/◌, ◌<◌, ◌==◌, ◌^◌, ◌||◌, ◌∙◌}
+pub use Rattle.std.proofs.Common.{◌∷◌, ◌≡◌, ◌≢◌, ◌≤◌, ◌⊎◌}
 pub use Rattle.std.proofs.{Math.Nat.mul-le-mul_left, Math.Seq.drop-append_seam, Math.Seq.take-append_seam, lemmas.Bool.cases_Bool, lemmas.Bool.cases_eq, lemmas.Bool.cases_lt, lemmas.Bool.cond-false}
 pub use Rattle.std.proofs.lemmas.{Bool.cond_both, Bool.eqb-true, Grind.flat_map-append, List.Elements.All-append, List.Elements.All-cons, List.Elements.All-contains, List.Elements.All-filter}
 pub use Rattle.std.proofs.lemmas.List.{Elements.All-head, Elements.All-map, Elements.All-nil, Elements.All-push, Elements.All-replicate, Elements.All-tail, Elements.All-weaker, Folds.list_all_more}

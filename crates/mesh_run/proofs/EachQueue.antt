@@ -111,9 +111,7 @@ module _ (w : Whole) where
         }
       where
         both_ends : (h : Home) → slice_get w.r.layout.now.homes.items c.queue ≡ Some h → h.sender ≡ h.receiver → c.sender ≡ c.receiver
-        both_ends h at same =
-            let is = same_Some h (record { sender = c.sender; receiver = c.receiver }) (sym at ∙ between) in
-            ap (λ (x : Home). x.sender) (sym is) ∙ (same ∙ ap (λ (x : Home). x.receiver) is)
+        both_ends h at same = grind (arith, same_Some h (record { sender = c.sender; receiver = c.receiver }) (sym at ∙ between))
 
   -- any queue
   pub queue_after : (q : ℕ) → q < length w.r.layout.now.homes.items → (after : List McCopy) × AfterRound q after

@@ -1,16 +1,15 @@
 -- How many copies enter a queue in a round: at most one for each turn of the one actor that sends to it.
-use Rattle.mesh_run.proofs.Common.{All, All-head, All-tail, AreTurns, Bool, Chip, Dumped, IsDoneOn, IsLiveIndex, IsOutput, Item, List, McCopy, None, Out, Port, Sent, Served, Service, Setup, Some, []}
-use Rattle.mesh_run.proofs.Common.{ap, arith, brought, cases_eq, chip_of, cond_both, count_by, count_by-append, count_by-map, entered, entered_by, false, flat_map, got, has, if◌then◌else◌, index_of}
-use Rattle.mesh_run.proofs.Common.{injection_place, inl, inr, last_hop, length, length-append, live_inside, lookup, map, map-append, out_eq, out_eq_same, outputs, outs_of, outs_once, owed_on}
-use Rattle.mesh_run.proofs.Common.{place_behind, refl, sending_of, sent, served, service_of, services, subst, sym, table_at, takings, took, true, ℕ, ◌*◌, ◌++◌, ◌+◌, ◌==◌, ◌∙◌, ◌∷◌, ◌≡◌, ◌≤◌}
+use Rattle.mesh_run.proofs.Common.{All, All-head, All-tail, AreTurns, Bool, Chip, IsDoneOn, IsLiveIndex, IsOutput, Item, List, McCopy, None, Out, Port, Served, Service, Setup, Some, [], ap, arith}
+use Rattle.mesh_run.proofs.Common.{brought, cases_eq, chip_of, cond_both, count_by, count_by-append, count_by-map, entered, entered_by, flat_map, got, has, if◌then◌else◌, index_of, injection_place}
+use Rattle.mesh_run.proofs.Common.{inl, inr, last_hop, length, length-append, live_inside, lookup, map, map-append, out_eq, out_eq_same, outputs, outs_of, outs_once, owed_on, place_behind, refl}
+use Rattle.mesh_run.proofs.Common.{sending_of, sent, served, service_of, services, subst, sym, table_at, takings, took, true, ℕ, ◌*◌, ◌++◌, ◌+◌, ◌==◌, ◌∙◌, ◌∷◌, ◌≡◌, ◌≤◌}
 use Rattle.mesh_run.proofs.Apart.{elsewhere, here, no_injection, not_there, one_output}
 
 module _ (u : Setup) where
   -- ---- an injection queue
 
   few_brought : (s : Service) (f : Served) → length (brought s f) ≤ 1
-  few_brought s Sent = omega arith
-  few_brought s Dumped = omega arith
+  few_brought s f = grind arith
 
   -- what one item brings to an injection queue, its bank sent
   sent_there : (i : ℕ) → IsLiveIndex u i → (x : Item) → IsDoneOn u x → length (entered_by (injection_place i) x) ≤ length (sending_of i x)
@@ -53,8 +52,7 @@ module _ (u : Setup) where
   one_if b = if b then 1 else 0
 
   at_most_one : (b : Bool) → one_if b ≤ 1
-  at_most_one true = omega arith
-  at_most_one false = omega arith
+  at_most_one b = grind arith
 
   -- an output stands at most once among those that lookup gives a copy
   few_outputs : (c : Chip) (o : Out) (port : Port) (k : McCopy) → IsOutput o → count_by (out_eq o) (outputs u c port k) ≤ 1

@@ -1,10 +1,10 @@
 -- Floors chip by chip: the vertices on a chip, the queues behind its outputs, and that there are few vertices.
 use Rattle.mesh_run.proofs.Common.{AddsBehind, All, All-at, AllPairs, AllPairs-apart, AreVerticesOf, Behind, Chip, Contains-at, Contains-filter_map, Contains-from_filter_map, CoreBank, Description}
-use Rattle.mesh_run.proofs.Common.{Floor, HasSize, IsBankOf, IsFloorOf, IsFloorSoFar, IsLiveIndex, IsOutput, IsSite, List, None, Option, Out, Setup, Some, Spot, [], ap, append_assoc, arith, cases_eq}
+use Rattle.mesh_run.proofs.Common.{Floor, HasSize, IsBankOf, IsFloorOf, IsFloorSoFar, IsLiveIndex, IsOutput, IsSite, List, Option, Out, Setup, Some, Spot, [], ap, append_assoc, arith, cases_eq}
 use Rattle.mesh_run.proofs.Common.{chip_of, few_sites, get_or, get_or-range_with_len, grid_size, index_below, inl, inr, length, length-append, length-range_with_len, length_push, live_inside}
 use Rattle.mesh_run.proofs.Common.{live_one, mul-le-mul_left, none-some, out_number, out_number_below, out_number_injective, place_behind, place_in, place_of_slot, port_count, range_with_len, refl}
-use Rattle.mesh_run.proofs.Common.{site_inside, slice_get, slice_get-append_left, slice_get-get_or, slice_get-pushed, slice_get_there, subst, suc, sym, vertex_at_stands, vertex_on, vertex_there}
-use Rattle.mesh_run.proofs.Common.{vertices_by, ℕ, ◌*◌, ◌++◌, ◌+◌, ◌<◌, ◌∙◌, ◌∷◌, ◌≡◌, ◌≢◌, ◌≤◌}
+use Rattle.mesh_run.proofs.Common.{rules, site_inside, slice_get, slice_get-append_left, slice_get-get_or, slice_get-pushed, slice_get_there, subst, suc, sym, vertex_at_stands, vertex_on}
+use Rattle.mesh_run.proofs.Common.{vertex_there, vertices_by, ℕ, ◌*◌, ◌++◌, ◌+◌, ◌<◌, ◌∙◌, ◌∷◌, ◌≡◌, ◌≢◌, ◌≤◌}
 use Rattle.mesh_run.proofs.Going.{pushed}
 
 -- ---- few vertices
@@ -54,15 +54,10 @@ vertices_found u i vs differ sites is = subst (AreVerticesOf u i) (sym is) (reco
 -- ---- the queues behind outputs
 
 pub placed : (b : Option Behind) → place_in (Some b) ≡ place_of_slot b
-placed None = refl
-placed (Some b) = refl
+placed b = grind arith
 
 pub behind_none : (u : Setup) (c : Chip) (list : List (Option Behind)) → AddsBehind u c 0 list list
-behind_none u c list = record { more = []; are = sym (nil list); long = refl; places = λ o out below. absurd (omega (arith, below)) }
-  where
-    nil : {X : Type 0} (xs : List X) → xs ++ [] ≡ xs
-    nil [] = refl
-    nil (x ∷ xs) = ap (λ l. x ∷ l) (nil xs)
+behind_none u c list = search rules
 
 pub behind_more : (u : Setup) (c : Chip) (n : ℕ) (before now new : List (Option Behind)) (b : Option Behind) (o : Out) → AddsBehind u c n before now → new ≡ now ++ b ∷ [] → IsOutput o →
     out_number o ≡ n → place_of_slot b ≡ place_behind u c o → AddsBehind u c (n + 1) before new

@@ -5,10 +5,7 @@ use Rattle.mesh_run.proofs.Common.{slice_get-push_cases, slice_get-set_other, sl
 -- What holds of each item of a list and of one more holds of each where that one is put at the end.
 pub pushed : {X : Type 0} (P : ℕ → X → Type 0) (xs : List X) (x : X) (new : List X) → new ≡ xs ++ x ∷ [] → ((k : ℕ) (y : X) → slice_get xs k ≡ Some y → P k y) → P (length xs) x →
     (k : ℕ) (y : X) → slice_get new k ≡ Some y → P k y
-pushed P xs x new is each last k y at = elim (slice_get-push_cases xs x y k (ap (λ l. slice_get l k) (sym is) ∙ at)) [
-  | inl before ↦ each k y before.1
-  | inr here ↦ subst (P k) here.1 (subst (λ j. P j x) (sym here.0) last)
-]
+pushed P xs x new is each last k y at = grind (arith, slice_get-push_cases)
 
 -- what holds of all other items and of one that is set in a place
 pub was_set : {X : Type 0} (P : ℕ → X → Type 0) (xs : List X) (n : ℕ) (x : X) → ((k : ℕ) (y : X) → k ≢ n → slice_get xs k ≡ Some y → P k y) → P n x →
@@ -23,10 +20,7 @@ was_set P xs n x others new k y at = elim (cases_eq k n) [
 -- what holds of the items before a place and of the one there
 pub next_too : {X : Type 0} (P : ℕ → X → Type 0) (xs : List X) (n : ℕ) (x : X) → slice_get xs n ≡ Some x → ((k : ℕ) (y : X) → k < n → slice_get xs k ≡ Some y → P k y) → P n x →
     (k : ℕ) (y : X) → k < n + 1 → slice_get xs k ≡ Some y → P k y
-next_too P xs n x stands before here k y less at = elim (cases_eq k n) [
-  | inl same ↦ subst (P k) (same_Some x y (sym stands ∙ (ap (slice_get xs) (sym same) ∙ at))) (subst (λ j. P j x) (sym same) here)
-  | inr other ↦ before k y (omega (arith, less, other)) at
-]
+next_too P xs n x stands before here k y less at = grind (arith, cases_eq k n, same_Some)
 
 -- What goes on from item to item of two lists, where what the items at each place have to do with each other is known.
 pub each_two : {X Z : Type 0} (R : X → Z → Type 0) (P : List X → List Z → Type 0) → P [] [] → ((x : X) (z : Z) (xs : List X) (zs : List Z) → R x z → P xs zs → P (x ∷ xs) (z ∷ zs)) →

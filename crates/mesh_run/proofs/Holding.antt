@@ -41,22 +41,11 @@ as_many es s holds = ap length holds.links ∙ length-map es (λ (e : LinkEnds).
 
 -- ---- the last one
 
--- an item at the end of a list that is a map
-map_end : {X Y : Type 0} (f : X → Y) (xs : List X) (x : X) (ys : List Y) (y : Y) → ys ++ y ∷ [] ≡ map f (xs ++ x ∷ []) → (ys ≡ map f xs) × (y ≡ f x)
-map_end f xs x ys y e = same_from_push ys (map f xs) y (f x) (e ∙ map-append f xs (x ∷ []))
-
 -- the ends that leave a list of all
 pub last_leaves : (rest : List LinkEnds) (last e : LinkEnds) (tx : Option Tx) (rx : Option Rx) (s t : Standing) → HoldsAll (rest ++ last ∷ []) s →
     s.links.items ≡ t.links.items ++ e.link ∷ [] → s.txs.items ≡ t.txs.items ++ tx ∷ [] → tx ≡ Some e.tx → s.rxs.items ≡ t.rxs.items ++ rx ∷ [] → rx ≡ Some e.rx →
     s.rooms.items ≡ t.rooms.items ++ e.room ∷ [] → (e ≡ last) × HoldsAll rest t
-last_leaves rest last e tx rx s t holds links txs tx_is rxs rx_is rooms =
-    let a = map_end (λ (e : LinkEnds). e.link) rest last t.links.items e.link (sym links ∙ holds.links) in
-    let b = map_end (λ (e : LinkEnds). Some e.tx) rest last t.txs.items tx (sym txs ∙ holds.txs) in
-    let c = map_end (λ (e : LinkEnds). Some e.rx) rest last t.rxs.items rx (sym rxs ∙ holds.rxs) in
-    let d = map_end (λ (e : LinkEnds). e.room) rest last t.rooms.items e.room (sym rooms ∙ holds.rooms) in (
-      equal_ends e last a.1 (same_Some e.tx last.tx (sym tx_is ∙ b.1)) (same_Some e.rx last.rx (sym rx_is ∙ c.1)) d.1,
-      record { links = a.0; txs = b.0; rxs = c.0; rooms = d.0 },
-    )
+last_leaves rest last e tx rx s t holds links txs tx_is rxs rx_is rooms = grind (arith, equal_ends, same_Some, same_from_push, map-append)
 
 -- ---- links brought down, from the last on
 
@@ -67,11 +56,8 @@ pub record DownFrom (all : List LinkEnds) (gone : ℕ) (s : Standing) (before af
   pub stand : HoldsAll (take (length all - gone) all) s
   pub down : (i : ℕ) (e : LinkEnds) (q : List McCopy) → length all - gone ≤ i → slice_get all i ≡ Some e → IsDown e (get_or after i q)
 
-none_less : (n : ℕ) → n - 0 ≡ n
-none_less n = omega arith
-
 pub down_none : (all : List LinkEnds) (s : Standing) (qs : List (List McCopy)) → HoldsAll all s → DownFrom all 0 s qs qs
-down_none all s qs holds = grind (arith, none_less (length all), take_all (length all) all (omega arith), slice_get_within)
+down_none all s qs holds = grind (arith, take_all, slice_get_within)
 
 -- what stands has the next one at its end
 pub record Next (all : List LinkEnds) (gone : ℕ) (s : Standing) : Type 0 where

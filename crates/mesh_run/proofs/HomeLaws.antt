@@ -4,7 +4,7 @@ use Rattle.mesh_run.proofs.Common.{IsLiveIndex, IsOutput, IsShareTable, List, Ma
 use Rattle.mesh_run.proofs.Common.{chip_of-inside, dir_at, dir_number-dir_at, get_or, get_or_append_left, get_or_push, grid_size, homes_of_ports, index_of, index_of-chip_of, injection_place, inl, inr}
 use Rattle.mesh_run.proofs.Common.{length, length-append, length-set, length_push, live_inside, none-some, out_number, out_number_below, out_number_injective, place_behind, refl, replicate}
 use Rattle.mesh_run.proofs.Common.{router_place, run_start, same_Some, set, slice_get, slice_get-append_left, slice_get-get_or, slice_get-pushed, slice_get-set_other, slice_get_within, subst, suc}
-use Rattle.mesh_run.proofs.Common.{sym, zero, ℕ, ◌*◌, ◌++◌, ◌+◌, ◌-◌, ◌<◌, ◌^◌, ◌∙◌, ◌∷◌, ◌≡◌, ◌≢◌, ◌≤◌, ◌⊎◌}
+use Rattle.mesh_run.proofs.Common.{sym, ℕ, ◌*◌, ◌++◌, ◌+◌, ◌-◌, ◌<◌, ◌^◌, ◌∙◌, ◌∷◌, ◌≡◌, ◌≢◌, ◌≤◌, ◌⊎◌}
 use Rattle.spin_base.specs.declared.routes.Out.TheVariants.{Link}
 use Rattle.mesh_run.proofs.{Apart.no_injection, Apart.one_output, Going.next_too, Going.pushed, Going.was_set, FloorLaws.live_below, FloorLaws.slice_get-first, FloorLaws.slice_get-second}
 
@@ -19,14 +19,11 @@ pub record RiseTo (place : ℕ) (ends : List ℕ) : Type 0 where
 pub rise_none : (ends : List ℕ) → ends ≡ [] → RiseTo 0 ends
 rise_none ends none = grind arith
 
-rise_on : (p : ℕ) (ends : List ℕ) → RiseTo p ends → RiseTo (p + 1) ends
-rise_on p ends so_far = grind arith
-
 pushed_rises : (p : ℕ) (ends : List ℕ) → RiseTo p ends → (a b : ℕ) → a < b → b < length (ends ++ p ∷ []) → get_or (ends ++ p ∷ []) a 0 ≤ get_or (ends ++ p ∷ []) b 0
 pushed_rises p ends so_far a b less below = grind (arith, length_push, get_or, get_or_append_left, cases_lt, get_or_push)
 
 pub rise_more : (p : ℕ) (before after : List ℕ) → RiseTo p before → MayGrow p before after → RiseTo (p + 1) after
-rise_more p before after so_far (inl same) = subst (RiseTo (p + 1)) (sym same) (rise_on p before so_far)
+rise_more p before after so_far (inl same) = grind arith
 rise_more p before after so_far (inr grown) = grind (arith, length_push, pushed_rises, cases_lt, get_or, get_or_append_left, get_or_push)
 
 pub runs_all : (p count : ℕ) (before after : List ℕ) → p ≡ count → RiseTo p before → after ≡ before ++ count ∷ [] → AreShareRuns count after
@@ -51,8 +48,7 @@ start_more ends k = let e : k + 1 ≡ suc k = omega arith in ap (run_start ends)
 
 -- the run of a number is no shorter than nothing
 pub run_from : (count : ℕ) (ends : List ℕ) (n : ℕ) → AreShareRuns count ends → n < length ends → run_start ends n ≤ get_or ends n 0
-run_from count ends zero runs below = omega arith
-run_from count ends (suc k) runs below = runs.rising k (suc k) (omega arith) below
+run_from count ends n runs below = grind arith
 
 pub table_none : (ends table : List ℕ) → table ≡ [] → TableTo ends 0 table
 table_none ends table none = grind (arith, none-some)
@@ -72,15 +68,7 @@ pub run_all : (ends : List ℕ) (n p : ℕ) (table : List ℕ) → RunTo ends n 
 run_all ends n p table so_far all = grind (arith, start_more ends n, get_or ends n 0, cases_eq)
 
 pub table_all : (count : ℕ) (ends : List ℕ) (n : ℕ) (table : List ℕ) → AreShareRuns count ends → n ≡ length ends → TableTo ends n table → IsShareTable count ends table
-table_all count ends n table runs all so_far = record {
-  long = so_far.long ∙ (ap (run_start ends) all ∙ last (length ends) refl);
-  number = λ a k below in_run. so_far.done a k (omega (arith, below, all)) in_run;
-  below = λ a k at. let was = so_far.below a k at in omega (arith, was, all);
-}
-  where
-    last : (m : ℕ) → length ends ≡ m → run_start ends m ≡ count
-    last zero none = let some = runs.some in absurd (omega (arith, none, some))
-    last (suc m) is = runs.last m (omega (arith, is))
+table_all count ends n table runs all so_far = grind arith
 
 -- ---- homes
 
@@ -150,23 +138,10 @@ senders_more u table n m sender place p homes new so_far live below_n output num
 }
   where
     same_place : (q : ℕ) → (place ≡ Some q) ⊎ (place ≡ Some q → ⊥)
-    same_place q = by_place place q refl
-      where
-        by_place : (x : Option ℕ) (q : ℕ) → place ≡ x → (place ≡ Some q) ⊎ (place ≡ Some q → ⊥)
-        by_place None q is = inr (λ e. none-some q (sym is ∙ e))
-        by_place (Some w) q is = elim (cases_eq w q) [
-          | inl same ↦ inl (is ∙ ap Some same)
-          | inr other ↦ inr (λ e. other (same_Some w q (sym is ∙ e)))
-        ]
+    same_place q = grind (arith, none-some, cases_eq, same_Some)
 
     earlier : (i : ℕ) (o : Out) (q : ℕ) → IsBefore n (m + 1) i o → place_behind u (chip_of u.machine i) o ≡ Some q → (place ≡ Some q → ⊥) → IsBefore n m i o
-    earlier i o q (inl less) behind elsewhere = inl less
-    earlier i o q (inr same) behind elsewhere = elim (cases_eq (out_number o) m) [
-      | inl here ↦
-          let is_p : p ≡ o = out_number_injective p o (number ∙ sym here) in
-          absurd (elsewhere (is_place ∙ (ap (place_behind u (chip_of u.machine n)) is_p ∙ (ap (λ (j : ℕ). place_behind u (chip_of u.machine j) o) (sym same.0) ∙ behind))))
-      | inr other ↦ let less = same.1 in inr (same.0, omega (arith, less, other))
-    ]
+    earlier i o q its_3 behind elsewhere = grind (arith, cases_eq, out_number_injective)
 
     never : (i : ℕ) → i < grid_size u → place_behind u (chip_of u.machine n) p ≡ Some (injection_place i) → ⊥
     never i below e =
@@ -174,27 +149,11 @@ senders_more u table n m sender place p homes new so_far live below_n output num
         (e ∙ ap (λ (k : ℕ). Some (7 * k + 6)) (sym (index_of-chip_of u.machine i)))
 
     listed : (h : Home) (q : ℕ) → slice_get new q ≡ Some h → IsInTable table h
-    listed h q at =
-        let old = sets.receivers q h at in
-        let was = All-at (IsInTable table) homes q old.0 so_far.homes_are.listed old.1 in
-        elim (same_place q) [
-          | inl here ↦ record { sender_at = router_place n; sender = at_sender ∙ ap Some (sym (sets.here q h here at)); receiver_at = was.receiver_at; receiver = was.receiver ∙ ap Some (sym old.2) }
-          | inr elsewhere ↦ All-at (IsInTable table) homes q h so_far.homes_are.listed (sets.others q h elsewhere at)
-        ]
+    listed h q at = grind (arith, All-at (IsInTable table) homes q (sets.receivers q h at).0 so_far.homes_are.listed (sets.receivers q h at).1, same_place q)
 
 -- all outputs of a live chip, or none of one that isn't
 pub senders_live : (u : Setup) (table : List ℕ) (n : ℕ) (homes : List Home) → HaveSenders u table n 24 homes → HaveSenders u table (n + 1) 0 homes
-senders_live u table n homes so_far = record {
-  homes_are = so_far.homes_are;
-  routers = λ i o q k h before on out. so_far.routers i o q k h (all i o out before) on out;
-}
-  where
-    all : (i : ℕ) (o : Out) → IsOutput o → IsBefore (n + 1) 0 i o → IsBefore n 24 i o
-    all i o out (inl less) = elim (cases_eq i n) [
-      | inl same ↦ inr (same, out_number_below o out)
-      | inr other ↦ inl (omega (arith, less, other))
-    ]
-    all i o out (inr same) = let less = same.1 in absurd (omega (arith, less))
+senders_live u table n homes so_far = grind (arith, cases_eq, out_number_below)
 
 pub senders_dead : (u : Setup) (table : List ℕ) (n : ℕ) (homes : List Home) → HaveSenders u table n 0 homes → (IsLiveIndex u n → ⊥) → HaveSenders u table (n + 1) 0 homes
 senders_dead u table n homes so_far dead = record {
@@ -203,11 +162,7 @@ senders_dead u table n homes so_far dead = record {
 }
   where
     less : (i : ℕ) (o : Out) → IsLiveIndex u i → IsBefore (n + 1) 0 i o → IsBefore n 0 i o
-    less i o on (inl below) = elim (cases_eq i n) [
-      | inl same ↦ absurd (dead (subst (IsLiveIndex u) same on))
-      | inr other ↦ inl (omega (arith, below, other))
-    ]
-    less i o on (inr same) = let none = same.1 in absurd (omega (arith, none))
+    less i o on its_3 = grind (arith, cases_eq)
 
 pub homes_all : (u : Setup) (table : List ℕ) (n : ℕ) (homes : List Home) → grid_size u ≤ n → HaveSenders u table n 0 homes → AreHomesOf u table homes
 homes_all u table n homes past so_far = record {

@@ -9,9 +9,7 @@ use Rattle.mesh_run.proofs.{AfterDeal.lane_uncut, AfterDeal.links_many, PlanLaws
 
 -- each queue has its homes, and each share its places
 pub fits_raised : (m : State) (more : ℕ) (r : RaisedMesh) → IsMesh m → IsRaisedFrom m more r → FitHomes r.parts r.layout.now.homes.items r.shares.items
-fits_raised m more r mesh raised =
-    homes_fit m r.parts r.layout.now.runs.items raised.laid.table r.layout.now.homes.items r.shares.items mesh raised.inputs_long raised.cores_long raised.unsent_long
-    raised.laid.numbers raised.laid.homes raised.shared
+fits_raised m more r mesh raised = grind (arith, homes_fit)
 
 -- links that are up have their ends
 pub all_are_ends : (cap more : ℕ) (queues : List (List McCopy)) (ends : List LinkEnds) → AreUp cap more queues ends → All AreEnds ends

@@ -1,6 +1,5 @@
 -- The numbers of a range, and that each of a chip's outputs has a bit.
-use Rattle.mesh_run.proofs.Common.{Among, Core, IsOutput, Out, all_dirs, all_outs, among_either, among_map, arith, inl, inr, range_with_len, suc, zero, ℕ, ◌+◌, ◌<◌, ◌≤◌}
-use Rattle.spin_base.specs.declared.routes.Out.TheVariants.{Link}
+use Rattle.mesh_run.proofs.Common.{Among, IsOutput, Out, all_outs, among_either, among_map, arith, inl, inr, range_with_len, suc, zero, ℕ, ◌+◌, ◌<◌, ◌≤◌}
 use Rattle.spin_base.specs.Outputs.{core_outs, link_outs}
 
 -- what stands in a range is within it
@@ -11,13 +10,11 @@ range_parts a (suc n) j (inr there) = grind (arith, range_parts (a + 1) n j ther
 
 link_bit : (o : Out) → Among o link_outs → IsOutput o
 unfolding link_outs
-link_bit (Link d) a = tt
-link_bit (Core c) a = let of = among_map Link (Core c) all_dirs a in cc
+link_bit o a = grind (arith, among_map)
 
 core_bit : (o : Out) → Among o core_outs → IsOutput o
 unfolding core_outs
-core_bit (Link d) a = tt
-core_bit (Core c) a = grind (arith, among_map, range_parts)
+core_bit o a = grind (arith, among_map, range_parts)
 
 pub has_bit : (o : Out) → Among o all_outs → IsOutput o
 has_bit o a = grind (arith, among_either o link_outs core_outs a, link_bit, core_bit)

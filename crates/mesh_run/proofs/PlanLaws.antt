@@ -50,6 +50,4 @@ cuts_fit m cuts mesh = λ i d below.
 
 -- there are fewer queues than numbers of a word
 pub few_homes : (m : State) (table : List ℕ) (homes : List Home) → IsMesh m → AreHomesOf m.setup table homes → length homes ≤ 200000
-few_homes m table homes mesh are =
-    let vertices = few_vertices m.setup.machine m.setup.spots mesh.different mesh.sites mesh.size in
-    omega (arith, few_chips m.setup.machine mesh.size, vertices, are.long)
+few_homes m table homes mesh are = grind (arith, few_vertices m.setup.machine m.setup.spots mesh.different mesh.sites mesh.size, few_chips m.setup.machine mesh.size)

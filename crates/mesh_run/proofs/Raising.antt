@@ -67,8 +67,7 @@ lanes_still queues homes before after same held = record {
 }
 
 unsent_same : (before after : List Share) (s v : ℕ) → AreSameCopies before after → unsent_at after s v ≡ unsent_at before s v
-unsent_same before after s v same =
-    told_same (λ (o : Option Share). unsent_in o v) before after s same.0 (λ x y at also. ap (λ l. get_or l.items v []) (same.1 s x y at also).unsent)
+unsent_same before after s v same = told_same (λ (o : Option Share). unsent_in o v) _ _ _ same.0 (λ x y at also. ap (λ l. get_or l.items v []) (same.1 s x y at also).unsent)
 
 pub unsent_still : (ports : ℕ) (unsent : List (List McCopy)) (homes : List Home) (before after : List Share) → AreSameCopies before after → HoldUnsent ports unsent homes before →
     HoldUnsent ports unsent homes after
@@ -136,10 +135,7 @@ pub roomy_with : (m : State) (r : RaisedMesh) (standing : Standing) (shares : Ve
     turns ≡ r.pace.turns → ((ends : List LinkEnds) → HoldsAll ends r.standing → StayUp cap (turns + 1) ends standing) → AreSameCopies r.shares.items shares.items →
     logs.delivered.items ≡ r.logs.delivered.items → logs.dumped.items ≡ r.logs.dumped.items → seen ≡ shares.items → HasRoomForLogs seen logs →
     IsRoomyFrom m (r.pace.turns + 1) (record r { standing = standing; shares = shares; logs = logs })
-roomy_with m r standing shares logs cap turns seen raised is turns_are stay copies delivered dumped seen_is room = record {
-  raised = with_links m (turns + 1) (r.pace.turns + 1) r standing shares logs cap raised (omega (arith, turns_are)) is (stay raised.ends raised.holds) copies delivered dumped;
-  room = subst (λ (l : List Share). HasRoomForLogs l logs) seen_is room;
-}
+roomy_with m r standing shares logs cap turns seen raised is turns_are stay copies delivered dumped seen_is room = grind (arith, with_links)
 
 -- ---- share by share
 

@@ -1,9 +1,9 @@
 -- Links that rest or are widened, one after the other.
-use Rattle.mesh_run.proofs.Common.{All, All-at, AreEnds, AreUp, Bool, Err, HasPlaces, HoldsAll, IsDown, IsRx, IsTx, IsUp, Known, LacksEnds, Link, LinkEnds, List, McCopy, NoNotes, Ok, OnErr, RestAll}
-use Rattle.mesh_run.proofs.Common.{Rested, Rests, RestsAt, Result, Rx, Some, Standing, StayUp, Tx, UpAt, WasUp, [], ap, append-nil, ap₂, arith, cap_of, cases_Bool, cases_lt, cond-false, eqb-true}
+use Rattle.mesh_run.proofs.Common.{All, All-at, AreEnds, AreUp, Bool, Err, HasPlaces, HoldsAll, IsDown, IsRx, IsTx, IsUp, LacksEnds, Link, LinkEnds, List, McCopy, NoNotes, Ok, OnErr, RestAll, Rested}
+use Rattle.mesh_run.proofs.Common.{Rests, RestsAt, Result, Rx, Some, Standing, StayUp, Tx, UpAt, WasUp, [], ap, append-nil, ap₂, arith, cap_of, cases_Bool, cases_lt, cond-false, eqb-true}
 use Rattle.mesh_run.proofs.Common.{free_places_of, get_or, get_or-set_same, get_or_from_slice_get, inl, inr, is_empty, length, length-map, length-set, list_all, list_all_more, map, map-set, min}
 use Rattle.mesh_run.proofs.Common.{nat_eq, places_for, queue_of_link, refl, same_Some, sending, set, slice_get, slice_get-mapped, slice_get-set_other, slice_get-set_same, slice_get_there}
-use Rattle.mesh_run.proofs.Common.{slice_get_within, subst, sym, take, take-set-le, take_all, taking, true, ℕ, ◌&&◌, ◌++◌, ◌+◌, ◌-◌, ◌<◌, ◌∙◌, ◌≡◌, ◌≤◌}
+use Rattle.mesh_run.proofs.Common.{slice_get_within, subst, sym, take, take-set-le, take_all, taking, true, ℕ, ◌&&◌, ◌+◌, ◌-◌, ◌<◌, ◌∙◌, ◌≡◌, ◌≤◌}
 use Rattle.mesh_run.proofs.{BringingUp.fewer_fit, BringingUp.made_with, Going.was_set, Holding.as_many, Holding.only_ends, Slots.in_links, Slots.set_again, Slots.slot_is}
 
 -- ---- links, of which the first ones are done
@@ -59,23 +59,10 @@ pub record RestsAs (cap : ℕ) (old new : LinkEnds) : Type 0 where
   pub rx_new : NoNotes held (taking new.rx)
 
 rests_as : {cap : ℕ} {ends : List LinkEnds} {place : ℕ} {old : LinkEnds} {s : Standing} {held : ℕ} → WasUp cap old → (r : RestsAt ends place old s held) → RestsAs cap old r.now
-rests_as {cap} was r = record {
-  few = subst (λ l. cap_of l ≤ cap) (sym r.link) was.few;
-  ends = r.ends_are;
-  link = r.link;
-  held = r.rests.held;
-  down = record { all = r.rests.all; bound = r.rests.bound; noted = r.rests.noted };
-  tx_new = r.rests.sender_new;
-  rx_new = r.rests.receiver_new;
-}
+rests_as {cap} was r = grind arith
 
 free_fits : (cap places held free : ℕ) → held ≤ places → places ≤ cap → free ≤ free_places_of cap places held → HasPlaces cap free held places
-free_fits cap places held free fits few within = elim (cases_Bool (nat_eq places cap)) [
-  | inl is ↦ let same = eqb-true places cap is in record { enough = omega (arith, same); few = few }
-  | inr not ↦
-      let left : free_places_of cap places held ≡ places - held = cond-false (nat_eq places cap) 18446744073709551615 (places - held) not in
-      record { enough = omega (arith, left, within, fits); few = few }
-]
+free_fits cap places held free fits few within = grind (arith, cases_Bool (nat_eq places cap), nat_eq places cap, eqb-true, cond-false)
 
 -- The first links rest, each of them has so many places free, and whether they hold a copy is known.
 pub record RestSoFar (cap : ℕ) (back : List LinkEnds) (k : ℕ) (s : Standing) (quiet : Bool) (free : ℕ) : Type 0 where
@@ -125,12 +112,7 @@ one_rests {cap} {back} {k} {s} {t} {quiet} {more} {free} {less} {held} {places} 
 
 -- a link that rests is up, with what it holds
 rest_is_up : (cap free : ℕ) (old new : LinkEnds) → RestsAs cap old new → HasPlaces cap free (length (queue_of_link new)) (cap_of new.link) → IsUp cap free (queue_of_link new) new
-rest_is_up cap free old new r has = record {
-  ends = r.ends;
-  holds = has;
-  tx_new = subst (λ q. NoNotes q (sending new.tx)) (sym r.tx_new.first) r.tx_new;
-  rx_new = subst (λ q. NoNotes q (taking new.rx)) (sym r.tx_new.first) r.rx_new;
-}
+rest_is_up cap free old new r has = grind arith
 
 pub all_rest : {cap : ℕ} {back : List LinkEnds} {k : ℕ} {s : Standing} (rested : Rested) → RestSoFar cap back k s rested.quiet rested.free → length back ≤ k → RestAll cap back s rested
 all_rest {cap} {back} {k} rested f past =
@@ -211,20 +193,11 @@ next_up {cap} {back} {k = k} n up = up.each k (queue_of_link n.old) n.old (slice
 
 -- ---- one link
 
--- what a link holds of which nothing was sent or taken
-kept_queue : (v w a b : Known) (cap count : ℕ) (queue : List McCopy) → NoNotes queue v → NoNotes queue w → (r : Rests cap v w a b count) → r.held ≡ queue
-kept_queue v w a b cap count queue tx rx r =
-    ap (λ (l : List McCopy). l ++ r.held) (sym rx.took) ∙ (sym r.all ∙ (ap₂ (λ (x y : List McCopy). x ++ y) tx.first tx.sent ∙ append-nil queue))
-
 -- the link at a place rests, by what its ends tell
 -- the link at a place, where its ends have left: they are its own
 pub lent_there : (ends : List LinkEnds) (place : ℕ) (old : LinkEnds) (mid : Standing) (link : Link) (tx : Tx) (rx : Rx) → slice_get ends place ≡ Some old → AreEnds old →
     (tx ≡ old.tx) × (rx ≡ old.rx) → LacksEnds ends place mid → link ≡ get_or mid.links.items place link → IsTx link tx × IsRx link rx
-lent_there ends place old mid link tx rx at are taken lacks index =
-    let link_is : link ≡ old.link = index ∙ slot_is (λ (e : LinkEnds). e.link) ends mid.links.items place old link lacks.links at in (
-      subst (λ (l : Link). IsTx l tx) (sym link_is) (subst (IsTx old.link) (sym taken.0) are.tx),
-      subst (λ (l : Link). IsRx l rx) (sym link_is) (subst (IsRx old.link) (sym taken.1) are.rx),
-    )
+lent_there ends place old mid link tx rx at are taken lacks index = grind (arith, slot_is)
 
 pub rests_there : (ends es : List LinkEnds) (place : ℕ) (old o : LinkEnds) (s mid t : Standing) (link : Link) (tx sender : Tx) (rx receiver : Rx) (held : ℕ) → HoldsAll ends s →
     slice_get ends place ≡ Some old →
@@ -251,9 +224,7 @@ rests_there ends es place old o s mid t link tx sender rx receiver held holds at
 module _ {ends : List LinkEnds} {place : ℕ} {old : LinkEnds} {s : Standing} {held : ℕ} (at : slice_get ends place ≡ Some old) (r : RestsAt ends place old s held) where
   -- as many copies as it holds have places
   held_fits : held ≤ cap_of r.now.link
-  held_fits =
-      let same : cap_of r.now.link ≡ cap_of old.link = ap cap_of r.link in
-      omega (arith, r.rests.bound, r.rests.counts, same)
+  held_fits = grind arith
 
   -- it stands there
   pub rest_stands : slice_get (set ends place r.now) place ≡ Some r.now
@@ -284,9 +255,7 @@ module _ {ends : List LinkEnds} {place : ℕ} {old : LinkEnds} {s : Standing} {h
     rest_sent = subst (λ (x : Tx). NoNotes (sending x).first (sending x)) (sym tx_is) (subst (λ (q : List McCopy). NoNotes q (sending r.now.tx)) (sym r.rests.sender_new.first) r.rests.sender_new)
 
     pub rest_took : {rx : Rx} → rx ≡ r.now.rx → NoNotes (sending tx).first (taking rx)
-    rest_took {rx} rx_is =
-        subst (λ (x : Tx). NoNotes (sending x).first (taking rx)) (sym tx_is)
-        (subst (λ (x : Rx). NoNotes (sending r.now.tx).first (taking x)) (sym rx_is) (subst (λ (q : List McCopy). NoNotes q (taking r.now.rx)) (sym r.rests.sender_new.first) r.rests.receiver_new))
+    rest_took {rx} rx_is = grind arith
 
     pub rest_count : held ≡ length (sending tx).first
     rest_count = r.rests.counts ∙ (ap length (sym r.rests.sender_new.first) ∙ ap (λ (x : Tx). length (sending x).first) (sym tx_is))
@@ -295,19 +264,14 @@ module _ {ends : List LinkEnds} {place : ℕ} {old : LinkEnds} {s : Standing} {h
   module _ {cap : ℕ} (up : IsUp cap 0 (queue_of_link old) old) where
     -- the queue is what it was
     held_same : r.rests.held ≡ queue_of_link old
-    held_same = kept_queue (sending old.tx) (taking old.rx) (sending r.now.tx) (taking r.now.rx) (cap_of old.link) held (queue_of_link old) up.tx_new up.rx_new r.rests
+    held_same = grind (arith, append-nil)
 
     few_places : cap_of r.now.link ≤ cap
     few_places = subst (λ (l : Link). cap_of l ≤ cap) (sym r.link) up.holds.few
 
     -- it is up again, where it has places
     rested_up : (more : ℕ) → HasPlaces cap more held (cap_of r.now.link) → IsUp cap more (queue_of_link old) r.now
-    rested_up more has = record {
-      ends = r.ends_are;
-      holds = subst (λ n. HasPlaces cap more n (cap_of r.now.link)) (r.rests.counts ∙ ap length held_same) has;
-      tx_new = subst (λ q. NoNotes q (sending r.now.tx)) held_same r.rests.sender_new;
-      rx_new = subst (λ q. NoNotes q (taking r.now.rx)) held_same r.rests.receiver_new;
-    }
+    rested_up more has = grind (arith, held_same)
 
     -- no more copies are held than the queue can hold
     pub held_short : held ≤ cap

@@ -1,17 +1,11 @@
 -- Shares with the same copies.
-use Rattle.mesh_run.proofs.Common.{Away, End, Own, SameCopies, SameEnd, Sends, Share, Takes, arith, refl, same_Some, slice_get_there, slice_get_within, subst, ◌∙◌, ◌≡◌}
+use Rattle.mesh_run.proofs.Common.{End, SameCopies, SameEnd, Share, arith, same_Some, slice_get_there, slice_get_within, ◌∙◌, ◌≡◌}
 
 pub end_same : (e : End) → SameEnd e e
-end_same Away = refl
-end_same (Own a) = (a, refl, refl)
-end_same (Sends a) = refl
-end_same (Takes a) = refl
+end_same e = grind arith
 
 pub end_on : (x y z : End) → SameEnd x y → SameEnd y z → SameEnd x z
-end_on Away y z first second = subst (λ (e : End). SameEnd e z) first second
-end_on (Own a) y z first second = let s = subst (λ (e : End). SameEnd e z) first.1 second in (s.0, s.1, s.2 ∙ first.2)
-end_on (Sends a) y z first second = subst (λ (e : End). SameEnd e z) first second
-end_on (Takes a) y z first second = subst (λ (e : End). SameEnd e z) first second
+end_on x y z first second = grind arith
 
 pub copies_same : (s : Share) → SameCopies s s
 copies_same s = grind (arith, same_Some, end_same)

@@ -51,9 +51,7 @@ module _ {m : State} {r : RaisedMesh} {lent : Standing} {dealt : List Share} whe
 
     -- each end of a link is where its cut says
     pub cuts_laid : IsTurned m r lent dealt played → AreLaid lent.links.items played r.layout.now.cuts.items
-    cuts_laid t =
-        let d = t.before in
-        ends_laid d.roomy.raised d.deals d.none_left.links played t.long t.plays
+    cuts_laid t = grind (arith, ends_laid (t.before).roomy.raised (t.before).deals (t.before).none_left.links played t.long t.plays)
 
     -- so the cuts lie between the shares that played
     pub still_cuts : IsTurned m r lent dealt played → AreCuts r.layout.now.cuts.items played

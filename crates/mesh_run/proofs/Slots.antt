@@ -3,9 +3,6 @@ use Rattle.mesh_run.proofs.Common.{HoldsAll, LacksEnds, LinkEnds, List, None, Op
 use Rattle.mesh_run.proofs.Common.{set, set-set, set-slice_get, slice_get, slice_get-mapped, subst, sym, ℕ, ◌<◌, ◌∙◌, ◌≡◌}
 
 -- the place is one of a list that is a map
-pub within_map : {X : Type 0} (f : LinkEnds → X) (ends : List LinkEnds) (slots : List X) (place : ℕ) → slots ≡ map f ends → place < length ends → place < length slots
-within_map f ends slots place are below = grind (arith, length-map ends f)
-
 pub slot_is : {X : Type 0} (f : LinkEnds → X) (ends : List LinkEnds) (slots : List X) (place : ℕ) (old : LinkEnds) (d : X) → slots ≡ map f ends → slice_get ends place ≡ Some old →
     get_or slots place d ≡ f old
 slot_is f ends slots place old d are at = grind (arith, get_or_from_slice_get (map f ends) place (f old) d (slice_get-mapped f ends place old at), slice_get-mapped f ends place old at, get_or)
@@ -24,17 +21,13 @@ pub end_taken : {X : Type 0} (end : LinkEnds → X) (ends : List LinkEnds) (slot
 end_taken end ends slots place old x are at is = same_Some x (end old) (same_Some (Some x) (Some (end old)) (sym is ∙ slot_stands end ends slots place old are at))
 
 -- what stands in a list that is a map, with one item set
-same_slot : {X : Type 0} (f : LinkEnds → X) (ends : List LinkEnds) (slots : List X) (place : ℕ) (old new : LinkEnds) → slots ≡ map f ends → slice_get ends place ≡ Some old → f new ≡ f old →
-    slots ≡ map f (set ends place new)
-same_slot f ends slots place old new are at same = grind (arith, set-slice_get, slice_get-mapped, map-set)
-
 new_slot : {X : Type 0} (f : LinkEnds → X) (ends : List LinkEnds) (lacking slots : List X) (place : ℕ) (gone : X) (new : LinkEnds) → lacking ≡ set (map f ends) place gone →
     slots ≡ set lacking place (f new) → slots ≡ map f (set ends place new)
 new_slot f ends lacking slots place gone new lacks is = grind (arith, set-set (map f ends) place gone (f new), map-set f ends place new)
 
 pub ends_back : (ends : List LinkEnds) (place : ℕ) (old : LinkEnds) (tx : Tx) (rx : Rx) (s t : Standing) → LacksEnds ends place s → slice_get ends place ≡ Some old → t.links ≡ s.links →
     t.rooms ≡ s.rooms → t.txs.items ≡ set s.txs.items place (Some tx) → t.rxs.items ≡ set s.rxs.items place (Some rx) → HoldsAll (set ends place (record old { tx = tx; rx = rx })) t
-ends_back ends place old tx rx s t lacks at links rooms txs rxs = grind (arith, same_slot, new_slot)
+ends_back ends place old tx rx s t lacks at links rooms txs rxs = grind (arith, new_slot, set-slice_get, slice_get-mapped, map-set)
 
 pub set_there : (ends : List LinkEnds) (place : ℕ) (new : LinkEnds) (s t : Standing) → LacksEnds ends place s → t.links.items ≡ set s.links.items place new.link →
     t.txs.items ≡ set s.txs.items place (Some new.tx) → t.rxs.items ≡ set s.rxs.items place (Some new.rx) → t.rooms.items ≡ set s.rooms.items place new.room → HoldsAll (set ends place new) t
@@ -48,7 +41,7 @@ set_there ends place new s t lacks links txs rxs rooms = record {
 -- ---- the place is one of each list
 
 pub in_links : (ends : List LinkEnds) (place : ℕ) (s : Standing) → LacksEnds ends place s → place < length ends → place < length s.links.items
-in_links ends place s lacks below = within_map (λ (e : LinkEnds). e.link) ends s.links.items place lacks.links below
+in_links ends place s lacks below = grind (arith, length-map)
 
 -- the ends that are gone, and all that is left
 pub ends_gone : (ends : List LinkEnds) (place : ℕ) (s t : Standing) → HoldsAll ends s → t.links ≡ s.links → t.rooms ≡ s.rooms → t.txs.items ≡ set s.txs.items place None →

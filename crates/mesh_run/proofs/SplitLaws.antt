@@ -2,8 +2,8 @@
 use Rattle.mesh_run.proofs.Common.{All, All-at, All-nil, All-push, All-replicate, AreSameButEnds, AreSameButUnsent, AreSameHolds, Away, End, FitHomes, HoldNothing, Home, IsEmptyHand, List, MayPutLane}
 use Rattle.mesh_run.proofs.Common.{MayTakeLane, McCopy, MovesIn, MovesOut, None, Option, Own, PutsEnd, PutsUnsent, SameButCopies, SameButEnds, SameButUnsent, SameRun, SetsQueue, SetsUnsent, Share}
 use Rattle.mesh_run.proofs.Common.{Some, State, WithRoom, [], ap, arith, cases_eq, cases_lt, end_at, end_in, get_or, get_or-append_right, get_or-replicate, get_or-set_other, get_or-set_same}
-use Rattle.mesh_run.proofs.Common.{get_or_append_left, get_or_default, get_or_past, inl, inr, length, length-append, length-replicate, length-set, length_push, none-some, refl, replicate, run_start}
-use Rattle.mesh_run.proofs.Common.{same_Some, same_lists, set, set-append_left, set-append_right, slice_get, slice_get-get_or, slice_get-set_other, slice_get-set_same, slice_get_there}
+use Rattle.mesh_run.proofs.Common.{get_or_append_left, get_or_default, get_or_past, inl, inr, length, length-append, length-replicate, length-set, length_push, none-some, refl, replicate, rules}
+use Rattle.mesh_run.proofs.Common.{run_start, same_Some, same_lists, set, set-append_left, set-append_right, slice_get, slice_get-get_or, slice_get-set_other, slice_get-set_same, slice_get_there}
 use Rattle.mesh_run.proofs.Common.{slice_get_within, subst, sym, unsent_at, unsent_in, ℕ, ◌++◌, ◌+◌, ◌-◌, ◌<◌, ◌∙◌, ◌∷◌, ◌≡◌, ◌≢◌, ◌≤◌, ◌⊎◌}
 use Rattle.mesh_run.proofs.CrossingLaws.{AreEach, each_on, each_weaker, each_self, each_set, same_on, same_self, stood, told_same}
 use Rattle.mesh_run.proofs.{Going.pushed, HomeLaws.start_more}
@@ -116,10 +116,7 @@ pub no_unsent : (runs : List ℕ) (queues vertices : ℕ) (shares : List Share) 
 no_unsent runs queues vertices shares s v nothing = by (slice_get shares s) refl
   where
     all_empty : (n v : ℕ) → get_or (replicate {A = List McCopy} n []) v [] ≡ []
-    all_empty n v = elim (cases_lt v n) [
-      | inl inside ↦ get_or-replicate n v [] [] inside
-      | inr past ↦ get_or_past (replicate n []) v [] (omega (arith, past, length-replicate {A = List McCopy} n []))
-    ]
+    all_empty n v = grind (arith, cases_lt, get_or-replicate, get_or_past, length-replicate)
 
     by : (o : Option Share) → slice_get shares s ≡ o → unsent_at shares s v ≡ []
     by None at = ap (λ (x : Option Share). unsent_in x v) at
@@ -236,8 +233,7 @@ moved_in m mid left homes runs queues vertices n k start second third after noth
     unsent_before s v = ends_unsent start second s v lanes.shares_same
 
     not_there : (q : ℕ) (h g : Home) (s : ℕ) → slice_get homes q ≡ Some h → slice_get homes q ≡ Some g → g.sender ≡ g.receiver → s ≡ g.sender → (s ≢ h.sender) ⊎ (h.sender ≢ h.receiver) → ⊥
-    not_there q h g s at at_g one here (inl differs) = differs (here ∙ ap (λ (x : Home). x.sender) (same_Some g h (sym at_g ∙ at)))
-    not_there q h g s at at_g one here (inr apart) = apart (subst (λ (x : Home). x.sender ≡ x.receiver) (same_Some g h (sym at_g ∙ at)) one)
+    not_there q h g s at at_g one here its_8 = grind (arith, same_Some)
 
     nothing_there : (s q : ℕ) → s < length start → q < length homes → end_at start s q ≡ Some Away
     nothing_there s q below inside =
@@ -260,11 +256,6 @@ pub record OutTo (left : State) (homes : List Home) (start : List Share) (n : �
 
 pub out_none : (left : State) (homes : List Home) (start : List Share) → OutTo left homes start 0 left start
 out_none left homes start = grind (arith, same_state left, same_self start)
-
--- a queue between two shares stays
-pub out_apart : (left : State) (homes : List Home) (start : List Share) (n : ℕ) (now : State) (shares : List Share) (home : Home) → OutTo left homes start n now shares →
-    slice_get homes n ≡ Some home → home.sender ≢ home.receiver → OutTo left homes start (n + 1) now shares
-out_apart left homes start n now shares home so_far at apart = grind (arith, cases_eq, same_Some)
 
 -- a lane moves out
 pub out_lane : (left : State) (homes : List Home) (start : List Share) (n : ℕ) (now next : State) (shares new : List Share) (home : Home) (end : End) (copies : List McCopy) →
@@ -293,10 +284,8 @@ out_lane left homes start n now next shares new home end copies so_far at togeth
 -- a queue stays, or moves out
 pub out_more : (left : State) (homes : List Home) (start : List Share) (n : ℕ) (now next : State) (shares new : List Share) (home : Home) → OutTo left homes start n now shares →
     slice_get homes n ≡ Some home → n < length now.inputs + length now.cores → MayTakeLane home n now shares next new → OutTo left homes start (n + 1) next new
-out_more left homes start n now next shares new home so_far at below (inl apart) = grind (arith, out_apart left homes start n now shares home so_far at apart.0)
-out_more left homes start n now next shares new home so_far at below (inr lane) =
-    let long : length (now.inputs ++ now.cores) ≡ length now.inputs + length now.cores = length-append now.inputs now.cores in
-    out_lane left homes start n now next shares new home lane.1 lane.2 so_far at lane.0 (omega (arith, below, long)) lane.3 lane.4 lane.5 lane.6
+out_more left homes start n now next shares new home so_far at below (inl apart) = grind (arith, cases_eq, same_Some)
+out_more left homes start n now next shares new home so_far at below (inr lane) = search (rules, length-append, out_lane)
 
 pub record UnsentOutTo (ports : ℕ) (mid : State) (homes : List Home) (start : List Share) (n : ℕ) (now : State) (shares : List Share) : Type 0 where
   pub same : SameButCopies mid now

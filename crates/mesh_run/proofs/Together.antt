@@ -1,8 +1,8 @@
 -- What all shares did in a round, one share after the other.
 use Rattle.mesh_run.proofs.Common.{All, All-append, All-nil, All-weaker, AreOf, AreShareRuns, AreTurns, Away, Bool, End, EndGoes, Goes, InEnd, IsInRun, IsNoted, Item, LaneGoes, List, McCopy, Option}
 use Rattle.mesh_run.proofs.Common.{OutEnd, Own, SenderGoes, Sends, Setup, Share, Some, TakerGoes, Takes, WithRoom, [], actor_of, ap, append-nil, arith, both_none, cases_lt, end_at, end_before, end_in}
-use Rattle.mesh_run.proofs.Common.{entered, false, flat_map, flat_map-append, get_or, get_or_default, get_or_from_slice_get, inl, inr, left, length, list_any, lost_at, refl, run_start, slice_get}
-use Rattle.mesh_run.proofs.Common.{slice_get-get_or, slice_get_within, slice_index_or, subst, suc, sym, take, take_all, take_more, true, zero, ℕ, ◌++◌, ◌+◌, ◌<◌, ◌||◌, ◌∙◌, ◌∷◌, ◌≡◌, ◌≢◌, ◌≤◌, ◌⊎◌}
+use Rattle.mesh_run.proofs.Common.{entered, false, flat_map, flat_map-append, get_or, get_or_default, get_or_from_slice_get, left, length, list_any, lost_at, refl, run_start, slice_get}
+use Rattle.mesh_run.proofs.Common.{slice_get-get_or, slice_get_within, slice_index_or, subst, suc, sym, take, take_all, take_more, zero, ℕ, ◌++◌, ◌+◌, ◌<◌, ◌||◌, ◌∙◌, ◌∷◌, ◌≡◌, ◌≢◌, ◌≤◌, ◌⊎◌}
 use Rattle.mesh_run.proofs.{CrossingLaws.stood, Going.each_two, Turns.IsNotOf, Turns.flat_map_none, Turns.turns_beside, Turns.turns_none}
 
 -- ---- lists of all shares
@@ -63,15 +63,10 @@ module _ (u : Setup) (n count : ℕ) (ends : List ℕ) (parts : List (List Item)
       }
     where
       beside : (a : ℕ) → SoFar k → AreOf (run_start ends k) (slice_index_or ends k 0) (get_or parts k []) → IsNotOf u a (joined (take k parts)) ⊎ IsNotOf u a (get_or parts k [])
-      beside a h mine = elim (cases_lt a (run_start ends k)) [
-        | inl less ↦ inr (All-weaker (λ x. IsInRun (run_start ends k) (slice_index_or ends k 0) (actor_of x)) (λ x. actor_of x ≢ a)
-            (λ x is_in same. let from = is_in.above in omega (arith, from, same, less)) (get_or parts k []) mine)
-        | inr more ↦ inl (All-weaker (λ x. actor_of x < run_start ends k) (λ x. actor_of x ≢ a) (λ x less same. omega (arith, less, same, more)) (joined (take k parts)) h.before)
-      ]
+      beside a h mine = grind (arith, cases_lt a (run_start ends k), get_or parts k, All-weaker)
 
       rises : (j : ℕ) → j < length parts → run_start ends j ≤ slice_index_or ends j 0
-      rises zero inside = omega arith
-      rises (suc j) inside = runs.rising j (suc j) (omega arith) (omega (arith, inside, long))
+      rises j inside = grind arith
 
   pub turns_joined : AreShareRuns count ends → length parts ≡ length ends → ((k : ℕ) (d : List Item) → k < length parts → AreTurns u n (get_or parts k d)) →
       ((k : ℕ) (d : List Item) → k < length parts → AreOf (run_start ends k) (slice_index_or ends k 0) (get_or parts k d)) → AreTurns u n (joined parts)
@@ -80,9 +75,7 @@ module _ (u : Setup) (n count : ℕ) (ends : List ℕ) (parts : List (List Item)
 -- ---- what is noted
 
 noted_or : (xs ys : List Item) (y z : Bool) → IsNoted false xs y → IsNoted false ys z → IsNoted false (xs ++ ys) (y || z)
-noted_or xs ys true z h k = grind (arith, both_none)
-noted_or xs ys false true h k = grind (arith, both_none)
-noted_or xs ys false false h k = (refl, ap (λ l. l ++ ys) h.1 ∙ k.1)
+noted_or xs ys y z h k = grind (arith, both_none)
 
 pub noted_joined : (shares : List Share) (parts : List (List Item)) → length parts ≡ length shares →
     ((k : ℕ) (s : Share) (p : List Item) → k < length shares → IsNoted false (get_or parts k p) (get_or shares k s).moved) → IsNoted false (joined parts) (list_any (λ s. s.moved) shares)
@@ -124,10 +117,7 @@ module _ {cap patience : ℕ} {before after : List Share} {parts : List (List It
     pub lost : lost_at q (part k) ≡ []
 
   none_by : (k q : ℕ) (b : End) → end_at after k q ≡ Some b → Passes k q Away b → NonePasses k q
-  none_by k q Away at goes = record { stays = at; came = goes.0; went = goes.1; lost = goes.2 }
-  none_by k q (Own b) at goes = absurd goes
-  none_by k q (Sends b) at goes = absurd goes
-  none_by k q (Takes b) at goes = absurd goes
+  none_by k q b at goes = grind arith
 
   pub none_passes : (k q : ℕ) → end_at before k q ≡ Some Away → NonePasses k q
   none_passes k q at = let b = end_passes k q Away at in none_by k q b.0 b.1 b.2
@@ -137,14 +127,8 @@ module _ {cap patience : ℕ} {before after : List Share} {parts : List (List It
     pub stays : end_at after k q ≡ Some (Own lane)
     pub goes : LaneGoes cap patience (entered q (part k)) (left q (part k)) (lost_at q (part k)) a.items lane.items
 
-  lane_by : (k q : ℕ) (a : WithRoom McCopy) (b : End) → end_at after k q ≡ Some b → Passes k q (Own a) b → LanePasses k q a
-  lane_by k q a Away at goes = absurd goes
-  lane_by k q a (Own b) at goes = record { lane = b; stays = at; goes = goes }
-  lane_by k q a (Sends b) at goes = absurd goes
-  lane_by k q a (Takes b) at goes = absurd goes
-
   pub lane_passes : (k q : ℕ) (a : WithRoom McCopy) → end_at before k q ≡ Some (Own a) → LanePasses k q a
-  lane_passes k q a at = let b = end_passes k q (Own a) at in lane_by k q a b.0 b.1 b.2
+  lane_passes k q a at = grind (arith, end_passes)
 
   pub record SenderPasses (k q : ℕ) (a : OutEnd) : Type 0 where
     pub sender : OutEnd
@@ -152,14 +136,8 @@ module _ {cap patience : ℕ} {before after : List Share} {parts : List (List It
     pub went : left q (part k) ≡ []
     pub goes : SenderGoes patience (entered q (part k)) (lost_at q (part k)) a sender
 
-  sender_by : (k q : ℕ) (a : OutEnd) (b : End) → end_at after k q ≡ Some b → Passes k q (Sends a) b → SenderPasses k q a
-  sender_by k q a Away at goes = absurd goes
-  sender_by k q a (Own b) at goes = absurd goes
-  sender_by k q a (Sends b) at goes = record { sender = b; stays = at; went = goes.0; goes = goes.1 }
-  sender_by k q a (Takes b) at goes = absurd goes
-
   pub sender_passes : (k q : ℕ) (a : OutEnd) → end_at before k q ≡ Some (Sends a) → SenderPasses k q a
-  sender_passes k q a at = let b = end_passes k q (Sends a) at in sender_by k q a b.0 b.1 b.2
+  sender_passes k q a at = grind (arith, end_passes)
 
   pub record TakerPasses (k q : ℕ) (a : InEnd) : Type 0 where
     pub taker : InEnd
@@ -168,14 +146,8 @@ module _ {cap patience : ℕ} {before after : List Share} {parts : List (List It
     pub lost : lost_at q (part k) ≡ []
     pub goes : TakerGoes (left q (part k)) a taker
 
-  taker_by : (k q : ℕ) (a : InEnd) (b : End) → end_at after k q ≡ Some b → Passes k q (Takes a) b → TakerPasses k q a
-  taker_by k q a Away at goes = absurd goes
-  taker_by k q a (Own b) at goes = absurd goes
-  taker_by k q a (Sends b) at goes = absurd goes
-  taker_by k q a (Takes b) at goes = record { taker = b; stays = at; came = goes.0; lost = goes.1; goes = goes.2 }
-
   pub taker_passes : (k q : ℕ) (a : InEnd) → end_at before k q ≡ Some (Takes a) → TakerPasses k q a
-  taker_passes k q a at = let b = end_passes k q (Takes a) at in taker_by k q a b.0 b.1 b.2
+  taker_passes k q a at = grind (arith, end_passes)
 
   -- what all tell of a queue, where one share alone tells something
   pub told_by_one : {Y : Type 0} (f : Item → List Y) (k : ℕ) → k < length before → ((j : ℕ) → j < length before → j ≢ k → flat_map f (part j) ≡ []) →

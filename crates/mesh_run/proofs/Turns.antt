@@ -3,8 +3,8 @@ use Rattle.mesh_run.proofs.Common.{All, All-append, All-cons, All-contains, All-
 use Rattle.mesh_run.proofs.Common.{Dumped, Entry, GetsOne, IsBankOf, IsDoneOn, IsLiveIndex, IsOutput, IsRouterOf, Item, List, McCopy, None, Option, Out, Port, RouterNode, RoutesOne, SendsOne, Service}
 use Rattle.mesh_run.proofs.Common.{Setup, [], actor_of, all_outs, ap, append-nil, ap₂, arith, bank_place, cases_eq, chip_of, cond_both, contains_among, flat_map, flat_map-append, getting_of, gettings}
 use Rattle.mesh_run.proofs.Common.{got, has, index_of, inl, inr, last_hop, length, length-append, lookup, map, map-append, outputs, outputs_at, outs_of, owed_on, place_at_router, place_behind, refl}
-use Rattle.mesh_run.proofs.Common.{router_place, sending_of, sendings, sent, served, service_items, service_of, services, slice_index_or, subst, sym, taking_of, takings, took, where_same, ℕ, ◌++◌}
-use Rattle.mesh_run.proofs.Common.{◌+◌, ◌==◌, ◌∙◌, ◌∷◌, ◌≡◌, ◌≢◌, ◌≤◌, ◌⊎◌}
+use Rattle.mesh_run.proofs.Common.{router_place, rules, sending_of, sendings, sent, served, service_items, services, slice_index_or, subst, sym, taking_of, takings, took, where_same, ℕ, ◌++◌, ◌+◌}
+use Rattle.mesh_run.proofs.Common.{◌==◌, ◌∙◌, ◌∷◌, ◌≡◌, ◌≢◌, ◌≤◌, ◌⊎◌}
 use Rattle.mesh_run.proofs.{Apart.elsewhere, Apart.here, OutputBits.has_bit}
 
 -- ---- lists
@@ -18,11 +18,8 @@ flat_map_map_none : {X Z Y : Type 0} (f : Z → List Y) (g : X → Z) → ((x : 
 flat_map_map_none f g none [] = refl
 flat_map_map_none f g none (x ∷ xs) = ap (λ l. l ++ flat_map f (map g xs)) (none x) ∙ flat_map_map_none f g none xs
 
-few_same : {X : Type 0} (p q : ℕ) (x : X) → length (where_same p q (x ∷ [])) ≤ 1
-few_same {X} p q x = cond_both (p == q) (x ∷ []) [] (λ (l : List X). length l ≤ 1) (λ same. omega arith) (λ apart. omega arith)
-
 pub few_more : {X : Type 0} (p q : ℕ) (x : X) → length (where_same p q (x ∷ []) ++ []) ≤ 1
-few_more {X} p q x = subst (λ (l : List X). length l ≤ 1) (sym (append-nil (where_same p q (x ∷ [])))) (few_same p q x)
+few_more {X} p q x = grind (arith, append-nil, cond_both)
 
 -- ---- outputs
 
@@ -50,13 +47,7 @@ module _ (u : Setup) where
   counted_of n items h = record { each = h.each; each_once = h.each_once; takings_few = h.takes; sendings_few = h.sends; gettings_few = h.gets }
 
   pub turns_of : (t s g n : ℕ) (items : List Item) → t ≤ n → s ≤ n → g ≤ n → AreCounted u t s g items → AreTurns u n items
-  turns_of t s g n items t_few s_few g_few h = record {
-    each = h.each;
-    each_once = h.each_once;
-    takes = λ i. omega (arith, t_few, h.takings_few i);
-    sends = λ i. omega (arith, s_few, h.sendings_few i);
-    gets = λ i. omega (arith, g_few, h.gettings_few i);
-  }
+  turns_of t s g n items t_few s_few g_few h = search rules
 
   each_once_on : (xs ys : List Item) (i : ℕ) → map told (services i xs) ≡ owed_on u (chip_of u.machine i) (takings i xs) →
       map told (services i ys) ≡ owed_on u (chip_of u.machine i) (takings i ys) → map told (services i (xs ++ ys)) ≡ owed_on u (chip_of u.machine i) (takings i (xs ++ ys))
@@ -91,22 +82,13 @@ module _ (u : Setup) where
   IsNotOf a items = All (λ x. actor_of x ≢ a) items
 
   untaken : (i : ℕ) (x : Item) → actor_of x ≢ router_place i → taking_of i x ≡ []
-  untaken i (took j port k) other = elsewhere j i ((port, k) ∷ []) (λ same. other (ap router_place same))
-  untaken i (served j c place s) other = refl
-  untaken i (sent j v k) other = refl
-  untaken i (got j v place k) other = refl
+  untaken i x other = grind (arith, elsewhere)
 
   unsent : (i : ℕ) (x : Item) → actor_of x ≢ bank_place i → sending_of i x ≡ []
-  unsent i (took j port k) other = refl
-  unsent i (served j c place s) other = refl
-  unsent i (sent j v k) other = elsewhere j i (k ∷ []) (λ same. other (ap bank_place same))
-  unsent i (got j v place k) other = refl
+  unsent i x other = grind (arith, elsewhere)
 
   ungot : (i : ℕ) (x : Item) → actor_of x ≢ bank_place i → getting_of i x ≡ []
-  ungot i (took j port k) other = refl
-  ungot i (served j c place s) other = refl
-  ungot i (sent j v k) other = refl
-  ungot i (got j v place k) other = elsewhere j i (k ∷ []) (λ same. other (ap bank_place same))
+  ungot i x other = grind (arith, elsewhere)
 
   -- where one of two lists has none of an actor, both have no more than one has
   length_beside : {Y : Type 0} (f : Item → List Y) (a n : ℕ) → ((x : Item) → actor_of x ≢ a → f x ≡ []) → (xs ys : List Item) → IsNotOf a xs ⊎ IsNotOf a ys →
@@ -130,14 +112,10 @@ module _ (u : Setup) where
   services_here j i c place same [] = refl
   services_here j i c place same (s ∷ done) = ap₂ (λ (a b : List Service). a ++ b) (here j i (s ∷ []) same) (services_here j i c place same done)
 
-  services_elsewhere : (j i : ℕ) (c : Chip) (place : Service → Option ℕ) → j ≢ i → (done : List Service) → services i (map (λ s. served j c (place s) s) done) ≡ []
-  services_elsewhere j i c place other done = flat_map_map_none (service_of i) (λ s. served j c (place s) s) (λ s. elsewhere j i (s ∷ []) other) done
-
   -- what a turn of a router tells, where services tell nothing
   routed_tells : {Y : Type 0} (f : Item → List Y) (r : RouterNode) (items : List Item) → (h : RoutesOne r.table.now r items) →
       ((s : Service) → f (served r.index r.chip (place_at_router r.behind.now s.out) s) ≡ []) → flat_map f items ≡ f (took r.index h.port h.copy) ++ []
-  routed_tells f r items h none =
-      ap (flat_map f) h.are ∙ ap (λ l. f (took r.index h.port h.copy) ++ l) (flat_map_map_none f (λ s. served r.index r.chip (place_at_router r.behind.now s.out) s) none h.done)
+  routed_tells f r items h none = grind (arith, flat_map_map_none)
 
   routed_each_once : (r : RouterNode) (a : ℕ) → IsRouterOf u a r → (items : List Item) → (h : RoutesOne r.table.now r items) → (i : ℕ) → (r.index ≡ i) ⊎ (r.index ≢ i) →
       map told (services i items) ≡ owed_on u (chip_of u.machine i) (takings i items)
@@ -151,7 +129,7 @@ module _ (u : Setup) where
       let outs : outputs_at r.table.now h.port h.copy ≡ outputs u (chip_of u.machine i) h.port h.copy = ap (λ (t : List Entry). outputs_at t h.port h.copy) table in
       ap (map told) done ∙ (h.each_once ∙ (ap (λ (l : List Out). map {B = Out × McCopy} (λ o. (o, h.copy)) l) outs
       ∙ (sym (append-nil (map (λ o. (o, h.copy)) (outputs u (chip_of u.machine i) h.port h.copy))) ∙ ap (owed_on u (chip_of u.machine i)) (sym taken))))
-  routed_each_once r a of items h i (inr other) = grind (arith, services_elsewhere, flat_map_map_none, elsewhere)
+  routed_each_once r a of items h i (inr other) = grind (arith, flat_map_map_none, elsewhere)
 
   served_outputs : (r : RouterNode) (items : List Item) → (h : RoutesOne r.table.now r items) → All (λ (s : Service). IsOutput s.out) h.done
   served_outputs r items h =
@@ -201,28 +179,8 @@ module _ (u : Setup) where
   gets_counted : (i : ℕ) (b : CoreBank) (items : List Item) → IsLiveIndex u i → IsBankOf u i b → GetsOne b items → AreCounted u 0 0 1 items
   gets_counted i b items live of h = grind (arith, All-cons (IsDoneOn u) (got b.index h.vertex (b.cores + h.vertex) h.copy), All-nil (IsDoneOn u), few_more)
 
-  more_counted : (s g a b : ℕ) (items : List Item) → s ≤ a → g ≤ b → AreCounted u 0 s g items → AreCounted u 0 a b items
-  more_counted s g a b items few less h = record {
-    each = h.each;
-    each_once = h.each_once;
-    takings_few = h.takings_few;
-    sendings_few = λ j. omega (arith, few, h.sendings_few j);
-    gettings_few = λ j. omega (arith, less, h.gettings_few j);
-  }
-
   pub bank_turns : (i : ℕ) (b : CoreBank) (items : List Item) → IsLiveIndex u i → IsBankOf u i b → BankMoves b items → AreTurns u 1 items
-  bank_turns i b items live of h = grind (arith, more_counted 0 0 1 0, counted_none, more_counted 0 0 0 1, sends_counted, gets_counted, turns_of, counted_on)
+  bank_turns i b items live of h = grind (arith, counted_none, sends_counted, gets_counted, turns_of, counted_on)
 
   pub bank_by : (b : CoreBank) (items : List Item) → BankMoves b items → All (λ x. actor_of x ≡ bank_place b.index) items
-  bank_by b items h = subst (All Is) (sym h.are) (All-append Is h.first h.second
-      (elim h.sends [
-        | inl none ↦ subst (All Is) (sym none) (All-nil Is)
-        | inr sends ↦ subst (All Is) (sym sends.are) (All-cons Is (sent b.index sends.vertex sends.copy) [] refl (All-nil Is))
-      ])
-      (elim h.gets [
-        | inl none ↦ subst (All Is) (sym none) (All-nil Is)
-        | inr gets ↦ subst (All Is) (sym gets.are) (All-cons Is (got b.index gets.vertex (b.cores + gets.vertex) gets.copy) [] refl (All-nil Is))
-      ]))
-    where
-      Is : Item → Type 0
-      Is x = actor_of x ≡ bank_place b.index
+  bank_by b items h = grind (arith, All-append, All-nil, All-cons)

@@ -1,10 +1,9 @@
-use Rattle.link_detours.proofs.Common.{Chip, IsIn, IsTreeChip, LeadsTo, Steps, [], append-nil, inl, refl, subst, sym}
+use Rattle.link_detours.proofs.Common.{Chip, IsIn, IsTreeChip, LeadsTo, Steps, [], append-nil, arith, inl, refl, subst, sym}
 use Rattle.link_detours.proofs.{Putting.bit_of, Stepping.IsLevel-same, Walks.walk_steps, Waving.AreWaves-same}
 use Rattle.link_detours.proofs.detours.join.Goals as goal
 
 pub has-requires : goal.has-requires
-has-requires c =
-    bit_of c.args.aim.ground.machine.now c.args.aim.ground.roads.now c.args.tree.now c.args.aim.target c.args.aim.ground.roads_are c.requires.long c.args.aim.inside
+has-requires c = grind (arith, bit_of c.args.aim.ground.machine.now c.args.aim.ground.roads.now c.args.tree.now c.args.aim.target c.args.aim.ground.roads_are c.requires.long c.args.aim.inside)
 
 pub returns-then-has-clause-joined : goal.returns-then-has-clause-joined
 returns-then-has-clause-joined c = λ _. ([], sym (append-nil c.args.whole.now.items), (c.requires.told c.args.aim.target).0 (c.has.ensures.0 c.if-has.true))

@@ -4,24 +4,10 @@ use Rattle.link_detours.proofs.{Waving.some_step, Waving.on_tree, Waving.way_mor
 use Rattle.link_detours.proofs.detours.walk_back.Goals as goal
 
 pub back-init : goal.back-init
-back-init c = record {
-  inside = c.args.aim.inside;
-  count = c.requires.waves.0;
-  waves = c.requires.waves.1;
-  level = c.requires.waves.2;
-  long = c.requires.set.long;
-  chips = c.requires.set.told;
-  done = [];
-  added = sym (append-nil c.args.whole.now.items);
-  way = λ rest detour. detour;
-}
+back-init c = grind (arith, append-nil c.args.whole.now.items)
 
 pub overflow_sub-left : goal.overflow_sub-left
-overflow_sub-left c =
-    let some : 0 < length c.back.left.now = search rules in
-    let last = last_wave c.args.aim.ground.machine.now (IsTreeChip c.args.aim.ground.machine.now c.args.aim.root c.args.whole.now.items) c.back.invariant.count c.back.left.now
-    some c.back.invariant.waves in
-    omega (arith, last.2, c.back.invariant.long)
+overflow_sub-left c = grind (arith, last_wave)
 
 -- the level of the chip, the waves before the last, and the last
 taken : (c : After-split_at) → (k : ℕ) × IsTreeLevel c.args.aim.ground.machine.now c.args.aim.root c.args.whole.now.items c.back.at (suc k)
@@ -47,8 +33,7 @@ unreachable-requires c =
     some_step c.args.aim.ground.machine.now c.args.aim.root c.args.whole.now.items now.0 c.split_at.result.1.now c.back.at now.3 now.1 c.in_default.ensures.none
 
 pub put-requires : goal.put-requires
-put-requires c =
-    bit_of c.args.aim.ground.machine.now c.args.aim.ground.roads.now c.back.tree c.back.at c.args.aim.ground.roads_are c.back.invariant.long c.back.invariant.inside
+put-requires c = grind (arith, bit_of c.args.aim.ground.machine.now c.args.aim.ground.roads.now c.back.tree c.back.at c.args.aim.ground.roads_are c.back.invariant.long c.back.invariant.inside)
 
 pub back-preserved : goal.back-preserved
 back-preserved c =

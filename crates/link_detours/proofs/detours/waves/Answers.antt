@@ -1,13 +1,12 @@
-use Rattle.link_detours.proofs.Common.{IsIn, arith, false≢true, mul-le, refl, suc, sym, ◌∙◌, ◌≡◌}
-use Rattle.link_detours.proofs.{Naming.all_named, Naming.none_grew, Naming.spread_but, Waving.first_wave, Waving.next_wave, Waving.dry, Waving.level_is, Waving.off_wave, Waving.sum_rises}
-use Rattle.link_detours.proofs.Waving.{added_words}
+use Rattle.link_detours.proofs.Common.{IsIn, arith, cases_eq, false≢true, get_or, mul-le, refl, suc, sum_by-le, sym, ◌∙◌, ◌≡◌}
+use Rattle.link_detours.proofs.{Waving.sums_rise, Waving.next_wave, Waving.dry, Waving.level_is, Waving.off_wave, Waving.added_words, Naming.all_named, Naming.none_grew, Naming.spread_but}
 use Rattle.link_detours.proofs.detours.waves.Goals as goal
 
 pub overflow_mul-tree : goal.overflow_mul-tree
 overflow_mul-tree c = grind (arith, mul-le)
 
 pub spreading-init : goal.spreading-init
-spreading-init c = grind (arith, first_wave, all_named)
+spreading-init c = grind (arith, all_named)
 
 pub invariant_of-front : goal.invariant_of-front
 invariant_of-front c = grind (arith, added_words)
@@ -29,7 +28,7 @@ spreading-preserved c =
     }
 
 pub spreading-smaller : goal.spreading-smaller
-spreading-smaller c = grind (arith, sum_rises)
+spreading-smaller c = grind (arith, sums_rise, sum_by-le, get_or, cases_eq)
 
 pub returns-then-grown-eq0-clause-cut_off : goal.returns-then-grown-eq0-clause-cut_off
 returns-then-grown-eq0-clause-cut_off c = λ n by.

@@ -1,4 +1,4 @@
-use Rattle.link_detours.proofs.Common.{live_inside}
+use Rattle.link_detours.proofs.Common.{arith, live_inside}
 use Rattle.link_detours.proofs.Keeping.{live_edges_inside, kept_is, kept_whole}
 use Rattle.link_detours.proofs.repairs.kept_edges.Goals as goal
 
@@ -6,10 +6,7 @@ pub invariant_of-links : goal.invariant_of-links
 invariant_of-links c = record { inside = rw (c.deref.ensures.value, c.in_ok-live.ensures) (live_edges_inside c.args.broken.ground.machine.now c.args.broken.edges.now) }
 
 pub invariant_of-tree : goal.invariant_of-tree
-invariant_of-tree c = record {
-  root_inside = live_inside c.args.broken.ground.machine.now c.args.broken.root c.args.broken.is_tree.root_lives;
-  inside = rw (c.deref.ensures.value, c.in_ok-live.ensures) (live_edges_inside c.args.broken.ground.machine.now c.args.broken.edges.now);
-}
+invariant_of-tree c = grind (arith, live_inside, live_edges_inside)
 
 pub returns-clause-kept : goal.returns-clause-kept
 returns-clause-kept c =

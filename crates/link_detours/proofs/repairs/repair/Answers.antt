@@ -21,14 +21,10 @@ returns-clause-routing c =
     b.some_target c.in_ok-left.ensures.left c.in_ok-left.ensures.in_order)
 
 pub returns-clause-same_edges : goal.returns-clause-same_edges
-returns-clause-same_edges c tree =
-    let b = c.args.broken in
-    same_edges b.ground.machine.now b.root b.edges.now b.targets.now c.from_vec.result tree (returns-clause-repaired c)
+returns-clause-same_edges c tree = search (rules, same_edges, returns-clause-repaired)
 
 pub returns-clause-unchanged : goal.returns-clause-unchanged
-returns-clause-unchanged c tree ordered =
-    let b = c.args.broken in
-    unchanged b.ground.machine.now b.root b.edges.now b.targets.now c.from_vec.result tree (returns-clause-repaired c) ordered
+returns-clause-unchanged c tree ordered = search (rules, unchanged, returns-clause-repaired)
 
 pub returns-in_err-whole-clause-not_cut_off : goal.returns-in_err-whole-clause-not_cut_off
 returns-in_err-whole-clause-not_cut_off c tree =

@@ -1,12 +1,10 @@
-use Rattle.link_detours.proofs.Common.{[], ap, arith, length, length-append, rules, ◌∙◌, ◌∷◌}
-use Rattle.link_detours.proofs.Searching.{start, start_looking, look_past, look_at_end, weight_falls, end_links, marked_reached, dir_number_at}
+use Rattle.link_detours.proofs.Common.{[], ap, arith, below_six, length, length-append, rules, ◌∙◌, ◌∷◌}
+use Rattle.link_detours.proofs.Searching.{start, start_looking, look_past, look_at_end, weight_falls, marked_reached, dir_number_at}
 use Rattle.link_detours.proofs.searches.reached_chips.Goals.{in-Some-unmarked_far+in_ok-push, in_default-unmarked_far}
 use Rattle.link_detours.proofs.searches.reached_chips.Goals as goal
 
 pub loop-from-init : goal.loop-from-init
-loop-from-init c =
-    rw c.in_ok-left.ensures.items
-    (start c.args.search.table.machine.now c.args.search.table.flags.now c.args.search.seeds.now c.in_ok-marks.marks.items c.in_ok-marks.ensures.long c.args.search.inside c.in_ok-marks.ensures.seeds)
+loop-from-init c = grind (arith, start)
 
 pub loop-link-init : goal.loop-link-init
 loop-link-init c = (
@@ -41,9 +39,7 @@ loop-link-preserved c =
     ]
 
 pub loop-from-preserved : goal.loop-from-preserved
-loop-from-preserved c =
-    end_links c.args.search.table.machine.now c.args.search.table.flags.now c.args.search.seeds.now c.loop-link.marks.items c.loop-link.left.items
-    c.in-Some.from c.loop-link.link-index c.loop-link-test.false c.loop-link.invariant.0.ongoing
+loop-from-preserved c = search (rules, below_six)
 
 pub loop-from-smaller : goal.loop-from-smaller
 loop-from-smaller c = omega (arith, c.loop-link.invariant.1, ap length c.in-Some.ensures.items, length-append c.pop.new.self.items (c.in-Some.from ∷ []))

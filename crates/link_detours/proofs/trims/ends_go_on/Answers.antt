@@ -1,11 +1,9 @@
+use Rattle.link_detours.proofs.Common.{arith}
 use Rattle.link_detours.proofs.Trimming.{chips_inside, goes_on}
 use Rattle.link_detours.proofs.trims.ends_go_on.Goals as goal
 
 pub invariant_of-seeds : goal.invariant_of-seeds
-invariant_of-seeds c = record {
-  inside = rw (c.deref.ensures.value, c.in_ok-chips.ensures)
-      (chips_inside c.args.aimed.edges.machine.now c.args.aimed.edges.list.now c.args.aimed.targets.now c.args.aimed.edges.inside c.args.aimed.inside);
-}
+invariant_of-seeds c = grind (arith, chips_inside c.args.aimed.edges.machine.now c.args.aimed.edges.list.now c.args.aimed.targets.now c.args.aimed.edges.inside c.args.aimed.inside)
 
 pub returns : goal.returns
 returns c marked =

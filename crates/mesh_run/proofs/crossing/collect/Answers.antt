@@ -1,4 +1,4 @@
-use Rattle.mesh_run.proofs.Common.{Cut, End, Sends, Some, Takes, ap, arith, get_or, refl, same_Some, set, slice_get-get_or, sym, ◌∙◌, ◌≡◌}
+use Rattle.mesh_run.proofs.Common.{Cut, End, Sends, Some, Takes, ap, get_or, refl, rules, same_Some, set, slice_get-get_or, sym, ◌∙◌, ◌≡◌}
 use Rattle.mesh_run.proofs.CrossingLaws.{collected_all, collected_more, next_laid}
 use Rattle.mesh_run.proofs.crossing.collect.Goals as goal
 
@@ -42,6 +42,4 @@ loop-number-preserved c =
     c.put_end-out.ensures.put c.put_end-into.ensures.put
 
 pub returns : goal.returns
-returns c = λ ends holds long.
-    collected_all c.args.cuts.now c.args.standing.now c.loop-number.standing c.args.shares.now.items c.loop-number.shares.items c.loop-number.number ends c.loop-number.invariant
-    (omega arith) holds long
+returns c = search (rules, collected_all)

@@ -1,16 +1,9 @@
-use Rattle.mesh_run.proofs.Common.{Description, IsInside, List, Spot, arith, get_or, grid_size, length, site_inside, slice_get-get_or, subst, sym, ◌*◌, ◌+◌, ◌<◌}
+use Rattle.mesh_run.proofs.Common.{Description, arith, get_or, grid_size, length, site_inside, slice_get-get_or, subst, ◌*◌, ◌+◌, ◌<◌}
 use Rattle.mesh_run.proofs.HomeLaws.{homes_all, vertex_more}
 use Rattle.mesh_run.proofs.homes.homes_of.Goals as goal
 
 pub index-home-requires : goal.index-home-requires
-index-home-requires c =
-    let nothing : Spot = record { chip = record { x = 0; y = 0 }; core = 0 } in
-    let u = c.args.footing.setup.now in
-    let v = c.loop-vertex.vertex in
-    subst (λ (m : Description). IsInside m (get_or c.spots-spots.result.now v nothing).chip) (sym c.machine.ensures)
-    (subst (λ (l : List Spot). IsInside u.machine (get_or l v nothing).chip) (sym c.spots-spots.ensures)
-    (site_inside u.machine (get_or u.spots v nothing)
-    (c.every_setup_has_sites.ensures.sites v nothing (subst (λ (l : List Spot). v < length l) c.spots-spots.ensures c.loop-vertex-test.true))).0)
+index-home-requires c = grind (arith, get_or, site_inside)
 
 pub loop-vertex-preserved : goal.loop-vertex-preserved
 loop-vertex-preserved c =

@@ -3,11 +3,7 @@ use Rattle.mesh_run.proofs.BringingUp.{made_with, may_rise, up_more, all_up}
 use Rattle.mesh_run.proofs.queues.bring_up.Goals as goal
 
 pub invariant_of-first : goal.invariant_of-first
-invariant_of-first g c =
-    let q = c.index-queues-place.result in
-    let fits = subst (λ (p : List McCopy). length p ≤ c.args.places.cap) (sym (c.in_ok-list.ensures ∙ (c.as_slice.ensures ∙ c.index-queues-place.is)))
-    (c.requires c.loop-place.place q c.loop-place-test.true) in
-    record { some = omega (arith, c.for_held-cap.ensures, c.args.places.some); fits = omega (arith, c.for_held-cap.ensures, c.len.ensures, fits) }
+invariant_of-first g c = grind arith
 
 pub loop-place-preserved : goal.loop-place-preserved
 loop-place-preserved g c =

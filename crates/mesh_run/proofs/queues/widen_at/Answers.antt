@@ -3,10 +3,7 @@ use Rattle.mesh_run.proofs.Resting.{held_short, lent_inside, lent_link, put_agai
 use Rattle.mesh_run.proofs.queues.widen_at.Goals as goal
 
 pub index-requires : goal.index-requires
-index-requires g c =
-    let u = c.requires in
-    let inside = rest_inside u.3 (c.rest_at-held.ensures u.0 u.1 u.2 u.3) in
-    omega (arith, inside, c.rest_at-held.new.standing.links.ok.0)
+index-requires g c = grind (arith, rest_inside (c.requires).3 (c.rest_at-held.ensures (c.requires).0 (c.requires).1 (c.requires).2 (c.requires).3))
 
 pub returns-then-places-free_places-clause-wide : goal.returns-then-places-free_places-clause-wide
 returns-then-places-free_places-clause-wide g c = λ ends old holds at up.

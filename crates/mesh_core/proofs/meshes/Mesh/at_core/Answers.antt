@@ -5,8 +5,7 @@ use Rattle.mesh_core.proofs.meshes.Mesh.at_core.Goals as goal
 
 pub returns-in-Some : goal.returns-in-Some
 returns-in-Some c =
-    delivery_has c.args.self.now c.args.packet c.args.spot c.in_ok-vertex.vertex c.in-Some.place
-    (sym (ap (λ (t : State). vertex_at t.setup.spots c.args.spot) c.self.view_is) ∙ (sym c.vertex_at.ensures ∙ c.in_ok-vertex.was)) (sym c.delivery_to.ensures ∙ c.in-Some.is)
+    delivery_has _ _ _ _ _ (sym (ap (λ (t : State). vertex_at t.setup.spots c.args.spot) c.self.view_is) ∙ (sym c.vertex_at.ensures ∙ c.in_ok-vertex.was)) (sym c.delivery_to.ensures ∙ c.in-Some.is)
 
 pub returns-then-has_packet : goal.returns-then-has_packet
 returns-then-has_packet c =

@@ -11,8 +11,7 @@ out_of-out-requires c =
     (subst IsMesh c.self.view_is c.self.invariant))).1
 
 pub returns-in-Some : goal.returns-in-Some
-returns-in-Some c =
-    found_at_core c.args.self.now c.args.net.now c.args.packet c.requires.tracked c.args.target c.requires.is_target c.in-Some.found c.in-Some.ensures
+returns-in-Some c = grind (arith, found_at_core c.args.self.now c.args.net.now c.args.packet c.requires.tracked c.args.target c.requires.is_target c.in-Some.found c.in-Some.ensures)
 
 pub loop-init : goal.loop-init
 loop-init c =
@@ -20,24 +19,16 @@ loop-init c =
     (walk_begins c.args.self.now c.args.net.now c.args.packet c.requires.tracked c.args.target c.requires.is_target c.in_default.ensures)
 
 pub at_output-requires : goal.at_output-requires
-at_output-requires c =
-    walk_inside c.args.self.now c.args.net.now c.args.packet c.requires.tracked c.args.target c.requires.is_target
-    (subst IsMesh c.self.view_is c.self.invariant) c.loop.counter c.loop.chip c.loop.out c.loop.invariant
+at_output-requires c = walk_inside _ _ _ c.requires.tracked _ c.requires.is_target (subst IsMesh c.self.view_is c.self.invariant) _ _ _ c.loop.invariant
 
 pub returns-in-Some-at_output : goal.returns-in-Some-at_output
-returns-in-Some-at_output c =
-    found_at_output c.args.self.now c.args.net.now c.args.packet c.requires.tracked c.args.target c.requires.is_target
-    c.loop.counter c.loop.chip c.loop.out c.loop.invariant c.in-Some-at_output.found c.in-Some-at_output.ensures
+returns-in-Some-at_output c = found_at_output _ _ _ c.requires.tracked _ c.requires.is_target _ _ _ c.loop.invariant _ c.in-Some-at_output.ensures
 
 pub at_port-requires : goal.at_port-requires
-at_port-requires c =
-    walk_inside c.args.self.now c.args.net.now c.args.packet c.requires.tracked c.args.target c.requires.is_target
-    (subst IsMesh c.self.view_is c.self.invariant) c.loop.counter c.loop.chip c.loop.out c.loop.invariant
+at_port-requires c = walk_inside _ _ _ c.requires.tracked _ c.requires.is_target (subst IsMesh c.self.view_is c.self.invariant) _ _ _ c.loop.invariant
 
 pub returns-in-Some-at_port : goal.returns-in-Some-at_port
-returns-in-Some-at_port c =
-    found_at_port c.args.self.now c.args.net.now c.args.packet c.requires.tracked c.args.target c.requires.is_target
-    c.loop.counter c.loop.chip c.loop.out c.port_behind.result c.loop.invariant c.in-Some-at_port.found c.in-Some-at_port.ensures
+returns-in-Some-at_port c = found_at_port _ _ _ c.requires.tracked _ c.requires.is_target _ _ _ _ c.loop.invariant _ c.in-Some-at_port.ensures
 
 pub returns-in_default-before : goal.returns-in_default-before
 returns-in_default-before c =

@@ -26,18 +26,7 @@ returns-in_err-make_room-clause-back g c =
     (omega arith) c.places_of-places.ensures.cap (c.in_ok-widen_all.ensures.wide raised.ends raised.holds) c.make_room_in_all.ensures c.make_room.ensures.delivered c.make_room.ensures.dumped)
 
 pub play_roomy-requires-after_bounds : goal.play_roomy-requires-after_bounds
-play_roomy-requires-after_bounds g c κs within =
-    let q = c.requires in (
-      q.0,
-      q.1,
-      roomy_with q.0 c.args.self.now c.widen_all.new.standing c.make_room_in_all.new.shares c.make_room.new.self c.places_of-places.result.cap c.places_of-places.result.turns c.deref.result.now q.2
-          c.places_of-places.ensures.cap c.places_of-places.ensures.turns c.in_ok-widen_all.ensures.wide c.make_room_in_all.ensures c.make_room.ensures.delivered c.make_room.ensures.dumped
-          c.deref.ensures.value c.in_ok-make_room.ensures.room,
-    )
+play_roomy-requires-after_bounds g c κs within = grind (arith, roomy_with)
 
 pub returns-clause-played : goal.returns-clause-played
-returns-clause-played g c = λ m mesh raised.
-    c.play_roomy.ensures.played m mesh
-    (roomy_with m c.args.self.now c.widen_all.new.standing c.make_room_in_all.new.shares c.make_room.new.self c.places_of-places.result.cap c.places_of-places.result.turns c.deref.result.now raised
-    c.places_of-places.ensures.cap c.places_of-places.ensures.turns c.in_ok-widen_all.ensures.wide c.make_room_in_all.ensures c.make_room.ensures.delivered c.make_room.ensures.dumped
-    c.deref.ensures.value c.in_ok-make_room.ensures.room)
+returns-clause-played g c = grind (arith, roomy_with)

@@ -6,11 +6,7 @@ use Rattle.mesh_run.proofs.raised.RaisedMesh.play_roomy.{Given.Over, Goals.After
 use Rattle.mesh_run.proofs.raised.RaisedMesh.play_roomy.Goals as goal
 
 pub deal-requires-clause-cuts : goal.deal-requires-clause-cuts
-deal-requires-clause-cuts g c =
-    let q = c.requires in
-    subst (λ (x : RaisedMesh). AreCuts c.deref.result.now x.shares.items) (sym c.self.view_is)
-    (subst (λ (l : List Cut). AreCuts l c.args.self.now.shares.items) (sym (c.deref.ensures.value ∙ ap (λ (x : RaisedMesh). x.layout.now.cuts.items) c.self.view_is))
-    (cuts_apart q.2.raised))
+deal-requires-clause-cuts g c = grind (arith, cuts_apart (c.requires).2.raised)
 
 -- what was dealt to the shares
 dealt : (g : Over) (c : After-deal g) (m : State) → IsMesh m → IsRoomyFrom m (c.args.self.now.pace.turns + 1) c.args.self.now →
