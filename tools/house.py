@@ -28,11 +28,14 @@ MOST = {
     "conditions a function, in hundredths": 29,
     "conditions of one function": 4,
     "lines of proofs": 61849,
+    "lines of proofs of app_loads, cover_merge and mesh_round": 17721,
     "lines of proofs longer than 200 characters": 368,
     "lines of proofs longer than 300 characters": 0,
     "lines of definitions": 13856,
     "lines of definitions on which the programs' calls rest": 4687,
 }
+# The crates that had most lines of proofs.
+LARGEST = ("app_loads", "cover_merge", "mesh_round")
 PROMISES, LAWS = "| promise | carried by | broken by |", "| law or lemma | stands as |"
 
 
@@ -223,6 +226,7 @@ def counts():
         "conditions a function, in hundredths": 100 * sum(conditions) // len(conditions),
         "conditions of one function": max(conditions),
         "lines of proofs": lines_of("crates/*/proofs/**/*.antt"),
+        "lines of proofs of app_loads, cover_merge and mesh_round": sum(lines_of(f"crates/{it}/proofs/**/*.antt") for it in LARGEST),
         "lines of proofs longer than 200 characters": sum(len(it) > 200 for it in proofs),
         "lines of proofs longer than 300 characters": sum(len(it) > 300 for it in proofs),
         "lines of definitions": lines_of("crates/*/specs/**/*.antt"),

@@ -177,6 +177,11 @@ def end_of_part(text, at):
     return None
 
 
+def is_closed(text):
+    """Whether each bracket of a text is closed."""
+    return [text.count(it) for it in "([{"] == [text.count(it) for it in ")]}"]
+
+
 def calls_in(text, lemmas):
     """The terms whose head is one of these lemmas, but those within another."""
     found, done = [], 0
@@ -302,7 +307,11 @@ def text_of(lines, parts):
 
 def head_of(lines, lemma, begin):
     """An equation's first line: what stands up to its `=`, and what behind it."""
-    return re.match(rf"^( *{re.escape(lemma.name)}(?: .*?)? =)( .*)?$", lines[begin])
+    line = lines[begin]
+    for mark in re.finditer(r" =(?= |$)", line if re.match(rf" *{re.escape(lemma.name)} ", line) else ""):
+        if is_closed(line[: mark.start()]):
+            return line, line[: mark.end()], line[mark.end() :]
+    return None
 
 
 def body_of(lines, head, begin, end):
@@ -705,7 +714,7 @@ def fold_of(crate, kind, texts, every, known, own_names, file, gone, within, use
     closed = [it for it in re.split(r", (?![^(]*\))", facts_of(body, lemmas, owner.name)[7:-1]) if it.split(" ")[0].strip("(") != gone.name]
     tries = [*tactics_with(listed), f"grind ({', '.join(dict.fromkeys(['arith'] + closed[1:] + within))})"]
     # (more facts than these take much time and memory, and seldom help)
-    news = [laid_out(head[1], it, owner.depth, 3) for it in dict.fromkeys(tries) if kind == "folds" and len(listed) <= 10]
+    news = [laid_out(head[1], it, owner.depth, 3) for it in dict.fromkeys(tries) if kind == "folds" and len(listed) <= 10 and is_closed(it)]
     news = list(filter(None, [*news, inlined(lines, begin, end, texts[file], gone) if kind == "inline" else None]))
     return Fold(there, owner, begin, end, news, imports, public) if news else None
 
@@ -771,7 +780,7 @@ def fold(crate, kind):
             return 1
         refused, files = refused_in(said, places)
         refused = {it for it in refused if it in tries} | {it for it in tries if re.search(rf"(?<![^\s`,(]){re.escape(it)}(?![^\s`,()])", said)}
-        refused |= {name for name, (k, n, _) in tries.items() if not refused and groups[k][1][n].file in files}
+        refused |= {name for name, (k, n, _) in tries.items() if groups[k][1][n].file in files}
         tries = {name: it for name, it in tries.items() if name not in refused}
         print(f"{crate}: {len(tries)} tries left", flush=True)
         if not refused:
