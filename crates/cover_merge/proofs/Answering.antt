@@ -14,11 +14,6 @@ module _ (rows : List Row) (places : List ℕ) (p : ℕ) (place : p ≡ insert_p
       → (k : ℕ) → k < i + 1 → PassesUp rows places (get_or places k 0) (insert_place rows places)
   up_more i b before tells came = below_more (λ k. PassesUp rows places (get_or places k 0) (insert_place rows places)) i before (subst (PassesUp rows places (get_or places i 0)) place (tells.0 came))
 
-pub up_all : (rows : List Row) (places : List ℕ) (i : ℕ) → length places ≤ i → ((k : ℕ) → k < i → PassesUp rows places (get_or places k 0) (insert_place rows places)) → PassesUpCheck rows places
-up_all rows places i all before s found =
-    let at = has-place places s found in
-    subst (λ k. PassesUp rows places k (insert_place rows places)) at.2 (before at.0 (omega (arith, at.1)))
-
 -- ---- one row against another
 
 module _ (rows : List Row) (places : List ℕ) (s r : ℕ) (first later : Row) (in_s : s < length rows) (in_r : r < length rows) (is_first : first ≡ get_or rows s first) (is_later : later ≡ get_or rows r later) where

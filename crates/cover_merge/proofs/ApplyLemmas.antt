@@ -1,9 +1,9 @@
 -- Taking rows out, and the table after a merge.
-use Rattle.cover_merge.proofs.Common.{Alias, All, Block, Bool, Err, IsMergeSet, IsOrdered, List, Ok, OnOk, Option, Result, Row, [], after, aliases_at, ap, append-nil, arith, cond, cons_option, drop}
-use Rattle.cover_merge.proofs.Common.{eq-eqb, false, false_from_ne_true, flat_map, flat_map-append, generality, get_or, get_or_default, has_row, insert, insert_place, kept, length, length-take}
-use Rattle.cover_merge.proofs.Common.{merge_rows, merged_block, merged_row, ne_eqb, not, picked, place_for, refl, remove, rows_at, slice_get-get_or, subst, suc, sym, take, take_more, true, zero, ℕ}
-use Rattle.cover_merge.proofs.Common.{◌++◌, ◌+◌, ◌<◌, ◌||◌, ◌∙◌, ◌∷◌, ◌≡◌, ◌≤◌}
-use Rattle.cover_merge.proofs.{Legal.merge_rows-block_of, Lists.cond_of, Positions.rows_at-push, Positions.member_before, Positions.has-at, Positions.has-place, Positions.place_for-le}
+use Rattle.cover_merge.proofs.Common.{Alias, All, AllPairs, Block, Bool, Err, IsOrdered, List, Ok, OnOk, Option, Result, Row, [], after, aliases_at, ap, append-nil, arith, cond, cons_option, drop}
+use Rattle.cover_merge.proofs.Common.{false, false_from_ne_true, flat_map, flat_map-append, generality, get_or, get_or_default, has_row, insert, insert_place, kept, length, length-take, map, merge_of}
+use Rattle.cover_merge.proofs.Common.{merge_rows, merged_block, merged_row, not, picked, place_for, refl, rows_at, slice_get-get_or, subst, suc, sym, take, take_more, true, ℕ, ◌++◌, ◌+◌, ◌<◌, ◌∙◌}
+use Rattle.cover_merge.proofs.Common.{◌∷◌, ◌≡◌, ◌≤◌}
+use Rattle.cover_merge.proofs.{Lists.cond_of, Positions.rows_at-push, Positions.member_before, Positions.has-at, Positions.has-place, Positions.place_for-le}
 
 -- ---- a place that is not of the set
 
@@ -36,38 +36,12 @@ kept_free places j (x ∷ xs) free =
 pub kept_none : {X : Type 0} (places : List ℕ) (j : ℕ) (xs : List X) → All (λ t. t < j) places → left places j xs ≡ xs
 kept_none places j xs below = kept_free places j xs (λ k from before. none_from places k (λ i d within. omega (arith, from, below i d within)))
 
--- a place that is behind takes nothing out
-kept_passed : {X : Type 0} (s : ℕ) (rest : List ℕ) (j : ℕ) (xs : List X) → s < j → left (s ∷ rest) j xs ≡ left rest j xs
-kept_passed s rest j [] behind = refl
-kept_passed s rest j (x ∷ xs) behind =
-    ap (λ b. cond (not (b || has_row rest j)) (x ∷ left (s ∷ rest) (suc j) xs) (left (s ∷ rest) (suc j) xs)) (ne_eqb s j (λ same. omega (arith, same)))
-    ∙ ap (λ ys. cond (not (has_row rest j)) (x ∷ ys) ys) (kept_passed s rest (suc j) xs (omega arith))
-
--- ---- the first place is taken out behind the rest
-
-module _ (s : ℕ) (rest : List ℕ) (above : All (λ t. s < t) rest) where
-  pub first_kept : (j : ℕ) → j ≤ s → has_row rest j ≡ false
-  first_kept j le = none_at rest j (λ k d within. omega (arith, above k d within))
-
-  pub kept_longer : {X : Type 0} (j m : ℕ) (xs : List X) → s ≡ j + m → m < length xs → m < length (left rest j xs)
-  kept_longer j m [] at within = absurd (omega arith)
-  kept_longer j zero (x ∷ xs) at within = rw (kept_in rest j x xs (first_kept j (omega arith))) (omega arith)
-  kept_longer j (suc m) (x ∷ xs) at within = grind (arith, kept_longer (suc j) m xs (omega arith) (omega arith), kept_in rest j x xs (first_kept j (omega arith)), first_kept j (omega arith))
-
-  pub kept_remove : {X : Type 0} (j m : ℕ) (xs : List X) → s ≡ j + m → m < length xs → remove (left rest j xs) m ≡ left (s ∷ rest) j xs
-  kept_remove j m [] at within = absurd (omega arith)
-  kept_remove j zero (x ∷ xs) at within =
-      let here : s ≡ j = omega arith in
-      let found : has_row (s ∷ rest) j ≡ true = ap (λ b. b || has_row rest j) (eq-eqb s j here) in
-      ap (λ ys. remove ys 0) (kept_in rest j x xs (first_kept j (omega arith)))
-      ∙ sym (kept_out (s ∷ rest) j x xs found ∙ kept_passed s rest (suc j) xs (omega arith))
-  kept_remove j (suc m) (x ∷ xs) at within =
-      let later : has_row (s ∷ rest) j ≡ false = ap (λ b. b || has_row rest j) (ne_eqb s j (λ same. omega (arith, same))) ∙ first_kept j (omega arith) in
-      ap (λ ys. remove ys (suc m)) (kept_in rest j x xs (first_kept j (omega arith)))
-      ∙ ap (λ ys. x ∷ ys) (kept_remove (suc j) m xs (omega arith) (omega arith))
-      ∙ sym (kept_in (s ∷ rest) j x xs later)
-
 -- ---- the table after a merge
+
+-- the block of a merge
+pub merge_rows-block_of : (rows : List Row) → (merge_rows rows).block ≡ merge_of (map (λ (x : Row). x.block) rows)
+merge_rows-block_of [] = refl
+merge_rows-block_of (r ∷ rows) = refl
 
 pub picked-append : {X : Type 0} (q : ℕ → Bool) (i : ℕ) (xs ys : List X) → picked q i (xs ++ ys) ≡ picked q i xs ++ picked q (i + length xs) ys
 picked-append {X = X} q i [] ys = ap (λ j. picked q j ys) (omega arith)
@@ -75,12 +49,18 @@ picked-append {X = X} q i (x ∷ xs) ys =
     ap (λ zs. cond (q i) (x ∷ zs) zs) (picked-append q (suc i) xs ys ∙ ap (λ j. picked q (suc i) xs ++ picked q j ys) (omega arith))
     ∙ cond_of (λ (l : List X). l ++ picked q (i + suc (length xs)) ys) (q i) (x ∷ picked q (suc i) xs) (picked q (suc i) xs)
 
-module _ (rows : List Row) (places : List ℕ) (ordered : IsOrdered rows) (set : IsMergeSet rows places) where
+module _ (rows : List Row) (places : List ℕ) (ordered : IsOrdered rows) (in_range : All (λ s. s < length rows) places) where
   -- all members stand before the insertion place
   pub members_before : All (λ t. t < insert_place rows places) places
   members_before k d within =
       subst (λ x. x < insert_place rows places) (get_or_default places k 0 d within)
-      (member_before rows places set.set.in_range ordered (get_or places k 0) (merged_row rows places) (has-at places k within))
+      (member_before rows places in_range ordered (get_or places k 0) (merged_row rows places) (has-at places k within))
+
+  -- so places that are read are gaps before a place that is found
+  pub gaps_at : (members : List ℕ) (place : ℕ) → members ≡ places → place ≡ insert_place rows places → AllPairs (λ s t. s < t) places → 2 ≤ length places
+      → (0 < length members) × (AllPairs (λ s t. s < t) members) × (All (λ s. s < place) members)
+  gaps_at members place same at ascending two = subst (λ l. (0 < length l) × (AllPairs (λ s t. s < t) l) × (All (λ s. s < place) l)) (sym same)
+      (omega (arith, two), ascending, subst (λ n. All (λ s. s < n) places) (sym at) members_before)
 
   pub after_is : kept places 0 (insert rows (insert_place rows places) (merged_row rows places)) ≡ after rows places
   after_is =

@@ -1,8 +1,8 @@
 -- Counting, for each bit, the places that it keeps: one pass over the places, with a counter a bit.
 use Rattle.cover_merge.proofs.Common.{Block, Bool, List, Row, [], and_cases, and_le_l, and_parts, ap, arith, bit_and, bit_at, bit_at-lt, bit_at-trailing_zeros, bit_at_and, bit_at_clear_other}
-use Rattle.cover_merge.proofs.Common.{bit_at_clear_same, bit_at_not, bit_at_xor, bit_not, bit_xor, cases_eq, cond, cond_both, count_by-le-length, eqb-false, eqb-true, false, filter, filter-append}
-use Rattle.cover_merge.proofs.Common.{get_or, inl, inr, keeps, kept_by, kept_count, length, length-append, length-filter, length-take, min, not, not-false, not-true, refl, set, sym, take, take_more}
-use Rattle.cover_merge.proofs.Common.{trailing_zeros, true, w32, ℕ, ◌%◌, ◌&&◌, ◌*◌, ◌++◌, ◌+◌, ◌-◌, ◌<◌, ◌==◌, ◌^◌, ◌∙◌, ◌∷◌, ◌≡◌, ◌≢◌, ◌≤◌}
+use Rattle.cover_merge.proofs.Common.{bit_at_clear_same, bit_at_not, bit_at_xor, bit_not, bit_xor, cases_eq, cond, cond_both, count_by-le-length, eqb-false, eqb-true, filter, filter-append, get_or}
+use Rattle.cover_merge.proofs.Common.{inl, inr, keeps, kept_count, length, length-append, length-filter, length-take, min, not-false, not-true, refl, set, take, take_more, trailing_zeros, w32, ℕ, ◌%◌}
+use Rattle.cover_merge.proofs.Common.{◌&&◌, ◌*◌, ◌++◌, ◌+◌, ◌-◌, ◌<◌, ◌==◌, ◌^◌, ◌∙◌, ◌∷◌, ◌≡◌, ◌≢◌}
 use Rattle.cover_merge.proofs.{Lists.written_at, RefineLemmas.keeps_inside}
 use Rattle.cover_merge.specs.Refinement.{can_choose, parts}
 
@@ -19,16 +19,7 @@ open_bit merged met j low =
 
 keeping_bit : (b met : Block) (free j : ℕ) → bit_at (bit_and (bit_and free b.mask) (bit_xor b.key met.key)) j ≡ cond (parts b met j) (bit_at free j) 0
 unfolding parts
-keeping_bit b met free j =
-    bit_at_and (bit_and free b.mask) (bit_xor b.key met.key) j
-    ∙ ap (λ n. min n (bit_at (bit_xor b.key met.key) j)) (bit_at_and free b.mask j)
-    ∙ ap (min (min (bit_at free j) (bit_at b.mask j))) (bit_at_xor b.key met.key j)
-    ∙ by_mask (bit_at b.mask j) (bit_at b.key j) (bit_at met.key j) (bit_at free j) (bit_at-lt b.mask j) (bit_at-lt b.key j) (bit_at-lt met.key j) (bit_at-lt free j)
-  where
-    by_mask : (m k t x : ℕ) → m < 2 → k < 2 → t < 2 → x < 2 → min (min x m) ((k + t) % 2) ≡ cond ((m == 1) && not (k == t)) x 0
-    by_mask m k t x lm lk lt lx = cond_both ((m == 1) && not (k == t)) x 0 (λ n. min (min x m) ((k + t) % 2) ≡ n)
-        (λ is. let tests = and_parts (m == 1) (not (k == t)) is in omega (arith, eqb-true m 1 tests.0, eqb-false k t (not-true (k == t) tests.1)))
-        (λ is. elim (and_cases (m == 1) (not (k == t)) is) [ inl off ↦ omega (arith, eqb-false m 1 off) | inr same ↦ omega (arith, eqb-true k t (not-false (k == t) same)) ])
+keeping_bit b met free j = grind (arith, bit_at_and, bit_at_xor, bit_at-lt, cond_both, and_parts, eqb-true, eqb-false, not-true, and_cases, not-false)
 
 pub keeping_inside : (rows : List Row) (met : Block) (free j s : ℕ) (d : Row) → s < length rows
     → bit_at (bit_and (bit_and free (get_or rows s d).block.mask) (bit_xor (get_or rows s d).block.key met.key)) j ≡ cond (keeps rows met j s) (bit_at free j) 0
@@ -78,21 +69,11 @@ none_counted counts rows merged met zeros j low = zeros j low ∙ cond_both (can
 
 -- one more is counted where the bit can be chosen and keeps it
 more : (p : ℕ → Bool) (can : Bool) (xs : List ℕ) (x : ℕ) → cond can (length (filter p xs)) 0 + cond (p x) (cond can 1 0) 0 ≡ cond can (length (filter p (xs ++ x ∷ []))) 0
-more p can xs x = by_choice can (p x) (ap length (filter-append p xs (x ∷ [])) ∙ length-append (filter p xs) (filter p (x ∷ [])))
-  where
-    by_choice : (b q : Bool) → length (filter p (xs ++ x ∷ [])) ≡ length (filter p xs) + length (cond q (x ∷ []) []) → cond b (length (filter p xs)) 0 + cond q (cond b 1 0) 0 ≡ cond b (length (filter p (xs ++ x ∷ []))) 0
-    by_choice true true is = sym is
-    by_choice true false is = sym is
-    by_choice false true is = refl
-    by_choice false false is = refl
+more p can xs x = grind (arith, filter-append, length-append)
 
 module _ (rows : List Row) (places : List ℕ) (merged met : Block) (k : ℕ) (within : k < length places) (counts : List ℕ) (so_far : AreKeptCounts counts rows (take k places) merged met) where
   pub room_for : length places < 2 ^ 64 → (j : ℕ) → j < 32 → get_or counts j 0 + 1 < 2 ^ 64
-  room_for short j low =
-      let at_most : kept_count rows (take k places) merged met j ≤ length (take k places) =
-      cond_both (can_choose merged met j) (length (kept_by rows met j (take k places))) 0 (λ n. n ≤ length (take k places))
-      (λ can. omega (arith, length-filter (keeps rows met j) (take k places), count_by-le-length (keeps rows met j) (take k places))) (λ cannot. omega arith) in
-      omega (arith, so_far j low, at_most, length-take k places, within, short)
+  room_for short j low = grind (arith, length-filter (keeps rows met j) (take k places), count_by-le-length (keeps rows met j) (take k places), low, length-take k places, cond_both)
 
   pub kept_more : (free word s : ℕ) → s ≡ get_or places k 0 → ((j : ℕ) → j < 32 → bit_at free j ≡ cond (can_choose merged met j) 1 0) → ((j : ℕ) → j < 32 → bit_at word j ≡ cond (keeps rows met j s) (bit_at free j) 0)
       → (new : List ℕ) → ((j : ℕ) → j < 32 → get_or new j 0 ≡ get_or counts j 0 + bit_at word j) → AreKeptCounts new rows (take (k + 1) places) merged met

@@ -1,74 +1,72 @@
 -- The places of a route, and pairs.
-use Rattle.cover_merge.proofs.Common.{All, All-cons, All-nil, AllPairs, AllPairs-cons, AreNexts, IsFirstLegalPair, IsFirstOfRoute, IsFirstPartner, IsLegalPair, IsMergeSet, IsNextOfRoute, IsOneRoute}
-use Rattle.cover_merge.proofs.Common.{List, Row, [], ap, append-nil, arith, cases_lt, cond, cond_both, eq-eqb, eqb-true, eqb_tells, false, get_or, get_or_default, inl, inr, length, length-take}
-use Rattle.cover_merge.proofs.Common.{merge_rows, ne_eqb, places_of, refl, same_route, subst, suc, sym, take, take_all, take_more, true, zero, ℕ, ◌++◌, ◌+◌, ◌-◌, ◌<◌, ◌==◌, ◌∙◌, ◌∷◌, ◌≡◌, ◌≢◌, ◌≤◌}
-use Rattle.cover_merge.proofs.Common.{◌⊎◌}
-use Rattle.cover_merge.proofs.{Positions.pair_set, Lists.AllPairs-nil, Lists.cond_of}
+use Rattle.cover_merge.proofs.Common.{All-nil, AreNexts, AreThose, Bool, IsFirstLegalPair, IsFirstOfRoute, IsFirstPartner, IsLegalPair, IsMergeSet, IsNextOfRoute, IsOneRoute, List, Route, Row, []}
+use Rattle.cover_merge.proofs.Common.{add-one, ap, append-nil, arith, cond, eqb_tells, false, get_or, get_or_default, inl, inr, length, length-take, merge_rows, places_of, same_route, subst, suc, sym}
+use Rattle.cover_merge.proofs.Common.{take, take_all, take_more, true, zero, ℕ, ◌++◌, ◌+◌, ◌-◌, ◌<◌, ◌==◌, ◌∙◌, ◌∷◌, ◌≡◌, ◌≢◌, ◌≤◌, ◌⊎◌}
+use Rattle.cover_merge.proofs.{Positions.those_case, Positions.those_more, Positions.those_next, Positions.those_one, Positions.those_stay, Positions.pair_set, Lists.AllPairs-nil, Lists.cond_of}
 
 -- ---- the places of a route
 
 pub places_of-append : (bits i : ℕ) (xs ys : List Row) → places_of bits i (xs ++ ys) ≡ places_of bits i xs ++ places_of bits (i + length xs) ys
 places_of-append bits i [] ys = ap (λ j. places_of bits j ys) (omega arith)
-places_of-append bits i (x ∷ xs) ys =
-    ap (λ zs. cond (x.route.bits == bits) (i ∷ zs) zs) (places_of-append bits (suc i) xs ys ∙ ap (λ j. places_of bits (suc i) xs ++ places_of bits j ys) (omega arith))
-    ∙ cond_of (λ (l : List ℕ). l ++ places_of bits (i + suc (length xs)) ys) (x.route.bits == bits) (i ∷ places_of bits (suc i) xs) (places_of bits (suc i) xs)
+places_of-append bits i (x ∷ xs) ys = grind (arith, places_of-append bits (suc i) xs ys, cond_of)
 
 places_of-next : (bits k : ℕ) (rows : List Row) (d : Row) → k < length rows → places_of bits 0 (take (k + 1) rows) ≡ places_of bits 0 (take k rows) ++ cond ((get_or rows k d).route.bits == bits) (k ∷ []) []
 places_of-next bits k rows d within = grind (arith, length-take k rows, take_more rows k d within, places_of-append bits 0 (take k rows) (get_or rows k d ∷ []), get_or rows k d)
 
-pub places_of-not : (bits k : ℕ) (rows : List Row) (d : Row) → k < length rows → (get_or rows k d).route.bits ≢ bits → places_of bits 0 (take (k + 1) rows) ≡ places_of bits 0 (take k rows)
-places_of-not bits k rows d within differ =
-    places_of-next bits k rows d within
-    ∙ ap (λ b. places_of bits 0 (take k rows) ++ cond b (k ∷ []) []) (ne_eqb (get_or rows k d).route.bits bits differ)
-    ∙ append-nil (places_of bits 0 (take k rows))
+-- row s has a route of these bits
+abbrev pub HasBits : ℕ → List Row → ℕ → Type 0
+HasBits bits rows s = (s < length rows) × ((d : Row) → (get_or rows s d).route.bits ≡ bits)
 
--- what each of the places is, counted from i
-record IsPlaceOf (bits i : ℕ) (rows : List Row) (s : ℕ) : Type 0 where
-  from : i ≤ s
-  below : s < i + length rows
-  route : (d : Row) → (get_or rows (s - i) d).route.bits ≡ bits
+-- it has not
+abbrev pub LacksBits : ℕ → List Row → ℕ → Type 0
+LacksBits bits rows s = s < length rows → (d : Row) → (get_or rows s d).route.bits ≢ bits
 
-later_place : (bits i : ℕ) (r : Row) (rows : List Row) (s : ℕ) → IsPlaceOf bits (suc i) rows s → IsPlaceOf bits i (r ∷ rows) s
-later_place bits i r rows s place = grind (arith, get_or)
+-- the places before place n of the rows of the route, in order
+abbrev pub ArePlaces : ℕ → List Row → ℕ → List ℕ → Type 0
+ArePlaces bits rows n places = AreThose (HasBits bits rows) (LacksBits bits rows) n places
 
-places_are : (bits i : ℕ) (rows : List Row) → All (IsPlaceOf bits i rows) (places_of bits i rows)
-places_are bits i [] = All-nil (IsPlaceOf bits i [])
-places_are bits i (r ∷ rows) =
-    let P : ℕ → Type 0 = IsPlaceOf bits i (r ∷ rows) in
-    let rest : All P (places_of bits (suc i) rows) = λ k d within. later_place bits i r rows (get_or (places_of bits (suc i) rows) k d) (places_are bits (suc i) rows k d within) in
-    let first : i - i ≡ 0 = omega arith in
-    cond_both (r.route.bits == bits) (i ∷ places_of bits (suc i) rows) (places_of bits (suc i) rows) (All P)
-    (λ is. All-cons P i (places_of bits (suc i) rows) (record {
-      from = omega arith;
-      below = omega arith;
-      route = λ d. subst (λ n. (get_or (r ∷ rows) n d).route.bits ≡ bits) (sym first) (eqb-true r.route.bits bits is);
-    }) rest) (λ other. rest)
+places_to : (bits : ℕ) (rows : List Row) (n : ℕ) → n ≤ length rows → ArePlaces bits rows n (places_of bits 0 (take n rows))
+places_to bits rows zero within = record { ascending = AllPairs-nil (λ s t. s < t); inside = All-nil (λ s. s < 0); each = All-nil (HasBits bits rows); rest = λ s less. absurd (omega (arith, less)) }
+places_to bits rows (suc n) within =
+    let d : Row = merge_rows [] in
+    let inside : n < length rows = omega (arith, within) in
+    let before = places_to bits rows n (omega (arith, within)) in
+    let is : (b : Bool) → ((get_or rows n d).route.bits == bits) ≡ b → places_of bits 0 (take (n + 1) rows) ≡ places_of bits 0 (take n rows) ++ cond b (n ∷ []) [] =
+    λ b test. places_of-next bits n rows d inside ∙ ap (λ c. places_of bits 0 (take n rows) ++ cond c (n ∷ []) []) test in
+    subst (λ m. ArePlaces bits rows m (places_of bits 0 (take m rows))) (add-one n) (elim (eqb_tells (get_or rows n d).route.bits bits) [
+      | inl same ↦
+          subst (ArePlaces bits rows (n + 1)) (sym (is true same.0))
+          (those_more (HasBits bits rows) (LacksBits bits rows) n (places_of bits 0 (take n rows)) before (inside, λ e. ap (λ (r : Row). r.route.bits) (get_or_default rows n e d inside) ∙ same.1))
+      | inr other ↦
+          subst (ArePlaces bits rows (n + 1)) (sym (is false other.0 ∙ append-nil (places_of bits 0 (take n rows))))
+          (those_next (HasBits bits rows) (LacksBits bits rows) n (places_of bits 0 (take n rows)) before
+          (λ low e equal. other.1 (ap (λ (r : Row). r.route.bits) (get_or_default rows n d e inside) ∙ equal)))
+    ])
 
-places_ascend : (bits i : ℕ) (rows : List Row) → AllPairs (λ s t. s < t) (places_of bits i rows)
-places_ascend bits i [] = AllPairs-nil (λ s t. s < t)
-places_ascend bits i (r ∷ rows) =
-    let rest = places_ascend bits (suc i) rows in
-    cond_both (r.route.bits == bits) (i ∷ places_of bits (suc i) rows) (places_of bits (suc i) rows) (AllPairs (λ s t. s < t))
-    (λ is. AllPairs-cons (λ s t. s < t) i (places_of bits (suc i) rows) (λ k d within. let place = places_are bits (suc i) rows k d within in omega (arith, place.from)) rest) (λ other. rest)
+module _ (bits : ℕ) (rows : List Row) where
+  pub are_places : ArePlaces bits rows (length rows) (places_of bits 0 rows)
+  are_places = subst (λ l. ArePlaces bits rows (length rows) (places_of bits 0 l)) (take_all (length rows) rows (omega arith)) (places_to bits rows (length rows) (omega arith))
 
-has_bits : (bits : ℕ) (rows : List Row) (k d : ℕ) → k < length (places_of bits 0 rows) → (e : Row) → (get_or rows (get_or (places_of bits 0 rows) k d) e).route.bits ≡ bits
-has_bits bits rows k d within e = grind (arith, places_are bits 0 rows k d within, get_or)
+  -- a list of all of them is that of the definition
+  pub places_only : (n : ℕ) (places : List ℕ) → length rows ≤ n → ArePlaces bits rows n places → places ≡ places_of bits 0 rows
+  places_only n places all found =
+      those_one (HasBits bits rows) (LacksBits bits rows) (λ s has lacks. lacks has.0 (merge_rows []) (has.1 (merge_rows []))) n places (places_of bits 0 rows) found
+      (those_stay (HasBits bits rows) (LacksBits bits rows) (length rows) (places_of bits 0 rows) are_places n all (λ s from less low e same. omega (arith, from, low)))
 
--- they are places of one route
-pub places_of-one_route : (bits : ℕ) (rows : List Row) → IsOneRoute rows (places_of bits 0 rows)
-places_of-one_route bits rows = grind (arith, places_ascend bits 0 rows, places_are, same_route, get_or, has_bits)
+  -- they are places of one route
+  pub places_of-one_route : IsOneRoute rows (places_of bits 0 rows)
+  places_of-one_route = record {
+    ascending = are_places.ascending;
+    in_range = are_places.inside;
+    one_route = λ i j x less within d.
+        let places = places_of bits 0 rows in
+        same_route (get_or rows (get_or places i x) d).route (get_or rows (get_or places j x) d).route
+        ((are_places.each i x (omega (arith, less, within))).1 d ∙ sym ((are_places.each j x within).1 d));
+  }
 
--- a route stands in the table, or has no places
-pub route_cases : (bits i : ℕ) (rows : List Row) → ((j : ℕ) × (j < length rows) × ((d : Row) → (get_or rows j d).route.bits ≡ bits)) ⊎ (places_of bits i rows ≡ [])
-route_cases bits i [] = inr refl
-route_cases bits i (r ∷ rows) = by_test (eqb_tells r.route.bits bits) (route_cases bits (suc i) rows)
-  where
-    by_test : ((r.route.bits == bits) ≡ true) × (r.route.bits ≡ bits) ⊎ ((r.route.bits == bits) ≡ false) × (r.route.bits ≢ bits)
-        → ((j : ℕ) × (j < length rows) × ((d : Row) → (get_or rows j d).route.bits ≡ bits)) ⊎ (places_of bits (suc i) rows ≡ [])
-        → ((j : ℕ) × (j < suc (length rows)) × ((d : Row) → (get_or (r ∷ rows) j d).route.bits ≡ bits)) ⊎ (cond (r.route.bits == bits) (i ∷ places_of bits (suc i) rows) (places_of bits (suc i) rows) ≡ [])
-    by_test (inl same) rest = inl (0, omega arith, λ d. same.1)
-    by_test (inr other) (inl found) = inl (suc found.0, omega (arith, found.1), found.2)
-    by_test (inr other) (inr none) = inr (ap (λ b. cond b (i ∷ places_of bits (suc i) rows) (places_of bits (suc i) rows)) other.0 ∙ none)
+  -- a route stands in the table, or has no places
+  pub route_cases : ((s : ℕ) × (s < length rows) × (HasBits bits rows s)) ⊎ (places_of bits 0 rows ≡ [])
+  route_cases = those_case (HasBits bits rows) (LacksBits bits rows) (length rows) (places_of bits 0 rows) are_places
 
 -- ---- pairs
 
@@ -77,6 +75,9 @@ pair_order rows i j pair = pair.set.set.ascending 0 1 0 (omega arith) (omega ari
 
 pub pair_inside : (rows : List Row) (i j : ℕ) → IsLegalPair rows i j → j < length rows
 pair_inside rows i j pair = pair.set.set.in_range 1 0 (omega arith)
+
+pub pair_bits : (rows : List Row) (i j : ℕ) → IsLegalPair rows i j → (d : Row) → (get_or rows i d).route.bits ≡ (get_or rows j d).route.bits
+pair_bits rows i j pair d = ap (λ (r : Route). r.bits) (pair.set.set.one_route 0 1 0 (omega arith) (omega arith) d)
 
 pub pair_made : (rows : List Row) (i j : ℕ) → i < j → j < length rows → ((d : Row) → (get_or rows j d).route.bits ≡ (get_or rows i d).route.bits) → IsMergeSet rows (i ∷ j ∷ [])
 pair_made rows i j less within equal = pair_set rows i j less within (λ d. same_route (get_or rows i d).route (get_or rows j d).route (sym (equal d)))
@@ -95,61 +96,20 @@ first_found rows set i j is none partner = record {
 pub link_next : (rows : List Row) (nexts : List ℕ) → AreNexts rows nexts → (k x : ℕ) → k < length rows → x ≡ get_or nexts k x → IsNextOfRoute rows k x
 link_next rows nexts links k x inside is = subst (IsNextOfRoute rows k) (get_or_default nexts k 0 x (omega (arith, links.one_each, inside)) ∙ sym is) (links.next k inside)
 
--- rows of other routes add no place
-places_gap : (bits : ℕ) (rows : List Row) (i n : ℕ) → ((m : ℕ) (d : Row) → i ≤ m → m < i + n → m < length rows → (get_or rows m d).route.bits ≡ bits → ⊥) → places_of bits 0 (take (i + n) rows) ≡ places_of bits 0 (take i rows)
-places_gap bits rows i zero none = let same : i + 0 ≡ i = omega arith in ap (λ j. places_of bits 0 (take j rows)) same
-places_gap bits rows i (suc n) none =
-    let last : i + suc n ≡ i + n + 1 = omega arith in
-    ap (λ j. places_of bits 0 (take j rows)) last
-    ∙ one_more (cases_lt (i + n) (length rows))
-    ∙ places_gap bits rows i n (λ m d from less. none m d from (omega (arith, less)))
-  where
-    one_more : (i + n < length rows) ⊎ (length rows ≤ i + n) → places_of bits 0 (take (i + n + 1) rows) ≡ places_of bits 0 (take (i + n) rows)
-    one_more (inl within) = places_of-not bits (i + n) rows (merge_rows []) within (none (i + n) (merge_rows []) (omega arith) (omega arith) within)
-    one_more (inr all) = ap (places_of bits 0) (take_all (i + n + 1) rows (omega (arith, all)) ∙ sym (take_all (i + n) rows all))
-
--- the first row of a route begins its places
-pub places_begin : (rows : List Row) (bits x : ℕ) → IsFirstOfRoute rows bits x → [] ≡ places_of bits 0 (take x rows)
-places_begin rows bits x first =
-    let whole : 0 + x ≡ x = omega arith in
-    sym (ap (λ j. places_of bits 0 (take j rows)) (sym whole) ∙ places_gap bits rows 0 x (λ m e low less within same. first.before m e (omega (arith, less)) within same))
+-- no row of a route stands before its first
+pub places_begin : (rows : List Row) (bits x : ℕ) (places : List ℕ) → places ≡ [] → IsFirstOfRoute rows bits x → ArePlaces bits rows x places
+places_begin rows bits x places is first = subst (ArePlaces bits rows x) (sym is) (record {
+  ascending = AllPairs-nil (λ s t. s < t);
+  inside = All-nil (λ s. s < x);
+  each = All-nil (HasBits bits rows);
+  rest = λ s less. inl (λ low d. first.before s d less low);
+})
 
 -- one row of the route more, and then on to the next
 pub places_next : (rows : List Row) (bits place x : ℕ) (old new : List ℕ) → place < length rows → ((e : Row) → (get_or rows place e).route.bits ≡ bits) → IsNextOfRoute rows place x
-    → old ≡ places_of bits 0 (take place rows) → new ≡ old ++ place ∷ [] → new ≡ places_of bits 0 (take x rows)
+    → ArePlaces bits rows place old → new ≡ old ++ place ∷ [] → ArePlaces bits rows x new
 places_next rows bits place x old new inside same next before now =
-    let there : place + 1 + (x - (place + 1)) ≡ x = omega (arith, next.behind) in
-    now ∙ ap (λ l. l ++ place ∷ []) before
-    ∙ sym (places_of-next bits place rows (merge_rows []) inside
-    ∙ ap (λ b. places_of bits 0 (take place rows) ++ cond b (place ∷ []) []) (eq-eqb (get_or rows place (merge_rows [])).route.bits bits (same (merge_rows []))))
-    ∙ sym (places_gap bits rows (place + 1) (x - (place + 1)) (λ m e from less within equal.
-    next.between m e (omega (arith, from)) (omega (arith, less, there)) within (equal ∙ sym (same e))))
-    ∙ ap (λ j. places_of bits 0 (take j rows)) there
-
--- ---- which rows the places of a route are of
-
--- each row of the route is at one of them
-place_listed : (bits i : ℕ) (rows : List Row) (k : ℕ) (d : Row) → k < length rows → (get_or rows k d).route.bits ≡ bits → (m : ℕ) × (m < length (places_of bits i rows)) × (get_or (places_of bits i rows) m 0 ≡ i + k)
-place_listed bits i [] k d inside same = absurd (omega arith)
-place_listed bits i (r ∷ rows) zero d inside same =
-    subst (λ b. (m : ℕ) × (m < length (cond b (i ∷ places_of bits (suc i) rows) (places_of bits (suc i) rows))) × (get_or (cond b (i ∷ places_of bits (suc i) rows) (places_of bits (suc i) rows)) m 0 ≡ i + 0)) (sym (eq-eqb r.route.bits bits same))
-    (0, omega arith, omega arith)
-place_listed bits i (r ∷ rows) (suc k) d inside same =
-    let rest = place_listed bits (suc i) rows k d (omega arith) same in
-    cond_both (r.route.bits == bits) (i ∷ places_of bits (suc i) rows) (places_of bits (suc i) rows) (λ l. (m : ℕ) × (m < length l) × (get_or l m 0 ≡ i + suc k))
-    (λ is. (suc rest.0, omega (arith, rest.1), omega (arith, rest.2))) (λ other. (rest.0, rest.1, omega (arith, rest.2)))
-
--- the places are just those of the rows of the route, in order
-pub record ArePlaces (bits : ℕ) (rows : List Row) (places : List ℕ) : Type 0 where
-  pub inside : (m : ℕ) → m < length places → get_or places m 0 < length rows
-  pub route : (m : ℕ) (d : Row) → m < length places → (get_or rows (get_or places m 0) d).route.bits ≡ bits
-  pub ascend : (m n : ℕ) → m < n → n < length places → get_or places m 0 < get_or places n 0
-  pub listed : (k : ℕ) (d : Row) → k < length rows → (get_or rows k d).route.bits ≡ bits → (m : ℕ) × (m < length places) × (get_or places m 0 ≡ k)
-
-pub are_places : (bits : ℕ) (rows : List Row) → ArePlaces bits rows (places_of bits 0 rows)
-are_places bits rows = record {
-  inside = λ m within. let place = places_are bits 0 rows m 0 within in omega (arith, place.below);
-  route = λ m d within. has_bits bits rows m 0 within d;
-  ascend = λ m n less within. places_ascend bits 0 rows m n 0 less within;
-  listed = λ k d within same. let at = place_listed bits 0 rows k d within same in (at.0, at.1, omega (arith, at.2));
-}
+    let P = HasBits bits rows in
+    let Q = LacksBits bits rows in
+    subst (ArePlaces bits rows x) (sym now) (those_stay P Q (place + 1) (old ++ place ∷ []) (those_more P Q place old before (inside, same)) x (omega (arith, next.behind))
+    (λ s from less low e equal. next.between s e (omega (arith, from)) less low (equal ∙ sym (same e))))

@@ -1,13 +1,13 @@
 -- What a chosen merge keeps: soundness and the served blocks; and that each merge makes the table shorter.
-use Rattle.cover_merge.proofs.Common.{Alias, All, All-append, All-cons, All-contains_itself, All-drop, All-head, All-nil, All-tail, All-take, AllPairs, Contains, Covers, HasNoChosen, HasRoutesOf}
-use Rattle.cover_merge.proofs.Common.{IsChosen, IsLegal, IsMergeSet, IsOneRoute, IsPermutation, IsPermutation-append_comm, IsPermutation-append_left, IsPermutation-refl, IsPermutation-trans, IsSound}
-use Rattle.cover_merge.proofs.Common.{List, Merge, Original, Refines, Route, Row, SameRoute, [], after, ap, append-nil, append_assoc, arith, cons_option, drop, drop-cons, ends_empty, ends_legal}
-use Rattle.cover_merge.proofs.Common.{flat_map, flat_map-append, generality, get_or, get_or_default, goes_down, goes_up, has_row, inl, inr, insert_place, kept, length, length-append, length-take, map}
-use Rattle.cover_merge.proofs.Common.{map-append, merge_rows, merged, merged_block, merged_row, not, places_of, refl, rows_at, served, served_by, sets_of, short, slice_get-get_or, stuck, subst, suc}
-use Rattle.cover_merge.proofs.Common.{sym, take, take-append-drop, zero, ℕ, ◌++◌, ◌+◌, ◌<◌, ◌^◌, ◌∙◌, ◌∷◌, ◌≡◌, ◌≤◌, ◌⊎◌}
-use Rattle.cover_merge.proofs.{Lists.All-picked, Lists.All-from_map, Lists.AllPairs-head, Lists.AllPairs-tail, Positions.has-place, Positions.rows_at-from, Positions.place_for-le}
-use Rattle.cover_merge.proofs.{RefineLemmas.one_route_after, RefineLemmas.legal_here, ApplyLemmas.kept_none, ApplyLemmas.kept_longer, ApplyLemmas.kept_remove, ApplyLemmas.picked-append}
-use Rattle.cover_merge.proofs.{ApplyLemmas.kept_in, ApplyLemmas.first_kept, ApplyLemmas.route_is, ChooseLemmas.places_of-one_route}
+use Rattle.cover_merge.proofs.Common.{Alias, All, All-cons, All-contains_itself, All-head, All-nil, All-tail, AllPairs, Bool, Contains, Covers, HasNoChosen, HasRoutesOf, IsChosen, IsLegal, IsMergeSet}
+use Rattle.cover_merge.proofs.Common.{IsOneRoute, IsOrdered, IsPermutation, IsPermutation-append_comm, IsPermutation-append_left, IsPermutation-append_right, IsPermutation-refl, IsPermutation-trans}
+use Rattle.cover_merge.proofs.Common.{IsSound, List, Merge, Original, Refines, Route, Row, SameRoute, [], after, ap, append-nil, append_assoc, arith, cases_eq, cond, cons_option, drop, ends_empty}
+use Rattle.cover_merge.proofs.Common.{ends_legal, eq-eqb, flat_map, flat_map-append, generality, get_or, get_or_default, goes_down, goes_up, has_row, inl, inr, insert_place, kept, length}
+use Rattle.cover_merge.proofs.Common.{length-append, length-take, map, map-append, merge_rows, merged, merged_block, merged_row, ne_eqb, not, picked, places_of, refl, rows_at, served, served_by}
+use Rattle.cover_merge.proofs.Common.{sets_of, short, slice_get, slice_get-get_or, stuck, subst, suc, sym, take, take-append-drop, ℕ, ◌++◌, ◌+◌, ◌<◌, ◌^◌, ◌||◌, ◌∙◌, ◌∷◌, ◌≡◌, ◌≤◌, ◌⊎◌}
+use Rattle.cover_merge.proofs.{KeptLemmasMoved.all_after, Lists.cond_same, Lists.All-from_map, Lists.AllPairs-head, Lists.AllPairs-tail, ApplyLemmas.none_at, ApplyLemmas.picked-append}
+use Rattle.cover_merge.proofs.{ApplyLemmas.route_is, Positions.rows_at-length, Positions.has-place, Positions.rows_at-from, Positions.place_for-le, RefineLemmas.one_route_after}
+use Rattle.cover_merge.proofs.{RefineLemmas.legal_here, ChooseLemmas.places_of-one_route}
 
 -- ---- a chosen merge is legal
 
@@ -25,59 +25,74 @@ chosen_legal rows set sound (inr found) = subst (λ s. (IsMergeSet rows s) × (I
 
 -- ---- what stays and what goes
 
--- the row at a place before all places of the set stays where it is
-pub kept_reads : (s : ℕ) (rest : List ℕ) (above : All (λ t. s < t) rest) (j m : ℕ) (xs : List Row) (d : Row) → s ≡ j + m → m < length xs → get_or (kept rest j xs) m d ≡ get_or xs m d
-kept_reads s rest above j m [] d at within = absurd (omega arith)
-kept_reads s rest above j zero (x ∷ xs) d at within = ap (λ l. get_or l 0 d) (kept_in rest j x xs (first_kept s rest above j (omega arith)))
-kept_reads s rest above j (suc m) (x ∷ xs) d at within =
-    ap (λ l. get_or l (suc m) d) (kept_in rest j x xs (first_kept s rest above j (omega arith))) ∙ kept_reads s rest above (suc j) m xs d (omega arith) (omega arith)
+-- where two tests are one from a place on, they pick the same
+picked_same : {X : Type 0} (f g : ℕ → Bool) (i : ℕ) (xs : List X) → ((k : ℕ) → i ≤ k → f k ≡ g k) → picked f i xs ≡ picked g i xs
+picked_same f g i [] same = refl
+picked_same f g i (x ∷ xs) same =
+    ap (λ b. cond b (x ∷ picked f (suc i) xs) (picked f (suc i) xs)) (same i (omega arith)) ∙ ap (λ l. cond (g i) (x ∷ l) l) (picked_same f g (suc i) xs (λ k from. same k (omega (arith, from))))
 
-split_at : (s : ℕ) (xs : List Row) (d : Row) → s < length xs → xs ≡ take s xs ++ get_or xs s d ∷ drop (suc s) xs
-split_at s xs d within = sym (take-append-drop s xs) ∙ ap (λ l. take s xs ++ l) (drop-cons xs s d within)
+-- rows at places in ascending order are those that a list of places picks
+rows_picked : (rows : List Row) (i : ℕ) (xs : List Row) (places : List ℕ) → ((k j : ℕ) → j ≡ i + k → slice_get rows j ≡ slice_get xs k) → AllPairs (λ s t. s < t) places
+    → All (λ s. (i ≤ s) × (s < i + length xs)) places → rows_at rows places ≡ picked (has_row places) i xs
+rows_picked rows i [] [] at ascending within = refl
+rows_picked rows i [] (s ∷ rest) at ascending within = let low = within 0 s (omega arith) in absurd (omega (arith, low.0, low.1))
+rows_picked rows i (x ∷ xs) [] at ascending within = rows_picked rows (suc i) xs [] (λ k j is. at (suc k) j (omega (arith, is))) ascending (All-nil (λ s. (suc i ≤ s) × (s < suc i + length xs)))
+rows_picked rows i (x ∷ xs) (s ∷ rest) at ascending within =
+    let low = within 0 s (omega arith) in
+    let above = AllPairs-head (λ s t. s < t) s rest ascending in
+    let behind : (k j : ℕ) → j ≡ suc i + k → slice_get rows j ≡ slice_get xs k = λ k j is. at (suc k) j (omega (arith, is)) in
+    let picks : ℕ → List Row = λ j. picked (has_row (s ∷ rest)) j xs in
+    elim (cases_eq s i) [
+      | inl same ↦
+          ap (λ o. cons_option o (rows_at rows rest)) (at 0 s (omega (arith, same)))
+          ∙ ap (λ l. x ∷ l) (rows_picked rows (suc i) xs rest behind (AllPairs-tail (λ s t. s < t) s rest ascending) (λ k d inside.
+          (omega (arith, same, above k d inside), omega (arith, (All-tail (λ t. (i ≤ t) × (t < i + suc (length xs))) s rest within k d inside).1)))
+          ∙ picked_same (has_row rest) (has_row (s ∷ rest)) (suc i) xs (λ k from. sym (ap (λ b. b || has_row rest k) (ne_eqb s k (λ is. omega (arith, is, same, from))))))
+          ∙ sym (ap (λ b. cond (b || has_row rest i) (x ∷ picks (suc i)) (picks (suc i))) (eq-eqb s i same))
+      | inr apart ↦
+          let strict : All (λ t. i < t) (s ∷ rest) = All-cons (λ t. i < t) s rest (omega (arith, low.0, apart)) (λ k d inside. omega (arith, low.0, above k d inside)) in
+          rows_picked rows (suc i) xs (s ∷ rest) behind ascending (λ k d inside. (omega (arith, strict k d inside), omega (arith, (within k d inside).1)))
+          ∙ sym (ap (λ b. cond b (x ∷ picks (suc i)) (picks (suc i))) (none_at (s ∷ rest) i strict))
+    ]
 
--- a list taken out of the middle goes to the front
-taken_out : {X : Type 0} (t a r b : List X) → IsPermutation (t ++ (a ++ (r ++ b))) ((r ++ t) ++ (a ++ b))
-taken_out t a r b =
-    let before : ((t ++ a) ++ r) ++ b ≡ t ++ (a ++ (r ++ b)) = append_assoc (t ++ a) r b ∙ append_assoc t a (r ++ b) in
-    let behind : (r ++ (t ++ a)) ++ b ≡ (r ++ t) ++ (a ++ b) = ap (λ l. l ++ b) (sym (append_assoc r t a)) ∙ append_assoc (r ++ t) a b in
-    subst (λ l. IsPermutation l ((r ++ t) ++ (a ++ b))) before
-    (subst (IsPermutation (((t ++ a) ++ r) ++ b)) behind (IsPermutation-append_left b ((t ++ a) ++ r) (r ++ (t ++ a)) (IsPermutation-append_comm (t ++ a) r)))
+-- what is picked and what is not are all
+module _ {X : Type 0} (q : ℕ → Bool) where
+  pub both_picked : (i : ℕ) (xs : List X) → length (picked q i xs) + length (picked (λ k. not (q k)) i xs) ≡ length xs
+  both_picked i [] = refl
+  both_picked i (x ∷ xs) =
+      let rest = both_picked (suc i) xs in
+      let a = picked q (suc i) xs in
+      let b = picked (λ k. not (q k)) (suc i) xs in
+      cond_same (λ c. length (cond c (x ∷ a) a) + length (cond (not c) (x ∷ b) b) ≡ suc (length xs)) (q i) (omega (arith, rest)) (omega (arith, rest))
 
--- the served blocks are those of the set and those of the rest
-pub served_out : (rows : List Row) (places : List ℕ) → AllPairs (λ s t. s < t) places → All (λ s. s < length rows) places → IsPermutation (served rows) (served (rows_at rows places) ++ served (kept places 0 rows))
-served_out rows [] ascending in_range = subst (λ l. IsPermutation (served rows) (served l)) (sym (kept_none [] 0 rows (All-nil (λ t. t < 0)))) (IsPermutation-refl (served rows))
-served_out rows (s ∷ rest) ascending in_range =
-    let above = AllPairs-head (λ a b. a < b) s rest ascending in
-    let within = All-head (λ x. x < length rows) s rest in_range in
-    let k = kept rest 0 rows in
-    let d : Row = merge_rows [] in
-    let r = get_or rows s d in
-    let a = take s k in
-    let b = drop (suc s) k in
-    let t = served (rows_at rows rest) in
-    let split : k ≡ a ++ r ∷ b = split_at s k d (kept_longer s rest above 0 s rows (omega arith) within) ∙ ap (λ x. a ++ x ∷ b) (kept_reads s rest above 0 s rows d (omega arith) within) in
-    let parts : served k ≡ served a ++ (served_by r ++ served b) = ap served split ∙ flat_map-append served_by a (r ∷ b) in
-    let whole : served (kept (s ∷ rest) 0 rows) ≡ served a ++ served b = sym (ap served (kept_remove s rest above 0 s rows (omega arith) within)) ∙ flat_map-append served_by a b in
-    let rows_are : rows_at rows (s ∷ rest) ≡ r ∷ rows_at rows rest = ap (λ o. cons_option o (rows_at rows rest)) (slice_get-get_or rows s d within) in
-    subst (λ l. IsPermutation (served rows) (l ++ served (kept (s ∷ rest) 0 rows))) (sym (ap served rows_are))
-    (subst (λ l. IsPermutation (served rows) ((served_by r ++ t) ++ l)) (sym whole)
-    (IsPermutation-trans (served rows) (t ++ served k) ((served_by r ++ t) ++ (served a ++ served b))
-    (served_out rows rest (AllPairs-tail (λ a b. a < b) s rest ascending) (All-tail (λ x. x < length rows) s rest in_range))
-    (subst (λ l. IsPermutation (t ++ l) ((served_by r ++ t) ++ (served a ++ served b))) (sym parts) (taken_out t (served a) (served_by r) (served b)))))
+-- the first of three lists goes behind the second
+swapped : {X : Type 0} (a b c : List X) → IsPermutation (a ++ (b ++ c)) (b ++ (a ++ c))
+swapped a b c = subst (λ l. IsPermutation l (b ++ (a ++ c))) (append_assoc a b c)
+    (subst (IsPermutation ((a ++ b) ++ c)) (append_assoc b a c) (IsPermutation-append_left c (a ++ b) (b ++ a) (IsPermutation-append_comm a b)))
 
--- each place takes one row out
-pub length_out : (rows : List Row) (places : List ℕ) → AllPairs (λ s t. s < t) places → All (λ s. s < length rows) places → length places + length (kept places 0 rows) ≡ length rows
-length_out rows [] ascending in_range = let all = ap length (kept_none [] 0 rows (All-nil (λ t. t < 0))) in omega (arith, all)
-length_out rows (s ∷ rest) ascending in_range =
-    let above = AllPairs-head (λ a b. a < b) s rest ascending in
-    let within = All-head (λ x. x < length rows) s rest in_range in
-    let before = length_out rows rest (AllPairs-tail (λ a b. a < b) s rest ascending) (All-tail (λ x. x < length rows) s rest in_range) in
-    let k = kept rest 0 rows in
-    let whole = ap length (split_at s k (merge_rows []) (kept_longer s rest above 0 s rows (omega arith) within)) in
-    let removed = ap length (kept_remove s rest above 0 s rows (omega arith) within) in
-    let parts = length-append (take s k) (get_or k s (merge_rows []) ∷ drop (suc s) k) in
-    let left = length-append (take s k) (drop (suc s) k) in
-    omega (arith, before, whole, removed, parts, left)
+-- what is picked serves what it did, and so does what is not
+served_parts : (q : ℕ → Bool) (i : ℕ) (xs : List Row) → IsPermutation (served xs) (served (picked q i xs) ++ served (picked (λ k. not (q k)) i xs))
+served_parts q i [] = IsPermutation-refl (served [])
+served_parts q i (x ∷ xs) =
+    let l = picked q (suc i) xs in
+    let r = picked (λ k. not (q k)) (suc i) xs in
+    let first = served_by x in
+    let rest : IsPermutation (first ++ served xs) (first ++ (served l ++ served r)) = IsPermutation-append_right first (served xs) (served l ++ served r) (served_parts q (suc i) xs) in
+    cond_same (λ c. IsPermutation (first ++ served xs) (served (cond c (x ∷ l) l) ++ served (cond (not c) (x ∷ r) r))) (q i)
+    (subst (IsPermutation (first ++ served xs)) (sym (append_assoc first (served l) (served r))) rest)
+    (IsPermutation-trans (first ++ served xs) (first ++ (served l ++ served r)) (served l ++ (first ++ served r)) rest (swapped first (served l) (served r)))
+
+module _ (rows : List Row) (places : List ℕ) (ascending : AllPairs (λ s t. s < t) places) (in_range : All (λ s. s < length rows) places) where
+  all_picked : rows_at rows places ≡ picked (has_row places) 0 rows
+  all_picked = rows_picked rows 0 rows places (λ k j is. ap (slice_get rows) (omega (arith, is))) ascending (λ k d inside. (omega arith, omega (arith, in_range k d inside)))
+
+  -- the served blocks are those of the set and those of the rest
+  pub served_out : IsPermutation (served rows) (served (rows_at rows places) ++ served (kept places 0 rows))
+  served_out = subst (λ l. IsPermutation (served rows) (served l ++ served (kept places 0 rows))) (sym all_picked) (served_parts (has_row places) 0 rows)
+
+  -- each place takes one row out
+  pub length_out : length places + length (kept places 0 rows) ≡ length rows
+  length_out = omega (arith, both_picked (has_row places) 0 rows, ap length all_picked, rows_at-length rows places in_range)
 
 -- ---- the merge serves what its members serve
 
@@ -123,11 +138,8 @@ module _ (rows : List Row) (places : List ℕ) (set : IsMergeSet rows places) wh
       let before : IsPermutation (served rows) (served_by m ++ (served a ++ served b)) =
       subst (λ l. IsPermutation (served rows) (served_by m ++ l)) rest
       (subst (λ l. IsPermutation (served rows) (l ++ served (kept places 0 rows))) (sym (served_merged rows places set)) (served_out rows places set.set.ascending set.set.in_range)) in
-      let move : IsPermutation (served_by m ++ (served a ++ served b)) (served a ++ (served_by m ++ served b)) =
-      subst (λ l. IsPermutation l (served a ++ (served_by m ++ served b))) (append_assoc (served_by m) (served a) (served b))
-      (subst (λ l. IsPermutation ((served_by m ++ served a) ++ served b) l) (append_assoc (served a) (served_by m) (served b))
-      (IsPermutation-append_left (served b) (served_by m ++ served a) (served a ++ served_by m) (IsPermutation-append_comm (served_by m) (served a)))) in
-      subst (IsPermutation (served rows)) (sym split) (IsPermutation-trans (served rows) (served_by m ++ (served a ++ served b)) (served a ++ (served_by m ++ served b)) before move)
+      subst (IsPermutation (served rows)) (sym split)
+      (IsPermutation-trans (served rows) (served_by m ++ (served a ++ served b)) (served a ++ (served_by m ++ served b)) before (swapped (served_by m) (served a) (served b)))
 
   pub shorter : length (after rows places) < length rows
   shorter =
@@ -137,19 +149,12 @@ module _ (rows : List Row) (places : List ℕ) (set : IsMergeSet rows places) wh
       omega (arith, set.two, length_out rows places set.set.ascending set.set.in_range, ap length kept_parts, length-append a b, length-append a (merged_row rows places ∷ b))
 
   -- no other route comes
-  pub routes_after : (start : List Row) → HasRoutesOf start rows → HasRoutesOf start (after rows places)
-  routes_after start from =
-      let P = λ (r : Row). Contains (map (λ (x : Row). x.route) start) r.route in
-      let q = λ (k : ℕ). not (has_row places k) in
-      let p = insert_place rows places in
+  pub routes_after : IsOrdered rows → (start : List Row) → HasRoutesOf start rows → HasRoutesOf start (after rows places)
+  routes_after ordered start from =
       let d : Row = merge_rows [] in
-      let first : get_or places 0 0 < length rows = set.set.in_range 0 0 (omega (arith, set.two)) in
-      let merged_route = route_is rows places d set.set.in_range (omega (arith, set.two)) in
-      All-append P (kept places 0 (take p rows)) (merged_row rows places ∷ kept places p (drop p rows))
-      (All-picked P q 0 (take p rows) (All-take P p rows from))
-      (All-cons P (merged_row rows places) (kept places p (drop p rows))
-      (subst (Contains (map (λ (x : Row). x.route) start)) (sym merged_route) (from (get_or places 0 0) d first))
-      (All-picked P q p (drop p rows) (All-drop P p rows from)))
+      let some : 0 < length places = omega (arith, set.two) in
+      all_after rows places ordered set.set.in_range (λ (r : Row). Contains (map (λ (x : Row). x.route) start) r.route)
+      (subst (Contains (map (λ (x : Row). x.route) start)) (sym (route_is rows places d set.set.in_range some)) (from (get_or places 0 0) d (set.set.in_range 0 0 some))) from
 
 -- ---- one merge after another
 
@@ -176,7 +181,7 @@ so_far_more target start now new merges m so_far more chosen is =
     subst (λ l. IsCoveredSoFar target start l (merges ++ m ∷ [])) (sym is) (record {
       few = omega (arith, shorter now m.places legal.0, so_far.few);
       no_more = omega (arith, shorter now m.places legal.0, so_far.no_more);
-      routes = routes_after now m.places legal.0 start so_far.routes;
+      routes = routes_after now m.places legal.0 so_far.sound.ordered start so_far.routes;
       sound = legal.1;
       goes_on = λ sets covered h. subst (λ l. Covers target start l covered)
           (sym (ap (λ l. l ++ sets) (map-append (λ (x : Merge). x.places) merges (m ∷ [])) ∙ append_assoc (sets_of merges) (m.places ∷ []) sets)) (so_far.goes_on (m.places ∷ sets) covered (merged now m.places sets covered more chosen h));

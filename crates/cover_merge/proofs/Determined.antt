@@ -1,7 +1,7 @@
 -- At most one refined set, one chosen merge, one covered table.
 use Rattle.cover_merge.proofs.Common.{Alias, Block, Covered, Covers, HasNoChosen, HasNoLargest, Intersects, IsBestBit, IsChosen, IsDownStep, IsFirstLegalPair, IsFirstMet, IsFirstMetFrom, IsLargest}
 use Rattle.cover_merge.proofs.Common.{IsLastFailing, IsNarrowed, IsNoRival, IsUpStep, List, Merge, Misses, PassesDown, PassesDownCheck, PassesUpCheck, Refines, Route, Row, [], after, ap, arith}
-use Rattle.cover_merge.proofs.Common.{cases_order, ends_empty, ends_legal, get_or, get_or_from_slice_get, goes_down, goes_up, inl, inr, insert_place, kept_by, length, merge_rows, merged, merged_block}
+use Rattle.cover_merge.proofs.Common.{cases_order, ends_empty, ends_legal, get_or, get_or_from_slice_get, goes_down, goes_up, inl, inr, insert_place, length, merge_rows, merged, merged_block}
 use Rattle.cover_merge.proofs.Common.{places_of, refl, set_without, sets_of, short, slice_get_within, stuck, subst, sym, ℕ, ◌<◌, ◌∙◌, ◌∷◌, ◌≡◌, ◌≤◌}
 use Rattle.cover_merge.proofs.ChooseLemmas.{route_cases}
 
@@ -60,10 +60,7 @@ module _ (rows : List Row) where
   one_bit old joined met i j low_i low_j one two = grind (arith, cases_order i j)
 
   one_narrowed : (old : List ℕ) (joined met : Block) (xs ys : List ℕ) → IsNarrowed rows old joined met xs → IsNarrowed rows old joined met ys → xs ≡ ys
-  one_narrowed old joined met xs ys (inl (i, low_i, one, is)) (inl (j, low_j, two, too)) = is ∙ ap (λ n. kept_by rows met n old) (one_bit old joined met i j low_i low_j one two) ∙ sym too
-  one_narrowed old joined met xs ys (inl (i, low_i, one, is)) (inr none) = absurd (omega (arith, one.some, none.0 i low_i))
-  one_narrowed old joined met xs ys (inr none) (inl (j, low_j, two, too)) = absurd (omega (arith, two.some, none.0 j low_j))
-  one_narrowed old joined met xs ys (inr none) (inr also) = none.1 ∙ sym also.1
+  one_narrowed old joined met xs ys its_5 its_6 = grind (arith, one_bit)
 
   one_down : (old xs ys : List ℕ) → IsDownStep rows old xs → IsDownStep rows old ys → xs ≡ ys
   one_down old xs ys one two = grind (arith, one_met (merged_block rows old) (insert_place rows old) one.met two.met one.first two.first, one_narrowed)
@@ -74,10 +71,7 @@ module _ (rows : List Row) where
   -- ---- the refined set
 
   few_end : (places ys : List ℕ) → length places < 2 → Refines rows places ys → [] ≡ ys
-  few_end places ys few (ends_empty p less) = refl
-  few_end places ys few (ends_legal p two up down) = absurd (omega arith)
-  few_end places ys few (goes_up p next a two step rest) = absurd (omega arith)
-  few_end places ys few (goes_down p next a two step rest) = absurd (omega arith)
+  few_end places ys few its_3 = grind arith
 
   pub one_refined : (places xs ys : List ℕ) → Refines rows places xs → Refines rows places ys → xs ≡ ys
   one_refined places xs ys (ends_empty p few) other = few_end p ys few other
@@ -98,8 +92,8 @@ module _ (rows : List Row) where
 
   -- a refined set of two places is that of a row's route
   route_of_set : (bits : ℕ) (set : List ℕ) → Refines rows (places_of bits 0 rows) set → 2 ≤ length set → (route : Route) × (route.bits ≡ bits)
-  route_of_set bits set refined two = elim (route_cases bits 0 rows) [
-    | inl found ↦ ((get_or rows found.0 (merge_rows [])).route, found.2 (merge_rows []))
+  route_of_set bits set refined two = elim (route_cases bits rows) [
+    | inl found ↦ ((get_or rows found.0 (merge_rows [])).route, found.2.1 (merge_rows []))
     | inr none ↦
         let empty : [] ≡ set = few_end [] set (omega arith) (subst (λ l. Refines rows l set) none refined) in
         absurd (omega (arith, two, ap length empty))
@@ -134,10 +128,7 @@ module _ (rows : List Row) where
   ]
 
   pub one_chosen : (xs ys : List ℕ) → IsChosen rows xs → IsChosen rows ys → xs ≡ ys
-  one_chosen xs ys (inl one) (inl two) = one_largest xs ys one two
-  one_chosen xs ys (inl one) (inr two) = absurd (largest_or_none xs one two.0)
-  one_chosen xs ys (inr one) (inl two) = absurd (largest_or_none ys two one.0)
-  one_chosen xs ys (inr one) (inr two) = one_pair xs ys one.1 two.1
+  one_chosen xs ys its_2 its_3 = grind (arith, one_largest, largest_or_none, one_pair)
 
   pub chosen_or_none : (set : List ℕ) → IsChosen rows set → HasNoChosen rows → ⊥
   chosen_or_none set (inl largest) none = largest_or_none set largest none.0

@@ -16,10 +16,7 @@ some_same it other is = cc
 
 -- what is kept is kept of some route
 pub inside_some : (xs : List (Option Kept)) (k : ℕ) (it : Kept) → get_or xs k None ≡ Some it → k < length xs
-inside_some xs k it is = elim (cases_lt k (length xs)) [
-  | inl less ↦ less
-  | inr all ↦ absurd (none_some it (sym (get_or-eq_default xs None all) ∙ is))
-]
+inside_some xs k it is = grind (arith, cases_lt k (length xs), none_some, get_or-eq_default)
 
 -- ---- the greatest
 
@@ -63,8 +60,8 @@ module _ (routes : List ℕ) (rows : List Row) (numbers : List ℕ) (are : AreNu
       (no_rival_kept rows own.0.outer own.0.low (get_or routes c 0) own.0.size (keeps c own.0 low own.1) most.bits most.size (is.no_larger c own.0 low own.1) (is.smaller c own.0 low own.1))
 
   pub no_rival : (bits : ℕ) → IsNoRival rows bits most.bits most.size
-  no_rival bits = elim (route_cases bits 0 rows) [
-    | inl found ↦ rival_at bits (routes_all routes rows numbers are bits found.0 (merge_rows []) found.1 (found.2 (merge_rows [])))
+  no_rival bits = elim (route_cases bits rows) [
+    | inl found ↦ rival_at bits (routes_all routes rows numbers are bits found.0 (merge_rows []) found.1 (found.2.1 (merge_rows [])))
     | inr none ↦ nothing_of bits most.bits most.size none
   ]
 
@@ -164,8 +161,7 @@ kept_over routes rows numbers old mid new places merged once are sound merge kee
 -- What the up-steps left is down-checked: the first block that was, and the generality of this one.
 module _ (rows : List Row) (start set left : List ℕ) (outer wide joined : Block) (low g : ℕ) (gone : IsGone rows start set outer low) (one : IsOneRoute rows set) (leads : (b : Block) (least : ℕ) → LeadsWithin rows b least set left) where
   pub turned : (2 ≤ length left) × (joined ≡ merged_block rows left) × (PassesUpCheck rows left) → ((32 < low) × (wide ≡ joined)) ⊎ ((low ≤ 32) × (wide ≡ outer)) → IsGone rows start left wide (generality (merged_block rows left))
-  turned sifted first = gone_checked rows start left outer low (gone_up rows start set outer low gone left one.in_range leads) wide sifted.0
-      (subst (λ b. ((32 < low) × (wide ≡ b)) ⊎ ((low ≤ 32) × (wide ≡ outer))) sifted.1 first)
+  turned sifted first = grind (arith, gone_up rows start set outer low gone left one.in_range leads, gone_checked)
 
   module _ (sifted : (2 ≤ length left) × (joined ≡ merged_block rows left) × (PassesUpCheck rows left)) (first : ((32 < low) × (wide ≡ joined)) ⊎ ((low ≤ 32) × (wide ≡ outer))) (general : g ≡ generality joined) where
     low_is : generality (merged_block rows left) ≡ g

@@ -1,24 +1,16 @@
 -- What is kept of a route is true in the table after a merge that leaves it alone.
-use Rattle.cover_merge.proofs.Common.{All, All-cons, All-filter, All-head, All-map, All-nil, All-tail, Block, Bool, HoldsItsAliases, Intersects, Intersects-sym, Intersects-wider, IsDownStep}
-use Rattle.cover_merge.proofs.Common.{IsFirstMetFrom, IsKept, IsLastFailing, IsLeftBy, IsLegal, IsMergeSet, IsNarrowed, IsNoRival, IsSound, IsUpStep, LiesIn, LiesIn-from_wants, LiesIn-trans, List}
-use Rattle.cover_merge.proofs.Common.{Misses, PassesDown, PassesDownCheck, PassesUp, PassesUpCheck, Refines, RefinesWithin, Route, Row, Some, Wants, [], after, ap, arith, can_choose, cases_Bool}
-use Rattle.cover_merge.proofs.Common.{cases_lt, cases_order, cond, cond_both, cons_option, eq-eqb, eqb-true, false, false_from_ne_true, filter, generality, generality-mono, get_or, get_or-map}
-use Rattle.cover_merge.proofs.Common.{get_or_default, get_or_from_slice_get, has_row, inl, inr, insert_place, keeps, kept_by, kept_count, length, length-map, map, merge_of, merge_of-is_merge}
-use Rattle.cover_merge.proofs.Common.{merged_block, merged_row, ne_eqb, not, place_for, places_of, refl, rows_at, slice_get, slice_get-get_or, slice_get_within, subst, suc, sym, true, zero, ℕ, ◌+◌}
-use Rattle.cover_merge.proofs.Common.{◌<◌, ◌==◌, ◌||◌, ◌∙◌, ◌∷◌, ◌≡◌, ◌≢◌, ◌≤◌, ◌⊎◌}
-use Rattle.cover_merge.proofs.Positions.{has-at, has-place, All-has, rows_at-from, rows_at-has, rows_at-length, some_blocks, place_for-le, place_for-below, place_for-above, member_le}
-use Rattle.cover_merge.proofs.{Lists.All-from_map, Lists.cond_of, Legal.HoldsItsAliases-merge, Legal.narrower_misses, Legal.member_lies, ApplyLemmas.block_is, Determined.met_not_missed}
-use Rattle.cover_merge.proofs.{Determined.one_refined, KeptLemmasMoved.moved, KeptLemmasMoved.moved_less, KeptLemmasMoved.moved_get, KeptLemmasMoved.moved_onto, KeptLemmasMoved.moved_places}
+use Rattle.cover_merge.proofs.Common.{All, All-filter, All-head, All-map, All-nil, All-tail, Block, Bool, HoldsItsAliases, Intersects, Intersects-sym, Intersects-wider, IsDownStep, IsFirstMetFrom}
+use Rattle.cover_merge.proofs.Common.{IsKept, IsLastFailing, IsLegal, IsMergeSet, IsNarrowed, IsNoRival, IsSound, IsUpStep, LiesIn, LiesIn-from_wants, LiesIn-trans, List, LosesNone, Misses}
+use Rattle.cover_merge.proofs.Common.{PassesDown, PassesDownCheck, PassesUp, PassesUpCheck, Refines, RefinesWithin, Route, Row, Some, Wants, [], after, ap, arith, can_choose, cases_Bool, cases_lt}
+use Rattle.cover_merge.proofs.Common.{cases_order, cond, cons_option, eq-eqb, false, false_from_ne_true, filter, generality, generality-mono, get_or, get_or-map, get_or_default, get_or_from_slice_get}
+use Rattle.cover_merge.proofs.Common.{has_row, inl, inr, insert_place, keeps, kept_by, kept_count, length, length-map, map, merge_of, merge_of-is_merge, merged_block, merged_row, ne_eqb, not}
+use Rattle.cover_merge.proofs.Common.{place_for, places_of, refl, rows_at, slice_get, slice_get-get_or, slice_get_within, subst, suc, sym, true, zero, ℕ, ◌<◌, ◌==◌, ◌||◌, ◌∙◌, ◌∷◌, ◌≡◌, ◌≢◌, ◌≤◌, ◌⊎◌}
+use Rattle.cover_merge.proofs.{ChooseLemmas.are_places, KeptLemmasMoved.moved_from, KeptLemmasMoved.moved, KeptLemmasMoved.moved_less, KeptLemmasMoved.moved_get, KeptLemmasMoved.moved_onto}
+use Rattle.cover_merge.proofs.{KeptLemmasMoved.moved_places, Positions.has-at, Positions.has-place, Positions.All-has, Positions.rows_at-from, Positions.rows_at-has, Positions.rows_at-length}
+use Rattle.cover_merge.proofs.{Positions.some_blocks, Positions.place_for-le, Positions.place_for-below, Positions.place_for-above, Positions.member_le, Lists.All-from_map, Lists.cond_of}
+use Rattle.cover_merge.proofs.{Legal.HoldsItsAliases-merge, Legal.narrower_misses, Legal.member_lies, ApplyLemmas.block_is, Determined.met_not_missed, Determined.one_refined}
 
 -- ---- lists of places
-
--- what holds of each place of a route's rows holds of all
-places_each : (P : ℕ → Type 0) (bits i : ℕ) (rows : List Row) → ((k j : ℕ) → j ≡ i + k → k < length rows → ((d : Row) → (get_or rows k d).route.bits ≡ bits) → P j) → All P (places_of bits i rows)
-places_each P bits i [] each = All-nil P
-places_each P bits i (r ∷ rows) each =
-    let rest = places_each P bits (suc i) rows (λ k j at within same. each (suc k) j (omega (arith, at)) (omega (arith, within)) same) in
-    cond_both (r.route.bits == bits) (i ∷ places_of bits (suc i) rows) (places_of bits (suc i) rows) (All P)
-    (λ is. All-cons P i (places_of bits (suc i) rows) (each 0 i (omega arith) (omega arith) (λ d. eqb-true r.route.bits bits is)) rest) (λ other. rest)
 
 module _ (to : ℕ → ℕ) where
   -- what a test lets pass of the images are the images of what passes
@@ -47,15 +39,14 @@ record IsUnder (b : Block) (row : Row) : Type 0 where
 under_misses : (b : Block) (row other : Row) → IsUnder b row → Misses b other → Misses row.block other
 under_misses b row other under misses = narrower_misses b row.block other under.lies misses
 
--- a block that was down-checked misses such a row, or is no less general
-under_apart : (joined outer b : Block) (low : ℕ) → (Intersects joined outer → ⊥) ⊎ (generality joined ≤ low) → LiesIn b outer → low ≤ generality b → (row : Row) → IsUnder joined row → (Misses b row) ⊎ (generality row.block ≤ generality b)
-under_apart joined outer b low (inl apart) lies high row under = grind (arith, get_or, Intersects-wider, Intersects-sym, LiesIn-trans)
-under_apart joined outer b low (inr less) lies high row under = inr (omega (arith, under.low, less, high))
+-- a row outside the merge
+pub record IsOut (rows : List Row) (merge : List ℕ) (s : ℕ) : Type 0 where
+  pub inside : s < length rows
+  pub out : has_row merge s ≡ false
 
--- a row outside the merge, whose aliases it misses
+-- and whose aliases the merge misses
 record IsLeft (rows : List Row) (merge : List ℕ) (s : ℕ) : Type 0 where
-  inside : s < length rows
-  out : has_row merge s ≡ false
+  at : IsOut rows merge s
   clear : (d : Row) → Misses (merged_block rows merge) (get_or rows s d)
 
 module _ (rows : List Row) (merge : List ℕ) (sound : IsSound rows) (set : IsMergeSet rows merge) (legal : IsLegal rows merge) where
@@ -70,7 +61,7 @@ module _ (rows : List Row) (merge : List ℕ) (sound : IsSound rows) (set : IsMe
 
   merged_under : IsUnder (merged_block rows merge) (merged_row rows merge)
   merged_under =
-      let same = block_is rows merge sound.ordered set in record {
+      let same = block_is rows merge sound.ordered set.set.in_range in record {
         lies = subst (λ b. LiesIn b (merged_block rows merge)) (sym same) (λ k small inside. inside);
         holds = HoldsItsAliases-merge (rows_at rows merge) (rows_at-from HoldsItsAliases rows merge (λ s d found. sound.inside s d (All-has (λ x. x < length rows) merge s set.set.in_range found)));
         low = omega (arith, ap generality same);
@@ -79,19 +70,19 @@ module _ (rows : List Row) (merge : List ℕ) (sound : IsSound rows) (set : IsMe
   -- ---- places
 
   pub to_less : (j k : ℕ) → has_row merge j ≡ false → j < k → to j < to k
-  to_less j k out less = moved_less rows merge sound.ordered set j k out less
+  to_less j k out less = moved_less rows merge sound.ordered set.set.in_range j k out less
 
   pub from_less : (j k : ℕ) → has_row merge k ≡ false → to j < to k → j < k
-  from_less j k out less = grind (arith, cases_order j k, to_less)
+  from_less j k out less = moved_from rows merge sound.ordered set.set.in_range j k out less
 
   pub same_test : (s k : ℕ) → has_row merge s ≡ false → has_row merge k ≡ false → (to s == to k) ≡ (s == k)
   same_test s k out gone = grind (arith, cases_order s k, eq-eqb, ne_eqb, to_less)
 
   pub get_to : (s : ℕ) (d : Row) → s < length rows → has_row merge s ≡ false → get_or new (to s) d ≡ get_or rows s d
-  get_to s d inside out = (moved_get rows merge sound.ordered set s d inside out).1
+  get_to s d inside out = (moved_get rows merge sound.ordered set.set.in_range s d inside out).1
 
   pub to_inside : (s : ℕ) → s < length rows → has_row merge s ≡ false → to s < length new
-  to_inside s inside out = (moved_get rows merge sound.ordered set s (merged_row rows merge) inside out).0
+  to_inside s inside out = (moved_get rows merge sound.ordered set.set.in_range s (merged_row rows merge) inside out).0
 
   pub slice_to : (s : ℕ) → s < length rows → has_row merge s ≡ false → slice_get new (to s) ≡ slice_get rows s
   slice_to s inside out =
@@ -111,21 +102,35 @@ module _ (rows : List Row) (merge : List ℕ) (sound : IsSound rows) (set : IsMe
 
   -- ---- sets of places
 
-  has_to : (places : List ℕ) (k : ℕ) → All (IsLeft rows merge) places → has_row merge k ≡ false → has_row (map to places) (to k) ≡ has_row places k
-  has_to [] k left out = refl
-  has_to (s ∷ places) k left out =
-      ap (λ b. b || has_row (map to places) (to k)) (same_test s k (All-head (IsLeft rows merge) s places left).out out)
-      ∙ ap (λ b. (s == k) || b) (has_to places k (All-tail (IsLeft rows merge) s places left) out)
+  pub has_to : (places : List ℕ) (k : ℕ) → All (IsOut rows merge) places → has_row merge k ≡ false → has_row (map to places) (to k) ≡ has_row places k
+  has_to [] k outs gone = refl
+  has_to (s ∷ places) k outs gone =
+      ap (λ b. b || has_row (map to places) (to k)) (same_test s k (All-head (IsOut rows merge) s places outs).out gone)
+      ∙ ap (λ b. (s == k) || b) (has_to places k (All-tail (IsOut rows merge) s places outs) gone)
 
-  rows_to : (places : List ℕ) → All (IsLeft rows merge) places → rows_at new (map to places) ≡ rows_at rows places
-  rows_to [] left = refl
-  rows_to (s ∷ places) left =
-      let here = All-head (IsLeft rows merge) s places left in
+  rows_to : (places : List ℕ) → All (IsOut rows merge) places → rows_at new (map to places) ≡ rows_at rows places
+  rows_to [] outs = refl
+  rows_to (s ∷ places) outs =
+      let here = All-head (IsOut rows merge) s places outs in
       ap (λ o. cons_option o (rows_at new (map to places))) (slice_to s here.inside here.out)
-      ∙ ap (cons_option (slice_get rows s)) (rows_to places (All-tail (IsLeft rows merge) s places left))
+      ∙ ap (cons_option (slice_get rows s)) (rows_to places (All-tail (IsOut rows merge) s places outs))
 
-  block_to : (places : List ℕ) → All (IsLeft rows merge) places → merged_block new (map to places) ≡ merged_block rows places
-  block_to places left = ap (λ l. merge_of (map (λ (x : Row). x.block) l)) (rows_to places left)
+  -- of rows outside the merge
+  module _ (places : List ℕ) (outs : All (IsOut rows merge) places) where
+    pub block_to : merged_block new (map to places) ≡ merged_block rows places
+    block_to = ap (λ l. merge_of (map (λ (x : Row). x.block) l)) (rows_to places outs)
+
+    -- a row that loses none passed where it passes
+    pub up_from : (g s : ℕ) → IsOut rows merge s → LosesNone rows merge s → PassesUp new (map to places) (to s) (place_for new g) → PassesUp rows places s (place_for rows g)
+    up_from g s here loses up k behind before d outside =
+        let inside : k < length rows = omega (arith, before, place_for-le rows g) in
+        elim (cases_Bool (has_row merge k)) [
+          | inl found ↦ loses k d found behind
+          | inr gone ↦
+              subst (Misses (get_or rows k d).block) (get_to s d here.inside here.out)
+              (subst (λ (r : Row). Misses r.block (get_or new (to s) d)) (get_to k d inside gone)
+              (up (to k) (to_less s k here.out behind) (before_to g k inside gone before) d (has_to places k outs gone ∙ outside)))
+        ]
 
   -- ---- the up-check
 
@@ -133,50 +138,49 @@ module _ (rows : List Row) (merge : List ℕ) (sound : IsSound rows) (set : IsMe
     left_at : (s : ℕ) → has_row places s ≡ true → IsLeft rows merge s
     left_at s found = All-has (IsLeft rows merge) places s left found
 
+    outs : All (IsOut rows merge) places
+    outs k d within = (left k d within).at
+
+    left_loses : (s : ℕ) → IsLeft rows merge s → LosesNone rows merge s
+    left_loses s stays r d found behind =
+        under_misses (merged_block rows merge) (get_or rows r d) (get_or rows s d) (member_under r d (All-has (λ x. x < length rows) merge r set.set.in_range found) found) (stays.clear d)
+
     up_to : (g s : ℕ) → IsLeft rows merge s → PassesUp rows places s (place_for rows g) → PassesUp new (map to places) (to s) (place_for new g)
     up_to g s stays up l behind before d out =
-        subst (Misses (get_or new l d).block) (sym (get_to s d stays.inside stays.out)) (elim (moved_onto rows merge sound.ordered set l (omega (arith, before, place_for-le new g))) [
+        subst (Misses (get_or new l d).block) (sym (get_to s d stays.at.inside stays.at.out))
+        (elim (moved_onto rows merge sound.ordered set.set.in_range l (omega (arith, before, place_for-le new g))) [
           | inl (k, inside, gone, at) ↦
               subst (λ (r : Row). Misses r.block (get_or rows s d)) (sym (get_to k d inside gone) ∙ ap (λ n. get_or new n d) at)
               (up k (from_less s k gone (subst (λ n. to s < n) (sym at) behind)) (before_from g k inside gone (subst (λ n. n < place_for new g) (sym at) before)) d
-              (sym (has_to places k left gone) ∙ ap (has_row (map to places)) at ∙ out))
+              (sym (has_to places k outs gone) ∙ ap (has_row (map to places)) at ∙ out))
           | inr is ↦ subst (λ (r : Row). Misses r.block (get_or rows s d)) (sym (is d)) (under_misses (merged_block rows merge) (merged_row rows merge) (get_or rows s d) merged_under (stays.clear d))
         ])
-
-    up_from : (g s : ℕ) → IsLeft rows merge s → PassesUp new (map to places) (to s) (place_for new g) → PassesUp rows places s (place_for rows g)
-    up_from g s stays up k behind before d out =
-        let inside : k < length rows = omega (arith, before, place_for-le rows g) in
-        elim (cases_Bool (has_row merge k)) [
-          | inl found ↦ under_misses (merged_block rows merge) (get_or rows k d) (get_or rows s d) (member_under k d inside found) (stays.clear d)
-          | inr gone ↦
-              subst (Misses (get_or rows k d).block) (get_to s d stays.inside stays.out)
-              (subst (λ (r : Row). Misses r.block (get_or new (to s) d)) (get_to k d inside gone)
-              (up (to k) (to_less s k stays.out behind) (before_to g k inside gone before) d (has_to places k left gone ∙ out)))
-        ]
 
     up_check_to : PassesUpCheck rows places → PassesUpCheck new (map to places)
     up_check_to up l found =
         let at = has_from to places l found in
         subst (λ n. PassesUp new (map to places) n (insert_place new (map to places))) at.2
-        (subst (λ b. PassesUp new (map to places) (to at.0) (place_for new (generality b))) (sym (block_to places left))
+        (subst (λ b. PassesUp new (map to places) (to at.0) (place_for new (generality b))) (sym (block_to places outs))
         (up_to (generality (merged_block rows places)) at.0 (left_at at.0 at.1) (up at.0 at.1)))
 
     last_to : (g s : ℕ) → IsLastFailing rows places (place_for rows g) s → IsLastFailing new (map to places) (place_for new g) (to s)
     last_to g s last = record {
-      member = has_to places s left (left_at s last.member).out ∙ last.member;
-      failing = λ passes. last.failing (up_from g s (left_at s last.member) passes);
+      member = has_to places s outs (left_at s last.member).at.out ∙ last.member;
+      failing = λ passes. last.failing (up_from places outs g s (left_at s last.member).at (left_loses s (left_at s last.member)) passes);
       behind = λ l found less.
           let at = has_from to places l found in
           subst (λ n. PassesUp new (map to places) n (place_for new g)) at.2
-          (up_to g at.0 (left_at at.0 at.1) (last.behind at.0 at.1 (from_less s at.0 (left_at at.0 at.1).out (subst (λ n. to s < n) (sym at.2) less))));
+          (up_to g at.0 (left_at at.0 at.1) (last.behind at.0 at.1 (from_less s at.0 (left_at at.0 at.1).at.out (subst (λ n. to s < n) (sym at.2) less))));
     }
 
     up_step_to : (next : List ℕ) → IsUpStep rows places next → IsUpStep new (map to places) (map to next)
     up_step_to next step = record {
       place = to step.place;
-      last = subst (λ b. IsLastFailing new (map to places) (place_for new (generality b)) (to step.place)) (sym (block_to places left)) (last_to (generality (merged_block rows places)) step.place step.last);
+      last = subst (λ b. IsLastFailing new (map to places) (place_for new (generality b)) (to step.place)) (sym (block_to places outs))
+          (last_to (generality (merged_block rows places)) step.place step.last);
       result = ap (map to) step.result
-          ∙ sym (filter_to to (λ t. not (t == to step.place)) (λ t. not (t == step.place)) places (λ k d within. ap not (same_test (get_or places k d) step.place (left k d within).out (left_at step.place step.last.member).out)));
+          ∙ sym (filter_to to (λ t. not (t == to step.place)) (λ t. not (t == step.place)) places
+          (λ k d within. ap not (same_test (get_or places k d) step.place (left k d within).at.out (left_at step.place step.last.member).at.out)));
     }
 
     -- ---- the down-check
@@ -189,7 +193,7 @@ module _ (rows : List Row) (merge : List ℕ) (sound : IsSound rows) (set : IsMe
       new_place = place_for new (generality b)
 
       row_behind : (l : ℕ) (d : Row) → new_place ≤ l → l < length new → ((k : ℕ) → k < length rows → has_row merge k ≡ false → to k ≡ l → old_place ≤ k → Misses b (get_or rows k d)) → Misses b (get_or new l d)
-      row_behind l d from within each = elim (moved_onto rows merge sound.ordered set l within) [
+      row_behind l d from within each = elim (moved_onto rows merge sound.ordered set.set.in_range l within) [
         | inl (k, inside, gone, at) ↦
             subst (Misses b) (sym (get_to k d inside gone) ∙ ap (λ n. get_or new n d) at) (each k inside gone at (elim (cases_lt k old_place) [
               | inl low ↦ absurd (omega (arith, before_to (generality b) k inside gone low, at, from))
@@ -235,23 +239,22 @@ module _ (rows : List Row) (merge : List ℕ) (sound : IsSound rows) (set : IsMe
     count_to joined met i = ap (λ n. cond (can_choose joined met i) n 0) (ap length (kept_to met i) ∙ length-map (kept_by rows met i places) to)
 
     narrowed_to : (joined met : Block) (next : List ℕ) → IsNarrowed rows places joined met next → IsNarrowed new (map to places) joined met (map to next)
-    narrowed_to joined met next (inl (i, low, best, is)) = grind (arith, count_to, kept_to)
-    narrowed_to joined met next (inr none) = inr (λ j below. count_to joined met j ∙ none.0 j below, ap (map to) none.1)
+    narrowed_to joined met next its_3 = grind (arith, count_to, kept_to)
 
     module _ (outer : Block) (low : ℕ) (apart : (Intersects (merged_block rows merge) outer → ⊥) ⊎ (generality (merged_block rows merge) ≤ low)) (lies : LiesIn (merged_block rows places) outer) (high : low ≤ generality (merged_block rows places)) where
       apart_here : (row : Row) → IsUnder (merged_block rows merge) row → (Misses (merged_block rows places) row) ⊎ (generality row.block ≤ generality (merged_block rows places))
-      apart_here = under_apart (merged_block rows merge) outer (merged_block rows places) low apart lies high
+      apart_here = grind (arith, get_or, Intersects-wider, Intersects-sym, LiesIn-trans)
 
       down_check_to : PassesDownCheck rows places → PassesDownCheck new (map to places)
-      down_check_to down = subst (λ b. PassesDown new b (place_for new (generality b))) (sym (block_to places left))
+      down_check_to down = subst (λ b. PassesDown new b (place_for new (generality b))) (sym (block_to places outs))
           (λ l d from within. row_behind (merged_block rows places) apart_here l d from within (λ k inside gone at le. down k d le inside))
 
       down_step_to : (next : List ℕ) → IsDownStep rows places next → IsDownStep new (map to places) (map to next)
       down_step_to next step = record {
         up = up_check_to step.up;
         met = step.met;
-        first = subst (λ b. IsFirstMetFrom new b (place_for new (generality b)) step.met) (sym (block_to places left)) (met_to (merged_block rows places) apart_here step.met step.first);
-        narrowed = subst (λ b. IsNarrowed new (map to places) b step.met (map to next)) (sym (block_to places left)) (narrowed_to (merged_block rows places) step.met next step.narrowed);
+        first = subst (λ b. IsFirstMetFrom new b (place_for new (generality b)) step.met) (sym (block_to places outs)) (met_to (merged_block rows places) apart_here step.met step.first);
+        narrowed = subst (λ b. IsNarrowed new (map to places) b step.met (map to next)) (sym (block_to places outs)) (narrowed_to (merged_block rows places) step.met next step.narrowed);
       }
 
   -- ---- the refined set
@@ -265,32 +268,41 @@ module _ (rows : List Row) (merge : List ℕ) (sound : IsSound rows) (set : IsMe
     refines_to places answer left (RefinesWithin.ends_empty p few) = RefinesWithin.ends_empty (map to p) (omega (arith, few, length-map p to))
     refines_to places answer left (RefinesWithin.ends_legal p two up down lies high) =
         RefinesWithin.ends_legal (map to p) (omega (arith, two, length-map p to)) (up_check_to p left up) (down_check_to p left outer low apart lies high down)
-        (subst (λ b. LiesIn b outer) (sym (block_to p left)) lies) (omega (arith, high, ap generality (block_to p left)))
+        (subst (λ b. LiesIn b outer) (sym (block_to p (outs p left))) lies) (omega (arith, high, ap generality (block_to p (outs p left))))
     refines_to places answer left (RefinesWithin.goes_up p next a two step rest) =
         RefinesWithin.goes_up (map to p) (map to next) (map to a) (omega (arith, two, length-map p to)) (up_step_to p left next step)
         (refines_to next a (subst (All (IsLeft rows merge)) (sym step.result) (All-filter (λ t. not (t == step.place)) (IsLeft rows merge) p left)) rest)
     refines_to places answer left (RefinesWithin.goes_down p next a two step lies high rest) =
         RefinesWithin.goes_down (map to p) (map to next) (map to a) (omega (arith, two, length-map p to)) (down_step_to p left outer low apart lies high next step)
-        (subst (λ b. LiesIn b outer) (sym (block_to p left)) lies) (omega (arith, high, ap generality (block_to p left)))
+        (subst (λ b. LiesIn b outer) (sym (block_to p (outs p left))) lies) (omega (arith, high, ap generality (block_to p (outs p left))))
         (refines_to next a (narrowed_left p (merged_block rows p) step.met next left step.narrowed) rest)
 
 -- ---- what is kept
+
+-- A merge leaves alone what is kept of a route: it is of another route, its block meets no alias of a row of the route,
+-- and meets no block that was down-checked or is no more general than each.
+pub record IsLeftBy (rows : List Row) (merge : List ℕ) (bits : ℕ) (outer : Block) (low : ℕ) : Type 0 where
+  pub other : (s : ℕ) (d : Row) → has_row merge s ≡ true → (get_or rows s d).route.bits ≢ bits
+  pub misses : (s : ℕ) (d : Row) → s < length rows → (get_or rows s d).route.bits ≡ bits → Misses (merged_block rows merge) (get_or rows s d)
+  pub apart : (Intersects (merged_block rows merge) outer → ⊥) ⊎ (generality (merged_block rows merge) ≤ low)
 
 -- What is kept of a route is true in the table after a merge that leaves it alone.
 pub kept_after : (rows : List Row) (merge : List ℕ) (bits size : ℕ) (outer : Block) (low : ℕ) → IsSound rows → IsMergeSet rows merge → IsLegal rows merge → IsLeftBy rows merge bits outer low → IsKept rows bits size outer low → IsKept (after rows merge) bits size outer low
 kept_after rows merge bits size outer low sound set legal leaves keeps_it = record {
   set = map (moved rows merge) keeps_it.set;
-  refined = subst (λ l. RefinesWithin (after rows merge) outer low l (map (moved rows merge) keeps_it.set)) (sym (moved_places rows merge sound.ordered set bits leaves.other))
+  refined = subst (λ l. RefinesWithin (after rows merge) outer low l (map (moved rows merge) keeps_it.set))
+      (sym (moved_places rows merge sound.ordered set.set.in_range (omega (arith, set.two)) bits leaves.other))
       (refines_to rows merge sound set legal outer low leaves.apart (places_of bits 0 rows) keeps_it.set left keeps_it.refined);
   size_is = length-map keeps_it.set (moved rows merge) ∙ keeps_it.size_is;
 }
   where
     left : All (IsLeft rows merge) (places_of bits 0 rows)
-    left = places_each (IsLeft rows merge) bits 0 rows (λ k j at within same. subst (IsLeft rows merge) (omega (arith, at)) (record {
-      inside = within;
-      out = false_from_ne_true (has_row merge k) (λ found. leaves.other k (merged_row rows merge) found (same (merged_row rows merge)));
-      clear = λ d. leaves.misses k d within (same d);
-    }))
+    left k d within =
+        let s = get_or (places_of bits 0 rows) k d in
+        let has = (are_places bits rows).each k d within in record {
+          at = record { inside = has.0; out = false_from_ne_true (has_row merge s) (λ found. leaves.other s (merged_row rows merge) found (has.1 (merged_row rows merge))) };
+          clear = λ e. leaves.misses s e has.0 (has.1 e);
+        }
 
 module _ (rows : List Row) (outer : Block) (low : ℕ) where
   -- A refinement within bounds is a refinement.

@@ -66,8 +66,7 @@ module _ (rows : List Row) where
 
     -- Before a down-check `outer` becomes the merge of the set where it is the first, and `low` its generality.
     pub gone_checked : (wide : Block) → 2 ≤ length set → ((32 < low) × (wide ≡ merged_block rows set)) ⊎ ((low ≤ 32) × (wide ≡ outer)) → IsGone rows start set wide (generality (merged_block rows set))
-    gone_checked wide two (inl first) = grind (arith, generality_le (merged_block rows set))
-    gone_checked wide two (inr later) = grind (arith, generality_le (merged_block rows set))
+    gone_checked wide two its_2 = grind (arith, generality_le)
 
   module _ (start set : List ℕ) (outer : Block) (two : 2 ≤ length set) (gone : IsGone rows start set outer (generality (merged_block rows set))) where
     lies_here : LiesIn (merged_block rows set) outer

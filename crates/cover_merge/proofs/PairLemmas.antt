@@ -1,13 +1,12 @@
 -- A pair of rows that is legal after a merge was legal before it, where neither loses a row behind it by the merge.
 use Rattle.cover_merge.proofs.Common.{All, AreNoLater, AreRivalsAt, AreTouched, AreTriedUpTo, Block, HasSerial, IsFresh, IsLegal, IsLegalPair, IsMergeSet, IsSound, List, LosesNone, MeetsNone, Misses}
-use Rattle.cover_merge.proofs.Common.{PassesDown, PassesUp, Rival, Route, Row, Times, [], after, ap, arith, cases_Bool, false, generality, get_or, has_row, inl, inr, insert, insert_place, is_at_one}
-use Rattle.cover_merge.proofs.Common.{length, length-append, length-drop, length-take, map, merge_of, merged_block, merged_row, place_for, place_of_route, rows_at, subst, subst₂, sym, true}
-use Rattle.cover_merge.proofs.Common.{true≢false, ℕ, ◌<◌, ◌∙◌, ◌∷◌, ◌≡◌, ◌≤◌, ◌⊎◌}
-use Rattle.cover_merge.proofs.Positions.{both_of, member_le, pair_set, place_for-from, place_for-reach, All-has, at_one_of, has-at, rows_at-has, place_for-le}
-use Rattle.cover_merge.proofs.{KeptLemmasMoved.merged_get, KeptLemmasMoved.moved, KeptLemmasMoved.item_moved, KeptLemmasMoved.item_merged, KeptLemmasMoved.item_onto, Lists.picked_lengths}
-use Rattle.cover_merge.proofs.{Legal.Misses-members, Legal.legal_from_checks, Legal.up_from_legal, Legal.down_from_legal, ApplyLemmas.left, ApplyLemmas.after_is, ApplyLemmas.block_is}
-use Rattle.cover_merge.proofs.{ApplyLemmas.route_is, TriedLemmas.all_before, KeptLemmas.from_less, KeptLemmas.to_less, KeptLemmas.same_test, KeptLemmas.get_to, KeptLemmas.slice_to}
-use Rattle.cover_merge.proofs.KeptLemmas.{before_to}
+use Rattle.cover_merge.proofs.Common.{PassesDown, PassesUp, Rival, Route, Row, Times, [], after, ap, arith, false, generality, get_or, has_row, inl, inr, insert, insert_place, is_at_one, length, map}
+use Rattle.cover_merge.proofs.Common.{merge_of, merged_block, merged_row, place_for, place_of_route, rows_at, subst, subst₂, sym, true, true≢false, ℕ, ◌<◌, ◌∙◌, ◌∷◌, ◌≡◌, ◌≤◌, ◌⊎◌}
+use Rattle.cover_merge.proofs.{KeptLemmas.up_from, KeptLemmas.IsOut, KeptLemmas.block_to, KeptLemmas.has_to, KeptLemmas.from_less, KeptLemmas.get_to, KeptLemmasMoved.all_carried}
+use Rattle.cover_merge.proofs.{KeptLemmasMoved.length_carried, KeptLemmasMoved.moved, KeptLemmasMoved.item_moved, KeptLemmasMoved.item_merged, KeptLemmasMoved.item_onto, RivalLemmas.serial_at}
+use Rattle.cover_merge.proofs.Positions.{both_of, member_le, pair_set, place_for-from, place_for-reach, All-has, at_one_of, has-at, rows_at-has}
+use Rattle.cover_merge.proofs.{Legal.Misses-members, Legal.legal_from_checks, Legal.up_from_legal, Legal.down_from_legal, ApplyLemmas.left, ApplyLemmas.block_is, ApplyLemmas.route_is}
+use Rattle.cover_merge.proofs.TriedLemmas.{all_before}
 
 -- the merge of the blocks of rows
 abbrev block_of : List Row → Block
@@ -26,7 +25,8 @@ module _ (rows : List Row) (merge : List ℕ) (sound : IsSound rows) (set : IsMe
       let members : (generality b < generality (merged_row rows merge).block → Misses b (merged_row rows merge)) → (k : ℕ) (d : Row)
       → has_row merge k ≡ true → generality b < generality (get_or rows k d).block → Misses b (get_or rows k d) =
       λ of_merge k d found more. rows_at-has (Misses b) rows merge set.set.in_range
-      (Misses-members b (rows_at rows merge) (of_merge (omega (arith, more, member_le rows merge set.set.in_range k d found, ap generality (block_is rows merge sound.ordered set))))) k d found in
+      (Misses-members b (rows_at rows merge) (of_merge
+      (omega (arith, more, member_le rows merge set.set.in_range k d found, ap generality (block_is rows merge sound.ordered set.set.in_range))))) k d found in
       all_before rows merge sound.ordered set (λ x. generality b < generality x.block → Misses b x) members
       (λ l e inside more. down l e (place_for-reach new (generality b) legal.ordered l e more) inside) k d within (place_for-from rows (generality b) sound.ordered k d within from)
 
@@ -37,22 +37,11 @@ module _ (rows : List Row) (merge : List ℕ) (sound : IsSound rows) (set : IsMe
     abbrev image : List ℕ
     image = to i ∷ to j ∷ []
 
-    has_image : (k : ℕ) → has_row merge k ≡ false → has_row image (to k) ≡ has_row pair k
-    has_image k out = grind (arith, same_test rows merge sound set legal i k out_i out, same_test rows merge sound set legal j k out_j out)
+    outs : All (IsOut rows merge) pair
+    outs = both_of (IsOut rows merge) i j (record { inside = in_i; out = out_i }) (record { inside = in_j; out = out_j })
 
     block_same : merged_block new image ≡ merged_block rows pair
-    block_same = grind (arith, slice_to rows merge sound set legal i in_i out_i, slice_to rows merge sound set legal j in_j out_j)
-
-    up_before : (g s : ℕ) → s < length rows → has_row merge s ≡ false → LosesNone rows merge s → PassesUp new image (to s) (place_for new g) → PassesUp rows pair s (place_for rows g)
-    up_before g s inside out loses up k behind before d outside =
-        let within : k < length rows = omega (arith, before, place_for-le rows g) in
-        elim (cases_Bool (has_row merge k)) [
-          | inl found ↦ loses k d found behind
-          | inr gone ↦
-              subst (Misses (get_or rows k d).block) (get_to rows merge sound set legal s d inside out)
-              (subst (λ (r : Row). Misses r.block (get_or new (to s) d)) (get_to rows merge sound set legal k d within gone)
-              (up (to k) (to_less rows merge sound set legal s k out behind) (before_to rows merge sound set legal g k within gone before) d (has_image k gone ∙ outside)))
-        ]
+    block_same = block_to rows merge sound set legal pair outs
 
     -- the pair is a set, too
     pair_was : IsMergeSet new image → IsMergeSet rows pair
@@ -64,8 +53,9 @@ module _ (rows : List Row) (merge : List ℕ) (sound : IsSound rows) (set : IsMe
     pub pair_before : LosesNone rows merge i → LosesNone rows merge j → IsLegalPair new (to i) (to j) → IsLegalPair rows i j
     pair_before first second was =
         let up_at : (s : ℕ) → s < length rows → has_row merge s ≡ false → LosesNone rows merge s → has_row pair s ≡ true → PassesUp rows pair s (insert_place rows pair) =
-        λ s inside out loses found. up_before (generality (merged_block rows pair)) s inside out loses
-        (subst (λ b. PassesUp new image (to s) (place_for new (generality b))) block_same (up_from_legal new image legal was.set.set.in_range was.legal (to s) (has_image s out ∙ found))) in
+        λ s inside out loses found. up_from rows merge sound set legal pair outs (generality (merged_block rows pair)) s (record { inside = inside; out = out }) loses
+        (subst (λ b. PassesUp new image (to s) (place_for new (generality b))) block_same
+        (up_from_legal new image legal was.set.set.in_range was.legal (to s) (has_to rows merge sound set legal pair s outs out ∙ found))) in
         let now = pair_was was.set in
         let P : ℕ → Type 0 = λ s. PassesUp rows pair s (insert_place rows pair) in
         let all : All P pair = both_of P i j (up_at i in_i out_i first (has-at pair 0 (omega arith))) (up_at j in_j out_j second (has-at pair 1 (omega arith))) in
@@ -84,16 +74,16 @@ module _ (rows : List Row) (merge : List ℕ) (sound : IsSound rows) (set : IsMe
     -- times are those of a row that moved, or those of the merged row
     time_onto : (l : ℕ) (e : Times) → l < length (carried_times (insert_place rows merge))
         → ((k : ℕ) × (k < length times) × (has_row merge k ≡ false) × (to k ≡ l) × (get_or (carried_times (insert_place rows merge)) l e ≡ get_or times k e)) ⊎ (get_or (carried_times (insert_place rows merge)) l e ≡ nothing)
-    time_onto l e within = elim (item_onto rows merge sound.ordered set times nothing one_each l within) [
+    time_onto l e within = elim (item_onto rows merge sound.ordered set.set.in_range times nothing one_each l within) [
       | inl from ↦
-          let item = item_moved rows merge sound.ordered set times nothing one_each from.0 e from.1 from.2 in
+          let item = item_moved rows merge sound.ordered set.set.in_range times nothing one_each from.0 e from.1 from.2 in
           inl (from.0, from.1, from.2, from.3, ap (λ n. get_or (carried_times (insert_place rows merge)) n e) (sym from.3) ∙ item.1)
-      | inr is ↦ inr (ap (λ n. get_or (carried_times (insert_place rows merge)) n e) is ∙ (item_merged rows merge sound.ordered set times nothing one_each e).1)
+      | inr is ↦ inr (ap (λ n. get_or (carried_times (insert_place rows merge)) n e) is ∙ (item_merged rows merge sound.ordered set.set.in_range times nothing one_each e).1)
     ]
 
     -- each row of the table after the merge has its times
     pub carried_length : length (carried_times p) ≡ length new
-    carried_length = grind (arith, length-append, length-take, length-drop, picked_lengths, after_is)
+    carried_length = subst (λ n. length (carried_times n) ≡ length new) (sym place) (length_carried rows merge sound.ordered set.set.in_range times nothing one_each)
 
     module _ (now : ℕ) (fresh : IsFresh now nothing) where
       marks_after : AreTouched merge now rows times → AreTriedUpTo now rows times → AreTriedUpTo now new (carried_times (insert_place rows merge))
@@ -114,10 +104,9 @@ module _ (rows : List Row) (merge : List ℕ) (sound : IsSound rows) (set : IsMe
                   ]
               | inr is ↦ omega (arith, earlier, ap (λ (x : Times). x.tried) is, fresh.tried)
             ];
-            bound = λ l e within. elim (time_onto l e within) [
-              | inl (k, inside, out, at, is) ↦ subst (λ (x : Times). (x.tried ≤ now) × (x.changed ≤ now)) (sym is) (marks.bound k e inside)
-              | inr is ↦ subst (λ (x : Times). (x.tried ≤ now) × (x.changed ≤ now)) (sym is) (omega (arith, fresh.tried), omega (arith, fresh.changed))
-            ];
+            bound = λ l e within.
+                all_carried rows merge sound.ordered set.set.in_range times nothing one_each (λ x r. (x.tried ≤ now) × (x.changed ≤ now)) e (merged_row rows merge)
+                (λ k inside. marks.bound k e inside) (omega (arith, fresh.tried), omega (arith, fresh.changed)) l within;
           }
 
       pub marks_carried : AreTouched merge now rows times → AreTriedUpTo now rows times → AreTriedUpTo now new (carried_times p)
@@ -127,18 +116,11 @@ module _ (rows : List Row) (merge : List ℕ) (sound : IsSound rows) (set : IsMe
       pub latest_carried : (routes latest : List ℕ) → AreNoLater routes latest rows times → ((d : Row) → get_or latest (place_of_route routes (get_or rows (get_or merge 0 0) d).route.bits) 0 ≡ now) → AreNoLater routes latest new (carried_times p)
       latest_carried routes latest old own =
           let time_of : Row → ℕ = λ r. get_or latest (place_of_route routes r.route.bits) 0 in
-          subst (λ n. AreNoLater routes latest new (carried_times n)) (sym place) (λ l d e within. elim (item_onto rows merge sound.ordered set times nothing one_each l within) [
-            | inl (k, inside, out, at) ↦
-                let time_is = ap (λ n. (get_or (carried_times (insert_place rows merge)) n e).changed) (sym at) ∙ ap (λ (x : Times). x.changed) (item_moved rows merge sound.ordered set times nothing one_each k e inside out).1 in
-                let row_is = ap (λ n. time_of (get_or new n d)) (sym at) ∙ ap time_of (get_to rows merge sound set legal k d (omega (arith, inside, one_each)) out) in
-                omega (arith, time_is, row_is, old k d e inside)
-            | inr is ↦
-                let time_is = ap (λ n. (get_or (carried_times (insert_place rows merge)) n e).changed) is ∙ ap (λ (x : Times). x.changed) (item_merged rows merge sound.ordered set times nothing one_each e).1 in
-                let row_is = ap (λ n. time_of (get_or new n d)) is
-                ∙ ap time_of (merged_get rows merge sound.ordered set d).1
-                ∙ ap (λ (r : Route). get_or latest (place_of_route routes r.bits) 0) (route_is rows merge d set.set.in_range (omega (arith, set.two))) in
-                omega (arith, time_is, row_is, fresh.changed, own d)
-          ])
+          let merged_is : (d : Row) → time_of (merged_row rows merge) ≡ now =
+          λ d. ap (λ (r : Route). get_or latest (place_of_route routes r.bits) 0) (route_is rows merge d set.set.in_range (omega (arith, set.two))) ∙ own d in
+          subst (λ n. AreNoLater routes latest new (carried_times n)) (sym place) (λ l d e within.
+          all_carried rows merge sound.ordered set.set.in_range times nothing one_each (λ x r. x.changed ≤ time_of r) e d (λ k inside. old k d e inside)
+          (omega (arith, fresh.changed, merged_is d)) l within)
 
 -- ---- rivals at places
 
@@ -149,6 +131,7 @@ none_lost rows serials places s list in_range rivals none r d found behind = by_
   where
     by_case : (MeetsNone rows r s) ⊎ (HasSerial list (get_or serials r 0)) → Misses (get_or rows r d).block (get_or rows s d)
     by_case (inl missed) = missed d
-    by_case (inr it) =
+    by_case (inr has) =
         let e : Rival = record { serial = 0; general = 0; bits = 0 } in
-        absurd (true≢false (sym (at_one_of serials places r found) ∙ ap (is_at_one serials places) (sym (it.found e)) ∙ none it.at e it.within))
+        let it = serial_at list (get_or serials r 0) has in
+        absurd (true≢false (sym (at_one_of serials places r found) ∙ ap (is_at_one serials places) (sym (it.2 e)) ∙ none it.0 e it.1))

@@ -1,10 +1,10 @@
 -- Places of rows: those of a set, and the insertion place of a merge.
-use Rattle.cover_merge.proofs.Common.{All, All-cons, All-drop, All-head, All-nil, All-tail, All-take, AllPairs, AllPairs-cons, Any-from_list_any, Block, IsMergeSet, IsOrdered, List, None, Option, Row}
-use Rattle.cover_merge.proofs.Common.{SameRoute, Some, [], add_comm, ap, arith, cases_lt, cond, cons_option, count_by-le-length, drop, eq-eqb, eqb-true, false, filter_map-append, generality}
-use Rattle.cover_merge.proofs.Common.{generality-merge, get_or, get_or-drop, get_or-take, get_or_default, get_or_from_slice_get, has_row, inl, inr, insert_place, is_at_one, leb_tells, length}
-use Rattle.cover_merge.proofs.Common.{length-drop, length-take, list_any_at, map, map-append, merge_of, merge_of-push, merge_rows, merge_two, merged_block, nat_le, nat_tests, or_right, place_for}
-use Rattle.cover_merge.proofs.Common.{refl, rows_at, slice_get, slice_get-get_or, subst, suc, sum_by-append, sym, take, take_more, true, zero, zero-add, ℕ, ◌++◌, ◌+◌, ◌-◌, ◌<◌, ◌==◌, ◌∙◌, ◌∷◌, ◌≡◌}
-use Rattle.cover_merge.proofs.Common.{◌≤◌, ◌⊎◌}
+use Rattle.cover_merge.proofs.Common.{All, All-cons, All-contains, All-head, All-nil, All-push, All-tail, All-take, AllPairs, AllPairs-cons, Any-from_list_any, AreThose, Block, Bool, Contains}
+use Rattle.cover_merge.proofs.Common.{Contains-get_or, IsMergeSet, IsOrdered, List, Option, Row, SameRoute, Some, [], all_pairs_push, ap, arith, cases_lt, cond, cons_option, count_by-le-length}
+use Rattle.cover_merge.proofs.Common.{eq-eqb, eqb-true, false, filter_map-append, generality, generality-merge, get_or, get_or_default, get_or_from_slice_get, has_row, inl, inr, insert_place}
+use Rattle.cover_merge.proofs.Common.{is_at_one, leb_tells, length, length-map, length-take, list_any-append, list_any_at, map, map-append, merge_of, merge_of-push, merge_rows, merge_two}
+use Rattle.cover_merge.proofs.Common.{merged_block, nat_le, nat_tests, or_left, or_right, place_for, refl, rows_at, same_in_order, slice_get, slice_get-get_or, subst, suc, sum_by-append, sym, take}
+use Rattle.cover_merge.proofs.Common.{take_more, true, zero, zero-add, ℕ, ◌++◌, ◌+◌, ◌-◌, ◌<◌, ◌==◌, ◌∙◌, ◌∷◌, ◌≡◌, ◌≤◌, ◌⊎◌}
 use Rattle.cover_merge.proofs.Lists.{All-from_map, AllPairs-head, AllPairs-nil, AllPairs-tail}
 
 -- ---- places of a set
@@ -18,24 +18,70 @@ all_of places k d within = subst (λ t. has_row places t ≡ true) (get_or_defau
 
 -- and what is found is a place of it
 pub has-place : (places : List ℕ) (k : ℕ) → has_row places k ≡ true → (i : ℕ) × (i < length places) × (get_or places i 0 ≡ k)
-has-place places k found =
-    let at = Any-from_list_any (λ s. s == k) places found in
-    (at.0, at.2, get_or_default places at.0 0 at.1 at.2 ∙ at.3 ∙ eqb-true at.1 k at.4)
+has-place places k found = grind (arith, Any-from_list_any, get_or_default, eqb-true)
 
 -- what holds of all places holds of one that is found
 pub All-has : (P : ℕ → Type 0) (places : List ℕ) (k : ℕ) → All P places → has_row places k ≡ true → P k
 All-has P places k all found = let at = has-place places k found in subst P at.2 (all at.0 0 at.1)
 
+-- ---- places of which something holds
+
+module _ (P Q : ℕ → Type 0) where
+  module _ (n : ℕ) (list : List ℕ) (are : AreThose P Q n list) where
+    -- places of which Q holds change nothing
+    pub those_stay : (m : ℕ) → n ≤ m → ((s : ℕ) → n ≤ s → s < m → Q s) → AreThose P Q m list
+    those_stay m le others = record {
+      ascending = are.ascending;
+      inside = λ k d within. omega (arith, le, are.inside k d within);
+      each = are.each;
+      rest = λ s less. elim (cases_lt s n) [ inl before ↦ are.rest s before | inr from ↦ inl (others s from less) ];
+    }
+
+    pub those_next : Q n → AreThose P Q (n + 1) list
+    those_next here = those_stay (n + 1) (omega arith) (λ s from less. let same : n ≡ s = omega (arith, from, less) in subst Q same here)
+
+    -- one of which P holds comes last
+    pub those_more : P n → AreThose P Q (n + 1) (list ++ n ∷ [])
+    those_more here = record {
+      ascending = all_pairs_push (λ s t. s < t) list n are.ascending are.inside;
+      inside = All-push (λ s. s < n + 1) list n (λ k d within. omega (arith, are.inside k d within)) (omega arith);
+      each = All-push P list n are.each here;
+      rest = λ s less.
+          let among = list_any-append (λ t. t == s) list (n ∷ []) in
+          elim (cases_lt s n) [
+            | inl before ↦ elim (are.rest s before) [ inl other ↦ inl other | inr found ↦ inr (among ∙ or_left (has_row list s) (has_row (n ∷ []) s) found) ]
+            | inr from ↦ inr (among ∙ or_right (has_row list s) (has_row (n ∷ []) s) (or_left (n == s) false (eq-eqb n s (omega (arith, less, from)))))
+          ];
+    }
+
+  -- there is one, or the list is empty
+  pub those_case : (n : ℕ) (list : List ℕ) → AreThose P Q n list → ((s : ℕ) × (s < n) × (P s)) ⊎ (list ≡ [])
+  those_case n [] are = inr refl
+  those_case n (s ∷ list) are = inl (s, are.inside 0 s (omega arith), are.each 0 s (omega arith))
+
+  -- where no place has both, the list is the only one
+  module _ (apart : (s : ℕ) → P s → Q s → ⊥) (n : ℕ) where
+    those_in : (xs ys : List ℕ) → AreThose P Q n xs → AreThose P Q n ys → (s : ℕ) → Contains xs s → Contains ys s
+    those_in xs ys one two s has = elim (two.rest s (All-contains (λ k. k < n) xs s one.inside has)) [
+      | inl other ↦ absurd (apart s (All-contains P xs s one.each has) other)
+      | inr found ↦ let at = has-place ys s found in subst (Contains ys) at.2 (Contains-get_or ys at.0 0 at.1)
+    ]
+
+    pub those_one : (xs ys : List ℕ) → AreThose P Q n xs → AreThose P Q n ys → xs ≡ ys
+    those_one xs ys one two = same_in_order (λ s. s) xs ys one.ascending two.ascending (those_in xs ys one two) (those_in ys xs two one)
+
 -- ---- rows of a set
+
+-- the rows of a set within the table, one for each place
+rows_at-map : (rows : List Row) (places : List ℕ) (d : Row) → All (λ s. s < length rows) places → rows_at rows places ≡ map (λ s. get_or rows s d) places
+rows_at-map rows [] d in_range = refl
+rows_at-map rows (s ∷ places) d in_range =
+    ap (λ o. cons_option o (rows_at rows places)) (slice_get-get_or rows s d (All-head (λ x. x < length rows) s places in_range))
+    ∙ ap (λ l. get_or rows s d ∷ l) (rows_at-map rows places d (All-tail (λ x. x < length rows) s places in_range))
 
 module _ (P : Row → Type 0) where
   All-cons_option : (o : Option Row) (rows : List Row) → ((r : Row) → o ≡ Some r → P r) → All P rows → All P (cons_option o rows)
-  All-cons_option None rows here rest = rest
-  All-cons_option (Some r) rows here rest = All-cons P r rows (here r refl) rest
-
-  rest_of_cons_option : (o : Option Row) (rows : List Row) → All P (cons_option o rows) → All P rows
-  rest_of_cons_option None rows all = all
-  rest_of_cons_option (Some r) rows all = All-tail P r rows all
+  All-cons_option o rows here rest = grind (arith, All-cons)
 
   module _ (rows : List Row) where
     -- what holds at each place of a set holds of its rows
@@ -46,24 +92,13 @@ module _ (P : Row → Type 0) where
         (λ r is. subst P (get_or_from_slice_get rows s r r is) (h s r (has-at (s ∷ places) 0 (omega arith))))
         (rows_at-from places (λ k d found. h k d (or_right (s == k) (has_row places k) found)))
 
-    rows_at-nth : (places : List ℕ) → All (λ s. s < length rows) places → All P (rows_at rows places) → (i : ℕ) (d : Row) → i < length places → P (get_or rows (get_or places i 0) d)
-    rows_at-nth [] in_range all i d within = absurd (omega arith)
-    rows_at-nth (s ∷ places) in_range all zero d within =
-        All-head P (get_or rows s d) (rows_at rows places)
-        (subst (λ x. All P (cons_option x (rows_at rows places))) (slice_get-get_or rows s d (All-head (λ x. x < length rows) s places in_range)) all)
-    rows_at-nth (s ∷ places) in_range all (suc i) d within =
-        rows_at-nth places (All-tail (λ x. x < length rows) s places in_range) (rest_of_cons_option (slice_get rows s) (rows_at rows places) all) i d (omega arith)
-
     -- and what holds of its rows holds at each place
     pub rows_at-has : (places : List ℕ) → All (λ s. s < length rows) places → All P (rows_at rows places) → (s : ℕ) (d : Row) → has_row places s ≡ true → P (get_or rows s d)
-    rows_at-has places in_range all s d found = let at = has-place places s found in subst (λ k. P (get_or rows k d)) at.2 (rows_at-nth places in_range all at.0 d at.1)
+    rows_at-has places in_range all s d = All-has (λ k. P (get_or rows k d)) places s (All-from_map P (λ k. get_or rows k d) places (subst (All P) (rows_at-map rows places d in_range) all))
 
 -- a set within the table has as many rows as places
 pub rows_at-length : (rows : List Row) (places : List ℕ) → All (λ s. s < length rows) places → length (rows_at rows places) ≡ length places
-rows_at-length rows [] in_range = refl
-rows_at-length rows (s ∷ places) in_range =
-    ap (λ o. length (cons_option o (rows_at rows places))) (slice_get-get_or rows s (merge_rows []) (All-head (λ x. x < length rows) s places in_range))
-    ∙ ap suc (rows_at-length rows places (All-tail (λ x. x < length rows) s places in_range))
+rows_at-length rows places in_range = ap length (rows_at-map rows places (merge_rows []) in_range) ∙ length-map places (λ s. get_or rows s (merge_rows []))
 
 -- one more place, one more row
 pub rows_at-push : (rows : List Row) (places : List ℕ) (s : ℕ) (r : Row) → slice_get rows s ≡ Some r → rows_at rows (places ++ s ∷ []) ≡ rows_at rows places ++ r ∷ []
@@ -81,24 +116,18 @@ merged_block-push rows places s r in_range some is =
     ∙ ap merge_of (map-append (λ (x : Row). x.block) (rows_at rows places) (r ∷ []))
     ∙ merge_of-push (map (λ (x : Row). x.block) (rows_at rows places)) r.block (some_blocks (rows_at rows places) (omega (arith, rows_at-length rows places in_range)))
 
--- The places after the first, as the code takes them: each turn merges the row of the next.
-abbrev pub later : List ℕ → List ℕ
-later places = take (length places - 1) (drop 1 places)
+-- one place more
+merge_push : (rows : List Row) (places : List ℕ) (s : ℕ) (x : Row) (m n : Block) → All (λ t. t < length rows) places → 0 < length places → s < length rows → m ≡ merged_block rows places
+    → n ≡ merge_two m (get_or rows s x).block → n ≡ merged_block rows (places ++ s ∷ [])
+merge_push rows places s x m n in_range some inside before now =
+    now ∙ ap (λ b. merge_two b (get_or rows s x).block) before ∙ sym (merged_block-push rows places s (get_or rows s x) in_range some (slice_get-get_or rows s x inside))
 
-pub merged_block-more : (rows : List Row) (places : List ℕ) (i : ℕ) (r : Row) → All (λ x. x < length rows) places → i < length (later places) → slice_get rows (get_or (later places) i 0) ≡ Some r
-    → merge_two (merged_block rows (take (i + 1) places)) r.block ≡ merged_block rows (take (i + 1 + 1) places)
-merged_block-more rows places i r in_range within is =
-    let long : i + 1 < length places = omega (arith, length-take (length places - 1) (drop 1 places), length-drop 1 places) in
-    let here : get_or (later places) i 0 ≡ get_or places (i + 1) 0 = get_or-take (length places - 1) (drop 1 places) i 0 (omega arith) ∙ get_or-drop 1 places i 0 ∙ ap (λ j. get_or places j 0) (add_comm 1 i) in
-    sym (merged_block-push rows (take (i + 1) places) (get_or places (i + 1) 0) r (All-take (λ x. x < length rows) (i + 1) places in_range) (omega (arith, length-take (i + 1) places)) (ap (slice_get rows) (sym here) ∙ is))
-    ∙ ap (merged_block rows) (sym (take_more places (i + 1) 0 long))
-
-pub merged_block-turn : (rows : List Row) (places : List ℕ) (i : ℕ) (r : Row) (m n : Block) → All (λ x. x < length rows) places → i < length (later places) → m ≡ merged_block rows (take (i + 1) places)
-    → n ≡ merge_two m (get_or rows (get_or (later places) i 0) r).block → n ≡ merged_block rows (take (i + 1 + 1) places)
-merged_block-turn rows places i r m n in_range within before now =
-    let place = get_or (later places) i 0 in
-    let inside : place < length rows = All-take (λ x. x < length rows) (length places - 1) (drop 1 places) (All-drop (λ x. x < length rows) 1 places in_range) i 0 within in
-    now ∙ ap (λ x. merge_two x (get_or rows place r).block) before ∙ merged_block-more rows places i (get_or rows place r) in_range within (slice_get-get_or rows place r inside)
+-- one more of the first places
+pub merge_next : (rows : List Row) (set : List ℕ) (k : ℕ) (x : Row) (m n : Block) → All (λ s. s < length rows) set → 0 < k → k < length set → m ≡ merged_block rows (take k set)
+    → n ≡ merge_two m (get_or rows (get_or set k 0) x).block → n ≡ merged_block rows (take (k + 1) set)
+merge_next rows set k x m n in_range some within before now =
+    merge_push rows (take k set) (get_or set k 0) x m n (All-take (λ s. s < length rows) k set in_range) (omega (arith, some, within, length-take k set)) (in_range k 0 within) before now
+    ∙ ap (merged_block rows) (sym (take_more set k 0 within))
 
 -- ---- the insertion place
 
@@ -122,41 +151,39 @@ place_for-le rows g = count_by-le-length (λ (r : Row). nat_le (generality r.blo
 behind : (r : Row) (rows : List Row) (g : ℕ) → IsOrdered (r ∷ rows) → g < generality r.block → place_for rows g ≡ 0
 behind r rows g ordered above = place_for-none rows g (λ k d in_range. omega (arith, AllPairs-head (λ (x y : Row). generality x.block ≤ generality y.block) r rows ordered k d in_range))
 
--- in an ordered table, the rows before the place are those of lesser or equal generality
-pub place_for-below : (rows : List Row) (g : ℕ) → IsOrdered rows → (k : ℕ) (d : Row) → k < place_for rows g → generality (get_or rows k d).block ≤ g
-place_for-below [] g ordered k d before = absurd (omega arith)
-place_for-below (r ∷ rows) g ordered k d before = by_head k (leb_tells (generality r.block) g) before (λ j h. place_for-below rows g (AllPairs-tail (λ (x y : Row). generality x.block ≤ generality y.block) r rows ordered) j d h)
-  where
-    by_head : (k : ℕ) → ((nat_le (generality r.block) g ≡ true) × (generality r.block ≤ g)) ⊎ ((nat_le (generality r.block) g ≡ false) × (g < generality r.block))
-        → k < place_for (r ∷ rows) g → ((j : ℕ) → j < place_for rows g → generality (get_or rows j d).block ≤ g) → generality (get_or (r ∷ rows) k d).block ≤ g
-    by_head zero (inl low) h rest = low.1
-    by_head (suc k) (inl low) h rest =
-        let count = place_for-cons r rows g ∙ ap (λ b. cond b 1 0 + place_for rows g) low.0 in
-        rest k (omega (arith, count))
-    by_head k (inr high) h rest =
-        let count = place_for-cons r rows g ∙ ap (λ b. cond b 1 0 + place_for rows g) high.0 in
-        absurd (omega (arith, count, behind r rows g ordered high.1))
+-- a row of an ordered table stands before the place and is of lesser or equal generality, or neither
+abbrev IsTold : List Row → ℕ → ℕ → Row → Type 0
+IsTold rows g k d = ((k < place_for rows g) × (generality (get_or rows k d).block ≤ g)) ⊎ ((place_for rows g ≤ k) × (g < generality (get_or rows k d).block))
 
-pub place_for-above : (rows : List Row) (g : ℕ) → IsOrdered rows → (k : ℕ) (d : Row) → k < length rows → generality (get_or rows k d).block ≤ g → k < place_for rows g
-place_for-above [] g ordered k d in_range le = absurd (omega arith)
-place_for-above (r ∷ rows) g ordered k d in_range le = by_head k (leb_tells (generality r.block) g) in_range le (λ j within h. place_for-above rows g (AllPairs-tail (λ (x y : Row). generality x.block ≤ generality y.block) r rows ordered) j d within h)
+place_for-tells : (rows : List Row) (g : ℕ) → IsOrdered rows → (k : ℕ) (d : Row) → k < length rows → IsTold rows g k d
+place_for-tells [] g ordered k d within = absurd (omega (arith, within))
+place_for-tells (r ∷ rows) g ordered k d within =
+    by_head k within (leb_tells (generality r.block) g) (λ j inside. place_for-tells rows g (AllPairs-tail (λ (x y : Row). generality x.block ≤ generality y.block) r rows ordered) j d inside)
   where
-    by_head : (k : ℕ) → ((nat_le (generality r.block) g ≡ true) × (generality r.block ≤ g)) ⊎ ((nat_le (generality r.block) g ≡ false) × (g < generality r.block))
-        → k < length (r ∷ rows) → generality (get_or (r ∷ rows) k d).block ≤ g → ((j : ℕ) → j < length rows → generality (get_or rows j d).block ≤ g → j < place_for rows g) → k < place_for (r ∷ rows) g
-    by_head zero (inl low) within h rest =
-        let count = place_for-cons r rows g ∙ ap (λ b. cond b 1 0 + place_for rows g) low.0 in omega (arith, count)
-    by_head (suc k) (inl low) within h rest =
-        let count = place_for-cons r rows g ∙ ap (λ b. cond b 1 0 + place_for rows g) low.0 in omega (arith, count, rest k (omega arith) h)
-    by_head zero (inr high) within h rest = absurd (omega (arith, high.1))
-    by_head (suc k) (inr high) within h rest =
-        absurd (omega (arith, high.1, AllPairs-head (λ (x y : Row). generality x.block ≤ generality y.block) r rows ordered k d (omega arith)))
+    count : (b : Bool) → nat_le (generality r.block) g ≡ b → place_for (r ∷ rows) g ≡ cond b 1 0 + place_for rows g
+    count b is = place_for-cons r rows g ∙ ap (λ t. cond t 1 0 + place_for rows g) is
 
--- a row from the place on is more general, and a more general row stands there
-pub place_for-from : (rows : List Row) (g : ℕ) → IsOrdered rows → (k : ℕ) (d : Row) → k < length rows → place_for rows g ≤ k → g < generality (get_or rows k d).block
-place_for-from rows g ordered k d within from = elim (cases_lt g (generality (get_or rows k d).block)) [
-  | inl more ↦ more
-  | inr low ↦ absurd (omega (arith, from, place_for-above rows g ordered k d within low))
-]
+    by_head : (k : ℕ) → k < suc (length rows) → ((nat_le (generality r.block) g ≡ true) × (generality r.block ≤ g)) ⊎ ((nat_le (generality r.block) g ≡ false) × (g < generality r.block))
+        → ((j : ℕ) → j < length rows → IsTold rows g j d) → IsTold (r ∷ rows) g k d
+    by_head zero inside (inl low) rest = inl (omega (arith, count true low.0), low.1)
+    by_head (suc k) inside (inl low) rest = elim
+        (rest k (omega (arith, inside))) [ inl at ↦ inl (omega (arith, count true low.0, at.0), at.1) | inr at ↦ inr (omega (arith, count true low.0, at.0), at.1) ]
+    by_head zero inside (inr high) rest = inr (omega (arith, count false high.0, behind r rows g ordered high.1), high.1)
+    by_head (suc k) inside (inr high) rest = inr (
+      omega (arith, count false high.0, behind r rows g ordered high.1),
+      omega (arith, high.1, AllPairs-head (λ (x y : Row). generality x.block ≤ generality y.block) r rows ordered k d (omega (arith, inside))),
+    )
+
+module _ (rows : List Row) (g : ℕ) (ordered : IsOrdered rows) (k : ℕ) (d : Row) where
+  pub place_for-below : k < place_for rows g → generality (get_or rows k d).block ≤ g
+  place_for-below before = elim (place_for-tells rows g ordered k d (omega (arith, before, place_for-le rows g))) [ inl at ↦ at.1 | inr at ↦ absurd (omega (arith, before, at.0)) ]
+
+  pub place_for-above : k < length rows → generality (get_or rows k d).block ≤ g → k < place_for rows g
+  place_for-above within le = elim (place_for-tells rows g ordered k d within) [ inl at ↦ at.0 | inr at ↦ absurd (omega (arith, le, at.1)) ]
+
+  -- a row from the place on is more general, and a more general row stands there
+  pub place_for-from : k < length rows → place_for rows g ≤ k → g < generality (get_or rows k d).block
+  place_for-from within from = elim (place_for-tells rows g ordered k d within) [ inl at ↦ absurd (omega (arith, from, at.0)) | inr at ↦ at.1 ]
 
 pub place_for-reach : (rows : List Row) (g : ℕ) → IsOrdered rows → (k : ℕ) (d : Row) → g < generality (get_or rows k d).block → place_for rows g ≤ k
 place_for-reach rows g ordered k d more = elim (cases_lt k (place_for rows g)) [
@@ -186,20 +213,10 @@ both_of P i j first second = All-cons P i (j ∷ []) first (All-cons P j [] seco
 
 -- two rows of one route are a set
 pub pair_set : (rows : List Row) (i j : ℕ) → i < j → j < length rows → SameRoute rows i j → IsMergeSet rows (i ∷ j ∷ [])
-pair_set rows i j less within alike = record {
-  set = record {
-    ascending = pair_of (λ x y. x < y) i j less;
-    in_range = both_of (λ s. s < length rows) i j (omega (arith, less, within)) within;
-    one_route = pair_of (SameRoute rows) i j alike;
-  };
-  two = omega arith;
-}
+pair_set rows i j less within alike = grind (arith, pair_of (SameRoute rows) i j alike, both_of)
 
 -- ---- numbers of rows at places
 
 -- the number of a row at one of the places is found
 pub at_one_of : (serials places : List ℕ) (r : ℕ) → has_row places r ≡ true → is_at_one serials places (get_or serials r 0) ≡ true
-at_one_of serials places r found =
-    let at = has-place places r found in
-    let same = eq-eqb (get_or serials (get_or places at.0 0) 0) (get_or serials r 0) (ap (λ i. get_or serials i 0) at.2) in
-    list_any_at (λ s. get_or serials s 0 == get_or serials r 0) places at.0 0 at.1 same
+at_one_of serials places r found = grind (arith, has-place, eq-eqb, get_or, list_any_at)

@@ -20,10 +20,7 @@ parts_high b met i high = let zero_bit : bit_at b.mask i ≡ 0 = bit_at_above b.
 
 pub parts_on : (b met : Block) (i : ℕ) → bit_and (b.mask / 2 ^ i) 1 ≢ 0 → not (bit_and (b.key / 2 ^ i) 1 == bit_and (met.key / 2 ^ i) 1) ≡ parts b met i
 unfolding parts
-parts_on b met i on =
-    let some : bit_at b.mask i ≢ 0 = λ e. on (shr_and_one b.mask i ∙ e) in
-    let one_bit : bit_at b.mask i ≡ 1 = omega (arith, some, bit_at-lt b.mask i) in
-    rw (one_bit, shr_and_one b.key i, shr_and_one met.key i) refl
+parts_on b met i on = grind (arith, shr_and_one b.mask i, bit_at-lt b.mask i, shr_and_one b.key i, shr_and_one met.key i)
 
 -- a bit that can be chosen is one for which the merge does not care
 pub chosen_off : (merged met : Block) (i : ℕ) → can_choose merged met i ≡ true → bit_at merged.mask i ≡ 0
@@ -33,10 +30,7 @@ chosen_off merged met i chosen = eqb-true (bit_at merged.mask i) 0 (and_parts (b
 -- a block that the bit parts wants the other value there
 pub parts_wants : (b met : Block) (i : ℕ) → parts b met i ≡ true → Wants b i (1 - bit_at met.key i)
 unfolding parts
-parts_wants b met i h =
-    let tests = and_parts (bit_at b.mask i == 1) (not (bit_at b.key i == bit_at met.key i)) h in
-    let differ : bit_at b.key i ≢ bit_at met.key i = eqb-false (bit_at b.key i) (bit_at met.key i) (not-true (bit_at b.key i == bit_at met.key i) tests.1) in
-    record { cares = eqb-true (bit_at b.mask i) 1 tests.0; value = omega (arith, differ, bit_at-lt b.key i, bit_at-lt met.key i) }
+parts_wants b met i h = grind (arith, and_parts, eqb-false, not-true, eqb-true, bit_at-lt)
 
 pub keeps_inside : (rows : List Row) (met : Block) (i s : ℕ) (d : Row) → s < length rows → parts (get_or rows s d).block met i ≡ keeps rows met i s
 keeps_inside rows met i s d within = sym (ap (λ (o : Option Row). option_map_or (λ (r : Row). parts r.block met i) o false) (slice_get-get_or rows s d within))
@@ -49,9 +43,7 @@ drops_or_keeps p [] = inr (All-nil (λ x. p x ≡ true))
 drops_or_keeps p (x ∷ xs) = by_head (p x) refl (drops_or_keeps p xs)
   where
     by_head : (b : Bool) → p x ≡ b → (length (filter p xs) < length xs) ⊎ (All (λ y. p y ≡ true) xs) → (length (cond b (x ∷ filter p xs) (filter p xs)) < suc (length xs)) ⊎ (All (λ y. p y ≡ true) (x ∷ xs))
-    by_head false e rest = let less : length (filter p xs) < suc (length xs) = omega (arith, length-filter p xs, count_by-le-length p xs) in inl less
-    by_head true e (inl less) = let more : suc (length (filter p xs)) < suc (length xs) = omega arith in inl more
-    by_head true e (inr all) = inr (All-cons (λ y. p y ≡ true) x xs e all)
+    by_head b e its_2 = grind (arith, length-filter, count_by-le-length, All-cons)
 
 -- a bit cannot keep all places: the merge would care for it
 pub narrowed_shorter : (rows : List Row) (old new : List ℕ) (met : Block) → IsMergeSet rows old → IsNarrowed rows old (merged_block rows old) met new → length new < length old

@@ -1,56 +1,20 @@
 -- The rivals of rows in the table after a merge.
 use Rattle.cover_merge.proofs.Common.{All, All-append, All-cons, All-drop, All-filter, All-head, All-tail, All-take, AllPairs, AllPairs-cons, AllPairs-filter, AreMet, AreRivalsAfter, AreRivalsAt}
 use Rattle.cover_merge.proofs.Common.{AreSpansOf, Block, Bool, HasSerial, IsLegal, IsMergeSet, IsPutIn, IsRivalBehind, IsRivalOf, IsRivaled, IsSound, List, MeetsNone, Misses, Rival, Rivals, Row, []}
-use Rattle.cover_merge.proofs.Common.{after, ap, arith, below_more, cases_eq, cases_lt, cond, drop, eq-eqb, false, false_from_ne_true, filter, filter_passes, generality, get_or, get_or-append_seam}
-use Rattle.cover_merge.proofs.Common.{get_or-drop, get_or-take, get_or_append_left, has_row, inl, inr, insert, insert_place, is_at_one, length, length-append, length-drop, length-insert, length-take}
-use Rattle.cover_merge.proofs.Common.{merge_rows, merged_block, merged_row, ne_eqb, not, not-true, not_from_false, place_for, refl, rivals_left, subst, suc, sym, take, take-append-drop, true, zero, ℕ}
-use Rattle.cover_merge.proofs.Common.{◌++◌, ◌+◌, ◌<◌, ◌==◌, ◌^◌, ◌||◌, ◌∙◌, ◌∷◌, ◌≡◌, ◌≢◌, ◌≤◌, ◌⊎◌}
-use Rattle.cover_merge.proofs.KeptLemmasMoved.{rank_length, merged_get, rank, moved, merged_at, moved_get, item_moved, item_merged, item_onto}
-use Rattle.cover_merge.proofs.{Lists.All-picked, Lists.AllPairs-append, Lists.AllPairs-left, Lists.AllPairs-right, Lists.AllPairs-across, Lists.picked_lengths, Legal.narrower_misses}
-use Rattle.cover_merge.proofs.{Legal.member_lies, Positions.has-place, Positions.place_for-le, ApplyLemmas.left, ApplyLemmas.members_before, ApplyLemmas.block_is, ApplyLemmas.route_is}
-use Rattle.cover_merge.proofs.{ApplyLemmas.after_is, CoverLemmas.length_out, CoverLemmas.shorter, KeptLemmas.from_less, KeptLemmas.to_less}
+use Rattle.cover_merge.proofs.Common.{after, any-filter_same, ap, arith, below_more, cases_eq, cases_lt, drop, eq-eqb, eqb-true, false, false_from_ne_true, filter, filter_passes, generality, get_or}
+use Rattle.cover_merge.proofs.Common.{get_or-append_seam, get_or-drop, get_or-take, get_or_append_left, has_row, inl, inr, insert, insert_place, is_at_one, length, length-append, length-drop}
+use Rattle.cover_merge.proofs.Common.{length-take, merge_rows, merged_block, merged_row, ne_eqb, not, not-true, not_from_false, place_for, refl, rivals_left, subst, subst₂, sym, take}
+use Rattle.cover_merge.proofs.Common.{take-append-drop, true, ℕ, ◌++◌, ◌+◌, ◌<◌, ◌==◌, ◌^◌, ◌||◌, ◌∙◌, ◌∷◌, ◌≡◌, ◌≢◌, ◌≤◌, ◌⊎◌}
+use Rattle.cover_merge.proofs.KeptLemmasMoved.{onto, all_carried, length_carried, rank_length, merged_get, moved, merged_at, moved_get, item_moved, item_merged}
+use Rattle.cover_merge.proofs.{RivalLemmas.listed_among, Lists.AllPairs-append, Lists.AllPairs-left, Lists.AllPairs-right, Lists.AllPairs-across, Legal.narrower_misses, Legal.member_lies}
+use Rattle.cover_merge.proofs.{Positions.has-place, Positions.place_for-le, ApplyLemmas.left, ApplyLemmas.members_before, ApplyLemmas.block_is, ApplyLemmas.route_is, CoverLemmas.length_out}
+use Rattle.cover_merge.proofs.{CoverLemmas.shorter, KeptLemmas.from_less, KeptLemmas.to_less}
 
 -- ---- numbers in a list of rivals
 
-listed_cons : (v : Rival) (list : List Rival) (n : ℕ) → HasSerial list n → HasSerial (v ∷ list) n
-listed_cons v list n is = record { at = suc is.at; within = omega (arith, is.within); found = is.found }
-
-listed_here : (v : Rival) (list : List Rival) (n : ℕ) → v.serial ≡ n → HasSerial (v ∷ list) n
-listed_here v list n same = record { at = 0; within = omega arith; found = λ e. same }
-
--- the first has it, or one behind
-listed_case : (v : Rival) (list : List Rival) (n : ℕ) → HasSerial (v ∷ list) n → (v.serial ≡ n) ⊎ (HasSerial list n)
-listed_case v list n is = by_place is.at is.within is.found
-  where
-    by_place : (at : ℕ) → at < suc (length list) → ((e : Rival) → (get_or (v ∷ list) at e).serial ≡ n) → (v.serial ≡ n) ⊎ (HasSerial list n)
-    by_place zero within found = inl (found v)
-    by_place (suc at) within found = inr (record { at = at; within = omega (arith, within); found = found })
-
 -- one that passes the test stays
 listed_filter : (f : Rival → Bool) (list : List Rival) (n : ℕ) → ((v : Rival) → v.serial ≡ n → f v ≡ true) → HasSerial list n → HasSerial (filter f list) n
-listed_filter f [] n pass is = is
-listed_filter f (v ∷ list) n pass is = by_case (listed_case v list n is) (λ rest. listed_filter f list n pass rest)
-  where
-    by_test : (b : Bool) → HasSerial (filter f list) n → HasSerial (cond b (v ∷ filter f list) (filter f list)) n
-    by_test true rest = listed_cons v (filter f list) n rest
-    by_test false rest = rest
-
-    by_case : (v.serial ≡ n) ⊎ (HasSerial list n) → (HasSerial list n → HasSerial (filter f list) n) → HasSerial (filter f (v ∷ list)) n
-    by_case (inl here) behind = subst (λ b. HasSerial (cond b (v ∷ filter f list) (filter f list)) n) (sym (pass v here)) (listed_here v (filter f list) n here)
-    by_case (inr rest) behind = by_test (f v) (behind rest)
-
-listed_insert : (list : List Rival) (p : ℕ) (v : Rival) (n : ℕ) → HasSerial list n → HasSerial (insert list p v) n
-listed_insert list zero v n is = listed_cons v list n is
-listed_insert [] (suc p) v n is = absurd (omega (arith, is.within))
-listed_insert (x ∷ list) (suc p) v n is = elim (listed_case x list n is) [
-  | inl here ↦ listed_here x (insert list p v) n here
-  | inr rest ↦ listed_cons x (insert list p v) n (listed_insert list p v n rest)
-]
-
-listed_new : (list : List Rival) (p : ℕ) (v : Rival) → p ≤ length list → HasSerial (insert list p v) v.serial
-listed_new list zero v within = listed_here v list v.serial refl
-listed_new [] (suc p) v within = absurd (omega (arith, within))
-listed_new (x ∷ list) (suc p) v within = listed_cons x (insert list p v) v.serial (listed_new list p v (omega (arith, within)))
+listed_filter f list n pass is = any-filter_same (λ (v : Rival). v.serial == n) f true (λ v same. pass v (eqb-true v.serial n same)) list ∙ is
 
 -- ---- one that is put in
 
@@ -100,9 +64,12 @@ module _ (rows : List Row) (serials places : List ℕ) (apart : (i j : ℕ) → 
       ordered = ordered_insert merged (rivals_left serials places old) new put (AllPairs-filter IsNoMore left_out old was.ordered);
       each = all_insert IsRivalAfter merged (rivals_left serials places old) new put (inl (refl, meets)) left_each;
       all = λ r behind inside out. by_case r inside out (was.all r behind inside);
-      own = inr (subst (λ l. HasSerial l merged.serial) (sym put.result) (listed_new (rivals_left serials places old) put.at merged put.within));
+      own = inr (subst (λ l. HasSerial l merged.serial) (sym put.result) (listed_among (take put.at left_now) (drop put.at left_now) merged merged.serial (inl refl)));
     }
       where
+        left_now : List Rival
+        left_now = rivals_left serials places old
+
         left_out : Rival → Bool
         left_out v = not (is_at_one serials places v.serial)
 
@@ -115,8 +82,9 @@ module _ (rows : List Row) (serials places : List ℕ) (apart : (i j : ℕ) → 
         by_case : (r : ℕ) → r < length rows → has_row places r ≡ false → (MeetsNone rows r s) ⊎ (HasSerial old (get_or serials r 0)) → (MeetsNone rows r s) ⊎ (HasSerial new (get_or serials r 0))
         by_case r inside out (inl none) = inl none
         by_case r inside out (inr found) = inr (subst (λ l. HasSerial l (get_or serials r 0)) (sym put.result)
-            (listed_insert (rivals_left serials places old) put.at merged (get_or serials r 0)
-            (listed_filter left_out old (get_or serials r 0) (λ v is. not_from_false (is_at_one serials places v.serial) (ap (is_at_one serials places) is ∙ at_place places r in_range inside ∙ out)) found)))
+            (listed_among (take put.at left_now) (drop put.at left_now) merged (get_or serials r 0) (inr (subst (λ l. HasSerial l (get_or serials r 0)) (sym (take-append-drop put.at left_now))
+            (listed_filter left_out old (get_or serials r 0)
+            (λ v is. not_from_false (is_at_one serials places v.serial) (ap (is_at_one serials places) is ∙ at_place places r in_range inside ∙ out)) found)))))
 
     -- The merge misses the row, so no member is a rival of it: the list stays.
     pub unmet : (list : List Rival) → IsMergeSet rows places → block ≡ merged_block rows places → ((d : Row) → Misses block (get_or rows s d)) → AreRivalsAt rows serials s list → AreRivalsAfter rows serials places block merged s list
@@ -163,7 +131,7 @@ module _ (rows : List Row) (serials places : List ℕ) (block : Block) (merged :
         λ same. omega (arith, apart s (get_or met k 0) (met_inside i (omega (arith, earlier, within))) (met_inside k within) same, are_met.ascending i k 0 earlier within) in
         subst (AreRivalsAfter rows serials places block merged s) (sym (others (get_or serials s 0) differ)) (so_far.done i earlier))
         (renewed rows serials places apart set.set.in_range (get_or met k 0) block merged (get_or now (get_or serials (get_or met k 0) 0) [])
-        (get_or new (get_or serials (get_or met k 0) 0) []) (are_met.meets k 0 within)
+        (get_or new (get_or serials (get_or met k 0) 0) []) (are_met.each k 0 within)
         (next_list k now within so_far) put);
     others = λ s inside differ. others (get_or serials s 0) (λ same. differ k (omega arith) (sym (apart s (get_or met k 0) inside (met_inside k within) same))) ∙ so_far.others s inside (λ i less. differ i (omega (arith, less)));
   }
@@ -171,10 +139,10 @@ module _ (rows : List Row) (serials places : List ℕ) (block : Block) (merged :
   -- at the end, rows that are not met have the same rivals after the merge
   pub all_renewed : (k : ℕ) (now : List (List Rival)) → block ≡ merged_block rows places → k ≡ length met → AreRenewed rows serials places block merged met k old now
       → (s : ℕ) → s < length rows → AreRivalsAfter rows serials places block merged s (get_or now (get_or serials s 0) [])
-  all_renewed k now is all so_far s inside = elim (are_met.all s inside) [
+  all_renewed k now is all so_far s inside = elim (are_met.rest s inside) [
     | inl misses ↦
         let d = merge_rows [] in
-        let same = so_far.others s inside (λ i less at. are_met.meets i 0 (omega (arith, less, all)) d (subst (λ t. Misses block (get_or rows t d)) (sym at) (misses d))) in
+        let same = so_far.others s inside (λ i less at. are_met.each i 0 (omega (arith, less, all)) d (subst (λ t. Misses block (get_or rows t d)) (sym at) (misses d))) in
         unmet rows serials places apart set.set.in_range s block merged (get_or now (get_or serials s 0) []) set is misses (subst (AreRivalsAt rows serials s) (sym same) (each s inside))
     | inr found ↦
         let at = has-place met s found in
@@ -189,8 +157,8 @@ stands_at rows places sound set =
     let p = insert_place rows places in
     let q : ℕ → Bool = λ j. not (has_row places j) in
     let long : 0 + length (take p rows) ≡ p = omega (arith, length-take p rows, place_for-le rows (generality (merged_block rows places))) in
-    let out = length_out (take p rows) places set.set.ascending (λ k d within. omega (arith, long, members_before rows places sound.ordered set k d within)) in
-    omega (arith, long, out, rank_length q 0 (take p rows), ap (rank q) long)
+    let out = length_out (take p rows) places set.set.ascending (λ k d within. omega (arith, long, members_before rows places sound.ordered set.set.in_range k d within)) in
+    omega (arith, out, rank_length q 0 p (take p rows) (sym long))
 
 -- the insertion place, as the code finds it
 pub place_is : (rows one two : List Row) (places members : List ℕ) (general place : ℕ) → one ≡ rows → two ≡ rows → members ≡ places → general ≡ generality (merged_block one members) → place ≡ place_for two general → place ≡ insert_place rows places
@@ -214,36 +182,33 @@ module _ (rows : List Row) (places : List ℕ) (sound : IsSound rows) (set : IsM
   abbrev grown : List Row
   grown = insert rows (insert_place rows places) (merged_row rows places)
 
-  place_le : insert_place rows places ≤ length rows
-  place_le = place_for-le rows (generality (merged_block rows places))
-
   pub carried_length : length carried ≡ length new
-  carried_length = grind (arith, picked_lengths, length-insert, place_le, after_is)
+  carried_length = length_carried rows places sound.ordered set.set.in_range serials n one_each
 
   pub at_inside : at < length new
-  at_inside = (merged_get rows places sound.ordered set (merged_row rows places)).0
+  at_inside = (merged_get rows places sound.ordered set.set.in_range (merged_row rows places)).0
 
   row_at : (d : Row) → get_or new at d ≡ merged_row rows places
-  row_at d = (merged_get rows places sound.ordered set d).1
+  row_at d = (merged_get rows places sound.ordered set.set.in_range d).1
 
   -- the block of the merged row
   block_at : (d : Row) → (get_or new at d).block ≡ merged_block rows places
-  block_at d = ap (λ (r : Row). r.block) (row_at d) ∙ block_is rows places sound.ordered set
+  block_at d = ap (λ (r : Row). r.block) (row_at d) ∙ block_is rows places sound.ordered set.set.in_range
 
   row_to : (k : ℕ) (d : Row) → k < length rows → has_row places k ≡ false → get_or new (to k) d ≡ get_or rows k d
-  row_to k d inside out = (moved_get rows places sound.ordered set k d inside out).1
+  row_to k d inside out = (moved_get rows places sound.ordered set.set.in_range k d inside out).1
 
   serial_to : (k : ℕ) → k < length rows → has_row places k ≡ false → get_or carried (to k) 0 ≡ get_or serials k 0
-  serial_to k inside out = (item_moved rows places sound.ordered set serials n one_each k 0 (omega (arith, inside, one_each)) out).1
+  serial_to k inside out = (item_moved rows places sound.ordered set.set.in_range serials n one_each k 0 (omega (arith, inside, one_each)) out).1
 
   serial_at : get_or carried at 0 ≡ n
-  serial_at = (item_merged rows places sound.ordered set serials n one_each 0).1
+  serial_at = (item_merged rows places sound.ordered set.set.in_range serials n one_each 0).1
 
   abbrev CameFrom : ℕ → Type 0
   CameFrom l = ((k : ℕ) × (k < length rows) × (has_row places k ≡ false) × (to k ≡ l)) ⊎ (l ≡ at)
 
   came_from : (l : ℕ) → l < length new → CameFrom l
-  came_from l within = item_onto rows places sound.ordered set rows (merged_row rows places) refl l (subst (λ x. l < length x) (sym (after_is rows places sound.ordered set)) within)
+  came_from = onto rows places sound.ordered set.set.in_range
 
   -- ---- numbers
 
@@ -256,12 +221,8 @@ module _ (rows : List Row) (places : List ℕ) (sound : IsSound rows) (set : IsM
     in_use k inside = below k 0 (omega (arith, inside, one_each))
 
     carried_below : All (λ k. k < n + 1) carried
-    carried_below =
-        let p = insert_place rows places in
-        let wider : All (λ k. k < n + 1) serials = λ k d within. omega (arith, below k d within) in
-        All-picked (λ k. k < n + 1) (λ j. not (has_row places j)) 0 (insert serials p n)
-        (All-append (λ k. k < n + 1) (take p serials) (n ∷ drop p serials) (All-take (λ k. k < n + 1) p serials wider)
-        (All-cons (λ k. k < n + 1) n (drop p serials) (omega arith) (All-drop (λ k. k < n + 1) p serials wider)))
+    carried_below l d within = all_carried rows places sound.ordered set.set.in_range serials n one_each (λ k r. k < n + 1) d (merged_row rows places)
+        (λ k inside. omega (arith, below k d inside)) (omega arith) l within
 
     carried_apart : (i j : ℕ) → i < length new → j < length new → get_or carried i 0 ≡ get_or carried j 0 → i ≡ j
     carried_apart i j in_i in_j same = by_cases (came_from i in_i) (came_from j in_j)
@@ -293,7 +254,7 @@ module _ (rows : List Row) (places : List ℕ) (sound : IsSound rows) (set : IsM
           | inl less ↦
               let d = merged_row rows places in
               absurd (meets d (subst (Misses (merged_block rows places)) (row_to k d inside out) (subst (λ b. Misses b (get_or new (to k) d)) (block_at d)
-              (legal.unmet at (to k) d less (moved_get rows places sound.ordered set k d inside out).0))))
+              (legal.unmet at (to k) d less (moved_get rows places sound.ordered set.set.in_range k d inside out).0))))
           | inr most ↦
               let same : at ≡ to k = omega (arith, le, most) in
               absurd (omega (arith, in_use k inside, serial_to k inside out, serial_at, ap (λ m. get_or carried m 0) same))
@@ -313,7 +274,7 @@ module _ (rows : List Row) (places : List ℕ) (sound : IsSound rows) (set : IsM
               place = to it.place;
               behind = to_less rows places sound set legal k it.place out it.behind;
               is = record {
-                inside = (moved_get rows places sound.ordered set it.place (merged_row rows places) it.is.inside gone).0;
+                inside = (moved_get rows places sound.ordered set.set.in_range it.place (merged_row rows places) it.is.inside gone).0;
                 serial = it.is.serial ∙ sym (serial_to it.place it.is.inside gone);
                 general = λ d. it.is.general d ∙ sym (ap (λ (r : Row). generality r.block) (row_to it.place d it.is.inside gone));
                 bits = λ d. it.is.bits d ∙ sym (ap (λ (r : Row). r.route.bits) (row_to it.place d it.is.inside gone));
@@ -357,7 +318,7 @@ module _ (rows : List Row) (places : List ℕ) (sound : IsSound rows) (set : IsM
             (subst (λ l. AreRivalsAt new carried s (get_or l (get_or carried s 0) [])) (sym of_is) (by_place s (came_from s inside)));
         as_many = ap length spans_are ∙ length-append spans (its ∷ []) ∙ ap (λ m. m + 1) one_span ∙ sym longer;
         spanned = λ s d inside. subst (λ l. AreSpansOf (get_or new s d).aliases (get_or rivals.spans.items (get_or l s 0) [])) (sym serials_are)
-            (subst (λ l. AreSpansOf (get_or new s d).aliases (get_or l (get_or carried s 0) [])) (sym spans_are) (spans_by_place s d (came_from s inside)));
+            (subst (λ l. AreSpansOf (get_or new s d).aliases (get_or l (get_or carried s 0) [])) (sym spans_are) (spans_by_place s d (omega (arith, inside, carried_length))));
       }
         where
           longer : length rivals.of.items ≡ n + 1
@@ -372,12 +333,8 @@ module _ (rows : List Row) (places : List ℕ) (sound : IsSound rows) (set : IsM
               subst (λ x. AreRivalsAt new carried x (get_or (of ++ own ∷ []) (get_or carried x 0) [])) (sym is)
               (subst (AreRivalsAt new carried at) (sym (ap (λ m. get_or (of ++ own ∷ []) m []) (serial_at ∙ sym many) ∙ get_or-append_seam of own [] [])) last)
 
-          spans_by_place : (s : ℕ) (d : Row) → CameFrom s → AreSpansOf (get_or new s d).aliases (get_or (spans ++ its ∷ []) (get_or carried s 0) [])
-          spans_by_place s d (inl (k, inside, out, is)) =
-              subst (λ x. AreSpansOf (get_or new x d).aliases (get_or (spans ++ its ∷ []) (get_or carried x 0) [])) is
-              (subst (λ (r : Row). AreSpansOf r.aliases (get_or (spans ++ its ∷ []) (get_or carried (to k) 0) [])) (sym (row_to k d inside out))
-              (subst (AreSpansOf (get_or rows k d).aliases) (sym (ap (λ m. get_or (spans ++ its ∷ []) m []) (serial_to k inside out) ∙ get_or_append_left spans (its ∷ []) [] (get_or serials k 0) (omega (arith, in_use k inside, one_span))))
-              (spanned k d inside)))
-          spans_by_place s d (inr is) =
-              subst (λ x. AreSpansOf (get_or new x d).aliases (get_or (spans ++ its ∷ []) (get_or carried x 0) [])) (sym is)
-              (subst (AreSpansOf (get_or new at d).aliases) (sym (ap (λ m. get_or (spans ++ its ∷ []) m []) (serial_at ∙ sym one_span) ∙ get_or-append_seam spans its [] [])) (own_spans d))
+          spans_by_place : (s : ℕ) (d : Row) → s < length carried → AreSpansOf (get_or new s d).aliases (get_or (spans ++ its ∷ []) (get_or carried s 0) [])
+          spans_by_place s d inside = all_carried rows places sound.ordered set.set.in_range serials n one_each (λ k r. AreSpansOf r.aliases (get_or (spans ++ its ∷ []) k [])) 0 d
+              (λ k within. subst (AreSpansOf (get_or rows k d).aliases) (sym (get_or_append_left spans (its ∷ []) [] (get_or serials k 0) (omega (arith, below k 0 within, one_span))))
+              (spanned k d (omega (arith, within, one_each))))
+              (subst₂ (λ (r : Row) l. AreSpansOf r.aliases l) (row_at d) (sym (ap (λ m. get_or (spans ++ its ∷ []) m []) (sym one_span) ∙ get_or-append_seam spans its [] [])) (own_spans d)) s inside

@@ -1,6 +1,6 @@
 -- Spans of aliases: what lies in them, and what need not be looked at.
-use Rattle.cover_merge.proofs.Common.{Alias, All, Block, Intersects, IsFirstAt, IsFirstMet, IsFreeUpTo, LiesIn, LiesIn-merge, LiesIn-trans, List, [], arith, cases_lt, get_or, get_or_default, length}
-use Rattle.cover_merge.proofs.Common.{merge_two, refl, slice_get-get_or, ℕ, ◌+◌, ◌<◌, ◌∷◌, ◌≤◌}
+use Rattle.cover_merge.proofs.Common.{Alias, Block, IsFirstAt, IsFirstMet, LiesIn, LiesIn-merge, LiesIn-trans, List, [], arith, get_or, get_or_default, length, merge_two, refl, slice_get-get_or, ℕ}
+use Rattle.cover_merge.proofs.Common.{◌+◌, ◌<◌, ◌∷◌, ◌≤◌}
 
 -- ---- one span
 
@@ -20,15 +20,6 @@ span_more aliases from i span item inside was j d begins ends = grind (arith, ge
 -- ---- the first alias that a block meets
 
 module _ (block : Block) (aliases : List Alias) where
-  pub free_more : (from middle to : ℕ) → IsFreeUpTo block aliases from middle → IsFreeUpTo block aliases middle to → IsFreeUpTo block aliases from to
-  free_more from middle to one two i a begins ends meets = grind (arith, cases_lt i middle)
-
-  pub first_behind : (from to end at : ℕ) → IsFreeUpTo block aliases 0 from → to ≤ end → IsFirstAt block aliases from to at → IsFirstAt block aliases 0 end at
-  first_behind from to end at free within first = grind (arith, free_more 0 from at free first.before)
-
-  free_all : IsFreeUpTo block aliases 0 (length aliases) → All (λ (a : Alias). ¬ (Intersects block a.block)) aliases
-  free_all free i a within = free i a (omega arith) within
-
   -- the block that is met
   pub met_at : (at : ℕ) (alias : Alias) → IsFirstAt block aliases 0 (length aliases) at → IsFirstMet block aliases (get_or aliases at alias).block
   met_at at alias first = record {

@@ -1,47 +1,33 @@
 -- Pairs that were tried stay illegal until one of their rows loses a row behind it.
-use Rattle.cover_merge.proofs.Common.{All, AreNewerOf, AreNoLater, AreTried, AreTriedUpTo, Bool, IsEachOnce, IsLegalPair, IsMergeSet, IsNextSince, IsOrdered, IsTriedNow, List, Route, Row, Times, []}
-use Rattle.cover_merge.proofs.Common.{after, ap, arith, cases_Bool, cases_eq, cases_order, get_or, get_or-set_at, get_or-set_other, get_or_default, has_row, inl, inr, length, length-set, merge_rows}
-use Rattle.cover_merge.proofs.Common.{merged_row, place_of_route, refl, set, subst, suc, sym, true, ℕ, ◌-◌, ◌<◌, ◌∙◌, ◌≡◌, ◌≢◌, ◌≤◌, ◌⊎◌}
-use Rattle.cover_merge.proofs.{Lists.written_at, KeptLemmasMoved.merged_at, KeptLemmasMoved.merged_get, KeptLemmasMoved.moved, KeptLemmasMoved.moved_get, ChooseLemmas.ArePlaces}
+use Rattle.cover_merge.proofs.Common.{All, AreNewerOf, AreNoLater, AreTried, AreTriedUpTo, Bool, IsEachOnce, IsLegalPair, IsMergeSet, IsNextSince, IsOrdered, IsTriedNow, List, Row, Times, [], after}
+use Rattle.cover_merge.proofs.Common.{ap, arith, cases_Bool, cases_eq, cases_order, get_or, get_or-set_other, get_or_default, has_row, inl, inr, length, length-set, merge_rows, merged_row}
+use Rattle.cover_merge.proofs.Common.{place_of_route, refl, set, subst, suc, sym, true, ℕ, ◌-◌, ◌<◌, ◌∙◌, ◌≡◌, ◌≢◌, ◌≤◌}
+use Rattle.cover_merge.proofs.{ChooseLemmas.pair_bits, ChooseLemmas.pair_inside, ChooseLemmas.pair_order, ChooseLemmas.ArePlaces, Positions.has-place, Lists.written_at, KeptLemmasMoved.merged_at}
+use Rattle.cover_merge.proofs.KeptLemmasMoved.{merged_get, moved, moved_get}
 
 -- ---- the times of one row in place of others
 
-module _ (now : ℕ) (rows : List Row) (gs : List Times) (s : ℕ) (g : Times) (inside : s < length gs) (marks : AreTriedUpTo now rows gs) where
-  -- what is known of the pairs of row s by its new times
-  record ArePairsOf : Type 0 where
-    behind : (j : ℕ) (e : Times) → s < j → j < length gs → (get_or gs j e).changed < g.tried → IsLegalPair rows s j → ⊥
-    before : (i : ℕ) (e : Times) → i < s → g.changed < (get_or gs i e).tried → IsLegalPair rows i s → ⊥
-    bound : (g.tried ≤ now) × (g.changed ≤ now)
+-- a mark changes no time of a change
+mark_keeps : (now : ℕ) (gs : List Times) (s : ℕ) (g old : Times) → s < length gs → old ≡ get_or gs s old → IsTriedNow now old g
+    → (b : ℕ) (e : Times) → (get_or (set gs s g) b e).changed ≡ (get_or gs b e).changed
+mark_keeps now gs s g old inside is_old mark = λ b e.
+    written_at (λ n (x : Times). x.changed ≡ (get_or gs n e).changed) gs s g e inside (mark.changed ∙ ap (λ (x : Times). x.changed) (is_old ∙ get_or_default gs s old e inside)) (λ n apart. refl) b
 
-  tried_put : ArePairsOf → AreTriedUpTo now rows (set gs s g)
-  tried_put pairs = record {
-    tried = λ i j e less within told. by_first i j e less (omega (arith, length-set gs s g, within)) told (cases_eq i s) (cases_eq j s);
-    bound = λ k e within.
-        written_at (λ n (x : Times). n < length gs → (x.tried ≤ now) × (x.changed ≤ now)) gs s g e inside (λ low. pairs.bound) (λ n other low. marks.bound n e low) k
-        (omega (arith, length-set gs s g, within));
-  }
-    where
-      by_first : (i j : ℕ) (e : Times) → i < j → j < length gs → (get_or (set gs s g) j e).changed < (get_or (set gs s g) i e).tried → (i ≡ s) ⊎ (i ≢ s) → (j ≡ s) ⊎ (j ≢ s) → IsLegalPair rows i j → ⊥
-      by_first i j e less within told (inl same) (inl also) = absurd (omega (arith, less, same, also))
-      by_first i j e less within told (inl same) (inr other) =
-          subst (λ n. IsLegalPair rows n j → ⊥) (sym same)
-          (pairs.behind j e (omega (arith, less, same)) within (omega (arith, told, ap (λ (x : Times). x.changed) (get_or-set_other gs s j g e other), ap (λ (x : Times). x.tried) (get_or-set_at gs s i g e same inside))))
-      by_first i j e less within told (inr other) (inl same) =
-          subst (λ n. IsLegalPair rows i n → ⊥) (sym same)
-          (pairs.before i e (omega (arith, less, same)) (omega (arith, told, ap (λ (x : Times). x.changed) (get_or-set_at gs s j g e same inside), ap (λ (x : Times). x.tried) (get_or-set_other gs s i g e other))))
-      by_first i j e less within told (inr other) (inr apart) =
-          marks.tried i j e less within (omega (arith, told, ap (λ (x : Times). x.changed) (get_or-set_other gs s j g e apart), ap (λ (x : Times). x.tried) (get_or-set_other gs s i g e other)))
-
-  -- that of a row that is no legal pair with a later one
-  pub marked_put : (old : Times) → old ≡ get_or gs s old → IsTriedNow now old g → ((b : ℕ) → IsLegalPair rows s b → ⊥) → AreTriedUpTo now rows (set gs s g)
-  marked_put old is_old mark none = tried_put (record {
-    behind = λ j e less within told. none j;
-    before = λ i e less told. marks.tried i s e less inside (omega (arith, told, changed_at e));
-    bound = (omega (arith, mark.tried), omega (arith, changed_at g, (marks.bound s g inside).1));
-  })
-    where
-      changed_at : (e : Times) → g.changed ≡ (get_or gs s e).changed
-      changed_at e = mark.changed ∙ ap (λ (x : Times). x.changed) (is_old ∙ get_or_default gs s old e inside)
+-- that of a row that is no legal pair with a later one
+pub marked_put : (now : ℕ) (rows : List Row) (gs : List Times) (s : ℕ) (g : Times) → s < length gs → AreTriedUpTo now rows gs → (old : Times) → old ≡ get_or gs s old → IsTriedNow now old g
+    → ((b : ℕ) → IsLegalPair rows s b → ⊥) → AreTriedUpTo now rows (set gs s g)
+marked_put now rows gs s g inside marks old is_old mark none = record {
+  tried = λ i j e less within told pair. elim (cases_eq i s) [
+    | inl same ↦ none j (subst (λ n. IsLegalPair rows n j) same pair)
+    | inr other ↦
+        marks.tried i j e less (omega (arith, within, length-set gs s g))
+        (omega (arith, told, mark_keeps now gs s g old inside is_old mark j e, ap (λ (x : Times). x.tried) (get_or-set_other gs s i g e other))) pair
+  ];
+  bound = λ k e within.
+      written_at (λ n (x : Times). n < length gs → (x.tried ≤ now) × (x.changed ≤ now)) gs s g e inside
+      (λ low. (omega (arith, mark.tried), omega (arith, mark.changed, ap (λ (x : Times). x.changed) (is_old ∙ get_or_default gs s old g inside), (marks.bound s g inside).1)))
+      (λ n other low. marks.bound n e low) k (omega (arith, length-set gs s g, within));
+}
 
 -- the time of a route, and those of a row of it, are put
 module _ (routes latest : List ℕ) (rows : List Row) (gs : List Times) (now : ℕ) (bounds : All (λ (g : Times). (g.tried ≤ now) × (g.changed ≤ now)) gs) where
@@ -61,8 +47,8 @@ module _ (rows : List Row) (places : List ℕ) (ordered : IsOrdered rows) (merge
   -- what holds of the rows of the table after the merge held of all rows, where it follows of the members
   pub all_before : (P : Row → Type 0) → (P (merged_row rows places) → (k : ℕ) (d : Row) → has_row places k ≡ true → P (get_or rows k d)) → All P (after rows places) → All P rows
   all_before P members all k d within = elim (cases_Bool (has_row places k)) [
-    | inl found ↦ let at = merged_get rows places ordered merge d in members (subst P at.1 (all (merged_at rows places) d at.0)) k d found
-    | inr out ↦ let at = moved_get rows places ordered merge k d within out in subst P at.1 (all (moved rows places k) d at.0)
+    | inl found ↦ let at = merged_get rows places ordered merge.set.in_range d in members (subst P at.1 (all (merged_at rows places) d at.0)) k d found
+    | inr out ↦ let at = moved_get rows places ordered merge.set.in_range k d within out in subst P at.1 (all (moved rows places k) d at.0)
   ]
 
 -- ---- the rows that changed since a row was tried
@@ -84,20 +70,23 @@ since_turn rows gs newer k x y time h d z newer_are inside old is_h le is = grin
 abbrev pub AreNewerAt : ℕ → List ℕ → List Row → List Times → List ℕ → Type 0
 AreNewerAt n places rows gs newer = (m : ℕ) (e : Times) → n ≤ m → m < length places → IsNextSince rows gs (get_or places m 0) (suc (get_or gs (get_or places m 0) e).changed) (get_or newer (get_or places m 0) 0)
 
-module _ (bits : ℕ) (rows : List Row) (places : List ℕ) (are : ArePlaces bits rows places) (gs : List Times) where
+module _ (bits : ℕ) (rows : List Row) (places : List ℕ) (are : ArePlaces bits rows (length rows) places) (gs : List Times) where
+  listed : (j : ℕ) (d : Row) → j < length rows → (get_or rows j d).route.bits ≡ bits → (m : ℕ) × (m < length places) × (get_or places m 0 ≡ j)
+  listed j d within same = elim (are.rest j within) [ inl lacks ↦ absurd (lacks within d same) | inr found ↦ has-place places j found ]
+
   newer_row : (n : ℕ) (newer : List ℕ) → AreNewerAt n places rows gs newer → (j m : ℕ) (e : Times) → n ≤ m → m < length places → get_or places m 0 ≡ j → IsNextSince rows gs j (suc (get_or gs j e).changed) (get_or newer j 0)
   newer_row n newer done j m e from within at = subst (λ i. IsNextSince rows gs i (suc (get_or gs i e).changed) (get_or newer i 0)) at (done m e from within)
 
   -- so have all rows of the route
   pub newer_all : (newer : List ℕ) → AreNewerAt 0 places rows gs newer → AreNewerOf bits 0 rows gs newer
-  newer_all newer done j d e from within same = let at = are.listed j d within same in newer_row 0 newer done j at.0 e (omega arith) at.1 at.2
+  newer_all newer done j d e from within same = let at = listed j d within same in newer_row 0 newer done j at.0 e (omega arith) at.1 at.2
 
   -- and those behind a place
   pub newer_behind : (n k : ℕ) (newer : List ℕ) → n < length places → get_or places n 0 ≡ k → AreNewerAt (suc n) places rows gs newer → AreNewerOf bits (suc k) rows gs newer
   newer_behind n k newer inside is done j d e from within same =
-      let at = are.listed j d within same in newer_row (suc n) newer done j at.0 e (elim (cases_order at.0 n) [
+      let at = listed j d within same in newer_row (suc n) newer done j at.0 e (elim (cases_order at.0 n) [
         | inl here ↦ absurd (omega (arith, from, is, at.2, ap (λ i. get_or places i 0) here))
-        | inr (inl before) ↦ absurd (omega (arith, from, is, at.2, are.ascend at.0 n before inside))
+        | inr (inl before) ↦ absurd (omega (arith, from, is, at.2, are.ascending at.0 n 0 before inside))
         | inr (inr behind) ↦ behind
       ]) at.1 at.2
 
@@ -105,7 +94,7 @@ module _ (bits : ℕ) (rows : List Row) (places : List ℕ) (are : ArePlaces bit
   pub newer_more : (now new : List ℕ) (n k v : ℕ) (was : Times) → length now ≡ length rows → length gs ≡ length rows → n < length places → get_or places n 0 ≡ k → IsNextSince rows gs k (suc (get_or gs k was).changed) v → new ≡ set now k v
       → AreNewerAt (suc n) places rows gs now → AreNewerAt n places rows gs new
   newer_more now new n k v was all many inside is next is_new done m e from within =
-      let low : k < length now = omega (arith, all, is, are.inside n inside) in
+      let low : k < length now = omega (arith, all, is, are.inside n 0 inside) in
       let later : get_or places m 0 ≢ k → n < m = λ apart. elim (cases_order m n) [
         | inl here ↦ absurd (apart (ap (λ i. get_or places i 0) here ∙ is))
         | inr (inl before) ↦ absurd (omega (arith, from, before))
@@ -113,7 +102,7 @@ module _ (bits : ℕ) (rows : List Row) (places : List ℕ) (are : ArePlaces bit
       ] in
       subst (λ l. IsNextSince rows gs (get_or places m 0) (suc (get_or gs (get_or places m 0) e).changed) (get_or l (get_or places m 0) 0)) (sym is_new)
       (written_at (λ j x. get_or places m 0 ≡ j → IsNextSince rows gs j (suc (get_or gs j e).changed) x) now k v 0 low
-      (λ at. subst (λ t. IsNextSince rows gs k (suc t) v) (ap (λ (x : Times). x.changed) (get_or_default gs k was e (omega (arith, many, is, are.inside n inside)))) next)
+      (λ at. subst (λ t. IsNextSince rows gs k (suc t) v) (ap (λ (x : Times). x.changed) (get_or_default gs k was e (omega (arith, many, is, are.inside n 0 inside)))) next)
       (λ j apart at. newer_row (suc n) now done j m e (later (λ same. apart (sym at ∙ same))) within at) (get_or places m 0) refl)
 
 -- what stands at the rows of other routes stays
@@ -141,17 +130,15 @@ newer_kept now bits rows gs new newer s g old inside is_old is mark each k d e f
     }
   where
     kept_at : (b : ℕ) (e : Times) → (get_or new b e).changed ≡ (get_or gs b e).changed
-    kept_at b e = ap (λ l. (get_or l b e).changed) is ∙ written_at (λ n (x : Times). x.changed ≡ (get_or gs n e).changed) gs s g e inside
-        (mark.changed ∙ ap (λ (x : Times). x.changed) (is_old ∙ get_or_default gs s old e inside)) (λ n apart. refl) b
+    kept_at b e = ap (λ l. (get_or l b e).changed) is ∙ mark_keeps now gs s g old inside is_old mark b e
 
 -- a row is no legal pair with one that did not change since it was tried
 pub skipped_none : (rows : List Row) (gs : List Times) (i k x : ℕ) (was : Times) → length gs ≡ length rows → AreTried rows gs → i ≤ k → ((d : Row) → k < length rows → (get_or rows k d).route.bits ≡ (get_or rows i d).route.bits) → IsNextSince rows gs k (get_or gs i was).tried x
     → (b : ℕ) → k < b → b < x → IsLegalPair rows i b → ⊥
 skipped_none rows gs i k x was same tried le route next b from to pair =
     let d : Row = merge_rows [] in
-    let within : b < length rows = pair.set.set.in_range 1 0 (omega arith) in
-    let bits : (get_or rows b d).route.bits ≡ (get_or rows k d).route.bits =
-    ap (λ (r : Route). r.bits) (sym (pair.set.set.one_route 0 1 0 (omega arith) (omega arith) d)) ∙ sym (route d (omega (arith, from, within))) in
+    let within : b < length rows = pair_inside rows i b pair in
+    let bits : (get_or rows b d).route.bits ≡ (get_or rows k d).route.bits = sym (pair_bits rows i b pair d) ∙ sym (route d (omega (arith, from, within))) in
     tried i b was (omega (arith, le, from)) (omega (arith, same, within)) (next.between b d was from to within bits) pair
 
 -- and with none, where no row of its route did
@@ -160,10 +147,8 @@ pub settled_none : (routes latest : List ℕ) (rows : List Row) (gs : List Times
 settled_none routes latest rows gs i same tried none_later low b pair =
     let d : Row = merge_rows [] in
     let z : Times = record { tried = 0; changed = 0 } in
-    let within : b < length gs = omega (arith, same, pair.set.set.in_range 1 0 (omega arith)) in
-    let less : i < b = pair.set.set.ascending 0 1 0 (omega arith) (omega arith) in
-    let bits : (get_or rows i d).route.bits ≡ (get_or rows b d).route.bits = ap (λ (r : Route). r.bits) (pair.set.set.one_route 0 1 0 (omega arith) (omega arith) d) in
-    tried i b z less within (omega (arith, none_later b d z within, low d z, ap (λ n. get_or latest (place_of_route routes n) 0) bits)) pair
+    let within : b < length gs = omega (arith, same, pair_inside rows i b pair) in
+    tried i b z (pair_order rows i b pair) within (omega (arith, none_later b d z within, low d z, ap (λ n. get_or latest (place_of_route routes n) 0) (pair_bits rows i b pair d))) pair
 
 -- what holds before a place, there, and behind it
 pub each_on : (P : ℕ → Type 0) (i j x : ℕ) → ((b : ℕ) → i < b → b < j → P b) → P j → ((b : ℕ) → j < b → b < x → P b) → (b : ℕ) → i < b → b < x → P b

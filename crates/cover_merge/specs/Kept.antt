@@ -26,13 +26,6 @@ pub record IsKept (rows : List Row) (bits size : ℕ) (outer : Block) (low : ℕ
   pub refined : RefinesWithin rows outer low (places_of bits 0 rows) set
   pub size_is : length set ≡ size
 
--- A merge leaves alone what is kept of a route: it is of another route, its block meets no alias of a row of the route,
--- and meets no block that was down-checked or is no more general than each.
-pub record IsLeftBy (rows : List Row) (merge : List ℕ) (bits : ℕ) (outer : Block) (low : ℕ) : Type 0 where
-  pub other : (s : ℕ) (d : Row) → has_row merge s ≡ true → (slice_index_or rows s d).route.bits ≢ bits
-  pub misses : (s : ℕ) (d : Row) → s < length rows → (slice_index_or rows s d).route.bits ≡ bits → Misses (merged_block rows merge) (slice_index_or rows s d)
-  pub apart : (Intersects (merged_block rows merge) outer → ⊥) ⊎ (generality (merged_block rows merge) ≤ low)
-
 -- Steps of refinement lead from places to others, and each block that is down-checked on the way is within the same
 -- bounds.
 pub data LeadsWithin (rows : List Row) (outer : Block) (low : ℕ) : List ℕ → List ℕ → Type 0 where

@@ -25,7 +25,8 @@ pub record IsRouteAdded (bits : ℕ) (old new : List ℕ) : Type 0 where
 
 -- Each row's route by its place among the routes.
 pub record AreNumbers (routes : List ℕ) (rows : List Row) (numbers : List ℕ) : Type 0 where
-  pub each : numbers ≡ map (λ (r : Row). place_of_route routes r.route.bits) rows
+  pub one_each : length numbers ≡ length rows
+  pub each : (k : ℕ) (d : Row) → k < length rows → slice_index numbers k ≡ place_of_route routes (slice_index_or rows k d).route.bits
   pub below : All (λ c. c < length routes) numbers
 
 -- the first place from `from` on with this number, and the length of the list or more where there is none

@@ -1,5 +1,5 @@
 -- The rivals of a row: the rows behind it that meet an alias of it. They save looking at all rows in each up-check.
-use Rattle.std.specs.Prelude.{◌≡◌, ◌==◌, ℕ, ◌<◌, ◌≤◌, ◌^◌, ◌⊎◌, Bool, true, false, not, List, [], All, AllPairs, filter, insert, length, slice_get, slice_index, slice_index_or, Some}
+use Rattle.std.specs.Prelude.{◌≡◌, ◌==◌, ◌++◌, ◌∷◌, ℕ, ◌<◌, ◌≤◌, ◌^◌, ◌⊎◌, Bool, true, false, not, List, [], All, AllPairs, filter, insert, length, slice_get, slice_index, slice_index_or, Some, ⊤}
 use Rattle.std.specs.List.{list_any}
 use Rattle.spin_base.specs.declared.blocks.Block.{Block}
 use Rattle.tern_word.specs.declared.tables.Alias.{Alias}
@@ -27,10 +27,8 @@ abbrev pub MeetsNone : List Row → ℕ → ℕ → Type 0
 MeetsNone rows r s = (d : Row) → Misses (slice_index_or rows r d).block (slice_index_or rows s d)
 
 -- one of the list has this number
-pub record HasSerial (list : List Rival) (serial : ℕ) : Type 0 where
-  pub at : ℕ
-  pub within : at < length list
-  pub found : (e : Rival) → (slice_index_or list at e).serial ≡ serial
+abbrev pub HasSerial : List Rival → ℕ → Type 0
+HasSerial list serial = list_any (λ (v : Rival). v.serial == serial) list ≡ true
 
 -- a rival of row s: a row behind it that meets an alias of it
 pub record IsRivalBehind (rows : List Row) (serials : List ℕ) (s : ℕ) (v : Rival) : Type 0 where
@@ -44,6 +42,11 @@ pub record AreRivalsAt (rows : List Row) (serials : List ℕ) (s : ℕ) (list : 
   pub ordered : AllPairs (λ (v w : Rival). v.general ≤ w.general) list
   pub each : All (IsRivalBehind rows serials s) list
   pub all : (r : ℕ) → s < r → r < length rows → (MeetsNone rows r s) ⊎ (HasSerial list (slice_index serials r))
+
+-- row r is no rival of row s and the list stays, or it is one and comes last
+abbrev pub IsRivalAdded : List Row → List ℕ → ℕ → ℕ → List Rival → List Rival → Type 0
+IsRivalAdded rows serials s r old new =
+    ((s < r → MeetsNone rows r s) × (new ≡ old)) ⊎ ((s < r) × (v : Rival) × (IsRivalOf rows serials r v) × (MeetsAliasOf rows r s) × (new ≡ old ++ v ∷ []))
 
 -- A sound table of fewer than 2^32 rows: each has a number of its own, by which its rivals and its spans are found.
 pub record IsRivaled (rows : List Row) (rivals : Rivals) : Type 0 where
@@ -80,12 +83,16 @@ pub record AreRivalsAfter (rows : List Row) (serials places : List ℕ) (block :
   pub all : (r : ℕ) → s < r → r < length rows → has_row places r ≡ false → (MeetsNone rows r s) ⊎ (HasSerial list (slice_index serials r))
   pub own : ((d : Row) → Misses block (slice_index_or rows s d)) ⊎ (HasSerial list merged.serial)
 
+-- Places below n, ascending: P holds of each, and Q of each place below n that is not one of them.
+pub record AreThose (P Q : ℕ → Type 0) (n : ℕ) (places : List ℕ) : Type 0 where
+  pub ascending : AllPairs (λ s t. s < t) places
+  pub inside : All (λ s. s < n) places
+  pub each : All P places
+  pub rest : (s : ℕ) → s < n → (Q s) ⊎ (has_row places s ≡ true)
+
 -- the places, ascending, of all rows of which the block meets an alias
-pub record AreMet (block : Block) (rows : List Row) (met : List ℕ) : Type 0 where
-  pub ascending : AllPairs (λ s t. s < t) met
-  pub inside : All (λ s. s < length rows) met
-  pub meets : All (λ s. (d : Row) → Misses block (slice_index_or rows s d) → ⊥) met
-  pub all : (s : ℕ) → s < length rows → ((d : Row) → Misses block (slice_index_or rows s d)) ⊎ (has_row met s ≡ true)
+abbrev pub AreMet : Block → List Row → List ℕ → Type 0
+AreMet block rows met = AreThose (λ s. (d : Row) → Misses block (slice_index_or rows s d) → ⊥) (λ s. (d : Row) → Misses block (slice_index_or rows s d)) (length rows) met
 
 -- The rows at the places are a legal merge, each row has its rivals, and the merge meets an alias of the rows at these other
 -- places, and of no row else.
@@ -115,8 +122,6 @@ pub record IsOriginal (row : Row) : Type 0 where
   pub key : alias.block.key ≡ row.block.key
   pub mask : alias.block.mask ≡ row.block.mask
 
--- the places, ascending, of rows; all others are original
-pub record AreJoined (rows : List Row) (joined : List ℕ) : Type 0 where
-  pub ascending : AllPairs (λ s t. s < t) joined
-  pub inside : All (λ s. s < length rows) joined
-  pub original : (s : ℕ) (d : Row) → s < length rows → has_row joined s ≡ false → IsOriginal (slice_index_or rows s d)
+-- places, ascending, of rows before place n; all others of these are original
+abbrev pub AreJoined : List Row → ℕ → List ℕ → Type 0
+AreJoined rows n joined = AreThose (λ s. ⊤) (λ s. (d : Row) → IsOriginal (slice_index_or rows s d)) n joined

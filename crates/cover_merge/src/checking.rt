@@ -49,8 +49,8 @@ pub fn merged_block(set: RowPlaces) -> Block
     let rows = set.rows;
     let places = set.places;
     let mut merged = rows[places[0] as usize].block;
-    for place in &places[1..] {
-        merged = merge_two(merged, rows[*place as usize].block);
+    for k in 1..places.len() {
+        merged = merge_two(merged, rows[places[k] as usize].block);
     }
     merged
 }

@@ -137,7 +137,6 @@ fn largest(
 }
 
 // The places of all rows of a route whose first is that at the place.
-#[tactic(auto, using(crate::proofs::ChooseLemmas::places_begin))]
 fn places_from(alloc: Global, linked: LinkedRows, first: u32) -> Result<Seq<u32>, Memory>
     ensures { IfOk result (λ places. (bits : ℕ) → IsFirstOfRoute linked.entry.table.rows.now bits first
         → places ≡ places_of bits 0 linked.entry.table.rows.now) }

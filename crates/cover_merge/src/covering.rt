@@ -3,14 +3,14 @@ ghost use Rattle.std.specs.Prelude.{◌≡◌, ◌<◌, ◌≤◌, ◌^◌, ◌�
 ghost use Rattle.tern_word.specs.SoundTable.{IsSound, served};
 ghost use Rattle.std.specs.List.Sorted.{IsPermutation};
 ghost use Rattle.cover_merge.specs.Merge.{IsLegal, IsMergeSet, after};
-ghost use Rattle.cover_merge.specs.Known.{AreStillKept, IsApart, IsKnown, IsKnownAt};
+ghost use Rattle.cover_merge.specs.Known.{AreStillKept, IsApart, IsKnownAt};
 ghost use Rattle.cover_merge.specs.Covering.{Covers, HasNoChosen, HasNoLegalPair, HasRoutesOf, IsChosen};
 ghost use Rattle.cover_merge.specs.Merges.{sets_of};
 
 use crate::carrying::{carry_times, merge_rows, met_places, touch};
 use crate::choosing::chosen;
 use crate::gaps::Gaps;
-use crate::keeping::forget_near;
+use crate::keeping::{Kept, forget_near};
 use crate::knowing::{Known, known_of};
 use crate::links::carry_numbers;
 use crate::merged_block;
@@ -117,7 +117,8 @@ fn merge_at(
     let merge = LegalMerge { rows, gaps, block };
     let met = met_places(alloc, merge)?;
     touch(merge, known, &met, now);
-    forget(merge, known);
+    let numbers = known.numbers.as_slice();
+    forget(merge, numbers, &mut known.kept);
     carry_numbers(merge, &mut known.numbers);
     carry_times(merge, &mut known.times, now);
     merge_rows(alloc, table, &mut known.rivals, places, &met)
@@ -125,18 +126,14 @@ fn merge_at(
 
 // Forgets what is kept of the route of the rows that are merged, and of routes for which a block was down-checked that the
 // merge may meet.
-fn forget(merge: LegalMerge, known: &mut Known)
-    requires { IsKnown merge.rows.now known.old }
-    ensures left { AreStillKept (λ c it. (c ≡ slice_index known.old.numbers.items (slice_index merge.entry.gaps.places.now 0)
-        → ⊥) × (IsApart merge.entry.block it)) known.old.kept.items known.new.kept.items }
-    ensures times { known.new.times.items ≡ known.old.times.items }
-    ensures numbers { known.new.numbers.items ≡ known.old.numbers.items }
-    ensures rivals { known.new.rivals ≡ known.old.rivals }
-    ensures routes { known.new.routes.items ≡ known.old.routes.items }
-    ensures latest { known.new.latest.items ≡ known.old.latest.items }
+fn forget(merge: LegalMerge, numbers: &[u32], kept: &mut Vec<Option<Kept>>)
+    requires one_each { length numbers.now ≡ length merge.rows.now }
+    requires inside { slice_index numbers.now (slice_index merge.gaps.places.now 0) < length kept.old.items }
+    ensures { AreStillKept (λ c it. (c ≡ slice_index numbers.now (slice_index merge.entry.gaps.places.now 0)
+        → ⊥) × (IsApart merge.entry.block it)) kept.old.items kept.new.items }
 {
     let places = merge.gaps.places;
-    let own = known.numbers[places[0] as usize] as usize;
-    known.kept[own] = None;
-    forget_near(&mut known.kept, merge.block);
+    let own = numbers[places[0] as usize] as usize;
+    kept[own] = None;
+    forget_near(kept, merge.block);
 }

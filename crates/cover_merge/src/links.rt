@@ -61,6 +61,7 @@ fn add_route(routes: &mut Vec<u32>, bits: u32) -> Result<(), Memory>
 }
 
 /// The number of each row's route: its place among the routes.
+#[tactic(auto, using(crate::proofs::LinkLemmas::numbers_made))]
 pub(crate) fn numbers_of(alloc: Global, rows: &[Row], routes: &[u32]) -> Result<Vec<u32>, Memory>
     requires { length routes.now < 2 ^ 32 }
     ensures { IfOk result (λ v. AreRoutes rows.now routes.now → AreNumbers routes.now rows.now v.items) }

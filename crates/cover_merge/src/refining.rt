@@ -41,18 +41,18 @@ pub fn refine(alloc: Global, table: &Table, places: Seq<u32>) -> Result<Seq<u32>
     Ok(set)
 }
 
-// What is left of places of rows: some at the front, with the merges of the rows up to each, and some behind.
+// What is left of places of rows, with the merges of the rows up to each of the first, so many.
 #[derive(Clone, Copy)]
 struct LeftPlaces<'a, 'b, 'c> {
     rows: &'a [Row],
-    merges: &'b [Block],
-    front: &'c [u32],
-    back: &'c [u32],
-    ghost inside: { All (λ s. s < length rows.now) (front.now ++ back.now) },
-    ghost some: { 0 < length (front.now ++ back.now) },
-    ghost known: { (k : ℕ) (d : ABlock) → k < length front.now → k < length merges.now
-        → slice_index_or merges.now k d ≡ merged_block rows.now (take (k + 1) front.now) },
-    ghost many: { length front.now ≤ length merges.now },
+    places: &'b [u32],
+    merges: &'c [Block],
+    first: usize,
+    ghost inside: { All (λ s. s < length rows.now) places.now },
+    ghost some: { 0 < length places.now },
+    ghost known: { (k : ℕ) (d : ABlock) → k < first → k < length merges.now
+        → slice_index_or merges.now k d ≡ merged_block rows.now (take (k + 1) places.now) },
+    ghost many: { first ≤ length merges.now },
 }
 
 /// A refined set, and what is kept of its route.
@@ -147,24 +147,32 @@ fn all_pass(route: RoutePlaces, general: u32) -> bool
     ensures { IsTrue result → (s : ℕ) → has_row route.entry.places.now s ≡ true
         → PassesUp route.entry.table.rows.now route.entry.places.now s (place_for route.entry.table.rows.now general) }
 {
-    let table = route.table;
-    let set = route.places;
-    for k in 0..set.len() {
-        let row = AlikeBehind {
-            table,
-            places: &set[k + 1..],
-            s: set[k],
-        };
-        if !passes(row, general) {
+    for k in 0..route.places.len() {
+        if !passes_at(route, k, general) {
             return false;
         }
     }
     true
 }
 
+// Whether the place of this number does not fail the up-check with a merge of this generality.
+#[tactic(auto, using(crate::proofs::SiftLemmas::alike_behind))]
+fn passes_at(route: RoutePlaces, k: usize, general: u32) -> bool
+    requires { k < length route.places.now }
+    ensures { IsTrue result ↔ PassesUp route.entry.table.rows.now route.entry.places.now
+        (slice_index route.entry.places.now k) (place_for route.entry.table.rows.now general) }
+{
+    let set = route.places;
+    let row = AlikeBehind {
+        table: route.table,
+        places: &set[k + 1..],
+        s: set[k],
+    };
+    passes(row, general)
+}
+
 // Takes out the places for which the up-check fails, the greatest first, each time with the merge of those that are
-// left. The merge where two are left. On the way the places before `i` and those from `kept` on are left, and the latter
-// pass.
+// left. The merge where two are left. On the way the places from `i` on pass.
 fn sift(alloc: Global, table: RivaledRows, set: &mut Vec<u32>) -> Result<Option<Block>, Memory>
     requires { IsMergeSet table.rows.now set.old.items }
     ensures fewer { length set.new.items ≤ length set.old.items }
@@ -173,33 +181,22 @@ fn sift(alloc: Global, table: RivaledRows, set: &mut Vec<u32>) -> Result<Option<
     let rows = table.rows;
     let members = RowPlaces { rows, places: set };
     let merges = merges_of(alloc, members)?;
-    let firsts: &[Block] = &merges;
     let mut merged = merges[set.len() - 1];
     let mut i = set.len();
-    let mut kept = set.len();
-    while i > 0 && i + (set.len() - kept) >= 2 {
+    while i > 0 && set.len() >= 2 {
         i -= 1;
-        let row = AlikeBehind {
-            table,
-            places: &set[kept..],
-            s: set[i],
-        };
-        if passes(row, generality(merged)) {
-            kept -= 1;
-            set[kept] = set[i];
-        } else {
+        let route = RoutePlaces { table, places: set };
+        if !passes_at(route, i, generality(merged)) {
+            set.remove(i);
             let left = LeftPlaces {
                 rows,
-                merges: firsts,
-                front: &set[..i],
-                back: &set[kept..],
+                places: set,
+                merges: &merges,
+                first: i,
             };
             merged = merge_from(left);
         }
     }
-    let len = set.len();
-    set.copy_within(kept..len, i);
-    set.truncate(i + (len - kept));
     if set.len() < 2 {
         Ok(None)
     } else {
@@ -224,18 +221,18 @@ fn merges_of(alloc: Global, members: RowPlaces) -> Result<Vec<Block>, Memory>
 
 // The merge of the rows at the places that are left.
 fn merge_from(left: LeftPlaces) -> Block
-    ensures { result ≡ merged_block left.entry.rows.now (left.entry.front.now ++ left.entry.back.now) }
+    ensures { result ≡ merged_block left.entry.rows.now left.entry.places.now }
 {
     let rows = left.rows;
+    let places = left.places;
     let merges = left.merges;
-    let front = left.front;
-    let back = left.back;
-    if front.is_empty() {
-        return merged_block(RowPlaces { rows, places: back });
+    let first = left.first;
+    if first == 0 {
+        return merged_block(RowPlaces { rows, places });
     }
-    let mut merged = merges[front.len() - 1];
-    for k in 0..back.len() {
-        merged = merge_two(merged, rows[back[k] as usize].block);
+    let mut merged = merges[first - 1];
+    for k in first..places.len() {
+        merged = merge_two(merged, rows[places[k] as usize].block);
     }
     merged
 }

@@ -1,9 +1,9 @@
 // Rivals of rows: whether a row can be merged, without a look at the rows behind it.
-ghost use Rattle.std.specs.Prelude.{◌≡◌, ◌<◌, ◌≤◌, ◌^◌, ◌↔◌, ◌∷◌, [], ℕ, All, IfOk, IsTrue, List, length, slice_index};
+ghost use Rattle.std.specs.Prelude.{◌≡◌, ◌<◌, ◌≤◌, ◌^◌, ◌↔◌, ◌∷◌, [], ℕ, All, IfOk, IsTrue, OnOk, length, slice_index};
 ghost use Rattle.tern_word.specs.SoundTable.{Misses};
 ghost use Rattle.tern_word.specs.Ternary.{generality};
 ghost use Rattle.cover_merge.specs.Merge.{place_for, IsLegal, PassesUp};
-ghost use Rattle.cover_merge.specs.Rivals.{AreJoined, AreRivalsAt, IsOriginal, IsRivalOf, IsRivaled, is_at_one};
+ghost use Rattle.cover_merge.specs.Rivals.{AreJoined, AreRivalsAt, IsRivalAdded, IsOriginal, IsRivalOf, IsRivaled, is_at_one};
 
 use crate::meeting::{LastMet, passes_behind};
 use crate::merged_block;
@@ -40,19 +40,36 @@ pub(crate) fn rivals_of(alloc: Global, table: SoundRows) -> Result<Rivals, Memor
 {
     let rows = table.rows;
     let joined = joined_of(alloc, rows)?;
-    let mut serials = Vec::with_capacity(alloc, rows.len())?;
+    let serials = counted(alloc, rows.len())?;
+    let numbers = serials.as_slice();
     let mut of = Vec::with_capacity(alloc, rows.len())?;
     for s in 0..rows.len() {
-        serials.push(s)?;
-        of.push(rivals_among(alloc, table, &joined, s)?)?;
+        let row = NumberedRow {
+            rows,
+            serials: numbers,
+            s,
+        };
+        of.push(rivals_among(alloc, row, &joined)?)?;
     }
     let spans = spans_of_all(alloc, rows)?;
     Ok(Rivals { serials, of, spans })
 }
 
+// The numbers below n, in order.
+fn counted(alloc: Global, n: usize) -> Result<Vec<usize>, Memory>
+    ensures long { IfOk result (λ v. length v.items ≡ n) }
+    ensures each { IfOk result (λ v. (k : ℕ) → k < n → slice_index v.items k ≡ k) }
+{
+    let mut numbers = Vec::with_capacity(alloc, n)?;
+    for k in 0..n {
+        numbers.push(k)?;
+    }
+    Ok(numbers)
+}
+
 // The places of rows that are not original, ascending.
 fn joined_of(alloc: Global, rows: &[Row]) -> Result<Vec<usize>, Memory>
-    ensures { IfOk result (λ v. AreJoined rows.now v.items) }
+    ensures { IfOk result (λ v. AreJoined rows.now (length rows.now) v.items) }
 {
     let mut joined = Vec::new(alloc);
     for s in 0..rows.len() {
@@ -73,28 +90,35 @@ fn is_original(row: &Row) -> bool
     }
 }
 
-// The rivals of row `s` where each row has its place as its number: only joined rows can be such.
-fn rivals_among(
-    alloc: Global,
-    table: SoundRows,
-    joined: &[usize],
-    s: usize,
-) -> Result<Seq<Rival>, Memory>
-    requires joined { AreJoined table.rows.now joined.now }
-    requires inside { s < length table.rows.now }
-    ensures { IfOk result (λ list. (serials : List ℕ) → length serials ≡ length table.entry.rows.now
-        → ((k : ℕ) → k < length table.entry.rows.now → slice_index serials k ≡ k)
-        → AreRivalsAt table.entry.rows.now serials s list) }
+// The rivals of the row: only joined rows can be such.
+fn rivals_among(alloc: Global, row: NumberedRow, joined: &[usize]) -> Result<Seq<Rival>, Memory>
+    requires { AreJoined row.rows.now (length row.rows.now) joined.now }
+    ensures { IfOk result (AreRivalsAt row.entry.rows.now row.entry.serials.now row.entry.s) }
 {
-    let rows = table.rows;
     let mut list = Seq::new(alloc);
     for k in 0..joined.len() {
-        let r = joined[k];
-        if s < r && !is_missed(rows[r].block, HoldingRow { row: &rows[s] }) {
-            list.push(rival_of(&rows[r], r))?;
-        }
+        add_rival(&mut list, row, joined[k])?;
     }
     Ok(list)
+}
+
+// Puts row `r` behind the rivals of the row, where it is one.
+fn add_rival(list: &mut Seq<Rival>, row: NumberedRow, r: usize) -> Result<(), Memory>
+    requires { r < length row.rows.now }
+    ensures { OnOk result (IsRivalAdded row.entry.rows.now row.entry.serials.now row.entry.s r list.old
+        list.new) }
+{
+    let rows = row.rows;
+    let serials = row.serials;
+    let s = row.s;
+    if r <= s {
+        return Ok(());
+    }
+    if is_missed(rows[r].block, HoldingRow { row: &rows[s] }) {
+        return Ok(());
+    }
+    list.push(rival_of(&rows[r], serials[r]))?;
+    Ok(())
 }
 
 // A row as a rival of another.
@@ -114,14 +138,9 @@ fn rival_of(row: &Row, serial: usize) -> Rival
 pub(crate) fn rivals_behind(alloc: Global, row: NumberedRow) -> Result<Seq<Rival>, Memory>
     ensures { IfOk result (AreRivalsAt row.entry.rows.now row.entry.serials.now row.entry.s) }
 {
-    let rows = row.rows;
-    let serials = row.serials;
-    let s = row.s;
     let mut list = Seq::new(alloc);
-    for r in s + 1..rows.len() {
-        if !is_missed(rows[r].block, HoldingRow { row: &rows[s] }) {
-            list.push(rival_of(&rows[r], serials[r]))?;
-        }
+    for r in row.s + 1..row.rows.len() {
+        add_rival(&mut list, row, r)?;
     }
     Ok(list)
 }

@@ -2,10 +2,10 @@
 use Rattle.mesh_drain.proofs.Common.{All, All-at, All-cons, All-head, All-tail, All-weaker, AreRoutedAlike, Bool, Chip, Collect, Delivery, DropsNone, Dump, DumpRec, Entry, Event, Hand, HasBrought}
 use Rattle.mesh_drain.proofs.Common.{Inject, IsMesh, IsOnward, IsReachedDropless, IsReachedOnward, List, Local, MaySend, McCopy, None, NothingWaits, Option, Out, Port, Queue, Send, Setup, Some, Spot}
 use Rattle.mesh_drain.proofs.Common.{State, Take, [], after_event, after_events, after_serving, ap, append-nil, append_assoc, arith, behind, by_send, by_take, cases_Bool, collect_of, cond, core, drop}
-use Rattle.mesh_drain.proofs.Common.{drop_at, eq-eqb, eqb-true, false, get_or, has_room, has_room_behind, if◌then◌else◌, in_hand, index_of, inl, input, inr, is_live_chip, last_hop, length, length-map}
+use Rattle.mesh_drain.proofs.Common.{drop_at, eq-eqb, eqb-true, get_or, has_room, has_room_behind, if◌then◌else◌, in_hand, index_of, inl, input, inr, is_live_chip, last_hop, length, length-map}
 use Rattle.mesh_drain.proofs.Common.{lookup, map, map-append, map-set, nat_lt, nowhere, of_packet, onward, option_map, outputs, outs_of, outs_without, push_at, push_behind, queue_at, refl, send_of}
-use Rattle.mesh_drain.proofs.Common.{serves, set, setup_after, slice_get, slice_get-get_or, slice_get-map, slice_index_or, subst, suc, sym, table_at, take_of, true, unwrap_or, zero, ℕ, ◌&&◌, ◌*◌}
-use Rattle.mesh_drain.proofs.Common.{◌++◌, ◌<◌, ◌==◌, ◌∙◌, ◌∷◌, ◌≡◌}
+use Rattle.mesh_drain.proofs.Common.{serves, set, setup_after, slice_get, slice_get-get_or, slice_get-map, slice_index_or, subst, suc, sym, table_at, take_of, unwrap_or, zero, ℕ, ◌&&◌, ◌*◌, ◌++◌, ◌<◌}
+use Rattle.mesh_drain.proofs.Common.{◌==◌, ◌∙◌, ◌∷◌, ◌≡◌}
 use Rattle.mesh_drain.proofs.{Frame.kept_reached, Frame.onward_drops_none, Frame.sent_dropless, Frame.setup_reached, Packets.after_inject}
 
 -- ---- a mesh whose copies are all of one packet, with its key in place of an alike one, but otherwise as they were
@@ -41,16 +41,14 @@ module _ (key : ℕ) (k : McCopy) where
   queues lists = map (map numbered) lists
 
   held_for : (x : McCopy) (port : Port) (outs : List Out) → in_hand (numbered x) port outs ≡ held (in_hand x port outs)
-  held_for x port [] = refl
-  held_for x port (o ∷ os) = refl
+  held_for x port outs = grind arith
 
   module _ (u : Setup) (agree : AreRoutedAlike u key k.key) (unsent : List (List McCopy)) (dumped : List DumpRec) where
     abbrev like : List Delivery → State → State
     like ds s = record { setup = s.setup; unsent = unsent; inputs = queues s.inputs; hands = map held s.hands; cores = queues s.cores; delivered = ds; dumped = dumped }
 
     chosen : (ds : List Delivery) (s t r : State) (b : Bool) → t ≡ like ds r → unwrap_or (if b then Some t else None) (like ds s) ≡ like ds (unwrap_or (if b then Some r else None) s)
-    chosen ds s t r true is = is
-    chosen ds s t r false is = refl
+    chosen ds s t r b is = grind arith
 
     taken : (ds : List Delivery) (s : State) → s.setup ≡ u → (c : Chip) (port : Port) (hand : Option (Option Hand)) (q : Option (List McCopy)) →
         unwrap_or (take_of (like ds s) c port (option_map held hand) (option_map (map numbered) q)) (like ds s) ≡ like ds (unwrap_or (take_of s c port hand q) s)
@@ -72,25 +70,19 @@ module _ (key : ℕ) (k : McCopy) where
     taken ds s its c port None q = refl
 
     room : (capacity : ℕ) (q : Option (List McCopy)) → has_room capacity (option_map (map numbered) q) ≡ has_room capacity q
-    room capacity (Some l) = ap (λ n. nat_lt n capacity) (length-map l numbered)
-    room capacity None = refl
+    room capacity q = grind (arith, nat_lt, length-map)
 
     room_behind : (ds : List Delivery) (s : State) (q : Queue) → has_room_behind (like ds s) q ≡ has_room_behind s q
-    room_behind ds s (input i) = ap (has_room s.setup.capacity) (slice_get-map (map numbered) s.inputs i) ∙ room s.setup.capacity (slice_get s.inputs i)
-    room_behind ds s (core v) = ap (has_room s.setup.capacity) (slice_get-map (map numbered) s.cores v) ∙ room s.setup.capacity (slice_get s.cores v)
-    room_behind ds s nowhere = refl
+    room_behind ds s q = grind (arith, slice_get-map, room)
 
     pushed_at : (lists : List (List McCopy)) (i : ℕ) (x : McCopy) (q : Option (List McCopy)) → push_at (queues lists) i (numbered x) (option_map (map numbered) q) ≡ queues (push_at lists i x q)
-    pushed_at lists i x (Some l) = ap (set (queues lists) i) (sym (map-append numbered l (x ∷ []))) ∙ sym (map-set (map numbered) lists i (l ++ x ∷ []))
-    pushed_at lists i x None = refl
+    pushed_at lists i x q = grind (arith, map-append, map-set)
 
     put : (lists : List (List McCopy)) (i : ℕ) (x : McCopy) → push_at (queues lists) i (numbered x) (slice_get (queues lists) i) ≡ queues (push_at lists i x (slice_get lists i))
     put lists i x = ap (push_at (queues lists) i (numbered x)) (slice_get-map (map numbered) lists i) ∙ pushed_at lists i x (slice_get lists i)
 
     put_behind : (ds : List Delivery) (s : State) (q : Queue) (x : McCopy) → push_behind (like ds s) q (numbered x) ≡ like ds (push_behind s q x)
-    put_behind ds s (input i) x = ap (λ l. record (like ds s) { inputs = l }) (put s.inputs i x)
-    put_behind ds s (core v) x = ap (λ l. record (like ds s) { cores = l }) (put s.cores v x)
-    put_behind ds s nowhere x = refl
+    put_behind ds s q x = grind (arith, put)
 
     sent : (ds : List Delivery) (s : State) (c : Chip) (o : Out) (hand : Option (Option Hand)) →
         unwrap_or (send_of (like ds s) c o (option_map held hand)) (like ds s) ≡ like ds (unwrap_or (send_of s c o hand) s)
@@ -249,9 +241,6 @@ module _ (s t : State) (v : ℕ) (k : McCopy) (rest : List McCopy) (may : MaySen
     abbrev alike : List Delivery → State → State
     alike ds a = like k.key x s.setup agree unsent r.dumped ds a
 
-    begun_r : after_event r (Inject v) ≡ sent_from r.setup unsent r.inputs x r
-    begun_r = after_inject r may_r.kept may_r.quiet v spot x left (ap (λ (u : Setup). slice_get u.spots v) same ∙ stands) first_r
-
     hop : x.hop ≡ k.hop
     hop =
         All-head (λ (y : McCopy). y.hop ≡ 0) x left (All-at (λ q. All (λ (y : McCopy). y.hop ≡ 0) q) r.unsent v (x ∷ left) may_r.kept.mesh.unsent_at_start first_r)
@@ -262,7 +251,7 @@ module _ (s t : State) (v : ℕ) (k : McCopy) (rest : List McCopy) (may : MaySen
 
     -- after it was sent it stands where the first one stood
     begins : after_event r (Inject v) ≡ alike r.delivered (after_event s (Inject v))
-    begins = grind (arith, same_at_rest, begun_r, is_numbered, map-set, begun)
+    begins = grind (arith, same_at_rest, is_numbered, map-set, begun, after_inject, stands)
 
     -- at the end all is as before it was sent
     ends : (ds : List Delivery) → alike ds t ≡ record r { unsent = unsent; delivered = ds }

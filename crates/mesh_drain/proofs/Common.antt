@@ -5,9 +5,9 @@ pub use Rattle.machine_desc.specs.{NetsOn.vertex_at, RightTables.table_at, decla
 pub use Rattle.mesh_core.proofs.{Changes.queue_at-below, Events.event_exchange, EventsLaw.IsMesh-after_events, EventsLaw.event_keeps, EventsLaw.events_keep, FewMoves.few_come, Fixed.after_event_setup}
 pub use Rattle.mesh_core.proofs.Fixed.{after_events-append, by_collect, by_dump, by_send, by_take, dumped_stays, push_behind_leaves, setup_after}
 pub use Rattle.mesh_core.proofs.{Heavy.heavy_grows, Heavy.light, Heavy.one_heavy, Keeping.core_is_somewhere, Keeping.input_is_no_core, Keeping.input_is_somewhere, Keeping.same_core, Moves.Crosses}
-pub use Rattle.mesh_core.proofs.{Moves.IsMove, Moves.IsMoveOf, Moves.mark, Queued.FreeBehind, Queued.free_behind, ServingLaws.vertex_at-below, Standing.StandsAt, Standing.held_mark}
-pub use Rattle.mesh_core.proofs.{Standing.mark_stands, Standing.port_number-port_of, VertexTableLaws.same_spot_place, VertexTableLaws.site_inside, VertexTableLaws.spot_place-below}
-pub use Rattle.mesh_core.proofs.Ways.{vertex_behind_stands, vertex_there}
+pub use Rattle.mesh_core.proofs.{Moves.IsMove, Moves.mark, Queued.FreeBehind, Queued.free_behind, ServingLaws.vertex_at-below, Standing.StandsAt, Standing.held_mark, Standing.mark_stands}
+pub use Rattle.mesh_core.proofs.{Standing.port_number-port_of, VertexTableLaws.same_spot_place, VertexTableLaws.site_inside, VertexTableLaws.spot_place-below, Ways.vertex_behind_stands}
+pub use Rattle.mesh_core.proofs.Ways.{vertex_there}
 pub use Rattle.mesh_core.specs.{Expected.IsAtRest, Expected.NothingWaits, HasRun.DropsNone, Ledger.marks_of, Ledger.port_of, Opened.AreOfNets, Opened.copy_from, Opened.empty_mesh, Opened.first_copy}
 pub use Rattle.mesh_core.specs.{Opened.opened_mesh, State.FitsHand, State.FitsQueue, State.Hand, State.IsMesh, State.Queue, State.Setup, State.State, State.behind, State.behind_link, State.core}
 pub use Rattle.mesh_core.specs.{State.core_queue_of, State.input, State.nowhere, State.queue_at, State.vertex_behind, Step.after_event, Step.after_events, Step.after_serving, Step.answer}

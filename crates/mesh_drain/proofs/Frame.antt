@@ -1,16 +1,12 @@
 -- Events that drop no copy: what they leave as it is, and that they follow on each other.
-use Rattle.mesh_drain.proofs.Common.{All, All-append, All-cons, All-head, All-nil, All-tail, All-weaker, Collect, DropsNone, Dump, Event, Inject, IsAfter, IsOnward, IsReachedDropless, IsReachedOnward}
-use Rattle.mesh_drain.proofs.Common.{List, MeetsSomeLedger, Send, State, Take, [], after_event, after_events, after_events-append, ap, arith, by_collect, by_send, by_take, dumped_stays, events_keep}
-use Rattle.mesh_drain.proofs.Common.{push_behind_leaves, refl, setup_after, slice_get, subst, sym, ℕ, ◌++◌, ◌∙◌, ◌∷◌, ◌≡◌}
+use Rattle.mesh_drain.proofs.Common.{All, All-append, All-cons, All-head, All-nil, All-tail, All-weaker, DropsNone, Event, Inject, IsAfter, IsOnward, IsReachedDropless, IsReachedOnward, List}
+use Rattle.mesh_drain.proofs.Common.{MeetsSomeLedger, State, [], after_event, after_events, after_events-append, ap, arith, by_collect, by_send, by_take, dumped_stays, events_keep, push_behind_leaves}
+use Rattle.mesh_drain.proofs.Common.{refl, setup_after, sym, ℕ, ◌++◌, ◌∙◌, ◌∷◌, ◌≡◌}
 
 -- ---- what stays
 
 unsent_stays : (s : State) (e : Event) → IsOnward e → (after_event s e).unsent ≡ s.unsent
-unsent_stays s (Inject v) none = absurd none
-unsent_stays s (Take c port) is = grind (arith, by_take)
-unsent_stays s (Send c o) is = grind (arith, by_send, push_behind_leaves)
-unsent_stays s (Dump c o) none = absurd none
-unsent_stays s (Collect v) is = by_collect (λ t. t.unsent ≡ s.unsent) s refl (λ l d. refl) v (slice_get s.cores v)
+unsent_stays s e its_2 = grind (arith, by_take, by_send, push_behind_leaves, by_collect)
 
 -- ---- one after the other
 
@@ -39,11 +35,7 @@ pub onward_then : (s t u : State) → IsReachedOnward s t → IsReachedOnward t 
 onward_then s t u first rest = grind (arith, All-append IsOnward first.events rest.events first.onward rest.onward, after_events-append s first.events rest.events)
 
 pub onward_drops_none : (e : Event) → IsOnward e → DropsNone e
-onward_drops_none (Inject v) on = absurd on
-onward_drops_none (Take c port) on = tt
-onward_drops_none (Send c o) on = tt
-onward_drops_none (Dump c o) on = on
-onward_drops_none (Collect v) on = tt
+onward_drops_none e on = grind arith
 
 pub dropless : (s t : State) → IsReachedOnward s t → IsReachedDropless s t
 dropless s t reached = record { events = reached.events; dropless = All-weaker IsOnward DropsNone onward_drops_none reached.events reached.onward; is = reached.is }
@@ -58,10 +50,7 @@ pub after_reached : (s t : State) → IsReachedDropless s t → IsAfter s t
 after_reached s t reached = record { events = reached.events; is = reached.is }
 
 pub kept_after : (s t : State) → MeetsSomeLedger s → IsAfter s t → MeetsSomeLedger t
-kept_after s t kept after =
-    let keeps = events_keep s kept.nets kept.labels kept.mesh kept.right kept.ledger after.events in
-    subst MeetsSomeLedger (sym after.is)
-    (record { mesh = keeps.mesh; nets = kept.nets; labels = kept.labels; right = keeps.right; ledger = keeps.ledger })
+kept_after s t kept after = grind (arith, events_keep s kept.nets kept.labels kept.mesh kept.right kept.ledger after.events)
 
 pub kept_reached : (s t : State) → MeetsSomeLedger s → IsReachedDropless s t → MeetsSomeLedger t
 kept_reached s t kept reached = kept_after s t kept (after_reached s t reached)

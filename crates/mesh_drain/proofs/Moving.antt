@@ -31,8 +31,7 @@ after_lighter s t mesh after = subst (λ x. weight_in x ≤ weight_in s) (sym af
   where
     by_events : (u : State) → IsMesh u → (es : List Event) → weight_in (after_events u es) ≤ weight_in u
     by_events u own [] = omega arith
-    by_events u own (e ∷ es) =
-        omega (arith, event_lighter u e own, by_events (after_event u e) (IsMesh-after_events u (e ∷ []) own) es)
+    by_events u own (e ∷ es) = grind (arith, event_lighter u e own, by_events (after_event u e) (IsMesh-after_events u (e ∷ []) own) es, IsMesh-after_events u (e ∷ []) own)
 
 -- where something waited at the start, whatever comes
 pub moved_on : (s t u : State) → IsMoved s t → (NothingWaits s → ⊥) → IsAfter t u → IsMoved s u
@@ -64,29 +63,16 @@ always (Err want) holds = tt
 -- ---- an event that is enabled
 
 pub lighter : (s t : State) (e : Event) → IsMesh s → is_some (step_of s e) ≡ true → t ≡ after_event s e → weight_in t < weight_in s
-lighter s t e mesh enabled is = by_step (step_of s e) refl enabled
-  where
-    by_step : (u : Option State) → step_of s e ≡ u → is_some u ≡ true → weight_in t < weight_in s
-    by_step (Some u) at on = subst (λ x. weight_in x < weight_in s) (sym (is ∙ ap (λ o. unwrap_or o s) at)) (moved_lighter s u e mesh at)
-    by_step None at on = cc
+lighter s t e mesh enabled is = grind (arith, moved_lighter)
 
 pub idle_stays : (s : State) (e : Event) → answer s e ≡ Idle → after_event s e ≡ s
-idle_stays s e idle = by_step (step_of s e) refl (idle)
-  where
-    by_step : (u : Option State) → step_of s e ≡ u → (if is_some u then Moved else Idle) ≡ Idle → after_event s e ≡ s
-    by_step (Some u) at on = cc
-    by_step None at on = ap (λ o. unwrap_or o s) at
+idle_stays s e idle = grind arith
 
 pub idle_from : (did : Did) → (did ≡ Moved → ⊥) → did ≡ Idle
-idle_from Moved other = absurd (other refl)
-idle_from Idle other = refl
+idle_from did other = grind arith
 
 pub moved_enabled : (s : State) (e : Event) → answer s e ≡ Moved → is_some (step_of s e) ≡ true
-moved_enabled s e moved = by_test (is_some (step_of s e)) refl moved
-  where
-    by_test : (b : Bool) → is_some (step_of s e) ≡ b → (if b then Moved else Idle) ≡ Moved → is_some (step_of s e) ≡ true
-    by_test true at on = at
-    by_test false at on = cc
+moved_enabled s e moved = grind arith
 
 -- ---- chips where copies wait are live
 
@@ -94,21 +80,7 @@ moved_enabled s e moved = by_test (is_some (step_of s e)) refl moved
 
 -- a hand whose copy cannot be sent by the output can drop it there
 pub dump_enabled : (s : State) (c : Chip) (o : Out) → IsMesh s → IsWaiting s (InHand c o) → answer s (Send c o) ≡ Idle → is_some (step_of s (Dump c o)) ≡ true
-dump_enabled s c o mesh waits idle = by_hand (slice_get s.hands (index_of s.setup.machine c)) refl waits.1 idle
-  where
-    by_room : (live served room : Bool) (t u : State) → live ≡ true → served ≡ true →
-        (if is_some (if (live && served) && room then Some t else None) then Moved else Idle) ≡ Idle →
-        is_some (if (live && served) && not room then Some u else None) ≡ true
-    by_room true true true t u l v on = cc
-    by_room true true false t u l v on = refl
-    by_room true false room t u l v on = cc
-    by_room false served room t u l v on = cc
-
-    by_hand : (hand : Option (Option Hand)) → slice_get s.hands (index_of s.setup.machine c) ≡ hand → IsNextOut o hand →
-        (if is_some (send_of s c o hand) then Moved else Idle) ≡ Idle → is_some (dump_of s c o hand) ≡ true
-    by_hand (Some (Some h)) at next on = grind (arith, out_eq_same o, Among, among_any)
-    by_hand (Some None) at none on = absurd none
-    by_hand None at none on = absurd none
+dump_enabled s c o mesh waits idle = grind (arith, out_eq_same, Among, among_any)
 
 -- in an empty queue no copy waits
 none_waits : (lists : List (List McCopy)) (i : ℕ) → All (λ q. q ≡ []) lists → (q : Option (List McCopy)) → slice_get lists i ≡ q → HasCopies q → ⊥

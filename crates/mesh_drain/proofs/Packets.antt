@@ -1,6 +1,6 @@
 -- A packet is send_of, and at its end nothing waits.
-use Rattle.mesh_drain.proofs.Common.{All, All-at, All-cons, All-nil, All-set, Bool, Chip, Hand, Inject, IsLiveChip, IsMesh, IsServing, IsSite, List, Local, McCopy, MeetsSomeLedger, None, NothingWaits}
-use Rattle.mesh_drain.proofs.Common.{Option, Some, Spot, State, Waiting, WaitsAlone, [], after_event, ap, arith, count_by-cons, false, get_or, get_or-map, get_or_default, get_or_past, has_room}
+use Rattle.mesh_drain.proofs.Common.{All, All-at, All-cons, All-nil, All-set, Chip, Hand, Inject, IsLiveChip, IsMesh, IsServing, IsSite, List, Local, McCopy, MeetsSomeLedger, None, NothingWaits}
+use Rattle.mesh_drain.proofs.Common.{Option, Some, Spot, State, Waiting, WaitsAlone, [], after_event, ap, arith, count_by-cons, get_or, get_or-map, get_or_default, get_or_past, has_room}
 use Rattle.mesh_drain.proofs.Common.{if◌then◌else◌, index_of, inject_of, length, length-map, length_le_from_apart, lt-ltb, ltb-false, ltb-true, map, mul-le-mul_left, nat_eq_same, nat_lt, push_at}
 use Rattle.mesh_drain.proofs.Common.{queue_at, refl, same_spot_place, site_inside, site_parts, slice_get, slice_index_or, slice_set, spot_place, spot_place-below, subst, sym, times, true, ℕ, ◌*◌, ◌+◌}
 use Rattle.mesh_drain.proofs.Common.{◌<◌, ◌==◌, ◌∙◌, ◌∷◌, ◌≡◌, ◌≤◌}
@@ -10,11 +10,7 @@ use Rattle.mesh_drain.proofs.Steps.{kept_after, moved, written, queue_there}
 
 -- each queue is empty
 empty_at : (s : State) → NothingWaits s → (i : ℕ) → slice_index_or s.inputs i [] ≡ []
-empty_at s quiet i = by_place (nat_lt i (length s.inputs)) refl
-  where
-    by_place : (b : Bool) → nat_lt i (length s.inputs) ≡ b → slice_index_or s.inputs i [] ≡ []
-    by_place true e = quiet.inputs_empty i [] (ltb-true i (length s.inputs) e)
-    by_place false e = get_or_past s.inputs i [] (ltb-false i (length s.inputs) e)
+empty_at s quiet i = grind (arith, nat_lt, ltb-true, get_or_past, ltb-false)
 
 module _ (s : State) (kept : MeetsSomeLedger s) (quiet : NothingWaits s) (v : ℕ) (spot : Spot) (k : McCopy) (rest : List McCopy)
     (stands : slice_get s.setup.spots v ≡ Some spot) (first : slice_get s.unsent v ≡ Some (k ∷ rest)) where

@@ -20,8 +20,7 @@ module _ (now after : List (List McCopy)) (vertices : List ℕ) (i d : ℕ) (bel
   none_there within sent k rest there = grind (arith, slice_get_there now v within, slice_get-set_same now v (slice_get_there now v within).0, same_Some)
 
   behind : (w : ℕ) → (w ≡ v → ⊥) → Among w (v ∷ drop (i + 1) vertices) → Among w (drop (i + 1) vertices)
-  behind w other (inl same) = absurd (other same)
-  behind w other (inr later) = later
+  behind w other its_2 = grind arith
 
   pub one_less_sender : v < length now → after ≡ slice_set now v [] → Unsent now (drop i vertices) → Unsent after (drop (i + 1) vertices)
   one_less_sender within sent before w k rest at = elim (cases_eq w v) [

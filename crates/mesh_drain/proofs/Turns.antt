@@ -133,8 +133,7 @@ is_none [] e = refl
 is_none (k ∷ q) e = let none = eqb-true (length (k ∷ q)) 0 (sym e) in absurd (omega (arith, none))
 
 pub is_some' : (q : List McCopy) → false ≡ (length q == 0) → q ≢ []
-is_some' [] e = cc
-is_some' (k ∷ q) e = λ same. cc
+is_some' q e = grind arith
 
 pub as_before : (s : State) (v : ℕ) → (left : List McCopy) × (s.unsent ≡ set s.unsent v left)
 as_before s v = (get_or s.unsent v [], sym (set-get_or s.unsent v []))

@@ -1,11 +1,11 @@
 -- No copy is dropped at an output that leads to a vertex, where none waits for one.
 use Rattle.mesh_drain.proofs.Common.{All, All-append, All-at, All-cons, All-nil, AreCollected, Bool, Chip, Collect, Core, Dir, DropsAtNoVertex, Dump, DumpRec, Event, Hand, Idle, Inject, IsMesh}
-use Rattle.mesh_drain.proofs.Common.{IsSameBesidesCores, LeadsToNoVertex, Link, List, McCopy, Moved, None, NothingWaits, Option, Out, Port, Queue, Send, SendsNone, Setup, Some, State, Take, []}
-use Rattle.mesh_drain.proofs.Common.{after_event, after_event_setup, after_serving, answer, ap, append-nil, append_assoc, arith, behind, behind_link, by_collect, by_dump, by_take, cases_order}
-use Rattle.mesh_drain.proofs.Common.{collect_of, collected_from, core, core_is_somewhere, core_queue_of, dump_of, dumped_stays, false, far_of, get_or, get_or_default, get_or_past, has_room}
-use Rattle.mesh_drain.proofs.Common.{has_room_behind, if◌then◌else◌, index_of, inl, input, input_is_no_core, inr, is_live_link, is_some, length, lt-ltb, not, nowhere, onward, push_at, push_behind}
-use Rattle.mesh_drain.proofs.Common.{refl, same_core, send_of, serves, set, set_put_back, slice_get, slice_get-get_or, slice_get-set_same, slice_get_within, subst, sym, true, unwrap_or, vertex_behind}
-use Rattle.mesh_drain.proofs.Common.{vertex_behind_stands, ℕ, ◌&&◌, ◌++◌, ◌+◌, ◌<◌, ◌∙◌, ◌∷◌, ◌≡◌, ◌≤◌}
+use Rattle.mesh_drain.proofs.Common.{IsSameBesidesCores, LeadsToNoVertex, Link, List, McCopy, None, NothingWaits, Option, Out, Port, Queue, Send, SendsNone, Setup, Some, State, Take, [], after_event}
+use Rattle.mesh_drain.proofs.Common.{after_event_setup, after_serving, answer, ap, append-nil, append_assoc, arith, behind, behind_link, by_collect, by_dump, by_take, cases_order, collect_of}
+use Rattle.mesh_drain.proofs.Common.{collected_from, core, core_is_somewhere, core_queue_of, dump_of, dumped_stays, false, far_of, get_or, get_or_default, get_or_past, has_room, has_room_behind}
+use Rattle.mesh_drain.proofs.Common.{if◌then◌else◌, index_of, input, input_is_no_core, is_live_link, length, lt-ltb, not, nowhere, push_at, push_behind, refl, same_core, serves, set, set_put_back}
+use Rattle.mesh_drain.proofs.Common.{slice_get, slice_get-get_or, slice_get-set_same, slice_get_within, subst, sym, true, unwrap_or, vertex_behind, vertex_behind_stands, ℕ, ◌&&◌, ◌++◌, ◌+◌, ◌<◌, ◌∙◌}
+use Rattle.mesh_drain.proofs.Common.{◌∷◌, ◌≡◌, ◌≤◌}
 use Rattle.std.proofs.Math.Seq.{set-get_or}
 use Rattle.mesh_drain.proofs.{Steps.set_twice, Turns.one_vertex_more}
 
@@ -58,24 +58,11 @@ pushed_collected u none (core v) k = by_queue (slice_get u.cores v) refl
 pushed_collected u none nowhere k = none
 
 still_collected : (s : State) → AreCollected s → (b : Queue) → AreCollected (collected_from s b)
-still_collected s none (input i) = none
-still_collected s none (core v) = subst AreCollected (sym (collect_still s v none)) none
-still_collected s none nowhere = none
+still_collected s none b = grind (arith, collect_still)
 
 -- a copy that a router sent, and that was collected
 sent_collected : (s : State) (c : Chip) (o : Out) → AreCollected s → AreCollected (collected_from (after_event s (Send c o)) (behind s.setup c o))
-sent_collected s c o none = by_hand (slice_get s.hands (index_of s.setup.machine c))
-  where
-    by_test : (x : Bool) (t : State) → AreCollected (collected_from t (behind s.setup c o)) → AreCollected (collected_from (unwrap_or (if x then Some t else None) s) (behind s.setup c o))
-    by_test true t moved = moved
-    by_test false t moved = still_collected s none (behind s.setup c o)
-
-    by_hand : (hand : Option (Option Hand)) → AreCollected (collected_from (unwrap_or (send_of s c o hand) s) (behind s.setup c o))
-    by_hand (Some (Some h)) =
-        by_test (serves s c o (Some (Some h)) && has_room_behind s (behind s.setup c o)) (push_behind (after_serving s c o h) (behind s.setup c o) (onward h.copy))
-        (pushed_collected (after_serving s c o h) none (behind s.setup c o) (onward h.copy))
-    by_hand (Some None) = still_collected s none (behind s.setup c o)
-    by_hand None = still_collected s none (behind s.setup c o)
+sent_collected s c o none = grind (arith, still_collected, pushed_collected)
 
 pub served_collected : (s t u : State) (c : Chip) (o : Out) → AreCollected s → t ≡ after_event s (Send c o) → u ≡ collected_from t (behind t.setup c o) → AreCollected u
 served_collected s t u c o none sent is =
@@ -177,15 +164,7 @@ collected_there before now v q is empty = sym (ap (set now v) (sym empty) ∙ se
 
 -- a vertex that takes no copy has none waiting
 pub idle_empty : (s : State) (v : ℕ) → answer s (Collect v) ≡ Idle → get_or s.cores v [] ≡ []
-idle_empty s v idle = elim (cases_order v (length s.cores)) [
-  | inl same ↦ get_or_past s.cores v [] (omega (arith, same))
-  | inr (inl less) ↦ by_queue (get_or s.cores v []) (slice_get-get_or s.cores v [] less)
-  | inr (inr more) ↦ get_or_past s.cores v [] (omega (arith, more))
-]
-  where
-    by_queue : (q : List McCopy) → slice_get s.cores v ≡ Some q → q ≡ []
-    by_queue [] at = refl
-    by_queue (k ∷ rest) at = let taken : answer s (Collect v) ≡ Moved = ap (λ x. if is_some (collect_of s v x) then Moved else Idle) at in cc
+idle_empty s v idle = grind (arith, cases_order, get_or_past, get_or, slice_get-get_or)
 
 -- a vertex more has taken what waited for it
 pub one_more_collected : (s t : State) (v : ℕ) → IsMesh s → v < length s.setup.spots → t.cores ≡ set s.cores v [] → ((i : ℕ) → i < v → get_or s.cores i [] ≡ []) →
@@ -205,8 +184,4 @@ event_leads_on s (Dump c o) mesh none is = dump_leads_on s c o mesh none
 event_leads_on s (Collect v) mesh none is = drops_none s (after_event s (Collect v)) (dumped_stays s (Collect v) tt)
 
 pub event_collected : (s : State) (e : Event) → AreCollected s → SendsNone e → AreCollected (after_event s e)
-event_collected s (Inject v) none is = absurd is
-event_collected s (Take c port) none is = take_collected s c port none
-event_collected s (Send c o) none is = absurd is
-event_collected s (Dump c o) none is = dump_collected s c o none
-event_collected s (Collect v) none is = subst AreCollected (sym (collect_still s v none)) none
+event_collected s e none is = grind (arith, take_collected, dump_collected, collect_still)

@@ -1,12 +1,12 @@
 -- Where queues have room for a copy of each packet of a job, no round dumps a copy.
 use Rattle.mesh_round.proofs.Common.{All, All-contains, All-head, Among, AreRight, Bag, Bool, Chip, Contains, Contains-filter, Crosses, DumpRec, Flow, HasRounds, IsKeyOf, IsLiveChip, IsMesh, IsOutput}
-use Rattle.mesh_round.proofs.Common.{IsRound, IsWayOn, Label, List, Mark, McCopy, MeetsJobLedger, MeetsLedger, NetPlan, Out, Packet, Passes, Queue, Setup, Some, Spot, Stands, State, Station}
-use Rattle.mesh_round.proofs.Common.{WasFullAt, [], among_contains, among_left, among_right, and_from, and_parts, ap, append-nil, arith, asked_by, asked_parts, at_core, behind, capacity_of}
-use Rattle.mesh_round.proofs.Common.{cases_Bool, cases_lt, chip_eq, chip_eq_same, chip_of, comes_parts, contains_among, core, count_all, count_by, count_by-append, count_covered, counted, dumped}
-use Rattle.mesh_round.proofs.Common.{dumped_at, dumped_mark, eq-eqb, eqb-true, false, filter, held_in, inl, input, inr, is_on_trail, label_of, last_hop, length, length-append, length-range_with_len}
-use Rattle.mesh_round.proofs.Common.{lt-ltb, map_among, mark, marks_at, marks_of, more, move_counts, moves_left, mul-le-mul_left, nat_eq_same, nat_lt, no_rounds, nowhere, on_trail, one_net, one_place}
-use Rattle.mesh_round.proofs.Common.{onward, out_eq, out_eq_same, port_of, range_with_len, refl, slice_get, slice_get_within, stands, subst, sum_by-cons, sym, true, vertex_at_stands, ℕ, ◌%◌, ◌&&◌}
-use Rattle.mesh_round.proofs.Common.{◌*◌, ◌++◌, ◌+◌, ◌-◌, ◌/◌, ◌<◌, ◌==◌, ◌∙◌, ◌∷◌, ◌≡◌, ◌≢◌, ◌≤◌}
+use Rattle.mesh_round.proofs.Common.{IsRound, IsWayOn, Label, List, Mark, McCopy, MeetsJobLedger, MeetsLedger, NetPlan, Out, Packet, Passes, Queue, Setup, Spot, Stands, State, Station, WasFullAt, []}
+use Rattle.mesh_round.proofs.Common.{among_contains, among_left, among_right, and_from, and_parts, ap, append-nil, arith, asked_by, asked_parts, at_core, behind, capacity_of, cases_Bool, cases_lt}
+use Rattle.mesh_round.proofs.Common.{chip_eq, chip_eq_same, chip_of, comes_parts, contains_among, core, count_all, count_by, count_by-append, count_covered, counted, dumped, dumped_at, dumped_mark}
+use Rattle.mesh_round.proofs.Common.{eq-eqb, eqb-true, filter, held_in, inl, input, inr, is_on_trail, label_of, last_hop, length, length-append, length-range_with_len, lt-ltb, map_among, mark}
+use Rattle.mesh_round.proofs.Common.{marks_at, marks_of, more, move_counts, moves_left, mul-le-mul_left, nat_eq_same, nat_lt, no_rounds, nowhere, on_trail, one_net, one_place, onward, out_eq}
+use Rattle.mesh_round.proofs.Common.{out_eq_same, port_of, range_with_len, refl, slice_get_within, stands, subst, sum_by-cons, sym, true, vertex_at_stands, ℕ, ◌%◌, ◌&&◌, ◌*◌, ◌++◌, ◌+◌, ◌-◌, ◌/◌, ◌<◌}
+use Rattle.mesh_round.proofs.Common.{◌==◌, ◌∙◌, ◌∷◌, ◌≡◌, ◌≢◌, ◌≤◌}
 use Rattle.mesh_round.specs.Work.{to_go}
 use Rattle.mesh_round.proofs.{Arrivals.Right, Arrivals.crosses, Arrivals.dumped_right, Arrivals.onward_right, Arrivals.queue_counts, Arrivals.queue_right, Arrivals.somewhere, Past.HasOneWay}
 use Rattle.mesh_round.proofs.{Past.Milestone, Past.before, Past.here, Past.on_from, Past.one_on_way, Past.passed_once, Past.milestone_of, CountSums.counts, CountSums.one_if, CountSums.sum_within}
@@ -52,7 +52,6 @@ module _ (m : State) (f : Flow) (n : State) (nets : List NetPlan) (packets : Lis
       let on_r = vertex_at_stands u.spots r.trail.target r.trail.to r.trail.way.ends in
       let on_s = vertex_at_stands u.spots s.trail.target s.trail.to way.ends in
       let ends : s.trail.to ≡ r.trail.to = sym (eqb-true v s.trail.to b.0) ∙ eqb-true v r.trail.to a.0 in
-      let both : Some s.trail.target ≡ Some r.trail.target = sym on_s ∙ (ap (slice_get u.spots) ends ∙ on_r) in
       let target : s.trail.target ≡ r.trail.target = cc in
       let its_way = subst (λ (t : Spot). IsWayOn u.machine u.spots r.net t s.trail.branch s.trail.from s.trail.to) target way in
       let branch = (one_way u.machine u.spots nets r.net r.trail.target s.trail.branch r.trail.branch s.trail.from r.trail.from s.trail.to r.trail.to ledger.nets_stand r.in_nets its_way
@@ -109,8 +108,7 @@ module _ (m : State) (f : Flow) (n : State) (nets : List NetPlan) (packets : Lis
           omega (arith, mapped, within)
         where
           by_test : (j : McCopy) → IsRight (mark j at) → (b : Bool) → (j.packet == x.packet) ≡ b → one_if b ≤ one_if (is_here (mark j at))
-          by_test j s true same = let one : one_if (is_here (mark j at)) ≡ 1 = ap one_if (stands_here j s (eqb-true j.packet x.packet same)) in omega (arith, one)
-          by_test j s false other = omega arith
+          by_test j s b its_3 = grind (arith, one_if, mark, stands_here, eqb-true)
 
       -- of a packet at most one copy was in the queue, and none where one is still before it
       copies_once : count_by (λ (j : McCopy). j.packet == x.packet) all_in + count_by is_before (marks_of n) ≤ 1
@@ -134,9 +132,7 @@ module _ (m : State) (f : Flow) (n : State) (nets : List NetPlan) (packets : Lis
           (contains_among r (filter (λ (e : DumpRec). chip_eq e.chip c && out_eq e.out o) f.dumped) mine)
 
       still_there : Among (mark k (dumped c o)) (marks_of n)
-      still_there =
-          let r : DumpRec = record { chip = c; out = o; copy = k } in
-          dumped_mark n r (subst (λ rs. Among r rs) (sym passes.dumped) (among_right r m.dumped f.dumped in_flow))
+      still_there = grind (arith, among_right (record { chip = c; out = o; copy = k }) m.dumped f.dumped in_flow, dumped_mark, Among)
 
       hand : IsRight (mark k (dumped c o))
       hand = dumped_right m f n nets labels mesh after passes right ledger c o live k still_there
@@ -168,8 +164,7 @@ module _ (m : State) (f : Flow) (n : State) (nets : List NetPlan) (packets : Lis
               is_true (on (mark k (dumped c o))) (omega (arith, kept, single, there))
             where
               is_true : (b : Bool) → 1 ≤ one_if b → b ≡ true
-              is_true true one = refl
-              is_true false one = absurd (omega (arith, one))
+              is_true b one = grind arith
 
       number_below : (j : McCopy) → IsRight (mark j at) → j.packet < length packets
       number_below j r =
@@ -218,13 +213,10 @@ module _ (m : State) (f : Flow) (n : State) (nets : List NetPlan) (packets : Lis
       -- so the queue was never full, where it has room for them all
       never_full : length packets ≤ u.capacity → (e : ℕ × ℕ) → WasFullAt m f (behind u c o) e → ⊥
       never_full roomy e full =
-          let room = room_of (behind u c o) (somewhere m f n nets labels mesh after passes right ledger c o live k still_there) in
-          omega (arith, few_in, length-append (held_in m (behind u c o)) (f.entered (behind u c o)), room, full.0, full.2, roomy)
+          grind (arith, somewhere m f n nets labels mesh after passes right ledger c o live k still_there, few_in, length-append (held_in m (behind u c o)) (f.entered (behind u c o)))
         where
           room_of : (b : Queue) → b ≢ nowhere → capacity_of u b ≡ u.capacity
-          room_of (input i) there = refl
-          room_of (core v) there = refl
-          room_of nowhere there = absurd (there refl)
+          room_of b there = grind arith
 
 pub no_dump : (patience turns : ℕ) (m n : State) (f : Flow) (nets : List NetPlan) (packets : List Packet) → HasOneWay → 1 ≤ patience → IsMesh m → IsMesh n → IsRound patience turns m f n →
     AreRight m.setup.machine m.setup.tables nets → MeetsJobLedger m nets packets → length packets ≤ m.setup.capacity → f.dumped ≡ []
@@ -240,9 +232,7 @@ no_dump patience turns m n f nets packets one_way patient mesh after round right
       where
         some_fulls : (ks : List McCopy) (k : McCopy) → Among k ks → (many : ℕ) → patience * length ks ≤ many → 1 ≤ many
         some_fulls [] k none many enough = absurd none
-        some_fulls (j ∷ ks) k there many enough =
-            let some : 1 ≤ length (j ∷ ks) = omega arith in
-            omega (arith, patient, mul-le-mul_left patience some, enough)
+        some_fulls (j ∷ ks) k there many enough = grind (arith, mul-le-mul_left)
 
         by_fulls : (es : List (ℕ × ℕ)) → All (WasFullAt m f (behind m.setup d.chip d.out)) es → 1 ≤ length es → ((e : ℕ × ℕ) → WasFullAt m f (behind m.setup d.chip d.out) e → ⊥) → ⊥
         by_fulls [] all some never = absurd (omega (arith, some))

@@ -1,8 +1,8 @@
 -- Each copy that was in a queue in a round stood right there: on a trail of its net, with the key and payload of its packet. So would one that was dumped.
 use Rattle.mesh_round.proofs.Common.{Among, AreRight, Bag, Bool, Chip, Crosses, Flow, IsLiveChip, IsMesh, IsOutput, IsRight, Label, List, Mark, McCopy, MeetsLedger, NetPlan, Out, Passes, Queue, Setup}
-use Rattle.mesh_round.proofs.Common.{Stands, State, Station, [], among_either, ap, arith, at_core, behind, cases_lt, chip_of, core, core_marks, count_by, dumped, gathered, get_or}
-use Rattle.mesh_round.proofs.Common.{get_or_from_slice_get, get_or_past, held_in, in_queue, inl, input, input_marks, inr, length, map_among, mark, mark_eq, mark_eq_same, marks_at, marks_of, nowhere}
-use Rattle.mesh_round.proofs.Common.{onward, port_of, refl, right_come, slice_get_there, stands, sum_by, sym, ℕ, ◌%◌, ◌++◌, ◌+◌, ◌/◌, ◌∙◌, ◌∷◌, ◌≡◌, ◌≢◌, ◌≤◌}
+use Rattle.mesh_round.proofs.Common.{Stands, State, Station, [], among_either, ap, arith, at_core, behind, cases_lt, chip_of, core, count_by, dumped, gathered, get_or, get_or_from_slice_get}
+use Rattle.mesh_round.proofs.Common.{get_or_past, held_in, in_queue, inl, input, input_marks, inr, length, map_among, mark, mark_eq, mark_eq_same, marks_at, marks_of, nowhere, onward, port_of, refl}
+use Rattle.mesh_round.proofs.Common.{right_come, slice_get_there, stands, sum_by, sym, ℕ, ◌%◌, ◌++◌, ◌+◌, ◌/◌, ◌∙◌, ◌∷◌, ◌≡◌, ◌≢◌, ◌≤◌}
 use Rattle.mesh_round.proofs.{CountSums.counts, CountSums.one_if, CountSums.part_of_sum_at, Ends.branch_leads_on, Entered.crosses_behind, Entered.station_of, Past.now_right, Past.occurs_right}
 use Rattle.mesh_round.proofs.{RoundBag.bag_of_round, RoundBag.crossing_comes, RoundBag.in_parts, Sums.sum_gathered}
 
@@ -42,9 +42,7 @@ module _ (m : State) (f : Flow) (n : State) (nets : List NetPlan) (labels : ℕ 
       let part : count_by p (marks_at (station_of u (input i)) (held_in m (input i))) ≤ count_by p (input_marks m) =
       one_of_lists p (λ l. in_queue (chip_of u.machine (l / 7)) (port_of (l % 7))) m.inputs i in
       omega (arith, part, in_parts m f n mesh after passes p m)
-  queue_counts p (core v) =
-      let part : count_by p (marks_at (station_of u (core v)) (held_in m (core v))) ≤ count_by p (core_marks m) = one_of_lists p at_core m.cores v in
-      omega (arith, part, in_parts m f n mesh after passes p m)
+  queue_counts p (core v) = grind (arith, one_of_lists p at_core m.cores v, in_parts m f n mesh after passes p m)
   queue_counts p nowhere = omega arith
 
   module _ (c : Chip) (o : Out) (live : IsLiveChip u.machine c) where

@@ -1,6 +1,6 @@
 -- What the queues of a list held, and what entered and left them, as marks.
 use Rattle.mesh_round.proofs.Common.{Bool, List, Mark, McCopy, Station, [], add-one, ap, arith, count_by, count_by-append, gathered, length, map-append, marks_at, range_with_len, refl, slice_index_or}
-use Rattle.mesh_round.proofs.Common.{subst, suc, sum_by, sum_by-cons, sym, zero-add, ℕ, ◌++◌, ◌+◌, ◌<◌, ◌∙◌, ◌∷◌, ◌≡◌}
+use Rattle.mesh_round.proofs.Common.{subst, suc, sum_by, sum_by-cons, zero-add, ℕ, ◌++◌, ◌+◌, ◌<◌, ◌∙◌, ◌∷◌, ◌≡◌}
 
 module _ (p : Mark → Bool) (station : ℕ → Station) (entered left : ℕ → List McCopy) where
   -- how many marks of a list of copies at a queue's station pass
@@ -45,7 +45,4 @@ module _ (p : Mark → Bool) (station : ℕ → Station) (entered left : ℕ →
   pub balance_of_queues : (n : ℕ) (xs ys : List (List McCopy)) → length xs ≡ n → length ys ≡ n →
       ((i : ℕ) → i < n → slice_index_or xs i [] ++ entered i ≡ left i ++ slice_index_or ys i []) →
       passing_in 0 xs + sum_by (passing entered) (range_with_len 0 n) ≡ sum_by (passing left) (range_with_len 0 n) + passing_in 0 ys
-  balance_of_queues n xs ys long_x long_y same =
-      subst (λ k. passing_in 0 xs + sum_by (passing entered) (range_with_len 0 k) ≡ sum_by (passing left) (range_with_len 0 k) + passing_in 0 ys) long_x
-      (queues_balance 0 xs ys (long_y ∙ sym long_x) (λ i low.
-      subst (λ j. slice_index_or xs i [] ++ entered j ≡ left j ++ slice_index_or ys i []) (sym (zero-add i)) (same i (omega (arith, low, long_x)))))
+  balance_of_queues n xs ys long_x long_y same = grind (arith, queues_balance, zero-add)

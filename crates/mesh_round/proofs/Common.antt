@@ -39,11 +39,10 @@ pub use Rattle.spin_base.proofs.{Once.all_once, Once.outs_once, Pairs.All-flat_m
 pub use Rattle.spin_base.proofs.{Places.both_none, Places.slice_get_there, Spots.out_of-has_bit, Tests.answers_none}
 pub use Rattle.spin_base.specs.{Equality.chip_eq, Equality.out_eq, Equality.port_eq, Gathered.gathered, Hops.last_hop, Hops.onward, Links.opposite_of, Links.port_number, Lookup.lookup}
 pub use Rattle.spin_base.specs.{Outputs.IsOutput, Outputs.all_outs, Outputs.has, Outputs.out_of, Outputs.outs_of, declared.blocks.Block.Block, declared.chips.Chip.Chip, declared.chips.Dir.Dir}
-pub use Rattle.spin_base.specs.declared.chips.Dir.TheVariants.{East, North, NorthEast, South, SouthWest, West}
 pub use Rattle.spin_base.specs.declared.{chips.Port.Port, chips.Port.TheVariants.Link as ByLink, chips.Port.TheVariants.Local, chips.Spot.Spot, copies.Delivery.Delivery, copies.DumpRec.DumpRec}
 pub use Rattle.spin_base.specs.declared.{copies.McCopy.McCopy, copies.Packet.Packet, routes.Out.Out, routes.Out.TheVariants.Link, wants.Memory.Memory}
 pub use Rattle.std.proofs.Common.{Bool, List, None, Option, Some, [], add-one, ap, ap₂, arith, cond, count_by, drop, false, get_or, if◌then◌else◌, inl, inr, is_some, length, map, min, nat_lt, not}
-pub use Rattle.std.proofs.Common.{refl, replicate, rules, subst, suc, sym, take, true, unwrap_or, zero, zero-add, ℕ, ◌%◌, ◌&&◌, ◌*◌, ◌++◌, ◌+◌, ◌-◌, ◌/◌, ◌<◌, ◌==◌, ◌||◌, ◌∙◌, ◌∷◌, ◌≡◌, ◌≢◌, ◌≤◌, ◌⊎◌}
+pub use Rattle.std.proofs.Common.{refl, replicate, rules, subst, suc, sym, take, true, unwrap_or, zero, zero-add, ℕ, ◌%◌, ◌&&◌, ◌*◌, ◌++◌, ◌+◌, ◌-◌, ◌/◌, ◌<◌, ◌==◌, ◌∙◌, ◌∷◌, ◌≡◌, ◌≢◌, ◌≤◌, ◌⊎◌}
 pub use Rattle.std.proofs.{Math.Nat.mul-le-mul_left, Math.Seq.drop-append_seam, Math.Seq.take-append_seam, lemmas.Bool.and_from, lemmas.Bool.and_parts, lemmas.Bool.cases_Bool, lemmas.Bool.cases_eq}
 pub use Rattle.std.proofs.lemmas.Bool.{cases_lt, cases_order, cond-false, cond-true, cond_both, eq-eqb, eqb-true, false_from_ne_true, le-ltb, lt-ltb, ltb-true, ne_eqb, true≢false}
 pub use Rattle.std.proofs.lemmas.{Grind.flat_map-append, List.Concat.flat_map_single, List.Elements.All-append, List.Elements.All-cons, List.Elements.All-contains, List.Elements.All-head}

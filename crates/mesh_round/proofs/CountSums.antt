@@ -1,6 +1,6 @@
 -- Sums and counts over lists: where all tests count as many, all sums are equal.
-use Rattle.mesh_round.proofs.Common.{Among, Bool, List, Some, [], arith, cond, count_by, inl, inr, lt-ltb, nat_lt, refl, slice_get, suc, sum_by, sum_by-cons, sym, true, zero, ℕ, ◌+◌, ◌-◌, ◌∙◌, ◌∷◌}
-use Rattle.mesh_round.proofs.Common.{◌≡◌, ◌≤◌}
+use Rattle.mesh_round.proofs.Common.{Among, Bool, List, Some, [], arith, cond, count_by, inl, inr, lt-ltb, nat_lt, refl, slice_get, suc, sum_by, sum_by-cons, true, zero, ℕ, ◌+◌, ◌-◌, ◌∙◌, ◌∷◌, ◌≡◌}
+use Rattle.mesh_round.proofs.Common.{◌≤◌}
 use Rattle.mesh_round.proofs.Sums.{sum_agree, sum_none, sum_plus, sum_at}
 
 abbrev pub one_if : Bool → ℕ
@@ -31,8 +31,7 @@ pub counts : {X : Type 0} (p : X → Bool) (x : X) (xs : List X) → Among x xs 
 counts p x xs a passes = grind (arith, part_of_sum)
 
 one_and_less : (n : ℕ) → n ≡ one_if (nat_lt 0 n) + (n - 1)
-one_and_less zero = refl
-one_and_less (suc n) = grind (arith, lt-ltb 0 (suc n) (omega arith))
+one_and_less n = grind (arith, lt-ltb)
 
 -- Where every test counts as many in one list as in another, every sum over the two is equal.
 pub same_sums : {X : Type 0} (xs ys : List X) → ((p : X → Bool) → count_by p xs ≡ count_by p ys) → (w : X → ℕ) → sum_by w xs ≡ sum_by w ys
@@ -47,11 +46,9 @@ same_sums {X} xs ys same w =
         ∙ sum_plus (λ x. one_if (nat_lt 0 (v x))) (λ x. v x - 1) zs
 
     below : (b : ℕ) (v : X → ℕ) → ((x : X) → Among x xs → v x ≤ b) → ((x : X) → Among x ys → v x ≤ b) → sum_by v xs ≡ sum_by v ys
-    below zero v in_xs in_ys =
-        sum_none v xs (λ x a. let small = in_xs x a in omega arith) ∙ sym (sum_none v ys (λ x a. let small = in_ys x a in omega arith))
+    below zero v in_xs in_ys = grind (arith, sum_none)
     below (suc b) v in_xs in_ys =
         let first = split v xs in
         let second = split v ys in
-        let equal = same (λ x. nat_lt 0 (v x)) in
         let rest = below b (λ x. v x - 1) (λ x a. let small = in_xs x a in omega arith) (λ x a. let small = in_ys x a in omega arith) in
         omega arith

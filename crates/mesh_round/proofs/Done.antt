@@ -5,8 +5,8 @@ use Rattle.mesh_round.proofs.Common.{cases_eq, chip_eq, chip_eq_same, chip_eq_tr
 use Rattle.mesh_round.proofs.Common.{false, false_from_ne_true, filter, flat_map, gathered, get_or_from_slice_get, getting_of, got, here, index_of, index_of-chip_of, injection_place, inl, inr}
 use Rattle.mesh_round.proofs.Common.{left_by, live_inside, lost, lost_by, map, ne_eqb, no_injection, not, not_there, of_chip, one_output, out_eq, out_eq_same, out_eq_true, place_behind, port_below}
 use Rattle.mesh_round.proofs.Common.{port_is_no_vertex, port_number, port_number-port_of, port_of-port_number, port_place, queue_at, recorded, refl, sending_of, sent, sent_in, served, service_of}
-use Rattle.mesh_round.proofs.Common.{slice_get, slice_get-get_or, slice_get_within, stands, subst, sym, taking_of, there, took, true, vertex_place, where_same, where_there, ℕ, ◌&&◌, ◌*◌, ◌++◌, ◌+◌}
-use Rattle.mesh_round.proofs.Common.{◌==◌, ◌∙◌, ◌∷◌, ◌≡◌}
+use Rattle.mesh_round.proofs.Common.{slice_get, slice_get-get_or, slice_get_within, subst, sym, taking_of, there, took, true, vertex_place, where_same, where_there, ℕ, ◌&&◌, ◌*◌, ◌++◌, ◌+◌, ◌==◌, ◌∙◌}
+use Rattle.mesh_round.proofs.Common.{◌∷◌, ◌≡◌}
 use Rattle.mesh_round.proofs.{Ends.one_port, Joined.gathered_none, Joined.gathered_one, Serving.went_on, Serving.fell}
 
 -- ---- ports by their numbers
@@ -37,17 +37,10 @@ module _ (u : Setup) where
 
   -- what left a vertex's queue was delivered to it
   pub collected_by : (v : ℕ) (x : Item) → IsDoneOn u x → left_by (vertex_place u v) x ≡ copies_to v (delivered_of x)
-  collected_by v (took j p k) live =
-      elsewhere (port_place j p) (vertex_place u v) (k ∷ []) (λ e. port_is_no_vertex u (chip_of u.machine j) p v (inside_of j (chip_of u.machine j) live refl) (sym (place_is j p) ∙ e))
+  collected_by v (took j p k) live = elsewhere (port_place j p) _ (k ∷ []) (λ e. port_is_no_vertex u (chip_of u.machine j) p v (inside_of j (chip_of u.machine j) live refl) (sym (place_is j p) ∙ e))
   collected_by v (served j e place s) done = refl
   collected_by v (sent j w k) done = refl
-  collected_by v (got j w place k) (live, on, is) = elim (cases_eq w v) [
-    | inl same ↦ here place (vertex_place u v) (k ∷ []) (is ∙ ap (vertex_place u) same) ∙ sym (ap to (eq-eqb w v same))
-    | inr apart ↦ elsewhere place (vertex_place u v) (k ∷ []) (λ e. apart (omega (arith, e, is))) ∙ sym (ap to (ne_eqb w v apart))
-  ]
-    where
-      to : Bool → List McCopy
-      to b = map (λ (d : Delivery). d.copy) (cond b (record { vertex = w; copy = k } ∷ []) [])
+  collected_by v (got j w place k) (live, on, is) = grind (arith, cases_eq, here, eq-eqb, elsewhere, ne_eqb)
 
   module _ (c : Chip) (inside : IsInside u.machine c) where
     abbrev pub index : ℕ
@@ -94,19 +87,14 @@ module _ (u : Setup) where
 
     -- what its bank sent entered its injection queue
     pub injected_by : (x : Item) → IsDoneOn u x → entered_by (queue_at u.machine c Local) x ≡ sending_of index x
-    injected_by (took j p k) done = refl
-    injected_by (served j e place s) (live, chip, behind, is, dark) = grind (arith, inside_of j e live chip, not_there, no_injection)
-    injected_by (sent j v k) (live, on) = grind (arith, cases_eq j index, here, elsewhere)
-    injected_by (got j v place k) done = refl
+    injected_by x its_1 = grind (arith, inside_of, not_there, no_injection, cases_eq, here, elsewhere)
 
     -- nothing entered the queue of a port to which no live link leads, and that is not its live chip's own
     pub not_entered : (port : Port) → ((d : Dir) → port ≡ ByLink d → IsLiveLink u.machine c d → ⊥) → (port ≡ Local → IsLiveChip u.machine c → ⊥) →
         (x : Item) → IsDoneOn u x → entered_by (queue_at u.machine c port) x ≡ []
     not_entered port no_wire no_chip (took j p k) done = refl
     not_entered port no_wire no_chip (served j e place s) (live, chip, behind, is, dark) =
-        not_there place (queue_at u.machine c port) (brought s s.fate) (λ at.
-        let wire = by_wire u e c s.out port (inside_of j e live chip) inside (sym behind ∙ at) in
-        no_wire wire.0 wire.1 wire.2)
+        not_there place _ (brought s s.fate) (λ at. let wire = by_wire u e c s.out port (inside_of j e live chip) inside (sym behind ∙ at) in no_wire wire.0 wire.1 wire.2)
     not_entered port no_wire no_chip (sent j v k) (live, on) =
         elsewhere (injection_place j) (queue_at u.machine c port) (k ∷ []) (λ e.
         let one = one_port u.machine (chip_of u.machine j) c Local port (inside_of j (chip_of u.machine j) live refl) inside (sym (place_is j Local) ∙ e) in
@@ -117,18 +105,7 @@ module _ (u : Setup) where
 
     of_vertex : (told : ℕ → List McCopy) (j v : ℕ) (k : McCopy) → IsVertexOn u j v → told v ≡ k ∷ [] → ((w : ℕ) → (v ≡ w → ⊥) → told w ≡ []) →
         gathered (λ w spot. of_chip c spot (told w)) 0 u.spots ≡ where_same j index (k ∷ [])
-    of_vertex told j v k on own others =
-        gathered_one (λ w spot. of_chip c spot (told w)) 0 u.spots v v on.spot on.stands (omega arith) (λ w spot at apart.
-        ap (of_chip c spot) (others (0 + w) (λ e. apart (omega (arith, e)))))
-        ∙ (ap (of_chip c on.spot) own ∙ by)
-      where
-        by : of_chip c on.spot (k ∷ []) ≡ where_same j index (k ∷ [])
-        by = elim (doer j) [
-          | this same is ↦ cond-true (chip_eq on.spot.chip c) (k ∷ []) [] (ap (λ e. chip_eq e c) (on.here ∙ is) ∙ chip_eq_same c) ∙ sym (here j index (k ∷ []) same)
-          | other apart not ↦
-              cond-false (chip_eq on.spot.chip c) (k ∷ []) [] (false_from_ne_true (chip_eq on.spot.chip c) (λ e. not (sym on.here ∙ chip_eq_true on.spot.chip c e)))
-              ∙ sym (elsewhere j index (k ∷ []) apart)
-        ]
+    of_vertex told j v k on own others = grind (arith, gathered_one, doer, cond-true, chip_eq_same, here, cond-false, false_from_ne_true, chip_eq_true, elsewhere)
 
     -- what the vertices of the chip sent its bank sent
     pub sent_by_bank : (x : Item) → IsDoneOn u x → gathered (λ v spot. of_chip c spot (sent_in v x)) 0 u.spots ≡ sending_of index x
@@ -192,8 +169,7 @@ module _ (u : Setup) where
       entered_behind q at (took j p k) done = refl
       entered_behind q at (served j e place s) done = made_by brought q at j e place s done
       entered_behind q at (sent j v k) (live, on) =
-          elsewhere (injection_place j) q (k ∷ []) (λ e.
-          no_injection u c (chip_of u.machine j) o inside (inside_of j (chip_of u.machine j) live refl) (at ∙ ap Some (sym e ∙ place_is j Local)))
+          elsewhere (injection_place j) _ (k ∷ []) (λ e. no_injection u c (chip_of u.machine j) o inside (inside_of j (chip_of u.machine j) live refl) (at ∙ ap Some (sym e ∙ place_is j Local)))
       entered_behind q at (got j v place k) done = refl
 
       pub lost_behind : (q : ℕ) → place_behind u c o ≡ Some q → (x : Item) → IsDoneOn u x → lost_by q x ≡ fell (service_at x)
@@ -205,10 +181,7 @@ module _ (u : Setup) where
       -- nothing went on by an output behind which no queue stands
       pub none_went : place_behind u c o ≡ None → (x : Item) → IsDoneOn u x → went_on (service_at x) ≡ []
       none_went at (took j p k) done = refl
-      none_went at (served j e place s) done = elim (serves j e place s done) [
-        | own one chip out behind ↦ ap went_on one ∙ ap (λ f. brought s f ++ []) (done.4 (behind ∙ at))
-        | off none apart never ↦ ap went_on none
-      ]
+      none_went at (served j e place s) done = grind (arith, serves j e place s done, went_on)
       none_went at (sent j v k) done = refl
       none_went at (got j v place k) done = refl
 

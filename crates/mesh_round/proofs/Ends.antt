@@ -1,5 +1,5 @@
 -- Which queue is behind which output: each queue has at most one output that leads to it. And whether two names are of one queue.
-use Rattle.mesh_round.proofs.Common.{All, All-contains, Bool, Chip, Contains, Exit, ExitLeads, IsBranch, IsLiveLink, List, NetPlan, None, Out, Queue, Setup, Spot, ap, behind, behind_link, core}
+use Rattle.mesh_round.proofs.Common.{All, All-contains, Bool, Chip, Contains, Exit, ExitLeads, IsBranch, IsLiveLink, List, NetPlan, None, Out, Queue, Setup, Spot, ap, arith, behind, behind_link, core}
 use Rattle.mesh_round.proofs.Common.{core_is_somewhere, eqb-true, exit_leads, false, far_of, inl, input, input_is_somewhere, inr, leads_to, leaves_parts, leaves_there, nat_eq_same, none-some, nowhere}
 use Rattle.mesh_round.proofs.Common.{refl, slice_get, sym, true, vertex_behind, vertex_behind_there, ℕ, ◌==◌, ◌∙◌, ◌≡◌, ◌≢◌}
 pub use Rattle.mesh_run.proofs.Ends.{Leads, by_link, to_vertex, to_none, leads, one_end, one_link, one_port}
@@ -17,20 +17,10 @@ behind_eq nowhere (input i) = false
 behind_eq nowhere (core v) = false
 
 pub behind_eq_same : (q : Queue) → behind_eq q q ≡ true
-behind_eq_same (input i) = nat_eq_same i
-behind_eq_same (core v) = nat_eq_same v
-behind_eq_same nowhere = refl
+behind_eq_same q = grind (arith, nat_eq_same)
 
 pub behind_eq_true : (q r : Queue) → behind_eq q r ≡ true → q ≡ r
-behind_eq_true (input i) (input j) same = ap input (eqb-true i j same)
-behind_eq_true (core v) (core w) same = ap core (eqb-true v w same)
-behind_eq_true nowhere nowhere same = refl
-behind_eq_true (input i) (core v) same = cc
-behind_eq_true (input i) nowhere same = cc
-behind_eq_true (core v) (input i) same = cc
-behind_eq_true (core v) nowhere same = cc
-behind_eq_true nowhere (input i) same = cc
-behind_eq_true nowhere (core v) same = cc
+behind_eq_true q r same = grind (arith, eqb-true)
 
 -- An output on a branch of a net that stands leads somewhere.
 pub branch_leads_on : (u : Setup) (net : NetPlan) (target : Spot) (branch : List Exit) (hop : ℕ) (c : Chip) (o : Out) → All (λ e. IsLiveLink u.machine e.chip e.dir) net.tree.edges →
@@ -39,9 +29,7 @@ pub branch_leads_on : (u : Setup) (net : NetPlan) (target : Spot) (branch : List
 branch_leads_on u net target branch hop c o live targets is_target is on gone = by_end (leads u c o)
   where
     by_exit : vertex_behind u.spots c o ≡ None → ExitLeads u.machine net.tree.edges target branch hop (record { chip = c; out = o }) → ⊥
-    by_exit without (inl (d, out, in_tree, (y, far, next))) =
-        let link : IsLiveLink u.machine c d = All-contains (λ e. IsLiveLink u.machine e.chip e.dir) net.tree.edges (record { chip = c; dir = d }) live in_tree in
-        input_is_somewhere (sym (ap (behind u c) out ∙ (ap (λ b. behind_link u c d b (far_of u.machine c d)) link ∙ ap (behind_link u c d true) far)) ∙ gone)
+    by_exit without (inl (d, out, in_tree, (y, far, next))) = grind (arith, All-contains, input_is_somewhere)
     by_exit without (inr (chip, out, last)) =
         let there = vertex_behind_there u.spots c o target (All-contains (Contains u.spots) net.targets target targets is_target) (leads_to c o target chip out) in
         none-some there.0 (sym without ∙ there.1)

@@ -56,27 +56,13 @@ core_once u v below = grind (arith, once_in_range v 0 (length u.spots) (omega ar
 
 -- the parts of a source
 pub source_parts : (m : Description) (s : Chip × Option Out) → Among s (sources m) → IsLiveChip m s.0 × IsChoice s.1
-source_parts m s a =
-    let at = among_gathered (λ i c. map (λ x. (c, x)) choices) s (live_chips m) a in
-    let of = among_map (λ (x : Option Out). (at.1, x)) s choices at.3 in
-    let live : IsLiveChip m at.1 = live_of_live_chips m at.1 (among_at (live_chips m) at.0 at.1 at.2) in
-    (subst (λ (t : Chip × Option Out). IsLiveChip m t.0) (sym of.2) live, subst (λ (t : Chip × Option Out). IsChoice t.1) (sym of.2) (is_choice of.0 of.1))
-  where
-    is_choice : (x : Option Out) → Among x choices → IsChoice x
-    is_choice None a = tt
-    is_choice (Some o) (inl same) = cc
-    is_choice (Some o) (inr later) =
-        let of = among_map Some (Some o) all_outs later in
-        let same : o ≡ of.0 = cc in
-        subst IsOutput (sym same) (has_bit of.0 of.1)
+source_parts m s a = grind (arith, among_gathered, choices, live_chips, among_map, live_of_live_chips, among_at, IsChoice, Among, has_bit)
 
 source_eq_same : (s : Chip × Option Out) → source_eq s s ≡ true
 source_eq_same s = and_from (chip_eq s.0 s.0) (choice_eq s.1 s.1) (chip_eq_same s.0) (choice_eq_same s.1)
 
 source_eq_true : (s t : Chip × Option Out) → source_eq s t ≡ true → s ≡ t
-source_eq_true (a, x) (b, y) same =
-    let parts = and_parts (chip_eq a b) (choice_eq x y) same in
-    ap₂ (λ (c : Chip) (z : Option Out). (c, z)) (chip_eq_true a b parts.0) (choice_eq_true x y parts.1)
+source_eq_true (a, x) (b, y) same = grind (arith, and_parts, choice_eq, chip_eq_true, choice_eq_true)
 
 -- the port of a number below 7
 pub numbered_port : (k : ℕ) → k < 7 → (port : Port) × (port_number port ≡ k)
@@ -139,8 +125,7 @@ module _ (p : Mark → Bool) (m : State) (f : Flow) (n : State) (mesh : IsMesh m
   -- the queue of a port whose link is live gets the copies that the chip at the far end sends by that link
   only_far : (c e : Chip) (g : Dir) → IsInside u.machine c → IsInside u.machine e → far_of u.machine e (opposite_of g) ≡ Some c →
       (s : Chip × Option Out) → IsLiveChip u.machine s.0 → from u s ≡ at_port u c (ByLink g) → s ≡ (e, Some (Link (opposite_of g)))
-  only_far c e g inside in_e far (a, None) live is = grind (arith, live_inside u.machine a live, one_port, same_input, link_is_not_local)
-  only_far c e g inside in_e far (a, Some o) live is = grind (arith, opposite_of-opposite g, live_inside u.machine a live, one_link)
+  only_far c e g inside in_e far s live is = grind (arith, live_inside, one_port, same_input, link_is_not_local, opposite_of-opposite, one_link)
 
   pub behind_far : (c e : Chip) (g : Dir) → IsLiveLink u.machine e (opposite_of g) → far_of u.machine e (opposite_of g) ≡ Some c → behind u e (Link (opposite_of g)) ≡ at_port u c (ByLink g)
   behind_far c e g live far = grind (arith, opposite_of-opposite g)

@@ -1,8 +1,8 @@
 -- Each round in which a copy moves leaves marks past one more of the places that the packets of a job pass: so there are few such rounds.
 use Rattle.mesh_round.proofs.Common.{Among, AreNetsOn, AreRight, Asked, Bag, Flow, HasMoved, HasRounds, IsAsked, IsKeyOf, IsMesh, IsRight, IsWayOn, Label, List, Mark, MeetsJobLedger, MeetsLedger}
 use Rattle.mesh_round.proofs.Common.{MoveEach, Moved, NetPlan, None, Option, Packet, Passes, Setup, Some, State, [], and_from, ap, arith, asked_by, asked_of_net, asked_parts, count_by, count_left}
-use Rattle.mesh_round.proofs.Common.{eq-eqb, gathered, gathered_among, label_of, last_hop, length, length-append, marks_of, more, most_moves, moves_left, moves_of_packet, net_in_list, no_rounds}
-use Rattle.mesh_round.proofs.Common.{none-some, one_net, refl, rounds_in, same_Some, slice_get, stands, subst, suc, sum_by, sum_by-cons, sym, true, ℕ, ◌+◌, ◌-◌, ◌==◌, ◌∙◌, ◌∷◌, ◌≡◌, ◌≤◌}
+use Rattle.mesh_round.proofs.Common.{eq-eqb, gathered, gathered_among, label_of, last_hop, length, length-append, marks_of, more, most_moves, moves_left, net_in_list, no_rounds, none-some, one_net}
+use Rattle.mesh_round.proofs.Common.{refl, rounds_in, same_Some, slice_get, stands, subst, suc, sum_by, sum_by-cons, sym, true, ℕ, ◌+◌, ◌-◌, ◌==◌, ◌∙◌, ◌∷◌, ◌≡◌, ◌≤◌}
 use Rattle.mesh_round.proofs.{CountSums.part_of_sum, CountSums.sum_within, FlowLaw.rounds_stand, Milestones.few_stones, Milestones.net_stones, Milestones.step_passed, Past.HasOneWay, Past.Milestone}
 use Rattle.mesh_round.proofs.Past.{by_place, here, is_step, leaves_right, left_move, left_one, nearer, on_from, one_on_way, stays_past}
 use Rattle.mesh_round.proofs.{RoundBag.bag_of_round, RoundBag.some_steps, Sums.sum_plus}
@@ -29,10 +29,6 @@ module _ (u : Setup) (nets : List NetPlan) (packets : List Packet) (stand : AreN
   stones_at i p (Some net) at = net_stones u nets stand i net (net_in_list nets p net at)
   stones_at i p None at = []
 
-  few_stones_at : (i : ℕ) (p : Packet) (o : Option NetPlan) (at : slice_get nets p.net ≡ o) → length (stones_at i p o at) ≤ moves_of_packet o
-  few_stones_at i p (Some net) at = few_stones u nets stand i net (net_in_list nets p net at)
-  few_stones_at i p None at = omega arith
-
   abbrev stones_of : ℕ → Packet → List (Milestone u nets)
   stones_of i p = stones_at i p (slice_get nets p.net) refl
 
@@ -41,8 +37,7 @@ module _ (u : Setup) (nets : List NetPlan) (packets : List Packet) (stand : AreN
   stones = gathered stones_of 0 packets
 
   few_stones_of_all : length stones ≤ most_moves nets packets
-  few_stones_of_all =
-      short_gathered stones_of (λ (p : Packet). moves_of_packet (slice_get nets p.net)) (λ i p. few_stones_at i p (slice_get nets p.net) refl) 0 packets
+  few_stones_of_all = grind (arith, short_gathered, few_stones, net_in_list)
 
   -- ---- one round
 

@@ -31,9 +31,7 @@ module _ (s : State) (mesh : IsMesh s) (nets : List NetPlan) (labels : ℕ → L
     room_behind c o on (by_link d e out live far is) =
         let below = queue_at-below m e (ByLink (opposite_of d)) (far_inside m c e d (live_inside m c (live_ends m c d live).2) far) in
         ap (has_room_behind s) is ∙ empty_room s.inputs rest.waits.inputs_empty (queue_at m e (ByLink (opposite_of d))) (omega (arith, below, mesh.input_lists))
-    room_behind c o on (to_vertex v dead vertex is) =
-        let spot = vertex_behind_stands s.setup.spots c o v vertex in
-        ap (has_room_behind s) is ∙ empty_room s.cores rest.waits.cores_empty v (omega (arith, slice_get_within s.setup.spots v spot.0 spot.1, mesh.core_lists))
+    room_behind c o on (to_vertex v dead vertex is) = grind (arith, vertex_behind_stands, empty_room, slice_get_within)
     room_behind c o on (to_none no_vertex is) = absurd (on is)
 
     by_records : (records : List DumpRec) → s.dumped ≡ records → s.dumped ≢ [] → put_back_answer s ≡ Moved

@@ -1,7 +1,6 @@
 -- A round leaves less to be done: each of its moves makes the marks lighter.
-use Rattle.mesh_round.proofs.Common.{Among, Bag, Flow, HasMoved, IsMesh, IsMoveOf, List, Mark, McCopy, Moved, Passes, State, Station, [], ap, arith, at_core, count_by-append, delivered, dumped}
-use Rattle.mesh_round.proofs.Common.{few_come, heavy_grows, in_hand, in_queue, length, light, marks_of, moves_left, mul-le-mul_left, one_heavy, refl, suc, sum_by, sum_by-append, sum_by-cons, unsent}
-use Rattle.mesh_round.proofs.Common.{zero, ℕ, ◌*◌, ◌++◌, ◌+◌, ◌-◌, ◌<◌, ◌∷◌, ◌≡◌, ◌≤◌}
+use Rattle.mesh_round.proofs.Common.{Bag, Flow, HasMoved, IsMesh, IsMoveOf, List, Mark, Moved, Passes, State, [], arith, count_by-append, few_come, heavy_grows, length, light, marks_of}
+use Rattle.mesh_round.proofs.Common.{mul-le-mul_left, one_heavy, refl, suc, sum_by, sum_by-append, sum_by-cons, zero, ℕ, ◌++◌, ◌+◌, ◌-◌, ◌<◌, ◌∷◌, ◌≡◌, ◌≤◌}
 use Rattle.mesh_core.specs.Heavy.{heavy}
 use Rattle.mesh_round.specs.Work.{to_go, work_in, work_weight_of}
 use Rattle.mesh_round.proofs.{CountSums.same_sums, Nearer.move_nears, Parts.all_come, Parts.all_left, Parts.come_counts, Parts.left_counts, RoundBag.bag_of_round, RoundBag.some_moves}
@@ -11,15 +10,7 @@ use Rattle.mesh_round.proofs.{CountSums.same_sums, Nearer.move_nears, Parts.all_
 -- a mark that moves has somewhere to go
 some_to_go : {s : State} (v : Moved s) → 1 ≤ to_go v.leaves
 unfolding to_go
-some_to_go {s} v = by_station v.leaves.copy v.leaves.station v.is_move
-  where
-    by_station : (k : McCopy) (at : Station) → IsMoveOf s k at v.come → 1 ≤ moves_left (4294967295 - k.hop) at
-    by_station k (unsent w) m = omega arith
-    by_station k (in_queue c port) m = omega arith
-    by_station k (in_hand c o) m = omega arith
-    by_station k (at_core w) m = omega arith
-    by_station k (delivered w) m = absurd m
-    by_station k (dumped c o) m = omega arith
+some_to_go {s} v = grind (arith, IsMoveOf)
 
 -- what comes is lighter than what leaves
 come_lighter : {s : State} (v : Moved s) → sum_by work_weight_of v.come < work_weight_of v.leaves
@@ -28,23 +19,13 @@ come_lighter {s} v = by_far (to_go v.leaves) refl (some_to_go v)
   where
     by_far : (n : ℕ) → to_go v.leaves ≡ n → 1 ≤ n → sum_by work_weight_of v.come < work_weight_of v.leaves
     by_far zero is some = absurd (omega (arith, some))
-    by_far (suc n) is some =
-        let mine : work_weight_of v.leaves ≡ 25 * heavy n = ap heavy is in
-        let each : (y : Mark) → Among y v.come → work_weight_of y ≤ heavy n =
-        λ y a.
-        heavy_grows (to_go y) n (omega (arith, move_nears s v.leaves v.come v.small v.is_move y a, is)) in
-        omega (arith, mine, light work_weight_of v.come (heavy n) each, mul-le-mul_left (heavy n) (few_come s v.leaves v.come v.is_move), one_heavy n)
+    by_far (suc n) is some = grind (arith, mul-le-mul_left (heavy n) (few_come s v.leaves v.come v.is_move), few_come s v.leaves v.come v.is_move, one_heavy n, heavy_grows, move_nears, light)
 
 -- ---- all moves of a bag
 
 lighter : {s : State} (vs : List (Moved s)) → sum_by work_weight_of (all_come vs) + length vs ≤ sum_by work_weight_of (all_left vs)
 lighter [] = omega arith
-lighter (v ∷ vs) =
-    let rest = lighter vs in
-    let first = come_lighter v in
-    let both = sum_by-append work_weight_of v.come (all_come vs) in
-    let all = sum_by-cons work_weight_of v.leaves (all_left vs) in
-    omega arith
+lighter (v ∷ vs) = grind (arith, lighter vs, come_lighter v, sum_by-append work_weight_of v.come (all_come vs), all_come vs, sum_by-cons work_weight_of v.leaves (all_left vs), all_left vs)
 
 -- What marks weigh after a bag of moves and what those that left weigh is what was there weighed, and what came, by any weight.
 pub even_weights : (s t : State) (bag : Bag s t) (w : Mark → ℕ) → sum_by w (marks_of t) + sum_by w (all_left bag.moves) ≡ sum_by w (marks_of s) + sum_by w (all_come bag.moves)
@@ -62,8 +43,7 @@ unfolding work_in
 bag_lighter s t bag = omega (arith, even_weights s t bag work_weight_of, lighter bag.moves)
 
 pub round_lighter : (m n : State) (f : Flow) → IsMesh m → IsMesh n → Passes m f n → work_in n ≤ work_in m
-round_lighter m n f mesh after passes =
-    omega (arith, bag_lighter m n (bag_of_round m f n mesh after passes))
+round_lighter m n f mesh after passes = grind (arith, bag_lighter m n (bag_of_round m f n mesh after passes), bag_of_round m f n mesh after passes)
 
 pub moved_lighter : (m n : State) (f : Flow) → IsMesh m → IsMesh n → Passes m f n → HasMoved m f → work_in n < work_in m
 moved_lighter m n f mesh after passes moved =

@@ -101,7 +101,4 @@ left_counts p (v ∷ vs) =
 
 pub come_counts : {s : State} (p : Mark → Bool) (vs : List (Moved s)) → count_come p vs ≡ count_by p (all_come vs)
 come_counts p [] = refl
-come_counts p (v ∷ vs) =
-    let rest = come_counts p vs in
-    let both = count_by-append p v.come (all_come vs) in
-    omega arith
+come_counts p (v ∷ vs) = grind (arith, come_counts p vs, count_by-append p v.come (all_come vs))

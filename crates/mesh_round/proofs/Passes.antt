@@ -18,8 +18,7 @@ passes_keep nets P rounds backs patience turns m n mesh right was (round f k n' 
     let kept = passes_keep_mesh patience turns m k mesh before in
     rounds k n' f kept.0 after is.passes (subst (λ (u : Setup). AreRight u.machine u.tables nets) (sym kept.1) right) (passes_keep nets P rounds backs patience turns m k mesh right was before)
 passes_keep nets P rounds backs patience turns m n mesh right was (put_back k before) =
-    let kept = passes_keep_mesh patience turns m k mesh before in
-    backs k kept.0 (subst (λ (u : Setup). AreRight u.machine u.tables nets) (sym kept.1) right) (passes_keep nets P rounds backs patience turns m k mesh right was before)
+    grind (arith, passes_keep_mesh patience turns m k mesh before, passes_keep nets P rounds backs patience turns m k mesh right was before)
 
 -- passes may follow each other
 pub passes_then : (patience turns : ℕ) (a b c : State) → HasPasses patience turns a b → HasPasses patience turns b c → HasPasses patience turns a c

@@ -2,8 +2,8 @@
 use Rattle.mesh_round.proofs.Common.{Among, AreNetsOn, AreRight, Bag, Block, Bool, Contains, Description, Exit, IsKeyOf, IsMesh, IsRight, IsWayOn, Label, List, Mark, MeetsLedger, Moved, NetPlan}
 use Rattle.mesh_round.proofs.Common.{Setup, Spot, Stands, State, Station, [], among_contains, and_from, and_parts, ap, arith, at_core, bit_and, cases_Bool, cases_lt, cases_order, count_by, count_come}
 use Rattle.mesh_round.proofs.Common.{count_left, counted, delivered, dumped, eq-eqb, eqb-true, false, in_hand, in_queue, inl, inr, is_on_trail, is_packet_on_trail, le-ltb, lt-ltb, ltb-true, mark_eq}
-use Rattle.mesh_round.proofs.Common.{mark_eq_same, mark_eq_true, marks_of, move_comes, move_counts, move_raises, nat_lt, ne_eqb, rank, refl, right_before, right_come, subst, suc, sym, to_go, true}
-use Rattle.mesh_round.proofs.Common.{unsent, zero, ℕ, ◌&&◌, ◌+◌, ◌<◌, ◌==◌, ◌^◌, ◌∙◌, ◌∷◌, ◌≡◌, ◌≤◌}
+use Rattle.mesh_round.proofs.Common.{mark_eq_same, mark_eq_true, marks_of, move_comes, move_counts, move_raises, nat_lt, ne_eqb, rank, refl, right_before, right_come, rules, subst, suc, sym, to_go}
+use Rattle.mesh_round.proofs.Common.{true, unsent, zero, ℕ, ◌&&◌, ◌+◌, ◌<◌, ◌==◌, ◌^◌, ◌∙◌, ◌∷◌, ◌≡◌, ◌≤◌}
 use Rattle.mesh_round.proofs.{CountSums.counts, CountSums.one_if, CountSums.sum_within, Parts.all_come, Parts.all_left, Parts.come_counts, Parts.left_counts, Nearer.move_nears, Sums.sum_agree}
 use Rattle.mesh_round.proofs.Sums.{sum_plus}
 
@@ -88,13 +88,6 @@ module _ (s t : State) (nets : List NetPlan) (labels : ℕ → Label) (mesh : Is
 abbrev pub is_block_key : Block → ℕ → Bool
 is_block_key block key = nat_lt key (2 ^ 32) && (bit_and key block.mask == block.key)
 
-is_block_key_true : (block : Block) (key : ℕ) → is_block_key block key ≡ true → IsKeyOf block key
-is_block_key_true block key is = grind (arith, and_parts, ltb-true, eqb-true)
-
-is_block_key_from : (block : Block) (key : ℕ) → IsKeyOf block key → is_block_key block key ≡ true
-is_block_key_from block key is =
-    and_from (nat_lt key (2 ^ 32)) (bit_and key block.mask == block.key) (lt-ltb key (2 ^ 32) is.fits) (eq-eqb (bit_and key block.mask) block.key is.matches)
-
 -- A place of a way, for a packet of the way's net: how far a mark still has to go there.
 pub record Milestone (u : Setup) (nets : List NetPlan) : Type 0 where
   pub packet : ℕ
@@ -124,17 +117,10 @@ milestone_of m n nets labels mesh right ledger x r = record {
 
 -- where a number is less than one more than another, it is less or the same; and it is that or the other is less
 order : (t d : ℕ) → (one_if (nat_lt t (suc d)) ≡ one_if (t == d) + one_if (nat_lt t d)) × (1 ≡ one_if (nat_lt t (suc d)) + one_if (nat_lt d t))
-order t d = elim (cases_order t d) [
-  | inl same ↦ grind (arith, lt-ltb t (suc d) (omega (arith, same)), eq-eqb t d same, le-ltb t d (omega (arith, same)), le-ltb d t (omega (arith, same)))
-  | inr (inl less) ↦
-      grind (arith, lt-ltb t (suc d) (omega (arith, less)), ne_eqb t d (λ e. omega (arith, e, less)), lt-ltb t d less, le-ltb d t (omega (arith, less)))
-  | inr (inr more) ↦
-      grind (arith, le-ltb t (suc d) (omega (arith, more)), ne_eqb t d (λ e. omega (arith, e, more)), le-ltb t d (omega (arith, more)), lt-ltb d t more)
-]
+order t d = grind (arith, cases_order t d, lt-ltb, eq-eqb, le-ltb, ne_eqb)
 
 by_order : (b : Bool) (t d : ℕ) → (one_if (b && nat_lt t (suc d)) ≡ one_if (b && (t == d)) + one_if (b && nat_lt t d)) × (one_if b ≡ one_if (b && nat_lt t (suc d)) + one_if (b && nat_lt d t))
-by_order false t d = (refl, refl)
-by_order true t d = order t d
+by_order b t d = grind (arith, order)
 
 module _ {u : Setup} {nets : List NetPlan} (x : Milestone u nets) where
   abbrev pub on : Mark → Bool
@@ -154,12 +140,10 @@ module _ {u : Setup} {nets : List NetPlan} (x : Milestone u nets) where
   before y = on_way y && nat_lt x.far (to_go y)
 
   pub on_parts : (y : Mark) → on_way y ≡ true → IsKeyOf x.net.block y.copy.key × (y.copy.packet ≡ x.packet) × (on y ≡ true)
-  on_parts y is = grind (arith, and_parts, is_block_key_true, eqb-true)
+  on_parts y is = grind (arith, and_parts, eqb-true, ltb-true)
 
   pub on_from : (y : Mark) → IsKeyOf x.net.block y.copy.key → y.copy.packet ≡ x.packet → on y ≡ true → on_way y ≡ true
-  on_from y key packet is =
-      and_from (is_block_key x.net.block y.copy.key) (is_packet_on_trail x.packet x.from x.to x.branch y) (is_block_key_from x.net.block y.copy.key key)
-      (and_from (y.copy.packet == x.packet) (on y) (eq-eqb y.copy.packet x.packet packet) is)
+  on_from y key packet is = grind (arith, and_from, eq-eqb, nat_lt, lt-ltb)
 
   -- those nearer than one more are those there and those nearer, and the others are before it
   pub by_place : (marks : List Mark) →
@@ -218,19 +202,8 @@ module _ {u : Setup} {nets : List NetPlan} (x : Milestone u nets) where
       module _ (n : State) (bag : Bag m n) where
         -- those past the place stay past it, and each that leaves it is past it then
         pub stays_past : count_by (nearer x.far) (marks_of m) + count_left here bag.moves ≤ count_by (nearer x.far) (marks_of n)
-        stays_past =
-            let left = (by_place (all_left bag.moves)).0 in
-            let there = left_counts here bag.moves in
-            let near = left_counts (nearer x.far) bag.moves in
-            let all = left_counts (nearer (suc x.far)) bag.moves in
-            omega (arith, bag.balance (nearer x.far), all_near x.far bag.moves, left, there, near, all)
+        stays_past = search (rules, by_place, all_left, left_counts, all_near)
 
         -- Those that were at the place, those that came there, and those that are still before it, are at most one.
         pub passed_once : count_by on_way (marks_of n) ≤ 1 → count_by here (marks_of m) + count_come here bag.moves + count_by before (marks_of n) ≤ 1
-        passed_once one =
-            let was = (by_place (marks_of m)).0 in
-            let came = (by_place (all_come bag.moves)).0 in
-            let there = come_counts here bag.moves in
-            let near = come_counts (nearer x.far) bag.moves in
-            let all = come_counts (nearer (suc x.far)) bag.moves in
-            omega (arith, one, bag.balance (nearer (suc x.far)), all_near x.far bag.moves, was, came, (by_place (marks_of n)).1, there, near, all)
+        passed_once one = search (rules, by_place, all_come, come_counts, all_near)

@@ -1,7 +1,6 @@
 -- Rounds on threads that were played one after the other lead on.
-use Rattle.mesh_round.proofs.Common.{All, Bool, Err, Hand, HasMovingRounds, IfErr, IfErr-weaker, IfOk, IfOk-weaker, IsAtRest, IsMesh, IsNoted, IsPlayedBy, IsRaisedFrom, IsRound, Item, LeadsByRound}
-use Rattle.mesh_round.proofs.Common.{List, MayGoOn, Memory, None, Ok, Option, Pace, PlaysTo, RaisedMesh, Result, State, [], arith, false, has, has_none, inl, inr, more, none, subst, sym, true, ℕ, ◌∙◌}
-use Rattle.mesh_round.proofs.Common.{◌≡◌}
+use Rattle.mesh_round.proofs.Common.{Bool, Err, HasMovingRounds, IfErr, IfErr-weaker, IfOk, IfOk-weaker, IsAtRest, IsMesh, IsNoted, IsPlayedBy, IsRaisedFrom, IsRound, Item, LeadsByRound, List}
+use Rattle.mesh_round.proofs.Common.{MayGoOn, Memory, Ok, Pace, PlaysTo, RaisedMesh, Result, State, [], arith, false, has, has_none, more, none, subst, sym, true, ℕ, ◌∙◌, ◌≡◌}
 use Rattle.mesh_round.proofs.{Resting.none_left, Resting.rests, PlayedMesh.is_mesh, PlayedMesh.leads_by_flow, PlayedMesh.still, TheFlow.Round}
 
 -- A mesh that was reached by rounds in each of which a copy moved, that may go on, and is split.
@@ -32,8 +31,7 @@ refuses P answer low m same has = IfErr-weaker answer (λ b. b.0 ≡ low) (λ b.
 
 -- an answer that holds no copy is at rest
 pub rests_where_none : (answer : Result State (State × Memory)) → IfOk answer MayGoOn → IfOk answer (λ n. has_none n ≡ true) → IfOk answer IsAtRest
-rests_where_none (Ok n) ready is = rests n is ready.no_hand
-rests_where_none (Err b) ready is = is
+rests_where_none answer ready is = grind (arith, rests)
 
 module _ (patience turns : ℕ) where
   abbrev played_from : (m n : State) (items : List Item) → MayGoOn m → IsPlayedBy patience turns items m n → Round
@@ -41,15 +39,11 @@ module _ (patience turns : ℕ) where
 
   -- a mesh after a round may go on
   pub ready_after : (m n : State) (items : List Item) → MayGoOn m → IsPlayedBy patience turns items m n → MayGoOn n
-  ready_after m n items ready played = record {
-    mesh = is_mesh (played_from m n items ready played);
-    no_hand = subst (All (λ (h : Option Hand). h ≡ None)) (sym played.hands) ready.no_hand;
-  }
+  ready_after m n items ready played = grind (arith, is_mesh (played_from m n items ready played))
 
   -- where a copy moved, something was done
   some_moved : (items : List Item) → IsNoted false items true → items ≡ [] → ⊥
-  some_moved items (inl noted) nothing = cc
-  some_moved items (inr some) nothing = some nothing
+  some_moved items its_1 nothing = grind arith
 
   -- a round that moved a copy is one more
   pub moved_on : (m : State) (r s : RaisedMesh) (is : IsReached patience turns m r) → PlaysTo patience turns is.mesh true s → IsReached patience turns m s
@@ -76,9 +70,7 @@ module _ (patience turns : ℕ) where
 
   -- A round by itself: a copy moved in it; or none did, and there was none.
   pub leads : (m n : State) (items : List Item) → MayGoOn m → IsPlayedBy patience turns items m n → IsNoted false items true → LeadsByRound patience turns m n
-  leads m n items ready played noted =
-      let lead = leads_by_flow (played_from m n items ready played) in
-      record { flow = lead.flow; round = lead.round; moved = λ some has. lead.moved (some_moved items noted) }
+  leads m n items ready played noted = grind (arith, leads_by_flow (played_from m n items ready played), some_moved items noted)
 
   -- A round in which no copy moved, of a mesh in which none is.
   leads_nowhere : (m n : State) (s : RaisedMesh) → MayGoOn m → PlaysTo patience turns m false s → n ≡ m → has_none n ≡ true → LeadsByRound patience turns m n

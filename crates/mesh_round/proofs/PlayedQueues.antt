@@ -1,10 +1,10 @@
 -- What a round on threads does with each queue.
 use Rattle.mesh_round.proofs.Common.{All, All-append, All-cons, All-contains, All-each, All-flat_map, All-from_flat_map, All-head, All-left, All-nil, All-replicate, All-right, Among, Chip, Contains}
-use Rattle.mesh_round.proofs.Common.{Delivery, DumpRec, Dumped, FitsQueue, IsDoneOn, IsLiveChip, IsLiveIndex, IsOutput, Item, List, McCopy, None, Option, Port, Queue, Sent, Served, Service, Setup}
-use Rattle.mesh_round.proofs.Common.{Some, WasFullAt, [], among_contains, ap, arith, brought, capacity_of, cases_lt, chip_of, cond_both, delivered_of, dumped_of, entered, entered_by, first_here}
-use Rattle.mesh_round.proofs.Common.{get_or_past, got, held_at, held_in, here, inl, inr, last_hop, left, left_by, length, length-append, min, onward, port_count, port_place, queue_at-below, recorded}
-use Rattle.mesh_round.proofs.Common.{records, refl, sent, sent_by, sent_in, served, service_of, services, slice_get_within, slice_index_or, subst, sym, taking_of, takings, took, where_same}
-use Rattle.mesh_round.proofs.Common.{where_there, ℕ, ◌*◌, ◌++◌, ◌+◌, ◌<◌, ◌==◌, ◌∙◌, ◌∷◌, ◌≡◌, ◌≤◌}
+use Rattle.mesh_round.proofs.Common.{Delivery, DumpRec, FitsQueue, IsDoneOn, IsLiveChip, IsLiveIndex, IsOutput, Item, List, McCopy, None, Option, Port, Queue, Served, Service, Setup, Some, WasFullAt}
+use Rattle.mesh_round.proofs.Common.{[], among_contains, ap, arith, capacity_of, cases_lt, chip_of, cond_both, delivered_of, dumped_of, entered, entered_by, first_here, get_or_past, got, held_at}
+use Rattle.mesh_round.proofs.Common.{held_in, here, last_hop, left, left_by, length, length-append, min, port_count, port_place, queue_at-below, recorded, records, refl, sent, sent_by, sent_in}
+use Rattle.mesh_round.proofs.Common.{served, service_of, services, slice_get_within, slice_index_or, subst, sym, taking_of, takings, took, where_same, where_there, ℕ, ◌*◌, ◌++◌, ◌+◌, ◌<◌, ◌==◌, ◌∷◌}
+use Rattle.mesh_round.proofs.Common.{◌≡◌, ◌≤◌}
 use Rattle.mesh_round.proofs.{Done.inside_of, Done.place_is, Joined.among_into, Serving.served_fits, TheFlow.Round, TheFlow.Stands, TheFlow.found, TheFlow.beyond, TheFlow.dark, TheFlow.stands}
 use Rattle.mesh_round.proofs.TheFlow.{by_place, goes, flow_of, nowhere_fulls}
 
@@ -37,13 +37,7 @@ module _ (r : Round) where
 
   -- each queue gives its copies in the order in which it got them
   pub in_order : (q : Queue) → held_in r.m q ++ (flow_of r).entered q ≡ (flow_of r).left q ++ held_in r.n q
-  in_order q = by (stands r q)
-    where
-      by : (x : Stands r q) → held_in r.m q ++ by_place r q (λ p. entered p.at r.items) [] x ≡ by_place r q (λ p. left p.at r.items) [] x ++ held_in r.n q
-      by (found p) =
-          ap (λ (l : List McCopy). l ++ entered p.at r.items) p.before ∙ ((goes r q p).in_order ∙ ap (λ (l : List McCopy). left p.at r.items ++ l) (sym p.after))
-      by (beyond out some before after) = ap (λ (l : List McCopy). l ++ []) before ∙ sym after
-      by (dark is) = ap (λ (l : List McCopy). l ++ []) (ap (held_in r.m) is) ∙ sym (ap (held_in r.n) is)
+  in_order q = grind (arith, stands, Stands, by_place, found, goes, beyond, dark)
 
   pub full : (q : Queue) → All (WasFullAt r.m (flow_of r) q) ((flow_of r).fulls q)
   full q = by (stands r q)
@@ -52,9 +46,7 @@ module _ (r : Round) where
       IsMoment came went e = (e.0 ≤ length came) × (e.1 ≤ length went) × (length (held_in r.m q) + e.0 ≡ e.1 + capacity_of u q)
 
       by : (x : Stands r q) → All (IsMoment (by_place r q (λ p. entered p.at r.items) [] x) (by_place r q (λ p. left p.at r.items) [] x)) (by_place r q (λ p. (goes r q p).fulls) (nowhere_fulls r) x)
-      by (found p) = λ i d below.
-          let moment = (goes r q p).full i d below in
-          (moment.entered_by_then, moment.left_by_then, omega (arith, moment.full, ap length p.before, p.room))
+      by (found p) = grind (arith, goes r q p)
       by (beyond out some before after) = All-nil (IsMoment [] [])
       by (dark is) =
           let none = ap length (ap (held_in r.m) is) in
@@ -67,10 +59,7 @@ module _ (r : Round) where
   new_sent v = All-left IsNew (sent_by v r.items) (slice_index_or r.n.unsent v []) (subst (All IsNew) (r.played.unsent v) was)
     where
       was : All IsNew (slice_index_or r.m.unsent v [])
-      was = elim (cases_lt v (length r.m.unsent)) [
-        | inl below ↦ r.mesh.unsent_at_start v [] below
-        | inr past ↦ subst (All IsNew) (sym (get_or_past r.m.unsent v [] past)) (All-nil IsNew)
-      ]
+      was = grind (arith, cases_lt v (length r.m.unsent), get_or_past r.m.unsent v, All-nil IsNew)
 
   small_entered : (q : ℕ) → All IsSmall (entered q r.items)
   small_entered q = All-flat_map IsSmall (entered_by q) r.items (All-each (λ x. All IsSmall (entered_by q x)) r.items by)
@@ -78,38 +67,26 @@ module _ (r : Round) where
       fits : (h : ℕ) → min (h + 1) last_hop ≤ last_hop
       fits h = omega arith
 
-      small : (s : Service) (f : Served) → All IsSmall (brought s f)
-      small s Sent = All-cons IsSmall (onward s.copy) [] (fits s.copy.hop) (All-nil IsSmall)
-      small s Dumped = All-nil IsSmall
-
       by : (x : Item) → Contains r.items x → All IsSmall (entered_by q x)
       by (took i p k) has = All-nil IsSmall
-      by (served i c place s) has = fits_there IsSmall place q (brought s s.fate) (small s s.fate)
+      by (served i c place s) has = grind (arith, fits_there, All-cons, fits, All-nil)
       by (sent i v k) has =
           let new : k.hop ≡ 0 = one_here IsNew v k (All-contains (λ x. All IsNew (sent_in v x)) r.items (sent i v k) (All-from_flat_map IsNew (sent_in v) r.items (new_sent v)) has) in
           fits_same IsSmall _ q (k ∷ []) (All-cons IsSmall k [] (omega (arith, new)) (All-nil IsSmall))
       by (got i v place k) has = All-nil IsSmall
 
   small_held : (q : ℕ) → q < port_count u + length u.spots → All IsSmall (held_at r.m q)
-  small_held q below =
-      let fits = All-append (FitsQueue u.capacity) r.m.inputs r.m.cores r.mesh.inputs_within r.mesh.cores_within in
-      let queue = fits q [] (omega (arith, below, length-append r.m.inputs r.m.cores, r.mesh.input_lists, r.mesh.core_lists)) in
-      λ i d within. let hop = queue.hops i d within in omega (arith, hop)
+  small_held q below = grind (arith, All-append (FitsQueue u.capacity) r.m.inputs r.m.cores r.mesh.inputs_within r.mesh.cores_within, length-append r.m.inputs r.m.cores)
 
   small_at : (q : ℕ) → q < port_count u + length u.spots → All IsSmall (left q r.items ++ held_at r.n q)
-  small_at q below =
-      subst (All IsSmall) (r.played.queues q below).in_order (All-append IsSmall (held_at r.m q) (entered q r.items) (small_held q below) (small_entered q))
+  small_at q below = grind (arith, All-append IsSmall (held_at r.m q) (entered q r.items) (small_held q below) (small_entered q), small_held q below, small_entered q)
 
   small_left : (q : ℕ) → q < port_count u + length u.spots → All IsSmall (left q r.items)
   small_left q below = All-left IsSmall (left q r.items) (held_at r.n q) (small_at q below)
 
   -- what a queue holds afterwards fits into it
   pub fits_after : (q : ℕ) → q < port_count u + length u.spots → FitsQueue u.capacity (held_at r.n q)
-  fits_after q below =
-      record {
-        within = (r.played.queues q below).within;
-        hops = λ i d within. let hop = (All-right IsSmall (left q r.items) (held_at r.n q) (small_at q below)) i d within in omega (arith, hop);
-      }
+  fits_after q below = grind (arith, All-right IsSmall (left q r.items) (held_at r.n q) (small_at q below), small_at q below)
 
   pub hops_left : (q : Queue) → All (λ (k : McCopy). k.hop ≤ last_hop) ((flow_of r).left q)
   hops_left q = by (stands r q)
@@ -154,8 +131,7 @@ module _ (r : Round) where
       Fits d = IsLiveChip u.machine d.chip × IsOutput d.out × (d.copy.hop < last_hop)
 
       of : (c : Chip) (s : Service) (f : Served) → IsLiveChip u.machine c → IsOutput s.out → s.copy.hop < last_hop → All Fits (recorded c s f)
-      of c s Sent live is small = All-nil Fits
-      of c s Dumped live is small = All-cons Fits (record { chip = c; out = s.out; copy = s.copy }) [] (live, is, small) (All-nil Fits)
+      of c s f live is small = grind (arith, All-nil, Fits, All-cons)
 
       by : (x : Item) → Contains r.items x → All Fits (dumped_of x)
       by (took i p k) has = All-nil Fits
@@ -174,9 +150,4 @@ module _ (r : Round) where
       Fits d = d.vertex < length u.spots
 
       by : (x : Item) → Contains r.items x → All Fits (delivered_of x)
-      by (took i p k) has = All-nil Fits
-      by (served i c place s) has = All-nil Fits
-      by (sent i v k) has = All-nil Fits
-      by (got i v place k) has =
-          let on = (done_of (got i v place k) has).1 in
-          All-cons Fits (record { vertex = v; copy = k }) [] (slice_get_within u.spots v on.spot on.stands) (All-nil Fits)
+      by x has = grind (arith, All-nil, Fits, done_of, All-cons, slice_get_within)

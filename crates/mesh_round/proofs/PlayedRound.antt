@@ -1,11 +1,11 @@
 -- A round on threads is a round.
-use Rattle.mesh_round.proofs.Common.{All, Bool, ByLink, Chip, Delivery, Dir, DumpRec, Hand, IsDoneOn, IsInside, IsLiveChip, IsOutput, IsPermutation, IsPermutation-map, IsPermutation-trans, IsQueueOf}
-use Rattle.mesh_round.proofs.Common.{IsRound, Item, List, Local, McCopy, None, Option, Out, Passes, Port, Service, Setup, Some, [], all_ports, answers_none, ap, ap₂, arith, at_port, behind, brought}
-use Rattle.mesh_round.proofs.Common.{chip_eq, chip_of, chip_of-index_of, core, count_by-le-length, delivered_of, delivered_to, dumped_at, dumped_of, entered, entered_by, false, far_inside, filter}
-use Rattle.mesh_round.proofs.Common.{flat_map, flat_map_single, gathered, getting_of, gettings, got_on, index_of, inl, inr, is_live_chip, is_live_link, leaves_by, left, left_by, length, length-filter}
+use Rattle.mesh_round.proofs.Common.{All, Bool, ByLink, Chip, Dir, DumpRec, Hand, IsDoneOn, IsInside, IsLiveChip, IsOutput, IsPermutation, IsPermutation-map, IsPermutation-trans, IsQueueOf, IsRound}
+use Rattle.mesh_round.proofs.Common.{Item, List, Local, McCopy, None, Option, Out, Passes, Port, Service, Setup, Some, [], all_ports, answers_none, ap, ap₂, arith, at_port, behind, brought, chip_eq}
+use Rattle.mesh_round.proofs.Common.{chip_of, chip_of-index_of, core, count_by-le-length, delivered_of, delivered_to, dumped_at, dumped_of, entered, entered_by, false, far_inside, filter, flat_map}
+use Rattle.mesh_round.proofs.Common.{flat_map_single, gathered, getting_of, gettings, got_on, index_of, inl, inr, is_live_chip, is_live_link, leaves_by, left, left_by, length, length-filter}
 use Rattle.mesh_round.proofs.Common.{length-map, length-replicate, length_permutation, live_inside, lost, lost_at, lost_by, map, mul-le-mul_left, nowhere, of_chip, onward, opposite_of, out_eq}
 use Rattle.mesh_round.proofs.Common.{owed_on, queue_at, queue_at-below, queue_place_of, records, refl, sending_of, sendings, sent_by, sent_in, sent_on, service_of, services, slice_get_within, subst}
-use Rattle.mesh_round.proofs.Common.{sum_by, sym, taken_for, taking_of, takings, true, vertex_behind_stands, vertex_place, ℕ, ◌&&◌, ◌*◌, ◌++◌, ◌<◌, ◌==◌, ◌∙◌, ◌∷◌, ◌≡◌, ◌≤◌, ◌⊎◌}
+use Rattle.mesh_round.proofs.Common.{sum_by, sym, taken_for, taking_of, takings, true, vertex_behind_stands, ℕ, ◌&&◌, ◌*◌, ◌++◌, ◌<◌, ◌∙◌, ◌∷◌, ◌≡◌, ◌≤◌, ◌⊎◌}
 use Rattle.mesh_round.proofs.Done.{copies_at, copies_to, collected_by, entered_behind, got_by_bank, injected_by, lost_behind, none_went, not_entered, recorded_at, sent_by_bank, service_at, taken_by}
 use Rattle.mesh_round.proofs.{Ends.leads, Ends.by_link, Ends.to_vertex, Ends.to_none, Joined.by_items, Joined.filter-flat, Joined.flat_agree, Joined.flat_none, Joined.flat-flat, Joined.map-flat}
 use Rattle.mesh_round.proofs.{Joined.sum_lengths, PlayedQueues.in_order, PlayedQueues.full, PlayedQueues.hops_left, PlayedQueues.at_outputs, PlayedQueues.to_vertices, Serving.at_out}
@@ -84,9 +84,7 @@ module _ (r : Round) where
       (λ v spot. filter-flat (λ k. chip_eq spot.chip c) (sent_in v) r.items) (sent_by_bank u c inside) r.played.turns_are.each
 
   delivered_is : (v : ℕ) → delivered_to (flow_of r) v ≡ flat_map (λ x. copies_to v (delivered_of x)) r.items
-  delivered_is v =
-      ap (map (λ (d : Delivery). d.copy)) (filter-flat (λ (d : Delivery). d.vertex == v) delivered_of r.items)
-      ∙ map-flat (λ (d : Delivery). d.copy) (λ x. filter (λ (d : Delivery). d.vertex == v) (delivered_of x)) r.items
+  delivered_is v = grind (arith, filter-flat, map-flat)
 
   got_spread : (c : Chip) → IsInside u.machine c → IsPermutation (got_on u (flow_of r) c) (gettings (index_of u.machine c) r.items)
   got_spread c inside =
@@ -111,10 +109,7 @@ module _ (r : Round) where
       subst (IsPermutation (sent_on u (flow_of r) c)) (sym is) (sent_spread c inside)
 
   collected : (v : ℕ) → v < length u.spots → delivered_to (flow_of r) v ≡ (flow_of r).left (core v)
-  collected v below =
-      delivered_is v
-      ∙ (sym (all_agree (left_by (vertex_place u v)) (λ x. copies_to v (delivered_of x)) (collected_by u v))
-      ∙ sym (told_at r (λ q. left q r.items) (core v) (vertex_place u v) refl (omega (arith, below, r.mesh.core_lists)) (stands r (core v))))
+  collected v below = grind (arith, delivered_is, all_agree, copies_to, collected_by, told_at, stands)
 
   -- ---- outputs
 
@@ -146,10 +141,7 @@ module _ (r : Round) where
     ]
 
     not_beyond : (IsQueueOf r.m (behind u c o) → ⊥) → (behind u c o ≡ nowhere → ⊥) → ⊥
-    not_beyond out some = elim is_there [
-      | inl at ↦ some at
-      | inr there ↦ out there
-    ]
+    not_beyond out some = grind (arith, is_there)
 
     entered_is : (x : Stands r (behind u c o)) → by_place r (behind u c o) (λ p. entered p.at r.items) [] x ≡ went_on at_output
     entered_is (found p) = all_agree (entered_by p.at) (λ x. went_on (service_at u c inside o x)) (entered_behind u c inside o p.at p.is) ∙ went_is

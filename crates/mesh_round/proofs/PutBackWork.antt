@@ -1,9 +1,8 @@
 -- Putting a copy back leaves less to be done: the copy has less far to go.
-use Rattle.mesh_round.proofs.Common.{ByLink, Chip, Crosses, DumpRec, Idle, List, Mark, McCopy, None, Option, Out, PutIn, Queue, Some, State, TakenOut, [], after_put_back, ap, arith, arrives, at_core}
-use Rattle.mesh_round.proofs.Common.{behind, dumped, dumped_out, heavy_grows, if◌then◌else◌, in_queue, inl, inr, is_some, mark, marks_of, one_heavy, onward, opposite_of, push_behind, put_back_answer}
-use Rattle.mesh_round.proofs.Common.{put_back_of, refl, same_room, subst, suc, sum_by, sum_by-append, sum_by-cons, unwrap_or, zero, ℕ, ◌++◌, ◌+◌, ◌<◌, ◌∙◌, ◌∷◌, ◌≡◌, ◌⊎◌}
-use Rattle.mesh_core.specs.declared.places.Did.TheVariants.{Moved}
-use Rattle.mesh_core.specs.Heavy.{heavy}
+use Rattle.mesh_round.proofs.Common.{Chip, Crosses, DumpRec, List, Mark, McCopy, Out, PutIn, Queue, State, TakenOut, [], after_put_back, ap, arith, arrives, at_core, behind, dumped, dumped_out}
+use Rattle.mesh_round.proofs.Common.{heavy_grows, inl, inr, is_some, mark, marks_of, one_heavy, onward, push_behind, put_back_answer, same_room, subst, sum_by, sum_by-append, sum_by-cons, unwrap_or}
+use Rattle.mesh_round.proofs.Common.{ℕ, ◌++◌, ◌+◌, ◌<◌, ◌∙◌, ◌∷◌, ◌≡◌, ◌⊎◌}
+use Rattle.mesh_core.specs.{declared.places.Did.TheVariants.Moved, Heavy.heavy}
 use Rattle.mesh_round.specs.Work.{to_go, work_in, work_weight_of}
 use Rattle.mesh_round.proofs.PutBackParts.{IsBack, is_back}
 
@@ -11,16 +10,13 @@ use Rattle.mesh_round.proofs.PutBackParts.{IsBack, is_back}
 
 heavier : (m n : ℕ) → m < n → heavy m < heavy n
 unfolding heavy
-heavier m zero below = absurd (omega (arith, below))
-heavier m (suc n) below = grind (arith, heavy_grows m n (omega (arith, below)), one_heavy n)
+heavier m n below = grind (arith, heavy_grows, one_heavy)
 
 -- a dumped copy that crosses its output is lighter than it was
 lighter_mark : (s : State) (k : McCopy) (c : Chip) (o : Out) (come : List Mark) → Crosses s k c o come →
     (y : Mark) × (come ≡ y ∷ []) × (work_weight_of y < work_weight_of (mark k (dumped c o)))
 unfolding work_weight_of to_go
-lighter_mark s k c o come (inl (d, e, out, live, far, is)) =
-    let y : Mark = mark (onward k) (in_queue e (ByLink (opposite_of d))) in
-    (y, is, heavier (to_go y) (to_go (mark k (dumped c o))) (omega arith))
+lighter_mark s k c o come (inl (d, e, out, live, far, is)) = grind (arith, mark, heavier)
 lighter_mark s k c o come (inr (v, dead, vertex, is)) =
     grind (arith, mark (onward k) (at_core v), heavier (to_go (mark (onward k) (at_core v))) (to_go (mark k (dumped c o))) (omega arith), mark k (dumped c o))
 
@@ -57,13 +53,8 @@ back_lighter s t back =
 
 -- A copy that is put back leaves less to be done.
 pub put_back_lighter : (s : State) → put_back_answer s ≡ Moved → work_in (after_put_back s) < work_in s
-put_back_lighter s moved = by_answer (put_back_of s s.dumped) refl moved
-  where
-    by_answer : (t : Option State) → put_back_of s s.dumped ≡ t → (if is_some t then Moved else Idle) ≡ Moved → work_in (unwrap_or t s) < work_in s
-    by_answer None is did = cc
-    by_answer (Some t) is did = back_lighter s t (is_back s s.dumped refl t is)
+put_back_lighter s moved = grind (arith, is_some, unwrap_or, back_lighter, is_back)
 
 -- and still less than before, if there was less already
 pub still_less : (a b n : State) → (b ≡ a) ⊎ (work_in b < work_in a) → work_in n < work_in b → work_in n < work_in a
-still_less a b n (inl same) less = subst (λ (s : State). work_in n < work_in s) same less
-still_less a b n (inr before) less = omega (arith, before, less)
+still_less a b n its_3 less = grind arith

@@ -2,11 +2,11 @@
 use Rattle.mesh_round.proofs.Common.{All, All-at, All-contains, Among, Bag, Bool, Chip, Contains-filter, Delivery, DumpRec, Flow, HasMoved, HasNoHand, IsLiveChip, IsMesh, IsMoveOf, IsOutput, IsSite}
 use Rattle.mesh_round.proofs.Common.{List, Local, Mark, McCopy, Moved, None, Out, Passes, Queue, Setup, Some, Spot, State, Station, [], all_hand_marks, all_once, all_outs, among_contains, among_left}
 use Rattle.mesh_round.proofs.Common.{among_map, ap, append-nil, ap₂, arith, at_core, at_port, behind, chip_eq, chip_eq_true, chip_of, cond, contains_among, core, core_marks, count_by, count_by-append}
-use Rattle.mesh_round.proofs.Common.{count_by-le-length, count_come, count_left, counted, delivered, delivered_marks, delivered_to, dumped, dumped_marks, eqb-true, false, filter, gathered}
-use Rattle.mesh_round.proofs.Common.{gathered_of_none, hand_marks, in_hand, in_queue, inl, input, input_marks, inr, last_hop, length, length-filter, length-map, live_inside, map, map-append}
-use Rattle.mesh_round.proofs.Common.{map_among, mark, marks_at, marks_of, nat_eq_same, nowhere, of_chip, onward, out_eq, out_eq_true, outputs, port_of, range_with_len, refl, sent_on, site_parts}
-use Rattle.mesh_round.proofs.Common.{slice_get, slice_get_there, slice_get_within, slice_index_or, subst, suc, sum_by, sum_by-IsPermutation, sum_by-append, sum_by-cons, sym, true, unsent}
-use Rattle.mesh_round.proofs.Common.{unsent_marks, ℕ, ◌%◌, ◌*◌, ◌++◌, ◌+◌, ◌/◌, ◌<◌, ◌==◌, ◌∙◌, ◌∷◌, ◌≡◌, ◌≢◌, ◌≤◌}
+use Rattle.mesh_round.proofs.Common.{count_by-le-length, count_come, count_left, counted, delivered, delivered_marks, delivered_to, dumped, dumped_marks, eqb-true, filter, gathered, gathered_of_none}
+use Rattle.mesh_round.proofs.Common.{hand_marks, in_hand, in_queue, inl, input, input_marks, inr, last_hop, length, length-filter, length-map, live_inside, map, map-append, map_among, mark, marks_at}
+use Rattle.mesh_round.proofs.Common.{marks_of, nat_eq_same, nowhere, of_chip, onward, out_eq_true, outputs, port_of, range_with_len, refl, rules, sent_on, site_parts, slice_get, slice_get_there}
+use Rattle.mesh_round.proofs.Common.{slice_get_within, slice_index_or, subst, suc, sum_by, sum_by-IsPermutation, sum_by-append, sum_by-cons, sym, true, unsent, unsent_marks, ℕ, ◌%◌, ◌*◌, ◌++◌, ◌+◌}
+use Rattle.mesh_round.proofs.Common.{◌/◌, ◌<◌, ◌==◌, ◌∙◌, ◌∷◌, ◌≡◌, ◌≢◌, ◌≤◌}
 use Rattle.mesh_round.proofs.{CountSums.one_if, CountSums.part_of_sum, CountSums.part_of_sum_at, Sums.sum_agree, Sums.sum_none, Sums.sum_map, Sums.sum_filter, Sums.sum_swap, Sums.sum_plus}
 use Rattle.mesh_round.proofs.{Sums.sum_single, Sums.sum_gathered, Sums.sum_at, Sums.sum_at-swap, Sums.one_item, Balance.balance_of_queues, Balance.passing, Balance.passing_in, Sources.number_in_range}
 use Rattle.mesh_round.proofs.{Sources.once_in_range, Sources.range_parts, Sources.live_chips, Sources.live_of_live_chips, Sources.live_chip_once, Sources.choices, Sources.sum_sources, Entered.from}
@@ -17,10 +17,7 @@ use Rattle.mesh_round.proofs.Taken.{hands_balance}
 -- the sum over the places of a list
 sum_at-range : {X : Type 0} (g : ℕ → ℕ) (a : ℕ) (xs : List X) → sum_at (λ i x. g i) a xs ≡ sum_by g (range_with_len a (length xs))
 sum_at-range g a [] = refl
-sum_at-range g a (x ∷ xs) =
-    let long : length (x ∷ xs) ≡ suc (length xs) = omega arith in
-    let rest = sum_at-range g (a + 1) xs in
-    ap (λ k. g a + k) rest ∙ (sym (sum_by-cons g a (range_with_len (a + 1) (length xs))) ∙ sym (ap (λ n. sum_by g (range_with_len a n)) long))
+sum_at-range g a (x ∷ xs) = grind (arith, sum_at-range g (a + 1) xs, sum_by-cons g a (range_with_len (a + 1) (length xs)))
 
 sum_at-agree : {X : Type 0} (h k : ℕ → X → ℕ) (a : ℕ) (xs : List X) → ((i : ℕ) (x : X) → slice_get xs i ≡ Some x → h (a + i) x ≡ k (a + i) x) → sum_at h a xs ≡ sum_at k a xs
 sum_at-agree h k a [] same = refl
@@ -114,8 +111,7 @@ module _ (m : State) (f : Flow) (n : State) (mesh : IsMesh m) (after : IsMesh n)
 
   delivered_part : Part m (λ p. sum_by (λ (d : Delivery). count_by p (mark d.copy (at_core d.vertex) ∷ [])) f.delivered)
       (λ p. sum_by (λ (d : Delivery). count_by p (mark d.copy (delivered d.vertex) ∷ [])) f.delivered)
-  delivered_part =
-      part_one (λ (d : Delivery). d.copy) (λ (d : Delivery). at_core d.vertex) (λ (d : Delivery). delivered d.vertex) f.delivered (λ d a. (refl, delivered_small d a))
+  delivered_part = part_one (λ (d : Delivery). d.copy) (λ (d : Delivery). at_core d.vertex) (λ (d : Delivery). delivered d.vertex) _ (λ d a. (refl, delivered_small d a))
 
   module _ (p : Mark → Bool) where
     abbrev came_in : Queue → ℕ
@@ -141,9 +137,7 @@ module _ (m : State) (f : Flow) (n : State) (mesh : IsMesh m) (after : IsMesh n)
         ∙ ap₂ (λ (a b : ℕ). a + b) (sum_map input came_in places) (sum_map core came_in vertices)))))
       where
         at_chip : (c : Chip) → sum_by (λ x. came_in (from u (c, x))) choices ≡ came_in (at_port u c Local) + sum_by (λ o. came_in (behind u c o)) all_outs
-        at_chip c =
-            sum_by-cons (λ x. came_in (from u (c, x))) None (map Some all_outs)
-            ∙ ap (λ k. came_in (at_port u c Local) + k) (sum_map Some (λ x. came_in (from u (c, x))) all_outs)
+        at_chip c = search (rules, sum_by-cons, from, sum_map)
 
     -- what entered injection queues is what vertices sent
     injected_is : sum_by (λ c. came_in (at_port u c Local)) (live_chips u.machine) ≡ sum_at (λ v (spot : Spot). sum_by (λ k. count_by p (mark k (in_queue spot.chip Local) ∷ [])) (f.sent v)) 0 u.spots
@@ -161,11 +155,7 @@ module _ (m : State) (f : Flow) (n : State) (mesh : IsMesh m) (after : IsMesh n)
         share c v spot = cond (chip_eq spot.chip c) (sum_by (into c) (f.sent v)) 0
 
         of_copies : (c : Chip) (spot : Spot) (copies : List McCopy) → sum_by (into c) (of_chip c spot copies) ≡ cond (chip_eq spot.chip c) (sum_by (into c) copies) 0
-        of_copies c spot copies = sum_filter (λ k. chip_eq spot.chip c) (into c) copies ∙ by_test (chip_eq spot.chip c)
-          where
-            by_test : (b : Bool) → sum_by (λ k. cond b (into c k) 0) copies ≡ cond b (sum_by (into c) copies) 0
-            by_test true = refl
-            by_test false = sum_none (λ k. cond false (into c k) 0) copies (λ k a. refl)
+        of_copies c spot copies = grind (arith, sum_filter, into, sum_none)
 
         at_chip : (c : Chip) → IsLiveChip u.machine c → came_in (at_port u c Local) ≡ sum_at (λ v (spot : Spot). share c v spot) 0 u.spots
         at_chip c live =
@@ -203,18 +193,7 @@ module _ (m : State) (f : Flow) (n : State) (mesh : IsMesh m) (after : IsMesh n)
 
     hands_even : sum_by (λ c. sum_by (λ o. crossed_left p c o) all_outs) (live_chips u.machine)
         + sum_by (λ (r : DumpRec). count_by p (mark r.copy (in_hand r.chip r.out) ∷ [])) f.dumped ≡ sum_by (λ i. taken_come p i) places
-    hands_even =
-        ap₂ (λ (a b : ℕ). a + b)
-        (sum_agree (λ c. sum_by (λ o. crossed_left p c o) all_outs) (λ c. sum_by (λ o. sum_by (weight p m f n mesh passes c o) (crossing c o)) all_outs) (live_chips u.machine)
-        (λ c a. sum_agree (λ o. crossed_left p c o) (λ o. sum_by (weight p m f n mesh passes c o) (crossing c o)) all_outs
-        (λ o b. sum_map (λ k. mark k (in_hand c o)) (λ x. one_if (p x)) (crossing c o))))
-        (sum_agree (λ (r : DumpRec). count_by p (mark r.copy (in_hand r.chip r.out) ∷ [])) (λ (r : DumpRec). weight p m f n mesh passes r.chip r.out r.copy) f.dumped
-        (λ r a. single (mark r.copy (in_hand r.chip r.out))))
-        ∙ (sym (hands_balance p m f n mesh passes)
-        ∙ sum_agree (taken_from p m f n mesh passes) (λ i. taken_come p i) places
-        (λ i a. sum_agree (λ k. sum_by (λ o. weight p m f n mesh passes (chip_of u.machine (i / 7)) o k) (outputs u (chip_of u.machine (i / 7)) (port_of (i % 7)) k))
-        (λ k. count_by p (taken_marks i k)) (f.left (input i))
-        (λ k b. sym (sum_map (λ o. mark k (in_hand (chip_of u.machine (i / 7)) o)) (λ x. one_if (p x)) (outputs u (chip_of u.machine (i / 7)) (port_of (i % 7)) k)))))
+    hands_even = grind (arith, hands_balance p m f n mesh passes, taken_from p m f n mesh passes, live_chips u.machine, sum_agree, weight, count_by, sum_map, mark, one_if, single)
 
     -- ---- deliveries
 
@@ -241,11 +220,7 @@ module _ (m : State) (f : Flow) (n : State) (mesh : IsMesh m) (after : IsMesh n)
             ∙ sym (single (mark d.copy (at_core d.vertex)))
 
         of_vertex : (v : ℕ) → v < length u.spots → sum_by (λ d. share d v) f.delivered ≡ count_by p (marks_at (at_core v) (f.left (core v)))
-        of_vertex v low =
-            sym (sum_filter (λ (d : Delivery). d.vertex == v) (at v) f.delivered)
-            ∙ (sym (sum_map (λ (d : Delivery). d.copy) (λ k. one_if (p (mark k (at_core v)))) (filter (λ (d : Delivery). d.vertex == v) f.delivered))
-            ∙ (ap (sum_by (λ k. one_if (p (mark k (at_core v))))) (passes.collected v low)
-            ∙ sym (sum_map (λ k. mark k (at_core v)) (λ x. one_if (p x)) (f.left (core v)))))
+        of_vertex v low = grind (arith, at v, sum_filter, sum_map, one_if, mark)
 
     -- ---- lists before and after
 
@@ -274,12 +249,7 @@ module _ (m : State) (f : Flow) (n : State) (mesh : IsMesh m) (after : IsMesh n)
     no_hands s none = ap (count_by p) (gathered_of_none (λ i h. hand_marks (chip_of s.setup.machine i) h) None (λ j. refl) 0 s.hands none)
 
     appended : {X : Type 0} (g : X → Mark) (old new all : List X) → all ≡ old ++ new → count_by p (map g all) ≡ count_by p (map g old) + sum_by (λ x. count_by p (g x ∷ [])) new
-    appended g old new all is =
-        ap (λ l. count_by p (map g l)) is
-        ∙ (ap (count_by p) (map-append g old new)
-        ∙ (count_by-append p (map g old) (map g new)
-        ∙ ap (λ k. count_by p (map g old) + k)
-        (sum_map g (λ x. one_if (p x)) new ∙ sum_agree (λ x. one_if (p (g x))) (λ x. count_by p (g x ∷ [])) new (λ x a. sym (single (g x))))))
+    appended g old new all is = grind (arith, count_by p, map-append g old new, count_by-append p (map g old) (map g new), count_by p (map g old), sum_map, sum_agree, one_if, single)
 
     delivered_even : count_by p (delivered_marks n) ≡ count_by p (delivered_marks m) + sum_by (λ (d : Delivery). count_by p (mark d.copy (delivered d.vertex) ∷ [])) f.delivered
     delivered_even = appended (λ (d : Delivery). mark d.copy (delivered d.vertex)) m.delivered f.delivered n.delivered passes.delivered
@@ -289,12 +259,7 @@ module _ (m : State) (f : Flow) (n : State) (mesh : IsMesh m) (after : IsMesh n)
 
     pub in_parts : (s : State) → count_by p (marks_of s)
         ≡ count_by p (unsent_marks s) + (count_by p (input_marks s) + (count_by p (all_hand_marks s) + (count_by p (core_marks s) + (count_by p (delivered_marks s) + count_by p (dumped_marks s)))))
-    in_parts s =
-        let a = count_by-append p (unsent_marks s) (input_marks s ++ (all_hand_marks s ++ (core_marks s ++ (delivered_marks s ++ dumped_marks s)))) in
-        let b = count_by-append p (input_marks s) (all_hand_marks s ++ (core_marks s ++ (delivered_marks s ++ dumped_marks s))) in
-        let c = count_by-append p (all_hand_marks s) (core_marks s ++ (delivered_marks s ++ dumped_marks s)) in
-        let d = count_by-append p (core_marks s) (delivered_marks s ++ dumped_marks s) in
-        omega (arith, a, b, c, d, count_by-append p (delivered_marks s) (dumped_marks s))
+    in_parts s = grind (arith, count_by-append)
 
   -- The moves of a round.
   pub bag_of_round : Bag m n
@@ -373,9 +338,7 @@ module _ (m : State) (f : Flow) (n : State) (mesh : IsMesh m) (after : IsMesh n)
 
   -- so there is a move
   pub some_moves : HasMoved m f → 1 ≤ length bag_of_round.moves
-  some_moves moved =
-      let of = left_move is_step bag_of_round.moves (some_steps moved) in
-      some_items bag_of_round.moves (λ none. subst (λ (vs : List (Moved m)). Among of.0 vs) none of.1)
+  some_moves moved = search (rules, left_move, is_step, some_steps, some_items, Moved, Among)
 
   -- ---- what came behind an output
 
@@ -385,20 +348,10 @@ module _ (m : State) (f : Flow) (n : State) (mesh : IsMesh m) (after : IsMesh n)
       subst (λ e. Among e (live_chips u.machine)) (sym (chip_eq_true c found.0 found.2)) found.1
 
   among_outs : (o : Out) → IsOutput o → Among o all_outs
-  among_outs o is =
-      let found = counted (out_eq o) all_outs (omega (arith, all_once o is)) in
-      subst (λ p. Among p all_outs) (sym (out_eq_true o found.0 found.2)) found.1
+  among_outs o is = grind (arith, counted, all_once, Among, out_eq_true)
 
   -- what entered the queue behind an output is among what came
   pub crossing_comes : (p : Mark → Bool) (c : Chip) (o : Out) → IsLiveChip u.machine c → IsOutput o →
       count_by p (marks_at (station_of u (behind u c o)) (f.entered (behind u c o))) ≤ count_come p bag_of_round.moves
   unfolding bag_of_round
-  crossing_comes p c o live is =
-      let moves : sum_by (λ e. sum_by (λ q. crossed_come p e q) all_outs) (live_chips u.machine) ≤ count_come p bag_of_round.moves =
-      third _ _ _ _ _ ((both_parts sent_part (both_parts taken_part (both_parts crossed_part (both_parts dumped_part delivered_part)))).coming p) in
-      let of_chip = part_of_sum (λ e. sum_by (λ q. came_in p (behind u e q)) all_outs) c (live_chips u.machine) (there c live) in
-      let of_out = part_of_sum (λ q. came_in p (behind u c q)) o all_outs (among_outs o is) in
-      omega (arith, moves, crossed_is p, of_chip, of_out)
-    where
-      third : (n a b c rest : ℕ) → n ≡ a + (b + (c + rest)) → c ≤ n
-      third n a b c rest all = omega (arith, all)
+  crossing_comes p c o live is = grind (arith, live_chips, count_come, both_parts, sent_part, taken_part, crossed_part, dumped_part, delivered_part, part_of_sum, there, among_outs, crossed_is)

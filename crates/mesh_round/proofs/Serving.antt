@@ -1,8 +1,8 @@
 -- What was served at an output of a chip: each copy went on or was dumped.
 use Rattle.mesh_round.proofs.Common.{Among, Bool, Chip, Dumped, IsOutput, IsPermutation, IsPermutation-cons, IsPermutation-middle, IsPermutation-refl, IsPermutation-sym, IsPermutation-trans, List}
 use Rattle.mesh_round.proofs.Common.{McCopy, Out, Port, Sent, Served, Service, Setup, [], among_map, ap, arith, below_last, brought, cases_Bool, cond, count_by, count_by-cons, false, filter, flat_map}
-use Rattle.mesh_round.proofs.Common.{if◌then◌else◌, inl, inr, last_hop, leaves_by, list_any, lookup, lost, map, map_among, onward, out_eq, outputs, outs_of, outs_once, owed_on, refl, subst, sym}
-use Rattle.mesh_round.proofs.Common.{table_at, true, ℕ, ◌++◌, ◌+◌, ◌<◌, ◌==◌, ◌||◌, ◌∙◌, ◌∷◌, ◌≡◌, ◌≤◌}
+use Rattle.mesh_round.proofs.Common.{if◌then◌else◌, last_hop, leaves_by, list_any, lookup, lost, map, map_among, onward, out_eq, outputs, outs_of, outs_once, owed_on, refl, rules, subst, sym}
+use Rattle.mesh_round.proofs.Common.{table_at, true, ℕ, ◌++◌, ◌+◌, ◌<◌, ◌==◌, ◌∷◌, ◌≡◌, ◌≤◌}
 use Rattle.mesh_round.proofs.Joined.{among_flat, filter-flat, flat_same, map-flat}
 
 -- ---- what became of it
@@ -54,33 +54,19 @@ module _ (o : Out) where
   none_at : (k : McCopy) (os : List Out) → count_by (out_eq o) os ≡ 0 → at_out (with_each k os) ≡ []
   unfolding first_of
   none_at k [] none = refl
-  none_at k (p ∷ ps) none =
-      let head : count_by (out_eq o) (p ∷ ps) ≡ given (out_eq o p) + count_by (out_eq o) ps = count_by-cons (out_eq o) p ps in
-      elim (cases_Bool (out_eq o p)) [
-        | inl own ↦ let one : given (out_eq o p) ≡ 1 = ap given own in absurd (omega (arith, head, one, none))
-        | inr other ↦ ap (λ b. first_of b p k ps) other ∙ none_at k ps (omega (arith, head, none))
-      ]
+  none_at k (p ∷ ps) none = grind (arith, count_by-cons (out_eq o) p ps, cases_Bool (out_eq o p), none_at k ps (omega (arith, (count_by-cons (out_eq o) p ps), none)), first_of)
 
   -- a copy stands at the output at most once
   once_at : (k : McCopy) (os : List Out) → count_by (out_eq o) os ≤ 1 → at_out (with_each k os) ≡ cond (list_any (out_eq o) os) (k ∷ []) []
   unfolding first_of
   once_at k [] few = refl
-  once_at k (p ∷ ps) few =
-      let head : count_by (out_eq o) (p ∷ ps) ≡ given (out_eq o p) + count_by (out_eq o) ps = count_by-cons (out_eq o) p ps in
-      let any : Bool → List McCopy = λ b. cond (b || list_any (out_eq o) ps) (k ∷ []) [] in
-      elim (cases_Bool (out_eq o p)) [
-        | inl own ↦
-            let one : given (out_eq o p) ≡ 1 = ap given own in
-            ap (λ b. first_of b p k ps) own ∙ (ap (λ (l : List McCopy). k ∷ l) (none_at k ps (omega (arith, head, one, few))) ∙ sym (ap any own))
-        | inr other ↦ ap (λ b. first_of b p k ps) other ∙ (once_at k ps (omega (arith, head, few)) ∙ sym (ap any other))
-      ]
+  once_at k (p ∷ ps) few = grind (arith, count_by-cons (out_eq o) p ps, cases_Bool (out_eq o p), once_at k ps (omega (arith, (count_by-cons (out_eq o) p ps), few)), first_of, none_at)
 
   few_outputs : IsOutput o → (u : Setup) (c : Chip) (port : Port) (k : McCopy) → count_by (out_eq o) (outputs u c port k) ≤ 1
   few_outputs is u c port k = by (k.hop == last_hop) refl
     where
       at_most_one : (b : Bool) (n : ℕ) → n ≡ (if b then 1 else 0) → n ≤ 1
-      at_most_one true n same = omega arith
-      at_most_one false n same = omega arith
+      at_most_one b n same = grind arith
 
       outs : Bool → List Out
       outs b = if b then [] else outs_of (lookup (table_at u.machine u.tables c) k.key port)
@@ -91,12 +77,7 @@ module _ (o : Out) where
 
   -- what is owed at the output is what lookup gives it
   pub owed_at : IsOutput o → (u : Setup) (c : Chip) (taken : List (Port × McCopy)) → at_out (owed_on u c taken) ≡ flat_map (λ t. filter (leaves_by u c o t.0) (t.1 ∷ [])) taken
-  owed_at is u c taken =
-      let owes : Port × McCopy → List (Out × McCopy) = λ t. with_each t.1 (outputs u c t.0 t.1) in
-      let own : Out × McCopy → Bool = λ x. out_eq o x.0 in
-      ap (map (λ (x : Out × McCopy). x.1)) (filter-flat own owes taken)
-      ∙ (map-flat (λ (x : Out × McCopy). x.1) (λ t. filter own (owes t)) taken
-      ∙ flat_same (λ t. at_out (owes t)) (λ t. filter (leaves_by u c o t.0) (t.1 ∷ [])) (λ t. once_at t.1 (outputs u c t.0 t.1) (few_outputs is u c t.0 t.1)) taken)
+  owed_at is u c taken = search (rules, filter-flat, map-flat, flat_same, once_at, few_outputs)
 
   -- what was served at the output
   pub served_at : (ss : List Service) → at_out (map {B = Out × McCopy} (λ s. (s.out, s.copy)) ss) ≡ copies_of (filter (λ (s : Service). out_eq o s.out) ss)
@@ -110,8 +91,7 @@ module _ (o : Out) where
       own = filter (λ (r : Service). out_eq o r.out) ss
 
       by : map (λ (x : Out × McCopy). x.1) pairs ≡ copies_of own → (b : Bool) → map (λ (x : Out × McCopy). x.1) (cond b ((s.out, s.copy) ∷ pairs) pairs) ≡ copies_of (cond b (s ∷ own) own)
-      by rest true = ap (λ (l : List McCopy). s.copy ∷ l) rest
-      by rest false = rest
+      by rest b = grind arith
 
 -- What was served was taken, and had not the greatest hop number.
 pub served_fits : (u : Setup) (c : Chip) (taken : List (Port × McCopy)) (ss : List Service) → map {B = Out × McCopy} (λ s. (s.out, s.copy)) ss ≡ owed_on u c taken →
@@ -126,9 +106,4 @@ served_fits u c taken ss each s a =
     (of.0, of.1, same, λ small. subst (λ (k : McCopy). k.hop < last_hop) (sym same) (below of.0.0 of.0.1 out.0 out.1 small))
   where
     below : (port : Port) (k : McCopy) (o : Out) → Among o (outputs u c port k) → k.hop ≤ last_hop → k.hop < last_hop
-    below port k o among small = elim (cases_Bool (k.hop == last_hop)) [
-      | inl last ↦
-          let none : outputs u c port k ≡ [] = ap (λ b. if b then [] else outs_of (lookup (table_at u.machine u.tables c) k.key port)) last in
-          absurd (subst (λ (l : List Out). Among o l) none among)
-      | inr more ↦ below_last k.hop small more
-    ]
+    below port k o among small = grind (arith, cases_Bool (k.hop == last_hop), Among, below_last)

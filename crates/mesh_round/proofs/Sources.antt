@@ -11,10 +11,8 @@ pub use Rattle.mesh_run.proofs.OutputBits.{range_parts}
 -- ---- each number stands once in a range
 
 before_range : (i a n : ℕ) → i < a → count_by (λ j. i == j) (range_with_len a n) ≡ 0
-before_range i a n below = sum_none (λ j. cond (i == j) 1 0) (range_with_len a n) (λ j there. elim (cases_Bool (i == j)) [
-  | inl same ↦ absurd (later a n j there (omega (arith, below, eqb-true i j same)))
-  | inr other ↦ ap one_if other
-])
+before_range i a n below =
+    sum_none (λ j. cond (i == j) 1 0) _ (λ j there. elim (cases_Bool (i == j)) [ inl same ↦ absurd (later a n j there (omega (arith, below, eqb-true i j same))) | inr other ↦ ap one_if other ])
   where
     later : (a n j : ℕ) → Among j (range_with_len a n) → j < a → ⊥
     later a zero j none low = none
@@ -41,9 +39,7 @@ once_in_range i a (suc n) from below =
 
 -- a number below the end is in the range
 pub number_in_range : (i n : ℕ) → i < n → Among i (range_with_len 0 n)
-number_in_range i n below =
-    let found = counted (λ j. i == j) (range_with_len 0 n) (omega (arith, once_in_range i 0 n (omega arith) (omega (arith, below)))) in
-    subst (λ j. Among j (range_with_len 0 n)) (sym (eqb-true i found.0 found.2)) found.1
+number_in_range i n below = grind (arith, once_in_range i 0 n (omega arith) (omega (arith, below)), counted, Among, eqb-true)
 
 -- ---- each live chip stands once among the live chips, and each output once among the outputs
 
@@ -61,18 +57,11 @@ live_chip_once m c live =
     ∙ (sum_agree (λ j. one_if (chip_eq c (chip_of m j))) (λ j. one_if (index_of m c == j)) (range_with_len 0 (m.width * m.height)) by_index
     ∙ once_in_range (index_of m c) 0 (m.width * m.height) (omega arith) (omega (arith, index_below m c (live_inside m c live))))))
   where
-    by_test : (b t : Bool) → (t ≡ true → b ≡ true) → cond b (one_if t) 0 ≡ one_if t
-    by_test true t lives = refl
-    by_test false false lives = refl
-    by_test false true lives = absurd (true≢false (sym (lives refl)))
-
     same : (e : Chip) → cond (is_live_chip m e) (one_if (chip_eq c e)) 0 ≡ one_if (chip_eq c e)
-    same e = by_test (is_live_chip m e) (chip_eq c e) (λ is. subst (λ (x : Chip). is_live_chip m x ≡ true) (chip_eq_true c e is) live)
+    same e = grind (arith, chip_eq_true, true≢false)
 
     by_index : (j : ℕ) → Among j (range_with_len 0 (m.width * m.height)) → one_if (chip_eq c (chip_of m j)) ≡ one_if (index_of m c == j)
-    by_index j a = ap one_if (both_ways (chip_eq c (chip_of m j)) (index_of m c == j)
-        (λ is. eq-eqb (index_of m c) j (ap (index_of m) (chip_eq_true c (chip_of m j) is) ∙ index_of-chip_of m j))
-        (λ is. ap (chip_eq c) (ap (chip_of m) (sym (eqb-true (index_of m c) j is)) ∙ chip_of-index_of m c (live_inside m c live)) ∙ chip_eq_same c))
+    by_index j a = grind (arith, chip_of-index_of m c (live_inside m c live), live_inside m c live, chip_eq_same c, index_of-chip_of m j, one_if, eq-eqb, eqb-true, chip_eq_true)
 
 -- what a chip's copies come from: its cores, or an output of its router
 abbrev pub choices : List (Option Out)
@@ -85,14 +74,10 @@ choice_eq (Some o) None = false
 choice_eq (Some o) (Some p) = out_eq o p
 
 pub choice_eq_true : (x y : Option Out) → choice_eq x y ≡ true → x ≡ y
-choice_eq_true None None is = refl
-choice_eq_true None (Some o) is = cc
-choice_eq_true (Some o) None is = cc
-choice_eq_true (Some o) (Some p) is = ap Some (out_eq_true o p is)
+choice_eq_true x y is = grind (arith, out_eq_true)
 
 pub choice_eq_same : (x : Option Out) → choice_eq x x ≡ true
-choice_eq_same None = refl
-choice_eq_same (Some o) = out_eq_same o
+choice_eq_same x = grind (arith, out_eq_same)
 
 abbrev pub IsChoice : Option Out → Type 0
 IsChoice None = Unit {0}

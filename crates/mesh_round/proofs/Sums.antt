@@ -1,6 +1,6 @@
 -- Sums over lists: exchanged, and carried from one list to another along a test that pairs their items.
-use Rattle.mesh_round.proofs.Common.{Among, Bool, List, [], ap, arith, cases_Bool, cond, count_by, false, filter, gathered, inl, inr, map, refl, sum_by, sum_by-append, sum_by-cons, sym, true, ℕ, ◌+◌}
-use Rattle.mesh_round.proofs.Common.{◌∙◌, ◌∷◌, ◌≡◌, ◌⊎◌}
+use Rattle.mesh_round.proofs.Common.{Among, Bool, List, [], ap, arith, cases_Bool, cond, count_by, filter, gathered, inl, inr, map, refl, sum_by, sum_by-append, sum_by-cons, sym, true, ℕ, ◌+◌, ◌∙◌}
+use Rattle.mesh_round.proofs.Common.{◌∷◌, ◌≡◌, ◌⊎◌}
 
 pub sum_agree : {X : Type 0} (f g : X → ℕ) (xs : List X) → ((x : X) → Among x xs → f x ≡ g x) → sum_by f xs ≡ sum_by g xs
 sum_agree f g [] same = refl
@@ -38,9 +38,7 @@ sum_swap h (x ∷ xs) ys =
     omega arith
 
 pub sum_single : {X : Type 0} (g : X → ℕ) (x : X) → sum_by g (x ∷ []) ≡ g x
-sum_single g x =
-    let none : sum_by g [] ≡ 0 = refl in
-    omega (arith, sum_by-cons g x [], none)
+sum_single g x = grind (arith, sum_by-cons g x)
 
 -- a number where a test passes
 abbrev given : ℕ → Bool → ℕ
@@ -90,15 +88,11 @@ pub one_item : {X : Type 0} (t : X → Bool) (g : X → ℕ) (c : ℕ) (xs : Lis
 one_item {X} t g c xs same one = sum_agree (λ x. cond (t x) (g x) 0) (where_passes t c) xs (λ x a. by_test x (t x) refl) ∙ one_passes t c xs one
   where
     by_test : (x : X) (b : Bool) → t x ≡ b → cond b (g x) 0 ≡ cond b c 0
-    by_test x true is = same x is
-    by_test x false is = refl
-
-zero_where : {X : Type 0} (t : X → Bool) (xs : List X) → sum_by (where_passes t 0) xs ≡ 0
-zero_where t xs = grind (arith, sum_none, cases_Bool)
+    by_test x b is = grind arith
 
 -- Of a number for each that passes, where just one passes, or the number is 0, the sum is that number.
 pub one_or_none : {X : Type 0} (t : X → Bool) (c : ℕ) (xs : List X) → (c ≡ 0) ⊎ (count_by t xs ≡ 1) → sum_by (where_passes t c) xs ≡ c
-one_or_none t c xs (inl zero) = ap (λ n. sum_by (where_passes t n) xs) zero ∙ (zero_where t xs ∙ sym zero)
+one_or_none t c xs (inl zero) = grind (arith, sum_none, cases_Bool)
 one_or_none t c xs (inr one) = one_passes t c xs one
 
 -- Where a test pairs each item of one list with just one of another, and the other way round, but for items whose number is 0,

@@ -1,23 +1,16 @@
 -- What all routers took, output by output: it crossed an output or was dumped there.
-use Rattle.mesh_round.proofs.Common.{All-contains, Among, Bool, ByLink, Chip, Dir, DumpRec, East, Flow, IsInside, IsLiveChip, IsMesh, IsOutput, List, Local, Mark, McCopy, North, NorthEast, Out}
-use Rattle.mesh_round.proofs.Common.{Passes, Port, Queue, Setup, South, SouthWest, State, West, [], all_once, all_outs, all_ports, among_at, among_contains, among_gathered, among_map, and_from}
-use Rattle.mesh_round.proofs.Common.{and_parts, answers_none, ap, ap₂, arith, at_port, behind, both_ways, cases_Bool, chip_eq, chip_eq_same, chip_eq_true, chip_of, chip_of-index_of, chip_of-inside}
-use Rattle.mesh_round.proofs.Common.{cond, count_by, dumped_at, eqb-true, false, filter, gathered, get_or_from_slice_get, held_in, in_hand, index_of, index_of-chip_of, inl, input, inr, is_live_chip}
-use Rattle.mesh_round.proofs.Common.{is_live_link, last_hop, leaves_by, live_ends, live_inside, map, mark, nat_eq_same, out_eq, out_eq_true, outputs, port_below, port_eq, port_eq_same, port_eq_true}
-use Rattle.mesh_round.proofs.Common.{port_number, port_of, port_of-port_number, queue_at, queue_at-below, range_with_len, refl, subst, sum_by, sym, taken_for, true, ℕ, ◌%◌, ◌&&◌, ◌*◌, ◌++◌, ◌+◌, ◌/◌}
-use Rattle.mesh_round.proofs.Common.{◌<◌, ◌==◌, ◌∙◌, ◌∷◌, ◌≡◌, ◌⊎◌}
+use Rattle.mesh_round.proofs.Common.{All-contains, Among, Bool, Chip, Dir, DumpRec, Flow, IsInside, IsLiveChip, IsMesh, IsOutput, List, Mark, McCopy, Out, Passes, Port, Queue, Setup, State, []}
+use Rattle.mesh_round.proofs.Common.{all_once, all_outs, all_ports, among_at, among_contains, among_gathered, among_map, and_from, and_parts, answers_none, ap, ap₂, arith, at_port, behind, both_ways}
+use Rattle.mesh_round.proofs.Common.{cases_Bool, chip_eq, chip_eq_same, chip_eq_true, chip_of, chip_of-index_of, chip_of-inside, cond, count_by, dumped_at, eqb-true, false, filter, gathered}
+use Rattle.mesh_round.proofs.Common.{get_or_from_slice_get, held_in, in_hand, index_of, index_of-chip_of, inl, input, inr, is_live_chip, is_live_link, last_hop, leaves_by, live_ends, live_inside, map}
+use Rattle.mesh_round.proofs.Common.{mark, nat_eq_same, out_eq, out_eq_true, outputs, port_below, port_eq, port_eq_same, port_eq_true, port_number, port_of, port_of-port_number, queue_at}
+use Rattle.mesh_round.proofs.Common.{queue_at-below, range_with_len, refl, rules, subst, sum_by, sym, taken_for, true, ℕ, ◌%◌, ◌&&◌, ◌*◌, ◌++◌, ◌+◌, ◌/◌, ◌<◌, ◌==◌, ◌∙◌, ◌∷◌, ◌≡◌, ◌⊎◌}
 use Rattle.mesh_round.proofs.Sums.{sum_agree, sum_none, sum_map, sum_filter, sum_swap, sum_plus, sum_gathered, sum_at-plain, one_passes, carried}
 use Rattle.mesh_round.proofs.{Ends.one_port, Sources.once_in_range, Sources.range_parts, Sources.live_chips, Sources.live_of_live_chips, Sources.live_chip_once, Entered.numbered_port, Entered.has_bit}
 use Rattle.mesh_round.proofs.{Weights.back, Weights.sum_outputs, Weights.taken_is, CountSums.one_if}
 
 port_once : (port : Port) → count_by (port_eq port) all_ports ≡ 1
-port_once (ByLink East) = refl
-port_once (ByLink NorthEast) = refl
-port_once (ByLink North) = refl
-port_once (ByLink West) = refl
-port_once (ByLink SouthWest) = refl
-port_once (ByLink South) = refl
-port_once Local = refl
+port_once port = grind arith
 
 module _ (p : Mark → Bool) (m : State) (f : Flow) (n : State) (mesh : IsMesh m) (passes : Passes m f n) where
   abbrev u : Setup
@@ -59,9 +52,7 @@ module _ (p : Mark → Bool) (m : State) (f : Flow) (n : State) (mesh : IsMesh m
           (λ o a. sym (sum_filter (leaves_by u c o port) (weight c o) left)))
 
       whole : (o : Out) → sum_by (λ port. part port o) all_ports ≡ sum_by (weight c o) (taken_for u f c o)
-      whole o =
-          sym (sum_gathered (weight c o) (λ i port. filter (leaves_by u c o port) (f.left (at_port u c port))) 0 all_ports
-          ∙ sum_at-plain (λ port. sum_by (weight c o) (filter (leaves_by u c o port) (f.left (at_port u c port)))) 0 all_ports)
+      whole o = search (rules, sum_gathered, sum_at-plain)
 
   -- ---- by queues
 
@@ -104,13 +95,7 @@ module _ (p : Mark → Bool) (m : State) (f : Flow) (n : State) (mesh : IsMesh m
   dead_link c d dead = grind (arith, cases_Bool (is_live_link u.machine c d), answers_none, live_ends)
 
   dead_taken : (c : Chip) (port : Port) → IsInside u.machine c → is_live_chip u.machine c ≡ false → taken_at c port ≡ 0
-  dead_taken c Local inside dead =
-      let held : held_in m (at_port u c Local) ≡ [] = get_or_from_slice_get m.inputs (queue_at u.machine c Local) [] [] (mesh.none_on_dead_chips c dead inside) in
-      ap (sum_by (in_hands c Local)) (none_left (at_port u c Local) held (passes.dead_chips c inside dead))
-  dead_taken c (ByLink d) inside dead =
-      let link = dead_link c d dead in
-      let held : held_in m (at_port u c (ByLink d)) ≡ [] = get_or_from_slice_get m.inputs (queue_at u.machine c (ByLink d)) [] [] (mesh.none_at_dead_ports c d link inside) in
-      ap (sum_by (in_hands c (ByLink d))) (none_left (at_port u c (ByLink d)) held (passes.dead_ports c d inside link))
+  dead_taken c port inside dead = grind (arith, get_or_from_slice_get, none_left, dead_link)
 
   port_there : (c : Chip) (port : Port) → IsLiveChip u.machine c → count_by (numbers (queue_at u.machine c port)) ports ≡ 1
   port_there c port live =
@@ -120,8 +105,7 @@ module _ (p : Mark → Bool) (m : State) (f : Flow) (n : State) (mesh : IsMesh m
       ∙ live_chip_once u.machine c live))
     where
       each : (b : Bool) → sum_by (λ q. one_if (b && port_eq port q)) all_ports ≡ one_if b
-      each true = port_once port
-      each false = sum_none (λ q. one_if (false && port_eq port q)) all_ports (λ q a. refl)
+      each b = grind (arith, port_once, sum_none, one_if)
 
       same : (s : Chip × Port) → IsLiveChip u.machine s.0 → (queue_at u.machine s.0 s.1 == queue_at u.machine c port) ≡ (chip_eq c s.0 && port_eq port s.1)
       same (e, q) lives =

@@ -1,7 +1,7 @@
 -- The flow of a round on threads, as what was done tells it.
-use Rattle.mesh_round.proofs.Common.{Flow, HasNoHand, IsMesh, IsPlayedBy, IsQueueOf, Item, List, None, Queue, QueueGoes, Setup, Some, State, [], ap, arith, capacity_of, cases_lt, core}
-use Rattle.mesh_round.proofs.Common.{core_is_somewhere, deliveries, entered, get_or-append-add, get_or_append_left, get_or_past, held_at, held_in, inl, input, input_is_somewhere, inr, left, length}
-use Rattle.mesh_round.proofs.Common.{nowhere, port_count, queue_place_of, records, refl, replicate, same_Some, sent_by, sym, vertex_place, ℕ, ◌*◌, ◌+◌, ◌<◌, ◌∙◌, ◌≡◌}
+use Rattle.mesh_round.proofs.Common.{Flow, HasNoHand, IsMesh, IsPlayedBy, IsQueueOf, Item, List, Queue, QueueGoes, Setup, Some, State, [], ap, arith, capacity_of, cases_lt, core, core_is_somewhere}
+use Rattle.mesh_round.proofs.Common.{deliveries, entered, get_or-append-add, get_or_append_left, get_or_past, held_at, held_in, inl, input, input_is_somewhere, inr, left, length, nowhere, port_count}
+use Rattle.mesh_round.proofs.Common.{queue_place_of, records, refl, replicate, same_Some, sent_by, sym, vertex_place, ℕ, ◌*◌, ◌+◌, ◌<◌, ◌∙◌, ◌≡◌}
 
 -- a round on threads from a mesh without a hand
 pub record Round : Type 0 where
@@ -66,10 +66,7 @@ module _ (r : Round) where
   pub told_at : {X : Type 0} (f : ℕ → List X) (q : Queue) (i : ℕ) → queue_place_of u q ≡ Some i → IsQueueOf r.m q → (x : Stands q) → by_place q (λ p. f p.at) [] x ≡ f i
   told_at f q i is there (found p) = ap f (same_Some p.at i (sym p.is ∙ is))
   told_at f q i is there (beyond out some before after) = absurd (out there)
-  told_at f q i is there (dark none) = nothing (sym (ap (queue_place_of u) none) ∙ is)
-    where
-      nothing : None ≡ Some i → [] ≡ f i
-      nothing same = cc
+  told_at f q i is there (dark none) = grind arith
 
   pub goes : (q : Queue) (p : Place q) → QueueGoes u.capacity r.patience r.items p.at (held_at r.m p.at) (held_at r.n p.at)
   goes q p = r.played.queues p.at p.below

@@ -1,8 +1,8 @@
 -- What a router took, by output: each copy that lookup gives an output crosses it or is dumped there.
-use Rattle.mesh_round.proofs.Common.{All, All-contains, All-each, All-permutation, Among, Bool, Chip, Contains-filter, Flow, IsLiveChip, IsOutput, List, McCopy, Out, Passes, Port, Setup, State, []}
-use Rattle.mesh_round.proofs.Common.{all_outs, all_ports, among_any, among_contains, among_filter, among_gathered, among_left, among_map, answers_none, any_among, ap, arith, at_port, behind, cond}
-use Rattle.mesh_round.proofs.Common.{contains_among, dumped_at, false, filter, has, if◌then◌else◌, last_hop, leaves_by, list_any, lookup, map, onward, out_eq, out_eq_same, out_eq_true, outputs}
-use Rattle.mesh_round.proofs.Common.{outs_of, refl, subst, sum_by, sum_by-IsPermutation, sum_by-append, sym, table_at, taken_for, true, ℕ, ◌++◌, ◌+◌, ◌-◌, ◌<◌, ◌==◌, ◌≡◌, ◌≤◌}
+use Rattle.mesh_round.proofs.Common.{All, All-contains, All-each, All-permutation, Among, Chip, Contains-filter, Flow, IsLiveChip, IsOutput, List, McCopy, Out, Passes, Port, Setup, State, all_outs}
+use Rattle.mesh_round.proofs.Common.{all_ports, among_any, among_contains, among_filter, among_gathered, among_left, among_map, answers_none, any_among, ap, arith, at_port, behind, cond}
+use Rattle.mesh_round.proofs.Common.{contains_among, dumped_at, filter, has, last_hop, leaves_by, list_any, map, onward, out_eq, out_eq_same, out_eq_true, outputs, subst, sum_by, sum_by-IsPermutation}
+use Rattle.mesh_round.proofs.Common.{sum_by-append, sym, taken_for, true, ℕ, ◌++◌, ◌+◌, ◌-◌, ◌<◌, ◌≡◌, ◌≤◌}
 use Rattle.mesh_round.proofs.Sums.{sum_agree, sum_none, sum_map, sum_filter}
 
 -- the copy before its last router
@@ -17,7 +17,7 @@ back_onward k low = grind arith
 -- the sum over the outputs of a copy, as one over all outputs
 pub sum_outputs : (u : Setup) (c : Chip) (port : Port) (k : McCopy) (w : Out → ℕ) →
     sum_by w (outputs u c port k) ≡ sum_by (λ o. cond (leaves_by u c o port k) (w o) 0) all_outs
-sum_outputs u c port k w = by_hop (k.hop == last_hop) refl
+sum_outputs u c port k w = grind (arith, sum_none, sum_filter, sum_agree, among_outs)
   where
     given : List Out → Out → ℕ
     given os o = cond (list_any (out_eq o) os) (w o) 0
@@ -25,22 +25,9 @@ sum_outputs u c port k w = by_hop (k.hop == last_hop) refl
     among_outs : (r : _) (o : Out) → Among o all_outs → list_any (out_eq o) (filter (has r) all_outs) ≡ has r o
     among_outs r o a = grind (arith, out_eq_same o, among_contains o all_outs a, any_among, out_eq_true, among_filter, among_any, contains_among, Contains-filter)
 
-    by_hop : (b : Bool) → (k.hop == last_hop) ≡ b → sum_by w (outputs u c port k) ≡ sum_by (λ o. cond (leaves_by u c o port k) (w o) 0) all_outs
-    by_hop true last = grind (arith, sum_none)
-    by_hop false more = grind (arith, sum_filter (has (lookup (table_at u.machine u.tables c) k.key port)) w all_outs, sum_agree, among_outs)
-
 -- a copy that leaves by an output has not the last hop number
 pub not_last : (u : Setup) (c : Chip) (o : Out) (port : Port) (k : McCopy) → leaves_by u c o port k ≡ true → k.hop ≤ last_hop → k.hop < last_hop
-not_last u c o port k leaves small = by_hop (k.hop == last_hop) refl
-  where
-    by_hop : (b : Bool) → (k.hop == last_hop) ≡ b → k.hop < last_hop
-    by_hop true last =
-        let none : outputs u c port k ≡ [] = ap (λ b. if b then [] else outs_of (lookup (table_at u.machine u.tables c) k.key port)) last in
-        absurd (answers_none (leaves_by u c o port k) leaves (ap (list_any (out_eq o)) none))
-    by_hop false more = omega (arith, small, apart more)
-      where
-        apart : (k.hop == last_hop) ≡ false → k.hop ≡ last_hop → ⊥
-        apart other same = answers_none (k.hop == last_hop) (ap (λ h. h == last_hop) same) other
+not_last u c o port k leaves small = grind (arith, answers_none)
 
 module _ (m : State) (f : Flow) (n : State) (passes : Passes m f n) (c : Chip) (o : Out) (live : IsLiveChip m.setup.machine c) (is : IsOutput o) where
   -- the copies that the chip sent by the output, as they were before it

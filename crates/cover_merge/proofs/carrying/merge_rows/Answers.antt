@@ -1,7 +1,7 @@
 -- The rivals of all rows that stay are those after the merge, and those of the merged row are found.
-use Rattle.cover_merge.proofs.Common.{All, AllPairs, AreRivalsAfter, AreRivalsAt, AreSpansOf, IsRivaled, IsSound, List, Rivals, Row, [], after, ap, arith, generality, get_or, get_or_default, insert}
-use Rattle.cover_merge.proofs.Common.{insert_place, length, merged_block, subst, sym, ℕ, ◌+◌, ◌-◌, ◌<◌, ◌∙◌, ◌≡◌}
-use Rattle.cover_merge.proofs.{ApplyLemmas.left, ApplyLemmas.members_before, KeptLemmasMoved.merged_at, RivalAfter.place_is, RivalAfter.stands_at, RivalAfter.carried_is, RivalAfter.carried_length}
+use Rattle.cover_merge.proofs.Common.{AreRivalsAfter, AreRivalsAt, AreSpansOf, IsRivaled, IsSound, List, Rivals, Row, [], after, ap, arith, generality, get_or, get_or_default, insert, insert_place}
+use Rattle.cover_merge.proofs.Common.{length, merged_block, subst, sym, ℕ, ◌+◌, ◌-◌, ◌<◌, ◌∙◌, ◌≡◌}
+use Rattle.cover_merge.proofs.{ApplyLemmas.left, ApplyLemmas.gaps_at, KeptLemmasMoved.merged_at, RivalAfter.place_is, RivalAfter.stands_at, RivalAfter.carried_is, RivalAfter.carried_length}
 use Rattle.cover_merge.proofs.{RivalAfter.at_inside, RivalAfter.rivaled_after, carrying.merge_rows.Goals.After-place_in-place, carrying.merge_rows.Goals.After-replace_all}
 use Rattle.cover_merge.proofs.carrying.merge_rows.Goals as goal
 
@@ -19,14 +19,10 @@ serials_here c = grind (arith, carried_is, place_here)
 
 pub invariant_of-gaps : goal.invariant_of-gaps
 invariant_of-gaps c =
-    let rows = c.args.table.now.rows in
-    let places = c.args.places.now in
-    let set = c.requires.merge.set in record {
-      some = subst (λ l. 0 < length l) (sym c.as_slice-members.ensures) (omega (arith, set.two));
-      ascending = subst (AllPairs (λ s t. s < t)) (sym c.as_slice-members.ensures) set.set.ascending;
-      before = subst (λ l. All (λ t. t < c.place_in-place.result) l) (sym c.as_slice-members.ensures)
-          (subst (λ n. All (λ t. t < n) places) (sym (place_here (goal.at.invariant_of-gaps c).After-place_in-place)) (members_before rows places c.requires.rivaled.sound.ordered set));
-    }
+    let set = c.requires.merge.set in
+    let is = gaps_at c.args.table.now.rows c.args.places.now c.requires.rivaled.sound.ordered set.set.in_range c.as_slice-members.result.now c.place_in-place.result c.as_slice-members.ensures
+    (place_here (goal.at.invariant_of-gaps c).After-place_in-place) set.set.ascending set.two in
+    record { some = is.0; ascending = is.1; before = is.2 }
 
 pub overflow_sub-at : goal.overflow_sub-at
 overflow_sub-at c = omega (arith, stands_here (goal.at.overflow_sub-at c).After-place_in-place)

@@ -34,7 +34,7 @@ loop-k-preserved c =
 pub returns-clause-touched : goal.returns-clause-touched
 returns-clause-touched c s e within =
     let m = c.args.merge in
-    elim (c.requires.met.all s (omega (arith, within, c.loop-k.invariant.known.told.one_each))) [
+    elim (c.requires.met.rest s (omega (arith, within, c.loop-k.invariant.known.told.one_each))) [
       | inl missed ↦
           inl (λ r d found behind. narrower_misses m.block (get_or m.rows.now r d).block (get_or m.rows.now s d) (member_lies m.rows.now m.gaps.places.now m.legal.set m.block m.legal.block r d found) (missed d))
       | inr found ↦
@@ -48,7 +48,7 @@ returns-clause-left c = record {
   each = λ k it is.
       let told = c.loop-k.invariant.left.each k it is in (
         told.0,
-        λ s d less within same. elim (c.requires.met.all s within) [
+        λ s d less within same. elim (c.requires.met.rest s within) [
           | inl missed ↦ missed d
           | inr found ↦
               let at = has-place c.args.met.now s found in

@@ -1,8 +1,10 @@
 -- Each turn merges the block of one more row.
-use Rattle.cover_merge.proofs.Positions.{merged_block-turn}
+use Rattle.cover_merge.proofs.Common.{arith}
+use Rattle.cover_merge.proofs.Positions.{merge_next}
 use Rattle.cover_merge.proofs.checking.merged_block.Goals as goal
 
-pub loop-place-preserved : goal.loop-place-preserved
-loop-place-preserved c =
+pub loop-k-preserved : goal.loop-k-preserved
+loop-k-preserved c =
     let set = c.args.set in
-    merged_block-turn set.rows.now set.places.now c.loop-place.place-index c.index-rows-place.result c.loop-place.merged c.merge_two-merged.result set.inside c.loop-place-test.true c.loop-place.invariant c.merge_two-merged.ensures
+    merge_next set.rows.now set.places.now c.loop-k.k c.index-rows-places-in-loop-k.result c.loop-k.merged c.merge_two-merged.result set.inside
+    (omega (arith, c.loop-k.auto.k)) c.loop-k-test.true c.loop-k.invariant c.merge_two-merged.ensures

@@ -1,6 +1,6 @@
 -- The check fails where one place fails it; a merge that is legal on a sound table fails none.
-use Rattle.cover_merge.proofs.Common.{refl}
-use Rattle.cover_merge.proofs.{Answering.up_fails, Answering.up_more, Answering.up_all, Legal.up_from_legal}
+use Rattle.cover_merge.proofs.Common.{arith, insert_place, refl}
+use Rattle.cover_merge.proofs.{Answering.up_fails, Answering.up_more, RefineLemmas.none_fails, Legal.up_from_legal}
 use Rattle.cover_merge.proofs.checking.up_check.Goals as goal
 
 pub returns-then-not-passes_up-clause-passes : goal.returns-then-not-passes_up-clause-passes
@@ -14,4 +14,7 @@ pub loop-s-preserved : goal.loop-s-preserved
 loop-s-preserved c = up_more _ _ _ c.insert_place-place.ensures _ _ c.loop-s.invariant c.passes_up.ensures c.if-not-passes_up.false
 
 pub returns-clause-passes : goal.returns-clause-passes
-returns-clause-passes c = (λ _. up_all c.args.set.rows.now c.args.set.places.now c.loop-s.s-index c.loop-s-test.false c.loop-s.invariant, λ _. refl)
+returns-clause-passes c =
+    let rows = c.args.set.rows.now in
+    let places = c.args.set.places.now in
+    (λ _. none_fails rows places (insert_place rows places) 0 (omega arith) (λ k from within. c.loop-s.invariant k (omega (arith, within, c.loop-s-test.false))), λ _. refl)

@@ -5,14 +5,16 @@ use Rattle.cover_merge.proofs.{TriedLemmas.newer_others, choosing.find_newer.Goa
 use Rattle.cover_merge.proofs.choosing.find_newer.Goals as goal
 
 -- the places are those of the route
-are : (c : After-as_slice-places) (bits : ℕ) → IsFirstOfRoute c.args.linked.table.rows.now bits c.args.first → ArePlaces bits c.args.linked.table.rows.now c.as_slice-places.result.now
-are c bits first = subst (ArePlaces bits c.args.linked.table.rows.now) (sym (c.as_slice-places.ensures ∙ c.in_ok-list.ensures bits first)) (are_places bits c.args.linked.table.rows.now)
+are : (c : After-as_slice-places) (bits : ℕ) → IsFirstOfRoute c.args.linked.table.rows.now bits c.args.first
+    → ArePlaces bits c.args.linked.table.rows.now (length c.args.linked.table.rows.now) c.as_slice-places.result.now
+are c bits first = subst (ArePlaces bits c.args.linked.table.rows.now (length c.args.linked.table.rows.now)) (sym (c.as_slice-places.ensures ∙ c.in_ok-list.ensures bits first))
+    (are_places bits c.args.linked.table.rows.now)
 
 pub bounds-times-place : goal.bounds-times-place
 bounds-times-place c =
     let first = c.requires.first in
     let places = are (goal.at.bounds-times-place c).After-as_slice-places first.0 first.1 in
-    omega (arith, places.inside (c.loop-k.k - 1) (omega (arith, c.loop-k.invariant.within, c.loop-k-test.true)), c.requires.one_each.0)
+    omega (arith, places.inside (c.loop-k.k - 1) 0 (omega (arith, c.loop-k.invariant.within, c.loop-k-test.true)), c.requires.one_each.0)
 
 pub invariant_of-behind : goal.invariant_of-behind
 invariant_of-behind c =
@@ -27,10 +29,10 @@ invariant_of-behind c =
     record {
       behind = subst (AreChangesFrom (get_or list n 0) (suc (get_or list n 0)) rows c.args.times.now c.args.linked.links.now.next.items) (sym c.deref.ensures.value)
           (record {
-            inside = places.inside n inside;
+            inside = places.inside n 0 inside;
             one_each = c.requires.one_each.0;
             nexts = c.args.linked.nexts;
-            newer = λ d. subst (λ b. AreNewerOf b (suc (get_or list n 0)) rows c.args.times.now c.loop-k.newer.items) (sym (places.route n d inside))
+            newer = λ d. subst (λ b. AreNewerOf b (suc (get_or list n 0)) rows c.args.times.now c.loop-k.newer.items) (sym ((places.each n 0 inside).1 d))
                 (newer_behind first.0 rows list places c.args.times.now n (get_or list n 0) c.loop-k.newer.items inside refl done);
             places = c.loop-k.invariant.all;
           });
@@ -54,7 +56,7 @@ loop-k-preserved c =
       within = omega (arith, old.within);
       all = length-set newer k v ∙ old.all;
       done = newer_more first.0 rows list (places first.0 first.1) times newer (set newer k v) n k v _ old.all c.requires.one_each.0 inside refl c.changed_after-next.ensures refl done;
-      others = λ bits j d is other. newer_others bits rows newer (set newer k v) k v (λ e. (places bits is).route n e inside) refl j d other ∙ old.others bits j d is other;
+      others = λ bits j d is other. newer_others bits rows newer (set newer k v) k v (λ e. ((places bits is).each n 0 inside).1 e) refl j d other ∙ old.others bits j d is other;
     }
 
 pub returns-clause-own : goal.returns-clause-own

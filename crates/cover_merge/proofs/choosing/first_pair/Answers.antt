@@ -1,7 +1,7 @@
 -- The first row with a partner is the first of the first pair.
 use Rattle.cover_merge.proofs.Common.{AreChangesFrom, AreNoLater, IsLegalPair, Times, ap, arith, below_more, get_or, get_or_default, length, length-set, refl, set, subst, suc, sym, ℕ, ◌<◌, ◌∙◌, ◌≡◌}
-use Rattle.cover_merge.proofs.{ChooseLemmas.pair_inside, ChooseLemmas.pair_order, ChooseLemmas.first_found, LinkLemmas.as_many, LinkLemmas.number_at, TriedLemmas.marked_put}
-use Rattle.cover_merge.proofs.TriedLemmas.{times_no_later, newer_kept, settled_none}
+use Rattle.cover_merge.proofs.{ChooseLemmas.pair_inside, ChooseLemmas.pair_order, ChooseLemmas.first_found, TriedLemmas.marked_put, TriedLemmas.times_no_later, TriedLemmas.newer_kept}
+use Rattle.cover_merge.proofs.TriedLemmas.{settled_none}
 use Rattle.cover_merge.proofs.choosing.first_pair.Goals as goal
 
 pub loop-i-preserved-then-index : goal.loop-i-preserved-then-index
@@ -14,7 +14,7 @@ loop-i-preserved-then-index c =
     let n = c.index.result.now in
     let was = c.index-in-loop-i-2.result.now in
     let inside : i < length rows = omega (arith, c.loop-i-test.true) in
-    let counted : i < length known.numbers.items = omega (arith, as_many known.routes.items rows known.numbers.items told.numbers, inside) in
+    let counted : i < length known.numbers.items = omega (arith, told.numbers.one_each, inside) in
     let same : n ≡ get_or known.numbers.items i 0 = c.index.ensures ∙ get_or_default known.numbers.items i n 0 counted in
     let low : n < length known.latest.items = omega (arith, same, told.one_time, told.numbers.below i 0 counted) in
     let late : c.index-in-loop-i.result.now ≡ get_or known.latest.items n 0 = c.index-in-loop-i.ensures ∙ get_or_default known.latest.items n c.index-in-loop-i.result.now 0 low in
@@ -23,7 +23,7 @@ loop-i-preserved-then-index c =
     λ e. ap (λ (x : Times). x.tried) (c.index-in-loop-i-2.ensures ∙ get_or_default known.times.items i was e timed) in record {
       none = below_more (λ a. (b : ℕ) → IsLegalPair rows a b → ⊥) i old.none
           (settled_none known.routes.items known.latest.items rows known.times.items i told.one_each old.marks.tried told.latest
-          (λ d e. omega (arith, c.if-index.true, late, tried e, ap (λ m. get_or known.latest.items m 0) (same ∙ number_at known.routes.items rows known.numbers.items told.numbers i d inside))));
+          (λ d e. omega (arith, c.if-index.true, late, tried e, ap (λ m. get_or known.latest.items m 0) (same ∙ told.numbers.each i d inside))));
       marks = old.marks;
       changes = old.changes;
     }

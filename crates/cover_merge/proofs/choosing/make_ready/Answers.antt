@@ -1,20 +1,22 @@
 -- The changes of one route more are ready, and those of the others stay.
-use Rattle.cover_merge.proofs.Common.{AreNewerOf, IsFirstOfRoute, Row, ap, arith, get_or, get_or_default, length, length-set, subst, sym, true, ◌<◌, ◌∙◌, ◌≡◌}
-use Rattle.cover_merge.proofs.{LinkLemmas.as_many, LinkLemmas.route_of, TriedLemmas.newer_ready, choosing.make_ready.Goals.After-index, choosing.make_ready.Goals.After-index-then-not-index}
+use Rattle.cover_merge.proofs.Common.{AreNewerOf, IsFirstOfRoute, Row, arith, get_or, get_or_default, length, length-set, subst, sym, true, ◌<◌, ◌∙◌, ◌≡◌}
+use Rattle.cover_merge.proofs.{LinkLemmas.route_of, TriedLemmas.newer_ready, choosing.make_ready.Goals.After-index, choosing.make_ready.Goals.After-index-then-not-index}
 use Rattle.cover_merge.proofs.choosing.make_ready.Goals as goal
+
+-- each row has a number
+inside : (c : After-index) → c.args.i < length c.args.known.now.numbers.items
+inside c = omega (arith, c.requires.changes.linked.known.numbers.one_each, c.requires.inside)
 
 -- the number of the row's route
 number : (c : After-index) → get_or c.args.known.now.numbers.items c.args.i 0 ≡ c.index.result.now
-number c = grind (arith, as_many, get_or_default)
+number c = sym (c.index.ensures ∙ get_or_default c.args.known.now.numbers.items c.args.i c.index.result.now 0 (inside c))
 
 low : (c : After-index) → c.index.result.now < length c.args.known.now.routes.items
-low c = grind (arith, as_many, number)
+low c = omega (arith, number c, c.requires.changes.linked.known.numbers.below c.args.i 0 (inside c))
 
 -- and its bits
 bits : (c : After-index) (d : Row) → get_or c.args.known.now.routes.items c.index.result.now 0 ≡ (get_or c.args.rows.now c.args.i d).route.bits
-bits c d =
-    let routes = c.args.known.now.routes.items in
-    ap (λ n. get_or routes n 0) (sym (number c)) ∙ route_of routes c.args.rows.now c.args.known.now.numbers.items c.requires.changes.linked.known.numbers c.args.i d c.requires.inside
+bits c d = grind (arith, number c, route_of (c.args.known.now.routes.items) c.args.rows.now c.args.known.now.numbers.items c.requires.changes.linked.known.numbers c.args.i d c.requires.inside, get_or)
 
 -- the place is that of its first row
 first : (c : After-index-then-not-index) → c.index.result.now < length c.args.known.now.routes.items → IsFirstOfRoute c.args.rows.now (get_or c.args.known.now.routes.items c.index.result.now 0) c.index-then-not-index.result.now

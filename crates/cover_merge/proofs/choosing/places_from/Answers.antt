@@ -1,7 +1,10 @@
 -- From each row on to the next of its route.
-use Rattle.cover_merge.proofs.Common.{◌∙◌}
-use Rattle.cover_merge.proofs.ChooseLemmas.{link_next, places_next}
+use Rattle.cover_merge.proofs.Common.{arith, ◌∙◌}
+use Rattle.cover_merge.proofs.ChooseLemmas.{link_next, places_begin, places_next, places_only}
 use Rattle.cover_merge.proofs.choosing.places_from.Goals as goal
+
+pub loop-place-init : goal.loop-place-init
+loop-place-init c bits first = record { same = first.same; found = places_begin c.args.linked.table.rows.now bits c.args.first c.new-places.result.items (grind arith) first }
 
 pub loop-place-preserved : goal.loop-place-preserved
 loop-place-preserved c bits first =
@@ -11,3 +14,7 @@ loop-place-preserved c bits first =
       same = λ d within. next.same d within ∙ old.same d c.loop-place-test.true;
       found = places_next rows bits c.loop-place.place c.index.result.now c.loop-place.places.items c.push.new.self.items c.loop-place-test.true (λ e. old.same e c.loop-place-test.true) next old.found c.in_ok-push.ensures.items;
     }
+
+pub returns : goal.returns
+returns c bits first = c.from_vec.ensures
+    ∙ places_only bits c.args.linked.table.rows.now c.loop-place.place c.loop-place.places.items (omega (arith, c.loop-place-test.false)) (c.loop-place.invariant bits first).found

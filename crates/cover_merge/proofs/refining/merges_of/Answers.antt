@@ -1,6 +1,6 @@
 -- One place more.
 use Rattle.cover_merge.proofs.Common.{[], ap, arith, get_or, length, length-append, merged_block, subst, sym, take, ◌++◌, ◌+◌, ◌-◌, ◌<◌, ◌∙◌, ◌∷◌, ◌≡◌}
-use Rattle.cover_merge.proofs.SiftLemmas.{merge_next, merges_more}
+use Rattle.cover_merge.proofs.{Positions.merge_next, SiftLemmas.merges_more}
 use Rattle.cover_merge.proofs.refining.merges_of.Goals as goal
 
 pub loop-k-preserved : goal.loop-k-preserved

@@ -1,167 +1,136 @@
 -- Each place taken out is a step, and those behind it still pass the up-check.
-use Rattle.cover_merge.proofs.Common.{All, AreMerges, IsLastFailing, IsOneRoute, IsTrue, LeadsWithin, List, PassesUp, PassesUpCheck, ap, arith, drop, generality, get_or, has_row, inl, length}
-use Rattle.cover_merge.proofs.Common.{length-drop, length-set, length-take, merged_block, place_for, refl, set, subst, sym, take, take-append-drop, take-paste, take-set-le, take-take, take_all}
-use Rattle.cover_merge.proofs.Common.{take_rest, true, ℕ, ◌++◌, ◌+◌, ◌-◌, ◌<◌, ◌↔◌, ◌∙◌, ◌≡◌, ◌≤◌}
-use Rattle.cover_merge.proofs.{RefineLemmas.one_route_after, RefineLemmas.last_more, RefineLemmas.none_fails, Lists.All-right, KeptLemmasSteps.leads_on, SiftLemmas.all_pass, SiftLemmas.alike_behind}
-use Rattle.cover_merge.proofs.SiftLemmas.{begins_less, kept_now, last_within, left_many, out_count, out_in_range, out_last, out_now, sift_behind, sift_step, up_of}
-use Rattle.cover_merge.proofs.refining.sift.Goals.{After-truncate, then-loop-i-test+else-i-len-ge2, else-loop-i-test}
+use Rattle.cover_merge.proofs.Common.{All, AreMerges, IsLastFailing, IsOneRoute, IsTrue, IsUpStep, LeadsWithin, List, PassesUp, Row, ap, arith, generality, get_or, inl, length, length-remove}
+use Rattle.cover_merge.proofs.Common.{merged_block, place_for, refl, remove, subst, sym, take, take_all, ℕ, ◌+◌, ◌-◌, ◌<◌, ◌↔◌, ◌∙◌, ◌≡◌, ◌≤◌}
+use Rattle.cover_merge.proofs.{RefineLemmas.one_route_after, RefineLemmas.last_found, RefineLemmas.last_more, RefineLemmas.none_fails, KeptLemmasSteps.leads_on, SiftLemmas.all_pass}
+use Rattle.cover_merge.proofs.{SiftLemmas.begins_less, SiftLemmas.begins_removed, SiftLemmas.sift_behind, SiftLemmas.sift_step, refining.sift.Goals.After-passes_at, refining.sift.Goals.After-remove}
+use Rattle.cover_merge.proofs.refining.sift.Goals.{then-loop-i-test+else-len-ge2, else-loop-i-test}
 use Rattle.cover_merge.proofs.refining.sift.Goals as goal
-
--- the slice of what stands from a place on
-rest_of : (n : ℕ) (ys xs : List ℕ) → ys ≡ xs → take (length ys - n) (drop n ys) ≡ drop n xs
-rest_of n ys xs same = take_rest ys n ∙ ap (drop n) same
 
 pub loop-i-init : goal.loop-i-init
 loop-i-init c =
     let rows = c.args.table.rows.now in
     let xs = c.args.set.now.items in
-    let known : AreMerges rows xs c.in_ok-merges.merges.items = subst (λ l. AreMerges rows l c.in_ok-merges.merges.items) c.deref.ensures.value c.in_ok-merges.ensures in
-    let whole : take c.len-i.result xs ++ drop c.len-kept.result xs ≡ xs =
-    ap (λ n. take c.len-i.result xs ++ drop n xs) (c.len-kept.ensures ∙ sym c.len-i.ensures) ∙ take-append-drop c.len-i.result xs in record {
-      gap = omega (arith, c.len-i.ensures, c.len-kept.ensures);
-      within = omega (arith, c.len-kept.ensures);
-      same = refl;
-      set = subst (IsOneRoute rows) (sym whole) c.requires.set;
-      some = subst (λ l. 0 < length l) (sym whole) (omega (arith, c.requires.two));
+    let known : AreMerges rows xs c.in_ok-merges.merges.items = subst (λ l. AreMerges rows l c.in_ok-merges.merges.items) c.deref.ensures.value c.in_ok-merges.ensures in record {
+      within = omega (arith, c.len-i.ensures);
+      fewer = omega arith;
+      set = c.requires.set;
+      some = omega (arith, c.requires.two);
       merge = c.index-merged.ensures
           ∙ known.each (c.len.result - 1) c.index-merged.result.now (omega (arith, known.one_each, c.len.ensures, c.requires.two))
-          ∙ ap (merged_block rows) (take_all (c.len.result - 1 + 1) xs (omega (arith, c.len.ensures)) ∙ sym whole);
+          ∙ ap (merged_block rows) (take_all (c.len.result - 1 + 1) xs (omega (arith, c.len.ensures)));
       before = refl;
-      behind = λ k low high. absurd (omega (arith, low, subst (λ l. k < length l) whole high, c.len-i.ensures));
-      leads = λ outer low. subst (LeadsWithin rows outer low xs) (sym whole) (LeadsWithin.stands xs);
+      behind = λ k low high. absurd (omega (arith, low, high, c.len-i.ensures));
+      leads = λ outer low. LeadsWithin.stands xs;
     }
 
-pub invariant_of-row : goal.invariant_of-row
-invariant_of-row c =
-    let rows = c.args.table.rows.now in
-    let xs = c.loop-i.set.items in
-    let old = c.loop-i.invariant in
-    let rest = rest_of c.loop-i.kept c.deref-in-loop-i.result.now xs c.deref-in-loop-i.ensures.value in record {
-      are = record {
-        inside = last_within rows xs c.loop-i.i c.loop-i.kept c.loop-i-test.true old.gap old.within old.set c.index.result.now c.index.ensures;
-        one_route = λ r less found.
-            alike_behind rows xs c.loop-i.i c.loop-i.kept c.loop-i-test.true old.gap old.within old.set c.index.result.now c.index.ensures r less (subst (λ l. has_row l r ≡ true) rest found);
-        in_range = subst (All (λ s. s < length rows)) (sym rest) (All-right (λ s. s < length rows) (take c.loop-i.i xs) (drop c.loop-i.kept xs) old.set.in_range);
-      };
-    }
+-- what the call says of the places that are left
+tells : (c : After-passes_at) → (IsTrue c.passes_at.result)
+    ↔ (PassesUp c.args.table.rows.now c.loop-i.set.items (get_or c.loop-i.set.items (c.loop-i.i - 1) 0) (place_for c.args.table.rows.now (generality c.loop-i.merged)))
+tells c =
+    subst (λ l. (IsTrue c.passes_at.result) ↔ (PassesUp c.args.table.rows.now l (get_or l (c.loop-i.i - 1) 0) (place_for c.args.table.rows.now (generality c.loop-i.merged)))) c.deref-in-loop-i.ensures.value
+    (subst (λ g. (IsTrue c.passes_at.result) ↔ (PassesUp c.args.table.rows.now c.deref-in-loop-i.result.now (get_or c.deref-in-loop-i.result.now (c.loop-i.i - 1) 0) (place_for c.args.table.rows.now g)))
+    c.generality.ensures.value c.passes_at.ensures)
 
-pub loop-i-preserved-then-passes : goal.loop-i-preserved-then-passes
-loop-i-preserved-then-passes c =
-    let rows = c.args.table.rows.now in
-    let xs = c.loop-i.set.items in
-    let i = c.loop-i.i in
-    let w = c.loop-i.kept in
-    let some = c.loop-i-test.true in
-    let old = c.loop-i.invariant in
-    let now = take i xs ++ drop w xs in
-    let x = c.index-then-passes.result.now in
-    let new = set xs (w - 1) x in
-    let p = place_for rows (generality c.loop-i.merged) in
-    let same : take (i - 1) new ++ drop (w - 1) new ≡ now = kept_now rows xs i w some old.gap old.within old.set x c.index-then-passes.ensures in
-    let tells : (IsTrue c.passes.result) ↔ (PassesUp rows (drop w xs) c.index.result.now p) =
-    subst (λ l. (IsTrue c.passes.result) ↔ (PassesUp rows l c.index.result.now p)) (rest_of w c.deref-in-loop-i.result.now xs c.deref-in-loop-i.ensures.value)
-    (subst (λ n. (IsTrue c.passes.result) ↔ (PassesUp rows (take (length c.deref-in-loop-i.result.now - w) (drop w c.deref-in-loop-i.result.now)) c.index.result.now (place_for rows n))) c.generality.ensures.value c.passes.ensures) in
-    let behind : (k : ℕ) → i - 1 ≤ k → k < length now → PassesUp rows now (get_or now k 0) p =
-    last_more rows now p i c.passes.result some old.behind (up_of rows xs i w some old.gap old.within old.set c.index.result.now c.index.ensures p c.passes.result tells) c.if-passes.true in record {
-      gap = omega (arith, old.gap, some);
-      within = omega (arith, length-set xs (w - 1) x, old.within);
-      same = length-set xs (w - 1) x ∙ old.same;
-      set = subst (IsOneRoute rows) (sym same) old.set;
-      some = subst (λ l. 0 < length l) (sym same) old.some;
-      merge = old.merge ∙ ap (merged_block rows) (sym same);
-      before = take-set-le (i - 1) xs (w - 1) x (omega (arith, old.gap, some)) ∙ begins_less (i - 1) i xs c.args.set.now.items (omega (arith, some)) old.before;
-      behind = subst (λ l. (k : ℕ) → i - 1 ≤ k → k < length l → PassesUp rows l (get_or l k 0) p) (sym same) behind;
-      leads = λ outer low. subst (LeadsWithin rows outer low c.args.set.now.items) (sym same) (old.leads outer low);
-    }
+module _ (c : After-remove) where
+  abbrev rows : List Row
+  rows = c.args.table.rows.now
+
+  abbrev xs : List ℕ
+  xs = c.loop-i.set.items
+
+  abbrev p : ℕ
+  p = place_for rows (generality c.loop-i.merged)
+
+  abbrev new : List ℕ
+  new = c.remove.new.self.items
+
+  inside : c.loop-i.i - 1 < length xs
+  inside = omega (arith, c.loop-i-test.true, c.loop-i.invariant.within)
+
+  one_less : length new + 1 ≡ length xs
+  one_less = ap (λ l. length l + 1) c.remove.ensures.items ∙ length-remove xs (c.loop-i.i - 1) inside
+
+  two : 2 ≤ length xs
+  two = omega (arith, c.if-len-ge2.true, c.len-in-loop-i.ensures)
+
+  -- what is left begins as the set did
+  begins : (n : ℕ) → n ≤ c.loop-i.i - 1 → take n new ≡ take n c.args.set.now.items
+  begins n le = ap (take n) c.remove.ensures.items ∙ begins_removed n (c.loop-i.i - 1) xs le inside ∙ begins_less n c.loop-i.i xs c.args.set.now.items (omega (arith, le)) c.loop-i.invariant.before
+
+  module _ (tell : (IsTrue c.passes_at.result) ↔ (PassesUp rows xs (get_or xs (c.loop-i.i - 1) 0) p)) where
+    last : IsLastFailing rows xs p (get_or xs (c.loop-i.i - 1) 0)
+    last = last_found rows xs p c.loop-i.i c.passes_at.result c.loop-i.invariant.set.ascending c.loop-i-test.true c.loop-i.invariant.within c.loop-i.invariant.behind tell c.if-not-passes_at.true
+
+    step : IsUpStep rows xs new
+    step = sift_step rows xs c.loop-i.invariant.set c.args.table.sound.ordered c.loop-i.merged c.loop-i.invariant.merge _ refl (c.loop-i.i - 1) inside last new c.remove.ensures.items one_less two
+
+    one_route : IsOneRoute rows new
+    one_route = one_route_after rows xs c.loop-i.invariant.set new (inl step)
 
 pub invariant_of-left : goal.invariant_of-left
 invariant_of-left c =
-    let rows = c.args.table.rows.now in
-    let xs = c.loop-i.set.items in
+    let at = goal.at.invariant_of-left c in
+    let here = at.After-remove in
+    let is = c.deref-then-not-passes_at.ensures.value in
+    let merges = c.deref-then-not-passes_at-2.ensures.value in
     let start = c.args.set.now.items in
-    let i = c.loop-i.i in
-    let w = c.loop-i.kept in
-    let some = c.loop-i-test.true in
-    let old = c.loop-i.invariant in
-    let merges = c.deref-firsts.ensures.value in
-    let known : AreMerges rows start c.in_ok-merges.merges.items = subst (λ l. AreMerges rows l c.in_ok-merges.merges.items) c.deref.ensures.value c.in_ok-merges.ensures in
-    let front : take (i - 1) c.deref-else-passes.result.now ≡ take (i - 1) xs = ap (take (i - 1)) c.deref-else-passes.ensures.value in
-    let behind = c.deref-else-passes-2.result.now in
-    let read = ap (λ l. l ++ take (length behind - w) (drop w behind)) front ∙ ap (λ l. take (i - 1) xs ++ l) (rest_of w behind xs c.deref-else-passes-2.ensures.value) in
-    record {
-      inside = subst (All (λ s. s < length rows)) (sym read) (out_in_range rows xs i w some old.gap old.within old.set);
-      some = subst (λ l. 0 < length l) (sym read) (omega (arith, out_count rows xs i w some old.gap old.within old.set, left_many rows xs i w some old.gap old.within old.set, c.if-i-len-ge2.true, c.len-in-loop-i.ensures));
-      known = λ k d before inside.
-          let low : k < i - 1 = omega (arith, before, length-take (i - 1) c.deref-else-passes.result.now) in
+    let known : AreMerges c.args.table.rows.now start c.in_ok-merges.merges.items = subst (λ l. AreMerges c.args.table.rows.now l c.in_ok-merges.merges.items) c.deref.ensures.value c.in_ok-merges.ensures in record {
+      inside = subst (All (λ s. s < length c.args.table.rows.now)) (sym is) (one_route here (tells at.After-passes_at)).in_range;
+      some = omega (arith, ap length is, one_less here, two here);
+      known = λ k d low within.
           ap (λ l. get_or l k d) merges
-          ∙ known.each k d (subst (λ l. k < length l) merges inside)
-          ∙ ap (merged_block rows) (sym (ap (take (k + 1)) front ∙ take-take (k + 1) (i - 1) xs (omega (arith, low)) ∙ begins_less (k + 1) i xs start (omega (arith, low)) old.before));
-      many = omega (arith, ap length front, length-take (i - 1) xs, ap length merges, known.one_each, old.same, old.gap, old.within);
+          ∙ known.each k d (subst (λ l. k < length l) merges within)
+          ∙ ap (merged_block c.args.table.rows.now) (sym (ap (take (k + 1)) is ∙ begins here (k + 1) (omega (arith, low))));
+      many = omega (arith, ap length merges, known.one_each, c.loop-i.invariant.within, c.loop-i.invariant.fewer);
+    }
+
+pub loop-i-preserved-then-not-passes_at : goal.loop-i-preserved-then-not-passes_at
+loop-i-preserved-then-not-passes_at c =
+    let at = goal.at.loop-i-preserved-then-not-passes_at c in
+    let here = at.After-remove in
+    let tell = tells at.After-passes_at in
+    let old = c.loop-i.invariant in
+    let less = one_less here in
+    let merge : c.merge_from-merged.result ≡ merged_block (rows here) (new here) = c.merge_from-merged.ensures ∙ ap (merged_block (rows here)) c.deref-then-not-passes_at.ensures.value in record {
+      within = omega (arith, less, old.within);
+      fewer = omega (arith, less, old.fewer);
+      set = one_route here tell;
+      some = omega (arith, less, two here);
+      merge = merge;
+      before = begins here (c.loop-i.i - 1) (omega arith);
+      behind = sift_behind (rows here) (xs here) old.set c.args.table.sound.ordered c.loop-i.merged old.merge _ refl (c.loop-i.i - 1) (inside here) (last here tell) (new here) c.remove.ensures.items less (two here)
+          c.merge_from-merged.result merge _ refl;
+      leads = λ outer low.
+          leads_on (rows here) outer low c.args.set.now.items (xs here) (new here) (old.leads outer low) (LeadsWithin.leads_up (xs here) (new here) (new here) (two here) (step here tell) (LeadsWithin.stands (new here)));
     }
 
 pub loop-i-preserved : goal.loop-i-preserved
 loop-i-preserved c =
     let rows = c.args.table.rows.now in
-    let xs = c.loop-i.set.items in
+    let now = c.loop-i.set.items in
     let i = c.loop-i.i in
-    let w = c.loop-i.kept in
-    let some = c.loop-i-test.true in
-    let old = c.loop-i.invariant in
-    let now = take i xs ++ drop w xs in
-    let new = take (i - 1) xs ++ drop w xs in
-    let g = c.generality.result in
-    let general = c.generality.ensures.value in
-    let p = place_for rows g in
-    let tells : (IsTrue c.passes.result) ↔ (PassesUp rows (drop w xs) c.index.result.now p) =
-    subst (λ l. (IsTrue c.passes.result) ↔ (PassesUp rows l c.index.result.now p)) (rest_of w c.deref-in-loop-i.result.now xs c.deref-in-loop-i.ensures.value) c.passes.ensures in
-    let behind : (k : ℕ) → i ≤ k → k < length now → PassesUp rows now (get_or now k 0) p =
-    subst (λ n. (k : ℕ) → i ≤ k → k < length now → PassesUp rows now (get_or now k 0) (place_for rows n)) (sym general) old.behind in
-    let last : IsLastFailing rows now p (get_or now (i - 1) 0) = out_last rows xs i w some old.gap old.within old.set c.index.result.now c.index.ensures p c.passes.result behind tells c.if-passes.false in
-    let many = left_many rows xs i w some old.gap old.within old.set in
-    let inside : i - 1 < length now = omega (arith, many, some) in
-    let two : 2 ≤ length now = omega (arith, many, c.if-i-len-ge2.true, c.len-in-loop-i.ensures) in
-    let count = out_count rows xs i w some old.gap old.within old.set in
-    let gone = out_now rows xs i w some old.gap old.within old.set in
-    let read : take (i - 1) c.deref-else-passes.result.now ++ take (length c.deref-else-passes-2.result.now - w) (drop w c.deref-else-passes-2.result.now) ≡ new =
-    ap (λ l. take (i - 1) l ++ take (length c.deref-else-passes-2.result.now - w) (drop w c.deref-else-passes-2.result.now)) c.deref-else-passes.ensures.value ∙ ap (λ l. take (i - 1) xs ++ l) (rest_of w c.deref-else-passes-2.result.now xs c.deref-else-passes-2.ensures.value) in
-    let step = sift_step rows now old.set c.args.table.sound.ordered c.loop-i.merged old.merge g general (i - 1) inside last new gone count two in
-    let merge : c.merge_from-merged.result ≡ merged_block rows new = c.merge_from-merged.ensures ∙ ap (merged_block rows) read in record {
-      gap = omega (arith, old.gap);
-      within = old.within;
-      same = old.same;
-      set = one_route_after rows now old.set new (inl step);
-      some = omega (arith, count, two);
-      merge = merge;
-      before = begins_less (i - 1) i xs c.args.set.now.items (omega (arith, some)) old.before;
-      behind = sift_behind rows now old.set c.args.table.sound.ordered c.loop-i.merged old.merge g general (i - 1) inside last new gone count two c.merge_from-merged.result merge _ refl;
-      leads = λ outer low.
-          leads_on rows outer low c.args.set.now.items now new (old.leads outer low) (LeadsWithin.leads_up now new new two step (LeadsWithin.stands new));
+    let old = c.loop-i.invariant in record {
+      within = omega (arith, old.within);
+      fewer = old.fewer;
+      set = old.set;
+      some = old.some;
+      merge = old.merge;
+      before = begins_less (i - 1) i now c.args.set.now.items (omega arith) old.before;
+      behind = last_more rows now _ i c.passes_at.result c.loop-i-test.true old.behind (tells (goal.at.loop-i-preserved c).After-passes_at) c.if-not-passes_at.false;
+      leads = old.leads;
     }
-
--- the places that are left
-left_now : (c : After-truncate) → c.truncate.new.self.items ≡ take c.loop-i.i c.loop-i.set.items ++ drop c.loop-i.kept c.loop-i.set.items
-left_now c = grind (arith, length-drop, take-paste, take_all)
-
-pub returns-then-len-lt2-clause-sifted : goal.returns-then-len-lt2-clause-sifted
-returns-then-len-lt2-clause-sifted c = grind (arith, left_now (goal.at.returns-then-len-lt2-clause-sifted c).After-truncate)
 
 pub returns-clause-sifted : goal.returns-clause-sifted
 returns-clause-sifted c =
-    let done : 2 ≤ length (take c.loop-i.i c.loop-i.set.items ++ drop c.loop-i.kept c.loop-i.set.items) → c.loop-i.i ≤ 0 = λ two. elim c.loop-i-test.branch [
-      | then-loop-i-test+else-i-len-ge2 w ↦ absurd (omega (arith, two, left_many c.args.table.rows.now c.loop-i.set.items c.loop-i.i c.loop-i.kept w.loop-i-test.true c.loop-i.invariant.gap c.loop-i.invariant.within c.loop-i.invariant.set, w.if-i-len-ge2.false, w.len-in-loop-i.ensures))
-      | else-loop-i-test w ↦ w.loop-i-test.false
-    ] in
     let rows = c.args.table.rows.now in
-    let xs = c.loop-i.set.items in
-    let i = c.loop-i.i in
-    let w = c.loop-i.kept in
+    let now = c.loop-i.set.items in
     let old = c.loop-i.invariant in
-    let now = take i xs ++ drop w xs in
-    let is = left_now (goal.at.returns-clause-sifted c).After-truncate in
-    let two : 2 ≤ length now = subst (λ l. 2 ≤ length l) is (omega (arith, c.len-2.ensures, c.if-len-lt2.false)) in
-    record {
-      one_route = subst (IsOneRoute rows) (sym is) old.set;
-      steps = λ outer low. subst (LeadsWithin rows outer low c.args.set.now.items) (sym is) (old.leads outer low);
-      found_is = subst (λ l. (2 ≤ length l) × (c.loop-i.merged ≡ merged_block rows l) × (PassesUpCheck rows l)) (sym is)
-          (two, old.merge, all_pass rows now old.set c.args.table.sound.ordered c.loop-i.merged old.merge _ refl (none_fails rows now (place_for rows (generality c.loop-i.merged)) i (done two) old.behind));
+    let two : 2 ≤ length now = omega (arith, c.len-2.ensures, c.if-len-lt2.false) in
+    let done : c.loop-i.i ≤ 0 = elim c.loop-i-test.branch [
+      | then-loop-i-test+else-len-ge2 w ↦ absurd (omega (arith, two, w.if-len-ge2.false, w.len-in-loop-i.ensures))
+      | else-loop-i-test w ↦ w.loop-i-test.false
+    ] in record {
+      one_route = old.set;
+      steps = old.leads;
+      found_is = (two, old.merge, all_pass rows now old.set c.args.table.sound.ordered c.loop-i.merged old.merge _ refl (none_fails rows now (place_for rows (generality c.loop-i.merged)) c.loop-i.i done old.behind));
     }

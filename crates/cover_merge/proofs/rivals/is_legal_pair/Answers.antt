@@ -1,5 +1,5 @@
 -- A pair is legal where both rows pass the up-check, and the merge the down-check.
-use Rattle.cover_merge.proofs.Common.{[], arith, ◌∷◌}
+use Rattle.cover_merge.proofs.Common.{[], arith, rules, ◌∷◌}
 use Rattle.cover_merge.proofs.{Positions.has-at, RivalLemmas.one_route, RivalLemmas.pair_refused, RivalLemmas.pair_told}
 use Rattle.cover_merge.proofs.rivals.is_legal_pair.Goals as goal
 
@@ -13,18 +13,10 @@ invariant_of-first c = record {
 }
 
 pub returns-then-not-passes : goal.returns-then-not-passes
-returns-then-not-passes c =
-    pair_refused _ _ _ c.args.pair.set c.args.pair.table.sound c.merged_block-merged.result c.merged_block-merged.ensures c.generality-general.result c.generality-general.ensures.value
-    c.args.pair.i c.passes.result (has-at (c.args.pair.i ∷ c.args.pair.j ∷ []) 0 (omega arith)) c.passes.ensures c.if-not-passes.true
+returns-then-not-passes c = search (rules, pair_refused, has-at)
 
 pub invariant_of-second : goal.invariant_of-second
-invariant_of-second c = record {
-  are = record {
-    inside = c.args.pair.set.set.in_range 1 0 (omega arith);
-    one_route = λ r less found. one_route _ _ c.args.pair.set.set c.args.pair.j r (has-at (c.args.pair.i ∷ c.args.pair.j ∷ []) 1 (omega arith)) found less;
-    in_range = c.args.pair.set.set.in_range;
-  };
-}
+invariant_of-second c = grind (arith, one_route, has-at (c.args.pair.i ∷ c.args.pair.j ∷ []) 1 (omega arith))
 
 pub returns-then-not-passes-2 : goal.returns-then-not-passes-2
 returns-then-not-passes-2 c =

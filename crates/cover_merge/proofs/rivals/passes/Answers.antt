@@ -1,5 +1,5 @@
 -- Rivals decide, in order of generality.
-use Rattle.cover_merge.proofs.Common.{AreRivalsAt, IsRivaled, PassesUp, Rival, ap, get_or, is_at_one, place_for, props, refl, sym, ∥∥₁_elim, ◌∙◌}
+use Rattle.cover_merge.proofs.Common.{AreRivalsAt, IsRivaled, PassesUp, Rival, ap, arith, get_or, is_at_one, place_for, props, refl, sym, ∥∥₁_elim, ◌∙◌}
 use Rattle.cover_merge.proofs.{Answering.answers_no, RivalLemmas.all_passed, RivalLemmas.away_refuses, RivalLemmas.other_refuses, RivalLemmas.rest_pass, RivalLemmas.rivals_read}
 use Rattle.cover_merge.proofs.rivals.passes.Goals.{After-as_slice-list, then-rival-bits-via-then-rival-bits, then-rival-bits-via-else-rival-bits+then-not-is_at_one}
 use Rattle.cover_merge.proofs.rivals.passes.Goals as goal
@@ -9,8 +9,7 @@ none = record { serial = 0; general = 0; bits = 0 }
 
 -- the list that was read has the rivals of the row
 read : (c : After-as_slice-list) → let t = c.args.row.table in IsRivaled t.rows.now t.rivals.now → AreRivalsAt t.rows.now t.rivals.now.serials.items c.args.row.s c.as_slice-list.result.now
-read c rivaled =
-    rivals_read _ _ rivaled c.args.row.s c.index-serial.result.now c.index.result.now c.as_slice-list.result.now c.args.row.are.inside c.index-serial.ensures c.index.ensures c.as_slice-list.ensures
+read c rivaled = grind (arith, rivals_read)
 
 pub returns-then-rival-general : goal.returns-then-rival-general
 returns-then-rival-general c =

@@ -1,27 +1,18 @@
 -- One row more.
-use Rattle.cover_merge.proofs.Common.{MeetsNone, arith, subst, sym, ◌+◌, ◌<◌, ◌∙◌, ◌≡◌}
-use Rattle.cover_merge.proofs.RivalLemmas.{AreRivalsTo, met_read, missed_read, rival_read, rivals_all, rivals_more, rivals_stay}
-use Rattle.cover_merge.proofs.rivals.rivals_behind.Goals.{then-not-is_missed+in_ok-push, else-not-is_missed}
+use Rattle.cover_merge.proofs.Common.{arith, cases_lt, inl, inr, ◌+◌, ◌<◌}
+use Rattle.cover_merge.proofs.RivalLemmas.{rivals_all, rivals_none, rivals_turn}
 use Rattle.cover_merge.proofs.rivals.rivals_behind.Goals as goal
+
+pub loop-r-init : goal.loop-r-init
+loop-r-init c = rivals_none (λ k. k < c.args.row.s + 1) c.args.row.rows.now c.args.row.serials.now c.args.row.s c.new-list.result c.new-list.ensures (λ r after less. omega (arith, after, less))
 
 pub loop-r-preserved : goal.loop-r-preserved
 loop-r-preserved c =
-    let rows = c.args.row.rows.now in
-    let s = c.args.row.s in
     let r = c.loop-r.r in
-    let behind : s < r = omega (arith, c.loop-r.auto.r) in
-    elim c.if-not-is_missed.branch [
-      | then-not-is_missed+in_ok-push w ↦
-          let a = w.index-rows-r-then-not-is_missed in
-          rivals_more rows c.args.row.serials.now s r c.loop-r.list c.loop-r.invariant c.args.row.sound.ordered w.rival_of.result c.if-not-is_missed.list behind
-          (rival_read rows c.args.row.serials.now r a.result w.rival_of.result c.loop-r-test.true a.is w.rival_of.ensures.serial w.rival_of.ensures.general w.rival_of.ensures.bits)
-          (met_read rows s r c.index-rows-s.result c.index-rows-r.result c.is_missed.result c.args.row.inside c.loop-r-test.true c.index-rows-s.is c.is_missed.ensures w.if-not-is_missed.true)
-          (w.list-is ∙ w.in_ok-push.ensures.ok)
-      | else-not-is_missed w ↦
-          let misses = missed_read rows s r c.index-rows-s.result c.index-rows-r.result c.is_missed.result c.args.row.inside c.loop-r-test.true c.index-rows-s.is c.is_missed.ensures w.if-not-is_missed.false in
-          subst (AreRivalsTo rows c.args.row.serials.now s (r + 1)) (sym w.list-is)
-          (rivals_stay rows c.args.row.serials.now s r c.loop-r.list c.loop-r.invariant (r + 1) (omega arith) (λ k after from before. let same : r ≡ k = omega (arith, from, before) in subst (λ i. MeetsNone rows i s) same misses))
-    ]
+    rivals_turn (λ k. k < r) (λ k. k < r + 1) r (λ k less. omega (arith, less)) (λ k less. elim (cases_lt k r) [ inl before ↦ inl before | inr from ↦ inr (omega (arith, less, from)) ])
+    (omega arith) (λ k less. less)
+    c.args.row.rows.now c.args.row.serials.now c.args.row.s c.loop-r.list c.add_rival.new.list c.args.row.sound.ordered c.loop-r.invariant c.in_ok-add_rival.ensures
 
 pub returns : goal.returns
-returns c = rivals_all c.args.row.rows.now c.args.row.serials.now c.args.row.s c.loop-r.r c.loop-r.list c.loop-r.invariant (omega (arith, c.loop-r-test.false, c.loop-r.auto.r-end, c.args.row.inside))
+returns c = rivals_all (λ k. k < c.loop-r.r) c.args.row.rows.now c.args.row.serials.now c.args.row.s c.loop-r.list
+    (λ k after inside. inl (omega (arith, inside, c.loop-r-test.false))) c.loop-r.invariant

@@ -1,4 +1,4 @@
-use Rattle.mesh_drain.proofs.Common.{Inject, after_event, arith, refl, rules, ◌∙◌}
+use Rattle.mesh_drain.proofs.Common.{Inject, after_event, arith, rules}
 use Rattle.mesh_drain.proofs.{Frame.dropless, Frame.onward_none, Frame.onward_then, Frame.onward_unsent, Frame.reached_by, Frame.reached_then, Frame.sent_dropless, Turns.begins, Turns.begins_unsent}
 use Rattle.mesh_drain.proofs.Turns.{ends_quiet, popped_smaller}
 use Rattle.mesh_drain.proofs.draining.send_packet.Goals as goal
@@ -23,10 +23,7 @@ pub returns-clause-quiet : goal.returns-clause-quiet
 returns-clause-quiet c = ends_quiet c.loop-next.mesh c.loop-next.waiting.items c.loop-next.invariant.under_way (search rules)
 
 pub returns-clause-unsent : goal.returns-clause-unsent
-returns-clause-unsent c = λ copy rest first.
-    onward_unsent (after_event c.args.mesh.now (Inject c.args.vertex)) c.loop-next.mesh c.loop-next.invariant.onward
-    ∙ begins_unsent c.args.mesh.now (after_event c.args.mesh.now (Inject c.args.vertex)) c.args.vertex
-    c.requires.can.may.kept c.requires.can.may.quiet c.requires.can.exists refl copy rest first
+returns-clause-unsent c = grind (arith, onward_unsent (after_event c.args.mesh.now (Inject c.args.vertex)) c.loop-next.mesh c.loop-next.invariant.onward, begins_unsent)
 
 pub returns-in_err-push-clause-reached : goal.returns-in_err-push-clause-reached
 returns-in_err-push-clause-reached c = reached_by c.args.mesh.now c.step.new.self (Inject c.args.vertex) tt c.in_ok-step.ensures.moves

@@ -33,6 +33,4 @@ pub returns-in-Nowhere-clause-reached : goal.returns-in-Nowhere-clause-reached
 returns-in-Nowhere-clause-reached c = onward_by c.args.mesh.now c.step.new.self (Send c.args.chip c.args.out) tt c.in_ok-step.ensures.moves
 
 pub returns-in-Nowhere-clause-served : goal.returns-in-Nowhere-clause-served
-returns-in-Nowhere-clause-served c = λ rest u.
-    absurd (nowhere_served c.args.mesh.now c.step.new.self c.args.waiting.now.items c.args.chip c.args.out c.in_ok-step.ensures.moves
-    c.in-Nowhere.ensures.queue rest u)
+returns-in-Nowhere-clause-served c = grind (arith, nowhere_served)

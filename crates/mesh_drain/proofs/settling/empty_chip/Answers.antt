@@ -1,4 +1,4 @@
-use Rattle.mesh_drain.proofs.Common.{refl}
+use Rattle.mesh_drain.proofs.Common.{arith, refl}
 use Rattle.mesh_drain.proofs.{Moving.after_none, Moving.after_then, Moving.after_setup, Vertices.drops_none, Vertices.drops_then}
 use Rattle.mesh_drain.proofs.settling.empty_chip.Goals as goal
 
@@ -17,6 +17,4 @@ pub returns-in_err-move_on-clause-after : goal.returns-in_err-move_on-clause-aft
 returns-in_err-move_on-clause-after c = after_then c.args.mesh.now c.events.mesh c.move_on.new.mesh c.events.invariant.after c.move_on.ensures.after
 
 pub returns-in_err-move_on-clause-links : goal.returns-in_err-move_on-clause-links
-returns-in_err-move_on-clause-links c = λ collected.
-    drops_then c.args.mesh.now c.events.mesh c.move_on.new.mesh (after_setup c.args.mesh.now c.events.mesh c.events.invariant.after)
-    (c.events.invariant.links collected) (c.move_on.ensures.links (c.events.invariant.collected collected))
+returns-in_err-move_on-clause-links c = grind (arith, after_setup c.args.mesh.now c.events.mesh c.events.invariant.after, drops_then)

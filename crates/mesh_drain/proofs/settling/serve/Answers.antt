@@ -24,9 +24,7 @@ returns-in-Moved-clause-links c = λ collected.
     ∙ (ap (λ (s : State). s.dumped) c.in_ok-step.ensures.moves ∙ dumped_stays c.args.mesh.now (Send c.args.chip c.args.out) tt))
 
 pub returns-in-Moved-clause-collected : goal.returns-in-Moved-clause-collected
-returns-in-Moved-clause-collected c = λ collected.
-    on_ok c.collect_behind.result c.collect_behind.ensures.collected
-    (served_collected c.args.mesh.now c.step.new.self c.collect_behind.new.mesh c.args.chip c.args.out collected c.in_ok-step.ensures.moves)
+returns-in-Moved-clause-collected c = grind (arith, on_ok, served_collected)
 
 pub returns-in-Idle-clause-lighter : goal.returns-in-Idle-clause-lighter
 returns-in-Idle-clause-lighter c = λ waits.
@@ -42,7 +40,4 @@ returns-in-Idle-clause-links c = λ collected.
     subst (λ (s : State). (AreCollected s → DropsAtNoVertex s c.take_event.new.mesh)) stays (c.take_event.ensures.links tt) collected
 
 pub returns-in-Idle-clause-collected : goal.returns-in-Idle-clause-collected
-returns-in-Idle-clause-collected c = λ collected.
-    let idle = sym c.in_ok-step.ensures.answer ∙ c.in-Idle.is in
-    let stays : c.step.new.self ≡ c.args.mesh.now = c.in_ok-step.ensures.moves ∙ idle_stays c.args.mesh.now (Send c.args.chip c.args.out) idle in
-    c.take_event.ensures.collected tt (subst AreCollected (sym stays) collected)
+returns-in-Idle-clause-collected c = grind (arith, idle_stays)

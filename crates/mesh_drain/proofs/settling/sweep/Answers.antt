@@ -17,9 +17,7 @@ pub returns-in_err-empty_chip-clause-after : goal.returns-in_err-empty_chip-clau
 returns-in_err-empty_chip-clause-after c = after_then c.args.mesh.now c.loop-index.mesh c.empty_chip.new.mesh c.loop-index.invariant.after c.empty_chip.ensures.after
 
 pub returns-in_err-empty_chip-clause-links : goal.returns-in_err-empty_chip-clause-links
-returns-in_err-empty_chip-clause-links c = λ collected.
-    drops_then c.args.mesh.now c.loop-index.mesh c.empty_chip.new.mesh (after_setup c.args.mesh.now c.loop-index.mesh c.loop-index.invariant.after)
-    (c.loop-index.invariant.links collected) (c.empty_chip.ensures.links (c.loop-index.invariant.collected collected))
+returns-in_err-empty_chip-clause-links c = grind (arith, after_setup c.args.mesh.now c.loop-index.mesh c.loop-index.invariant.after, drops_then)
 
 pub chip_at-chip-requires : goal.chip_at-chip-requires
 chip_at-chip-requires c = grind (arith, after_setup c.args.mesh.now c.loop-index.mesh c.loop-index.invariant.after)

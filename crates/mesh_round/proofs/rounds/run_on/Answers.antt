@@ -1,5 +1,5 @@
 -- Rounds that moved a copy are counted; those that moved none left the mesh as it was.
-use Rattle.mesh_round.proofs.Common.{HasMovingRounds, IfErr, IfErr-weaker, MayGoOn, false, none, rules, subst, sym, true, ◌∙◌, ◌≡◌}
+use Rattle.mesh_round.proofs.Common.{HasMovingRounds, IfErr, IfErr-weaker, MayGoOn, arith, false, none, rules, subst, sym, true, ◌∙◌, ◌≡◌}
 use Rattle.mesh_round.proofs.{Played.IsReached, Played.answers, Played.at_pace, Played.begins, Played.moved_on, Played.refuses, Played.rests_where_none, Played.stood_on, rounds.run_on.Given.Over}
 use Rattle.mesh_round.proofs.rounds.run_on.Goals.{In-Ok-false}
 use Rattle.mesh_round.proofs.rounds.run_on.Goals as goal
@@ -13,9 +13,7 @@ returns-in_err-raised-clause-refused g c =
     (λ b same. subst rounds (sym same) (record { rounds = none; each = tt })) was
 
 pub loop-init : goal.loop-init
-loop-init g c =
-    rw (← c.laid.view_is)
-    (begins c.args.pace.patience c.args.pace.turns c.laid.inside.parts c.in_ok-raised.raised c.laid.invariant.ready c.in_ok-raised.ensures.raised, c.in_ok-raised.ensures.pace)
+loop-init g c = grind (arith, begins c.args.pace.patience c.args.pace.turns c.laid.inside.parts c.in_ok-raised.raised c.laid.invariant.ready c.in_ok-raised.ensures.raised)
 
 pub play-requires-after_bounds : goal.play-requires-after_bounds
 play-requires-after_bounds g c κs within = let is = c.loop.invariant.0 in (is.mesh, is.ready.mesh, is.raised)

@@ -1,5 +1,5 @@
 -- Where nothing waits, or no layout is made, there was no round.
-use Rattle.mesh_round.proofs.Common.{HasMovingRounds, HasNoHand, HasRounds, State, arith, none, subst, sym, ℕ, ◌∙◌}
+use Rattle.mesh_round.proofs.Common.{HasMovingRounds, HasRounds, State, arith, none, subst, sym, ℕ, ◌∙◌}
 use Rattle.mesh_round.proofs.Resting.{rests}
 use Rattle.mesh_round.proofs.rounds.run_out.Goals as goal
 
@@ -15,8 +15,7 @@ pub returns-then-is_at_rest-clause-soon : goal.returns-then-is_at_rest-clause-so
 returns-then-is_at_rest-clause-soon g c = grind (arith, no_rounds (c.args.pace).patience (c.args.pace).turns (c.args.mesh))
 
 pub returns-then-is_at_rest-clause-at_rest : goal.returns-then-is_at_rest-clause-at_rest
-returns-then-is_at_rest-clause-at_rest g c =
-    grind (arith, rests c.take_apart-parts.result (sym c.is_at_rest.ensures ∙ c.if-is_at_rest.true) (subst HasNoHand (sym c.take_apart-parts.ensures.parts) c.requires))
+returns-then-is_at_rest-clause-at_rest g c = grind (arith, rests)
 
 pub returns-in-Err-clause-refused : goal.returns-in-Err-clause-refused
 returns-in-Err-clause-refused g c =
