@@ -1,11 +1,40 @@
--- The nets of a loaded application: their blocks are ranges of their own, and their trees stand on its spots.
-use Rattle.app_loads.proofs.Common.{All, All-at, All-contains, All-each, All-flat_map, All-head, All-tail, All-weaker, AllPairs, AllPairs-across, AllPairs-append, AllPairs-left, AllPairs-nil}
-use Rattle.app_loads.proofs.Common.{AllPairs-right, AllZip, AllZip-at_first, AppNet, AreNetsOn, AreRoutedApart, Block, Claim, Contains, Contains-at, Description, HaveDisjointBlocks, IsAppNet}
-use Rattle.app_loads.proofs.Common.{IsBlockOf, IsInside, IsKeyOf, IsLoadedOn, IsPacketOfApp, IsRangeFor, IsRangeWithin, IsRoutingTree, IsSpotBefore, IsUsable, KeysOut, List, LoadedApp, Matches}
-use Rattle.app_loads.proofs.Common.{NetPlan, Packet, Range, ShareNoPlace, Some, Spot, [], all_nets, all_ranges, and_from, ap, arith, cases_eq, cases_lt, chip_count, claims_of, eq-eqb, get_or}
-use Rattle.app_loads.proofs.Common.{get_or_from_slice_get, in_from, inl, inr, live_inside, net_with, nets_of, nets_with, place_of, range_has, refl, region_size, same_Some, slice_get, slice_get-get_or}
-use Rattle.app_loads.proofs.Common.{slice_get_within, subst, suc, sym, true, usable_parts, usable_spots, zero, ℕ, ◌+◌, ◌<◌, ◌^◌, ◌↔◌, ◌∙◌, ◌∷◌, ◌≡◌, ◌≢◌, ◌≤◌}
-use Rattle.app_loads.proofs.{Blocks.block_keys, ClaimCases.IsKeyClaim, ClaimCases.facts, ClaimCases.same_net, LeavingLists.flat_has, LeavingLists.flat_of, Spots.usable_there}
+-- The usable cores of a machine as a list; the nets of a loaded application: their blocks are ranges of their own, and their trees stand on its spots.
+use Rattle.app_loads.proofs.Common.{All, All-at, All-contains, All-each, All-flat_map, All-head, All-tail, All-weaker, AllPairs, AllPairs-across, AllPairs-append, AllPairs-filter, AllPairs-left}
+use Rattle.app_loads.proofs.Common.{AllPairs-nil, AllPairs-right, AllZip, AllZip-at_first, AppNet, AreNetsOn, AreRoutedApart, Block, Claim, Contains, Contains-at, Contains-filter, Description}
+use Rattle.app_loads.proofs.Common.{HaveDisjointBlocks, IsAppNet, IsBlockOf, IsInside, IsKeyOf, IsLoadedOn, IsPacketOfApp, IsRangeFor, IsRangeWithin, IsRoutingTree, IsSpotBefore, IsUsable, KeysOut}
+use Rattle.app_loads.proofs.Common.{List, LoadedApp, Matches, NetPlan, Packet, Range, ShareNoPlace, Some, Spot, [], all_nets, all_ranges, and_from, ap, arith, cases_eq, cases_lt, chip_count, chip_of}
+use Rattle.app_loads.proofs.Common.{chip_of-index_of, claims_of, eq-eqb, get_or, get_or-map-range_with_len, get_or_from_slice_get, grid_spots, in_from, index_below, index_of, index_of-chip_of, inl}
+use Rattle.app_loads.proofs.Common.{inr, is_usable, length-map-range_with_len, live_inside, net_with, nets_of, nets_with, place_of, range_has, refl, region_size, same_Some, same_spot, slice_get}
+use Rattle.app_loads.proofs.Common.{slice_get-get_or, slice_get-map_range, slice_get_within, spot_of, subst, suc, sym, true, usable_parts, usable_spots, zero, ℕ, ◌%◌, ◌*◌, ◌+◌, ◌-◌, ◌/◌, ◌<◌, ◌^◌}
+use Rattle.app_loads.proofs.Common.{◌↔◌, ◌∙◌, ◌∷◌, ◌≡◌, ◌≢◌, ◌≤◌}
+use Rattle.app_loads.proofs.{ClaimCases.block_keys, ClaimCases.IsKeyClaim, ClaimCases.facts, ClaimCases.same_net, LeavingLists.flat_has, LeavingLists.flat_of}
+
+-- two numbers of one spot are one number
+same_number : (m : Description) (i j : ℕ) → spot_of m i ≡ spot_of m j → i ≡ j
+same_number m i j same = grind (arith, index_of-chip_of m (i / 17), index_of-chip_of m (j / 17))
+
+grid_different : (m : Description) → AllPairs (λ a b. a ≢ b) (grid_spots m)
+grid_different m i j d before within same = grind (arith, length-map-range_with_len, get_or-map-range_with_len, same_number)
+
+pub usable_different : (m : Description) → AllPairs (λ a b. a ≢ b) (usable_spots m)
+usable_different m = AllPairs-filter (λ a b. a ≢ b) (is_usable m) (grid_spots m) (grid_different m)
+
+-- each usable core is in the list of them
+pub usable_there : (m : Description) (s : Spot) → IsUsable m s → Contains (usable_spots m) s
+usable_there m s usable =
+    let parts = usable_parts m s usable in
+    let inside = live_inside m s.chip parts.0 in
+    let below = index_below m s.chip inside in
+    let some = parts.1 in
+    let most = parts.2 in
+    let k : ℕ = 17 * index_of m s.chip + (s.core - 1) in
+    let chip_is : k / 17 ≡ index_of m s.chip = omega (arith, some, most) in
+    let core_is : k % 17 + 1 ≡ s.core = omega (arith, some, most) in
+    let same : spot_of m k ≡ s = same_spot (spot_of m k) s (ap (chip_of m) chip_is ∙ chip_of-index_of m s.chip inside) core_is in
+    let z : 0 + k ≡ k = omega arith in
+    let at : slice_get (grid_spots m) k ≡ Some s = slice_get-map_range (spot_of m) 0 (17 * (m.width * m.height)) k (omega (arith, below, some, most))
+    ∙ (ap (λ i. Some (spot_of m i)) z ∙ ap Some same) in
+    Contains-filter (is_usable m) (grid_spots m) s (Contains-at (grid_spots m) k s at) usable
 
 -- a net with its block is made of the net and the block of its place
 pub nets_with_parts : (nets : List AppNet) (blocks : List Block) (i : ℕ) (x : NetPlan) → slice_get (nets_with nets blocks) i ≡ Some x →
@@ -35,13 +64,6 @@ pub record NetFacts (m : Description) (app : LoadedApp) (x : NetPlan) (j : ℕ) 
   pub place : block.key ≡ range.place
   pub keys : (k : ℕ) → k < 2 ^ 32 → Matches block k ↔ ((block.key ≤ k) × (k < block.key + range.size))
   pub enough : net.keys ≤ range.size
-
--- the numbers of an index, apart from all that is known of its net
-index_fits : (key place size keys index most : ℕ) → key ≡ place → keys ≤ size → index < keys → place + size ≤ most → key + index < most
-index_fits key place size keys index most same many below room = omega (arith, same, many, below, room)
-
-within_keys : (key keys size index : ℕ) → keys ≤ size → index < keys → key + index < key + size
-within_keys key keys size index many below = omega (arith, many, below)
 
 -- the range of a block is one for its claim
 range_of : (m : Description) (claims : List Claim) (ranges : List Range) → AllZip (IsRangeFor m) claims ranges →
@@ -96,7 +118,7 @@ module _ (m : Description) (app : LoadedApp) (loaded : IsLoadedOn m app) where
   -- a key of a net for each of its indices
   pub key_of_index : (x : NetPlan) (j : ℕ) (f : NetFacts m app x j) (index : ℕ) → index < f.net.keys → f.range.place + f.range.size ≤ 2 ^ 32 →
       (f.block.key + index < 2 ^ 32) × IsKeyOf f.block (f.block.key + index)
-  key_of_index x j f index below room = grind (arith, index_fits, within_keys)
+  key_of_index x j f index below room = grind arith
 
   -- a packet's key is its net's
   pub packet_key : (p : Packet) → IsPacketOfApp app.plan.nets p → (x : NetPlan) → slice_get (nets_of app) p.net ≡ Some x → IsKeyOf x.block (x.block.key + p.index)
@@ -128,10 +150,7 @@ module _ (m : Description) (app : LoadedApp) (loaded : IsLoadedOn m app) where
       let g_is : get_or app.ranges g.at f.range ≡ g.range = get_or_from_slice_get app.ranges g.at g.range f.range g.got in
       elim (cases_eq f.at g.at) [
         | inl same ↦ grind (arith, same_Some, same_net)
-        | inr other ↦ elim (cases_lt f.at g.at) [
-          | inl before ↦ grind (arith, get_or app.ranges f.at f.range)
-          | inr after ↦ grind (arith, get_or app.ranges f.at f.range)
-        ]
+        | inr other ↦ grind (arith, cases_lt f.at g.at, get_or app.ranges f.at f.range)
       ]
 
   -- what holds of each net with its block holds of the application's nets
@@ -194,6 +213,4 @@ module _ (m : Description) where
       listed app on s has = usable_there m s (usable_spot m app on s has)
 
       never : (a b : Spot) → IsSpotBefore a b → a ≡ b → ⊥
-      never a b (inl x) same = let e : a.chip.x ≡ b.chip.x = ap (λ (s : Spot). s.chip.x) same in absurd (omega (arith, x, e))
-      never a b (inr (e, inl y)) same = let e' : a.chip.y ≡ b.chip.y = ap (λ (s : Spot). s.chip.y) same in absurd (omega (arith, y, e'))
-      never a b (inr (e, inr (e', c))) same = let e'' : a.core ≡ b.core = ap (λ (s : Spot). s.core) same in absurd (omega (arith, c, e''))
+      never a b its_2 same = grind arith

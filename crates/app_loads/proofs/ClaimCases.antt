@@ -1,13 +1,29 @@
 -- What the claims of a plan are, and that each net and chip has its own.
-use Rattle.app_loads.proofs.Common.{All-at, Among, AppNet, AppPlan, Block, Bool, Claim, Contains, Description, IfSome, IsAppNet, IsFair, IsPlan, IsRegion, IsUsable, Keys, KeysOut, List, Loaded}
-use Rattle.app_loads.proofs.Common.{MemoryOut, None, Option, Rows, RowsOut, Some, [], among_contains, among_either, among_gathered, among_left, among_right, ap, arith, both_ways, cases_eq, cases_lt}
-use Rattle.app_loads.proofs.Common.{chip_count, chip_of, chip_of-inside, claims_of, contains_among, count_by, eq-eqb, fails_before_first, false, find, find_at, fixed_claim, flat_map, gathered}
-use Rattle.app_loads.proofs.Common.{gathered_among, get_or, get_or-map-range_with_len, has_chip, if◌then◌else◌, index_below, index_of, index_of-chip_of, inl, inr, key_claim, le-leb, leb, leb-true}
-use Rattle.app_loads.proofs.Common.{length, length-map-range_with_len, live_inside, map, memory_claim, ne_eqb, passes_at_first, place_of, position_or_len, position_or_len_is, pow_pos, range_with_len}
-use Rattle.app_loads.proofs.Common.{refl, region_size, row_claim, size_for, size_of, slice_get, slice_get-get_or, slice_get_there, subst, suc, sym, true, unwrap_or, usable_parts, zero, zip}
-use Rattle.app_loads.proofs.Common.{zip-first_at, ℕ, ◌%◌, ◌++◌, ◌+◌, ◌-◌, ◌<◌, ◌==◌, ◌^◌, ◌∙◌, ◌∷◌, ◌≡◌, ◌≢◌, ◌≤◌}
+use Rattle.app_loads.proofs.Common.{All-at, Among, AppNet, AppPlan, Block, Bool, Claim, Contains, Description, IfSome, IsAppNet, IsFair, IsPlan, IsUsable, Keys, KeysOut, List, Loaded, Matches}
+use Rattle.app_loads.proofs.Common.{MemoryOut, None, Option, Rows, RowsOut, Some, [], among_contains, among_either, among_gathered, among_left, among_right, and_high_mask, ap, arith, bit_and}
+use Rattle.app_loads.proofs.Common.{both_ways, cases_eq, cases_lt, chip_count, chip_of, chip_of-inside, claims_of, contains_among, count_by, eq-eqb, fails_before_first, false, find, find_at}
+use Rattle.app_loads.proofs.Common.{fixed_claim, flat_map, gathered, gathered_among, get_or, get_or-map-range_with_len, has_chip, if◌then◌else◌, index_below, index_of, index_of-chip_of, inl, inr}
+use Rattle.app_loads.proofs.Common.{key_claim, key_small, le-leb, leb, leb-true, length, length-map-range_with_len, live_inside, map, memory_claim, ne_eqb, passes_at_first, place_of, position_or_len}
+use Rattle.app_loads.proofs.Common.{position_or_len_is, pow_pos, range_keys, range_with_len, refl, room_above, row_claim, shr_split, size_for, size_of, slice_get, slice_get-get_or, slice_get_there}
+use Rattle.app_loads.proofs.Common.{subst, suc, sym, true, unwrap_or, usable_parts, zero, zip, zip-first_at, ℕ, ◌%◌, ◌*◌, ◌++◌, ◌+◌, ◌-◌, ◌/◌, ◌<◌, ◌==◌, ◌^◌, ◌↔◌, ◌∙◌, ◌∷◌, ◌≡◌, ◌≢◌, ◌≤◌}
 use Rattle.app_loads.specs.declared.places.Region.TheVariants.{Memory}
-use Rattle.app_loads.proofs.{Blocks.block_aligned, Blocks.block_room, LeavingLists.among_flat, LeavingLists.flat_among}
+use Rattle.app_loads.proofs.LeavingLists.{among_flat, flat_among}
+
+module _ (b : Block) (z : ℕ) (few : z ≤ 32) (sum : b.mask + 2 ^ z ≡ 2 ^ 32) where
+  whole_there : b.key / 2 ^ z * 2 ^ z ≡ b.key
+  whole_there = grind (arith, and_high_mask 32 z few b.key (key_small b), key_small b)
+
+  pub block_aligned : b.key % 2 ^ z ≡ 0
+  block_aligned = omega (arith, shr_split b.key z, whole_there)
+
+  pub block_room : b.key + 2 ^ z ≤ 2 ^ 32
+  block_room = room_above z b.key few (key_small b) whole_there
+
+  pub block_keys : (k : ℕ) → k < 2 ^ 32 → Matches b k ↔ ((b.key ≤ k) × (k < b.key + 2 ^ z))
+  block_keys =
+      let mask : b.mask ≡ 2 ^ 32 - 2 ^ z = omega (arith, sum) in
+      let P : ℕ → Type 0 = λ m. (k : ℕ) → k < 2 ^ 32 → (bit_and k m ≡ b.key) ↔ ((b.key ≤ k) × (k < b.key + 2 ^ z)) in
+      subst P (sym mask) (range_keys z b.key few block_aligned (key_small b))
 
 -- ---- the size for a number of keys
 
@@ -60,25 +76,7 @@ range_among i a (suc n) low high = elim (cases_eq i a) [
 
 -- where a list has the item unless a number is 0
 unless_zero : {Y : Type 0} (n : ℕ) (r y : Y) → Among y (if n == 0 then [] else r ∷ []) → (y ≡ r) × (0 < n)
-unless_zero n r y a = by_test (n == 0) refl a
-  where
-    by_test : (b : Bool) → (n == 0) ≡ b → Among y (if b then [] else r ∷ []) → (y ≡ r) × (0 < n)
-    by_test true e a' = absurd a'
-    by_test false e (inl here) = (here, some)
-      where
-        some : 0 < n
-        some = elim (cases_eq n 0) [
-          | inl z ↦ absurd (both_ways (n == 0) e (eq-eqb n 0 z))
-          | inr s ↦ omega (arith, s)
-        ]
-    by_test false e (inr none) = absurd none
-
-in_unless : {Y : Type 0} (n : ℕ) (r : Y) → 0 < n → Among r (if n == 0 then [] else r ∷ [])
-in_unless n r some = by_test (n == 0) (ne_eqb n 0 (λ e. absurd (omega (arith, e, some))))
-  where
-    by_test : (b : Bool) → b ≡ false → Among r (if b then [] else r ∷ [])
-    by_test true e = cc
-    by_test false e = inl refl
+unless_zero n r y a = grind (arith, Among, cases_eq, both_ways, eq-eqb)
 
 -- a refusal for want of keys names one net
 pub same_net : (i j : ℕ) → KeysOut i ≡ KeysOut j → i ≡ j
@@ -142,13 +140,7 @@ module _ (m : Description) (plan : AppPlan) (valid : IsPlan m plan) where
   of_net j net is claim region refusal e few size enough step fixed aligned =
       let place : place_of m claim.region ≡ 0 = ap (place_of m) region in
       record {
-        fair = record {
-          region = subst (IsRegion m) (sym region) tt;
-          there = omega (arith, place);
-          some = omega (arith, size, pow_pos e);
-          step = step;
-          fixed = subst (λ n. IfSome claim.fixed (λ p. (p % claim.align ≡ 0) × (p + claim.size ≤ n))) (sym (ap (region_size m) place)) fixed;
-        };
+        fair = grind (arith, pow_pos e);
         keyed = λ i its. record {
           net = net;
           is = ap (slice_get plan.nets) (sym (same_net j i (sym refusal ∙ its))) ∙ is;
@@ -238,7 +230,7 @@ module _ (m : Description) (plan : AppPlan) (valid : IsPlan m plan) where
       let claim : Claim = record { region = Rows (chip_of m i); size = rows_there; align = 1; fixed = None; refusal = RowsOut (chip_of m i) } in (
         claim,
         among_contains claim (claims_of m plan) (among_right claim memory (fixed ++ (keys ++ rows)) (among_right claim fixed (keys ++ rows) (among_right claim keys rows
-            (flat_among (row_claim m plan.nets) claim (range_with_len 0 n) i (range_among i 0 n (omega arith) (omega (arith, below))) (in_unless rows_there claim some))))),
+            (flat_among (row_claim m plan.nets) claim (range_with_len 0 n) i (range_among i 0 n (omega arith) (omega (arith, below))) (grind (arith, ne_eqb, Among)))))),
         refl,
         refl,
       )

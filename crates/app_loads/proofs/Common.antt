@@ -1,8 +1,8 @@
 -- The names that the proofs of this crate cite from outside of them, passed on from one place. Declares nothing.
 pub use Rattle.app_loads.specs.{Alike.AreAlike, Alike.IsQuiet, Applications.AreApps, Applications.HasRows, Applications.HaveOtherNumbers, Applications.HaveRows, Applications.IsLoadedOn}
 pub use Rattle.app_loads.specs.{Applications.IsRangeFor, Claims.AreBlocks, Claims.AreServed, Claims.IsBlockOf, Claims.IsLeastOpenRange, Claims.IsOpenRange, Claims.IsRefusalDue, Claims.IsRefusedClaim}
-pub use Rattle.app_loads.specs.{Claims.claims_of, Claims.entries_claim, Claims.fixed_claim, Claims.has_chip, Claims.key_claim, Claims.memory_claim, Claims.row_claim, Claims.size_for, Counting.HasTree}
-pub use Rattle.app_loads.specs.{Counting.HasTreeInside, Counting.IsRunEnd, Counting.chip_places, Counting.end_places, Counting.run_claim, Counting.tree_places, Earlier.with_earlier, Grouping.Grouped}
+pub use Rattle.app_loads.specs.Claims.{claims_of, entries_claim, fixed_claim, has_chip, key_claim, memory_claim, row_claim, size_for}
+pub use Rattle.app_loads.specs.{Counting.AreCounted, Counting.HasTree, Counting.HasTreeInside, Counting.chip_places, Counting.end_places, Counting.tree_places, Earlier.with_earlier, Grouping.Grouped}
 pub use Rattle.app_loads.specs.{Grouping.HasPut, Grouping.all_grouped, Grouping.is_mixed_group, Grouping.is_others_group, Grouping.is_own_group, Groups.EndsWith, Groups.IsBetween, Groups.IsGroup}
 pub use Rattle.app_loads.specs.{Groups.deliveries_at, Groups.deliveries_in, Groups.delivery_of, Groups.grouped_of, Groups.last_arrivals, Groups.sent_of, Host.Free, Host.Host, Host.all_nets}
 pub use Rattle.app_loads.specs.Host.{all_ranges, all_spots, asked_of, asked_of_app, either, is_loaded, is_spot_taken, net_with, nets_of, nets_with}
@@ -11,22 +11,22 @@ pub use Rattle.app_loads.specs.{Joining.IsKeyRange, Joining.IsServedApp, Joining
 pub use Rattle.app_loads.specs.Leaving.{is_delivery_of, is_packet_of, is_record_of, least_own_packet, lesser_of, mesh_without, others_than, own_packet, packet_numbers_of, unsent_numbers}
 pub use Rattle.app_loads.specs.{Loading.HasLoaded, Loading.IsLoadRefusal, Loading.IsWhyNotLoaded, Opening.bare_host, Opening.bare_mesh, Opening.grid_spots, Opening.spot_of, Opening.usable_spots}
 pub use Rattle.app_loads.specs.{Plans.IsAppNet, Plans.IsPacketOfApp, Plans.IsPlan, Plans.IsSpotBefore, Plans.MayLoad, Regions.AreFreeBeside, Regions.IsFreeBeside, Regions.IsRangeWithin}
-pub use Rattle.app_loads.specs.Regions.{IsRegion, ShareNoPlace, all_free, chip_count, is_taken, open_regions, place_of, range_has, region_size}
-pub use Rattle.app_loads.specs.{Removing.CanLeave, Removing.HasLeft, Removing.IsWhyHere, Running.AreAlikeInBlocks, Running.AreKnown, Running.Comes, Running.HasBroughtMore, Running.HasFirstUnsent}
-pub use Rattle.app_loads.specs.{Running.HasMovedMesh, Running.HasSomeUnsent, Running.IsBlockWith, Running.IsClean, Sending.AreCleared, Sending.AreSources, Sending.AreWithSources, Sending.CanAdd}
-pub use Rattle.app_loads.specs.{Sending.CanSend, Sending.IsPacketOn, Sending.IsSameBeside, Sending.IsSendingFrom, Sending.source_at, Sending.source_vertex, Taking.AreFreeAgain, Taking.AreGivenBack}
-pub use Rattle.app_loads.specs.Taking.{AreRegionsOf, AreServedAlways, AreTaken, AreTakenAlways, CanServe, HaveRoom, HaveServed, IsDueAlways, IsDueOf, IsFair, IsFairFor, RefusesClaim, ServesClaim}
-pub use Rattle.app_loads.specs.{Taking.free_places_in, Taking.frees, Unloading.HasUnloaded, Unloading.IsWhyNotUnloaded, Unloading.NoneWaits, Writing.AreCopied, Writing.AreFilled, Writing.AreUnused}
-pub use Rattle.app_loads.specs.{Writing.CanClear, Writing.CanCopy, Writing.FillsFrom, Writing.FitsTable, Writing.HaveRooms, Writing.row_entry, Writing.tables_in, declared.answers.Ended.Ended}
-pub use Rattle.app_loads.specs.declared.answers.{LoadErr.LoadErr, LoadErr.TheVariants.Refused, LoadRefusal.LoadRefusal, LoadRefusal.TheVariants.KeysOut, LoadRefusal.TheVariants.Loaded}
+pub use Rattle.app_loads.specs.Regions.{ShareNoPlace, all_free, chip_count, is_taken, open_regions, place_of, range_has, region_size}
+pub use Rattle.app_loads.specs.{Removing.CanLeave, Removing.HasLeft, Removing.IsWhyHere, Running.AreAlikeInBlocks, Running.AreKnown, Running.CanDrain, Running.Comes, Running.HasBroughtMore}
+pub use Rattle.app_loads.specs.{Running.HasFirstUnsent, Running.HasMovedMesh, Running.HasSomeUnsent, Running.IsBlockWith, Running.IsClean, Sending.AreCleared, Sending.AreSources}
+pub use Rattle.app_loads.specs.Sending.{AreWithSources, CanAdd, CanSend, IsPacketOn, IsSameBeside, IsSendingFrom, source_at, source_vertex}
+pub use Rattle.app_loads.specs.Taking.{AreFreeAgain, AreGivenBack, AreRegionsOf, AreServedAlways, AreTaken, AreTakenAlways, CanServe, HaveRoom, HaveServed, IsDueAlways, IsDueOf, IsFair, IsFairFor}
+pub use Rattle.app_loads.specs.{Taking.RefusesClaim, Taking.ServesClaim, Taking.free_places_in, Taking.frees, Unloading.HasUnloaded, Unloading.IsWhyNotUnloaded, Unloading.NoneWaits, Writing.AreCopied}
+pub use Rattle.app_loads.specs.Writing.{AreFilled, CanClear, CanCopy, FillsFrom, FitsTable, HaveRooms, row_entry, tables_in}
+pub use Rattle.app_loads.specs.declared.answers.{Ended.Ended, LoadErr.LoadErr, LoadErr.TheVariants.Refused, LoadRefusal.LoadRefusal, LoadRefusal.TheVariants.KeysOut, LoadRefusal.TheVariants.Loaded}
 pub use Rattle.app_loads.specs.declared.answers.{LoadRefusal.TheVariants.MemoryOut, LoadRefusal.TheVariants.RowsOut, UnloadErr.TheVariants.NotLoaded, UnloadErr.TheVariants.Waiting}
 pub use Rattle.app_loads.specs.declared.{answers.UnloadErr.UnloadErr, apps.Apps.TheInside.Inside, arrivals.Arrival.Arrival, group.Sent.Sent, known.KnownBlock.KnownBlock, leaving.Left.Left}
 pub use Rattle.app_loads.specs.declared.{loaded.Claim.Claim, loaded.LoadedApp.LoadedApp, loaded.Range.Range, places.Region.TheVariants.Keys, places.Region.TheVariants.Rows, plans.AppNet.AppNet}
 pub use Rattle.app_loads.specs.declared.plans.AppPlan.{AppPlan}
 pub use Rattle.key_alloc.proofs.Ranges.{free_of, in_facts, in_from, regroup, room_above}
 pub use Rattle.key_alloc.specs.KeyBlocks.{size_of}
-pub use Rattle.machine_desc.proofs.{Branches.link_on_branch, Far.far_inside, Far.index_below, Far.live_ends, Far.live_inside, Far.same_index, Live.chip_of-inside, Live.index_of-chip_of}
-pub use Rattle.machine_desc.proofs.{Same.chip_eq-from_same, Same.same_spot, Sites.usable_parts, Sites.usable_site, TreeLemmas.tree_cases, TreeLemmas.tree_end}
+pub use Rattle.machine_desc.proofs.{Branches.link_on_branch, Far.far_inside, Far.index_below, Far.live_inside, Far.same_index, Live.chip_of-inside, Live.index_of-chip_of, Same.chip_eq-from_same}
+pub use Rattle.machine_desc.proofs.{Same.same_spot, Sites.usable_parts, Sites.usable_site, TreeLemmas.tree_cases, TreeLemmas.tree_end}
 pub use Rattle.machine_desc.specs.{Branch.Exit, Description.Description, Description.HasSize, Live.IsInside, Live.IsUsable, Live.chip_of, Live.index_of, Live.is_usable, NetsOn.AreNetsOn}
 pub use Rattle.machine_desc.specs.{NetsOn.HaveDisjointBlocks, NetsOn.IsWayOn, NetsOn.vertex_at, Outputs.is_wanted, RightTables.AreRight, RightTables.IsKeyOf, RightTables.RoutesByTree}
 pub use Rattle.machine_desc.specs.{RightTables.table_at, RoutingTree.IsRoutingTree, RoutingTree.IsTreeChip, RoutingTree.end_of, declared.nets.NetPlan.NetPlan, declared.trees.Edge.Edge}
@@ -41,11 +41,11 @@ pub use Rattle.mesh_core.specs.{Opened.asked_by, Opened.copy_from, Opened.empty_
 pub use Rattle.mesh_core.specs.{State.Setup, State.State, State.input, State.queue_at, State.vertex_behind, Step.after_event, Step.after_events, Step.collect_of, Step.dump_of, Step.has_room_behind}
 pub use Rattle.mesh_core.specs.{Step.inject_of, Step.push_behind, Step.send_of, Step.step_of, Step.take_of, Trail.IsUnderWayAt, Trail.Mark, Trail.Station, Trail.at_core, Trail.delivered, Trail.dumped}
 pub use Rattle.mesh_core.specs.{Trail.in_hand, Trail.in_queue, Trail.is_on_trail, Trail.is_packet_on_trail, Trail.on_trail, Trail.unsent, declared.places.Did.Did}
-pub use Rattle.mesh_drain.proofs.{Frame.dumped_reached, Frame.kept_reached, Frame.reached_none, Frame.reached_then, Frame.setup_reached, Moving.after_moved, Moving.after_none, Moving.after_one}
-pub use Rattle.mesh_drain.proofs.{Moving.after_setup, Packets.few_spots, Senders.Unsent, Senders.moved_of_reached, Senders.one_less_sender, Senders.rest_from, Senders.sender_there}
-pub use Rattle.mesh_drain.proofs.Turns.{all_sent_there, as_before, is_none, is_some', one_less, there_still, was_there}
-pub use Rattle.mesh_drain.specs.Draining.{AreRoutedAlike, HasBrought, IsAfter, IsMoved, IsReachedDropless, MaySend, MeetsSomeLedger, SendAlone, of_packet}
-pub use Rattle.net_tables.proofs.{Trees.chips_inside, Trees.comes_in_tree, Whole.all_plain_tables, Whole.from_net, Whole.has_original}
+pub use Rattle.mesh_drain.proofs.{Frame.dumped_reached, Frame.kept_reached, Frame.reached_then, Frame.setup_reached, Moving.after_moved, Moving.after_none, Moving.after_one, Moving.after_setup}
+pub use Rattle.mesh_drain.proofs.{Packets.few_spots, Senders.Unsent, Senders.one_less_sender, Senders.rest_from, Senders.sender_there, Turns.is_some', Turns.one_less, Turns.there_still}
+pub use Rattle.mesh_drain.proofs.Turns.{was_there}
+pub use Rattle.mesh_drain.specs.Draining.{AreRoutedAlike, BringsAlways, HasBrought, IsAfter, IsMoved, IsReachedDropless, MaySend, MeetsSomeLedger, SendAlone, of_packet}
+pub use Rattle.net_tables.proofs.{Trees.chips_inside, Trees.comes_in_tree, Trees.edges_inside, Whole.all_plain_tables, Whole.from_net, Whole.has_original}
 pub use Rattle.net_tables.specs.{Marks.AreBlocksOf, Marks.IsTableOf, Marks.row_of_mark, Marks.table_of_sorted, PlainTable.AreOriginals, PlainTable.AreRoutedApart, PlainTable.AtEach}
 pub use Rattle.net_tables.specs.PlainTable.{HasChip, IsOriginalOf, IsPlainTable, row_of}
 pub use Rattle.range_store.proofs.HolePlaces.{clash, free_in_range, free_within, has_facts, has_from, range_of_free}
@@ -67,23 +67,22 @@ pub use Rattle.std.proofs.Common.{Bool, Err, Global, IfOk, IsTrue, List, None, O
 pub use Rattle.std.proofs.Common.{false, find, get_or, if◌then◌else◌, inl, inr, leb, length, ltb, map, max, min, not, refl, replicate, rules, set, subst, suc, sym, take, true, zero, ℕ, ◌%◌, ◌&&◌, ◌*◌}
 pub use Rattle.std.proofs.Common.{◌++◌, ◌+◌, ◌-◌, ◌/◌, ◌<◌, ◌==◌, ◌^◌, ◌||◌, ◌↔◌, ◌∙◌, ◌∷◌, ◌≡◌, ◌≢◌, ◌≤◌, ◌⊎◌}
 pub use Rattle.std.proofs.{Math.Bool.or-false, Math.Pow.pow_mono, iter.runs.Made.chains, lemmas.Bool.Decides.nat_tests, lemmas.Bool.and_from, lemmas.Bool.and_parts, lemmas.Bool.and_right}
-pub use Rattle.std.proofs.lemmas.Bool.{both_ways, cases_Bool, cases_eq, cases_lt, cases_order, cond-false, cond-true, cond_both, eq-eqb, eqb-true, false_from_ne_true, false≢true, le-leb, le-ltb}
-pub use Rattle.std.proofs.lemmas.Bool.{leb-false, leb-true, lt-leb, lt-ltb, ltb-true, ne_eqb, not-false, not-true, or_cases, or_left, or_parts, or_right}
-pub use Rattle.std.proofs.lemmas.{Grind.common_steps, Grind.flat_map-append, Grind.pow_more, Iterator.Consumers.YieldsList-at, Iterator.Consumers.YieldsList-from_chain}
-pub use Rattle.std.proofs.lemmas.Iterator.{Consumers.YieldsList-from_filter, Consumers.fold_from_yields_List, YieldsList-from_map, YieldsList-from_range, YieldsList-from_slice, items_from_collect}
+pub use Rattle.std.proofs.lemmas.Bool.{both_ways, cases_Bool, cases_eq, cases_lt, cases_order, cond-false, cond-true, cond_both, eq-eqb, eqb-true, false_from_ne_true, false≢true, le-leb, leb-false}
+pub use Rattle.std.proofs.lemmas.Bool.{leb-true, lt-leb, lt-ltb, ltb-true, ne_eqb, not-false, not-true, or_cases, or_left, or_parts, or_right}
+pub use Rattle.std.proofs.lemmas.{Grind.common_steps, Grind.flat_map-append, Grind.get_or-set_at, Grind.pow_more, Iterator.Consumers.YieldsList-at, Iterator.Consumers.YieldsList-from_filter}
+pub use Rattle.std.proofs.lemmas.Iterator.{Consumers.fold_from_yields_List, YieldsList-from_map, YieldsList-from_range, YieldsList-from_slice, items_from_collect}
 pub use Rattle.std.proofs.lemmas.List.Elements.{All-append, All-cons, All-contains, All-filter, All-from_get_or, All-head, All-map, All-nil, All-push, All-replicate, All-set, All-tail, All-weaker}
-pub use Rattle.std.proofs.lemmas.List.Elements.{Contains-append_left, Contains-append_right, Contains-push_cases, filter-append, filter_map-append}
-pub use Rattle.std.proofs.lemmas.List.{Filters.length-filter_both, Folds.find_at, Folds.list_any-append, FromFn.get_or-map-range_with_len, FromFn.length-map-range_with_len}
-pub use Rattle.std.proofs.lemmas.List.{FromFn.length-range_with_len, Kept.AllPairs-filter, Quantifiers.all_pairs_push, Sorted.All-permutation, Sorted.Contains-permutation}
-pub use Rattle.std.proofs.lemmas.List.Sorted.{IsNonDecreasingBy-from_sort, IsPermutation-refl, IsPermutation-sym, length_permutation, sum_by-IsPermutation}
-pub use Rattle.std.proofs.lemmas.List.{Sums.count_by-le-length, Sums.fails_before_first, Sums.length-filter, Sums.passes_at_first, Sums.position_or_len_is, Sums.sum_by-cons, drop-map, drop_all}
-pub use Rattle.std.proofs.lemmas.List.{drop_at, drop_more, flat_map_more, get_or-append_right, get_or-replicate, get_or-take, get_or_append_left, get_or_default, length-append, length-drop}
-pub use Rattle.std.proofs.lemmas.List.{length-map, length-replicate, length-set, length-take, length-take-le, length_push, map-append, map-set, same_lists, set-get_or, set_at, take-append-le}
-pub use Rattle.std.proofs.lemmas.{List.take-map, List.take_all, List.take_at, List.with_items_is, Nat.Bits.and_high_mask, Nat.mul-le, Nat.pow_pos, Nat.shr_split, Option.get_or_from_slice_get}
-pub use Rattle.std.proofs.lemmas.{Option.none-some, Option.same_Some, Option.slice_get-get_or, Option.slice_get_read, Option.slice_get_within, Option.unwrap_or-slice_get, Result.IfErr-at_err}
-pub use Rattle.std.proofs.lemmas.{Result.IfOk-at_ok, Slice.Zip.AllZip-long, Slice.Zip.length-zip}
-pub use Rattle.std.specs.{BTreeMap.BTreeMap, BTreeMap.Updates, BTreeMap.is_at, Int.Bits.and_zero_r, Int.IsPowerOfTwo, List.All, List.AllPairs, List.AllZip, List.Contains, List.Sorted.IsPermutation}
-pub use Rattle.std.specs.List.{cons_option, enumerate_from, filter, filter_map, flat_map, fold, list_any, position_or_len, range_with_len, slice_get, slice_index_or, slice_set, sum_by}
+pub use Rattle.std.proofs.lemmas.List.{Elements.Contains-append_left, Elements.Contains-append_right, Elements.Contains-push_cases, Elements.filter-append, Elements.filter_map-append, Folds.find_at}
+pub use Rattle.std.proofs.lemmas.List.{Folds.list_any-append, FromFn.get_or-map-range_with_len, FromFn.length-map-range_with_len, FromFn.length-range_with_len, Kept.AllPairs-filter}
+pub use Rattle.std.proofs.lemmas.List.{Quantifiers.all_pairs_push, Sorted.Contains-permutation, Sorted.IsPermutation-refl, Sorted.IsPermutation-sym, Sorted.length_permutation, Sums.count_by-le-length}
+pub use Rattle.std.proofs.lemmas.List.{Sums.fails_before_first, Sums.length-filter, Sums.passes_at_first, Sums.position_or_len_is, drop-map, drop_all, drop_at, drop_more, flat_map_more}
+pub use Rattle.std.proofs.lemmas.List.{get_or-append_right, get_or-replicate, get_or-set_other, get_or_append_left, get_or_default, length-append, length-drop, length-map, length-replicate}
+pub use Rattle.std.proofs.lemmas.List.{length-set, length-take, length-take-le, length_push, map-append, map-set, same_lists, set-get_or, set_at, take-append-drop, take-append-le, take-map, take_all}
+pub use Rattle.std.proofs.lemmas.{List.take_at, List.with_items_is, Nat.Bits.and_high_mask, Nat.mul-le, Nat.pow_pos, Nat.shr_split, Option.get_or_from_slice_get, Option.none-some, Option.same_Some}
+pub use Rattle.std.proofs.lemmas.{Option.slice_get-get_or, Option.slice_get_read, Option.slice_get_within, Option.unwrap_or-slice_get, Result.IfErr-at_err, Result.IfOk-at_ok, Result.IfOk-weaker}
+pub use Rattle.std.proofs.lemmas.{Result.on_err_weaker, Result.on_ok_weaker, Slice.Zip.AllZip-long, Slice.Zip.length-zip}
+pub use Rattle.std.specs.{BTreeMap.BTreeMap, BTreeMap.Updates, BTreeMap.is_at, Int.Bits.and_zero_r, Int.IsPowerOfTwo, List.All, List.AllPairs, List.AllZip, List.Contains, List.cons_option}
+pub use Rattle.std.specs.List.{enumerate_from, filter, filter_map, flat_map, fold, list_any, position_or_len, range_with_len, slice_get, slice_index_or, slice_set}
 pub use Rattle.std.specs.{Map.lookup, Option.option_map_or, Option.option_to_list, Ordering.nat_cmp, Prelude.IfNone, Prelude.IfSome, Prelude.is_err, Prelude.is_some, Prelude.position}
 pub use Rattle.std.specs.{Prelude.unwrap_or, Prelude.vec_capacity, Prelude.vec_len, Prelude.zip, Vec.Iter.into_iter_items, Vec.with_items}
 pub use Rattle.tcam_find.specs.Memory.{empty_memory, unused}

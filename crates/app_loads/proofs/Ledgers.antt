@@ -1,9 +1,12 @@
--- The ledger of asked packets, packet by packet: what it says of one, and that it holds where this holds of each.
-use Rattle.app_loads.proofs.Common.{Among, AreNetsOn, Asked, Bool, Contains, Contains-first, Description, Exit, IsKeyOf, IsTrue, IsWayOn, List, Mark, McCopy, MeetsLedgerFor, NetPlan, None, Option}
-use Rattle.app_loads.proofs.Common.{PutIn, Some, Spot, State, [], among_contains, and_from, and_parts, ap, append-nil, arith, behind_unsent, cases_Bool, cases_eq, contains_among, count_by}
-use Rattle.app_loads.proofs.Common.{count_by-cons, count_by-none, count_le, count_put_in, count_some, counted, eq-eqb, eqb-true, false, false_from_ne_true, if◌then◌else◌, inl, inr, is_on_trail}
-use Rattle.app_loads.proofs.Common.{is_packet_on_trail, label_of, map-append, mark, mark_eq, mark_eq_same, mark_eq_true, marks_at, marks_of, ne_eqb, none-some, one_net, put_in_before, put_in_gathered}
-use Rattle.app_loads.proofs.Common.{refl, same_Some, slice_get, slice_set, some_way, subst, sym, true, unsent, unsent_marks, vertex_at, ℕ, ◌++◌, ◌+◌, ◌==◌, ◌∙◌, ◌∷◌, ◌≡◌, ◌≢◌, ◌≤◌, ◌⊎◌}
+-- The ledger of asked packets, packet by packet, and of a mesh to which an application's packets came.
+use Rattle.app_loads.proofs.Common.{Among, AreNetsOn, AreSent, Asked, Bool, Contains, Contains-first, Contains-later, Description, Entry, Exit, IsKeyOf, IsRoutingTree, IsTrue, IsWayOn, List}
+use Rattle.app_loads.proofs.Common.{LoadedApp, Mark, McCopy, MeetsLedgerFor, NetPlan, None, Option, Packet, PutIn, Some, Spot, State, [], among_contains, and_from, and_parts, ap, append-nil, arith}
+use Rattle.app_loads.proofs.Common.{asked_by, asked_from, asked_of, asked_of_app, asked_parts, behind_unsent, both_ways, cases_Bool, cases_eq, cases_lt, contains_among, count_by, count_by-cons}
+use Rattle.app_loads.proofs.Common.{count_by-none, count_le, count_put_in, count_some, counted, either, eq-eqb, eqb-true, false, false_from_ne_true, get_or_from_slice_get, if◌then◌else◌, inl, inr}
+use Rattle.app_loads.proofs.Common.{is_on_trail, is_packet_of, is_packet_on_trail, label_in, label_of, leb, leb-true, length, length-map, link_on_branch, lt-ltb, ltb, ltb-true, map-append, mark}
+use Rattle.app_loads.proofs.Common.{mark_eq, mark_eq_same, mark_eq_true, marks_at, marks_of, nat_tests, ne_eqb, net_in_list, nets_of, none-some, one_net, put_in_before, put_in_gathered, refl}
+use Rattle.app_loads.proofs.Common.{same_Some, slice_get, slice_get_within, slice_set, some_way, subst, suc, sym, true, unsent, unsent_marks, vertex_at, zero, ℕ, ◌&&◌, ◌++◌, ◌+◌, ◌-◌, ◌<◌, ◌==◌, ◌∙◌}
+use Rattle.app_loads.proofs.Common.{◌∷◌, ◌≡◌, ◌≢◌, ◌≤◌, ◌⊎◌}
 use Rattle.app_loads.proofs.LeavingLists.{one_if}
 
 -- ---- marks that are equal
@@ -37,8 +40,7 @@ pub record IsTrailed (m : Description) (spots : List Spot) (marks : List Mark) (
 pub trailed_still : (m : Description) (spots : List Spot) (new old : List Mark) (i : ℕ) (a : Asked) → HaveSamePacket i new old → IsTrailed m spots old i a → IsTrailed m spots new i a
 trailed_still m spots new old i a same was = record {
   its = λ k has of. was.its k ((marked_too i new old same k of).0 has) of;
-  once = λ d branch from to way. same (is_packet_on_trail i from to branch)
-      (λ k passes. eqb-true k.copy.packet i (and_parts (k.copy.packet == i) (is_on_trail from to branch k) passes).0) ∙ was.once d branch from to way;
+  once = grind (arith, eqb-true, and_parts);
   some = (was.some.0, (marked_too i new old same was.some.0 was.some.2).1 was.some.1, was.some.2);
 }
 
@@ -191,10 +193,7 @@ module _ (s : State) (nets : List NetPlan) (asked : ℕ → Option Asked) (i : �
   pub one_packet_more : MeetsLedgerFor t nets (also asked i a)
   one_packet_more = from_packets t nets (also asked i a) l.ledger.nets_stand
       (λ j b e. elim (cases_eq j i) [
-        | inl same ↦
-            let one : a ≡ b = same_Some _ _ (sym (also_here asked i j a same) ∙ e) in
-            subst (λ (c : Asked). Contains nets c.net × IsKeyOf c.net.block c.label.key × IsTrailed s.setup.machine s.setup.spots (marks_of t) j c) one
-            (of_nets, key, subst (λ n. IsTrailed s.setup.machine s.setup.spots (marks_of t) n a) (sym same) new_one)
+        | inl same ↦ grind (arith, also_here asked i j a same, new_one, same_Some)
         | inr other ↦
             let is : asked j ≡ Some b = sym (also_else asked i j a other) ∙ e in
             let own = l.of_its_net j b is in (
@@ -208,3 +207,99 @@ module _ (s : State) (nets : List NetPlan) (asked : ℕ → Option Asked) (i : �
         | inl new ↦ (a, also_here asked i k.copy.packet a (ap (λ (m : Mark). m.copy.packet) new))
         | inr old ↦ (let was = l.was_asked k old in (was.0, also_else asked i k.copy.packet a (other_number k old) ∙ was.1))
       ])
+
+-- a routing tree has a target
+some_target : (m : Description) (net : NetPlan) → IsRoutingTree m net.tree.root net.tree.edges net.targets → (t : Spot) × Contains net.targets t
+some_target m net tree = elim (tree.ends_are_targets net.tree.root (inl refl)) [
+  | inl out ↦ let way = link_on_branch m net.tree.root net.tree.edges net.targets tree out.1 (out.0, out.2, out.3) in (way.0, way.1)
+  | inr target ↦ target_of net.targets target.0 (subst (λ n. target.0 < n) (length-map net.targets (λ s. s.chip)) target.1)
+]
+  where
+    target_of : (ts : List Spot) (k : ℕ) → k < length ts → (t : Spot) × Contains ts t
+    target_of [] k within = absurd (omega (arith, within))
+    target_of (t ∷ ts) k within = (t, (0, omega arith, refl))
+
+-- the ledger holds of the same packets
+pub same_packets : (s : State) (nets : List NetPlan) (f g : ℕ → Option Asked) → ((j : ℕ) → f j ≡ g j) → MeetsLedgerFor s nets f → MeetsLedgerFor s nets g
+same_packets s nets f g same = subst (MeetsLedgerFor s nets) (λ i j. same j i)
+
+either_none : (a : Option Asked) → either a None ≡ a
+either_none (Some a) = refl
+either_none None = refl
+
+module _ (app : LoadedApp) (asked : ℕ → Option Asked) where
+  -- the packets, and the first n of the application's
+  abbrev pub upto : ℕ → ℕ → Option Asked
+  upto n j = if leb app.first j && ltb j (app.first + n) then asked_by (nets_of app) app.plan.packets (j - app.first) else asked j
+
+  upto_none : (j : ℕ) → asked j ≡ upto 0 j
+  upto_none j = grind (arith, nat_tests)
+
+  upto_free : (n : ℕ) → asked (app.first + n) ≡ None → upto n (app.first + n) ≡ None
+  upto_free n none = grind (arith, nat_tests)
+
+  upto_more : (n j : ℕ) (a : Asked) → asked_by (nets_of app) app.plan.packets n ≡ Some a → also (upto n) (app.first + n) a j ≡ upto (suc n) j
+  upto_more n j a is = elim (cases_eq j (app.first + n)) [
+    | inl same ↦
+        let place : j - app.first ≡ n = omega (arith, same) in
+        let own : asked_by (nets_of app) app.plan.packets (j - app.first) ≡ Some a = ap (asked_by (nets_of app) app.plan.packets) place ∙ is in
+        grind (arith, nat_tests)
+    | inr other ↦ grind (arith, nat_tests)
+  ]
+
+  module _ (s : State) (nets : List NetPlan) (ledger : MeetsLedgerFor s nets asked) (none : (i : ℕ) → app.first ≤ i → asked i ≡ None)
+      (own : (x : NetPlan) → Contains (nets_of app) x → Contains nets x × IsRoutingTree s.setup.machine x.tree.root x.tree.edges x.targets)
+      (keyed : (j : ℕ) (p : Packet) (x : NetPlan) → slice_get app.plan.packets j ≡ Some p → slice_get (nets_of app) p.net ≡ Some x → IsKeyOf x.block (x.block.key + p.index)) where
+    pub sent_ledger : (n : ℕ) (q : List (List McCopy)) → AreSent s.setup.spots app n s.unsent q → MeetsLedgerFor (record s { unsent = q }) nets (upto n)
+    sent_ledger zero q sent =
+        same_packets (record s { unsent = q }) nets asked (upto 0) upto_none (subst (λ (l : List (List McCopy)). MeetsLedgerFor (record s { unsent = l }) nets asked) (sym sent) ledger)
+    sent_ledger (suc n) q sent =
+        let before = sent_ledger n sent.0 sent.2 in
+        let one = sent.4 in
+        let p : Packet = sent.1 in
+        let i : ℕ = app.first + n in
+        let a : Asked = record { net = one.net; label = label_in one.net p } in
+        let asks : asked_by (nets_of app) app.plan.packets n ≡ Some a = asked_from (nets_of app) app.plan.packets n p one.net sent.3 one.is_net in
+        let is_own = own one.net (p.net, slice_get_within (nets_of app) p.net one.net one.is_net, get_or_from_slice_get (nets_of app) p.net one.net one.net one.is_net) in
+        let target = some_target s.setup.machine one.net is_own.1 in
+        let free = upto_free n (none i (omega arith)) in
+        let more = one_packet_more (record s { unsent = sent.0 }) nets (upto n) i a one.vertex one.queue target.0 before one.at free one.is_vertex is_own.0
+        (keyed n p one.net sent.3 one.is_net) target.1 in
+        subst (λ (l : List (List McCopy)). MeetsLedgerFor (record s { unsent = l }) nets (upto (suc n))) (sym one.is)
+        (same_packets _ nets (also (upto n) i a) (upto (suc n)) (λ j. upto_more n j a asks) more)
+
+-- ---- packets of all applications
+
+asked_more : (apps : List LoadedApp) (app : LoadedApp) (j : ℕ) → asked_of (apps ++ app ∷ []) j ≡ either (asked_of apps j) (asked_of_app app j)
+asked_more [] app j = grind arith
+asked_more (a ∷ apps) app j = grind (arith, asked_more apps app j)
+
+-- the bounds of the numbers of an application's packets
+pub packet_bounds : (b : LoadedApp) (i : ℕ) → is_packet_of b i ≡ true → (b.first ≤ i) × (i < b.first + length b.plan.packets)
+packet_bounds b i is = let parts = and_parts (leb b.first i) (ltb i (b.first + length b.plan.packets)) is in (leb-true b.first i parts.0, ltb-true i (b.first + length b.plan.packets) parts.1)
+
+-- what an application asks for is of its packets and nets
+pub of_app : (b : LoadedApp) (i : ℕ) (a : Asked) → asked_of_app b i ≡ Some a → (is_packet_of b i ≡ true) × Contains (nets_of b) a.net
+of_app b i a e = grind (arith, cases_Bool (leb b.first i), asked_parts, slice_get_within, and_from, net_in_list, none-some, lt-ltb, leb-true)
+
+-- what is asked for is asked for by one of the applications
+pub asker : (apps : List LoadedApp) (i : ℕ) (a : Asked) → asked_of apps i ≡ Some a → (b : LoadedApp) × Contains apps b × (asked_of_app b i ≡ Some a)
+asker [] i a e = absurd (none-some a e)
+asker (b ∷ apps) i a e = by_first (asked_of_app b i) refl e (asker apps i a)
+  where
+    by_first : (o : Option Asked) → asked_of_app b i ≡ o → either o (asked_of apps i) ≡ Some a → (asked_of apps i ≡ Some a → (c : LoadedApp) × Contains apps c × (asked_of_app c i ≡ Some a)) →
+        (c : LoadedApp) × Contains (b ∷ apps) c × (asked_of_app c i ≡ Some a)
+    by_first (Some c) is e' later = (b, Contains-first b apps, is ∙ e')
+    by_first None is e' later = let rest = later e' in (rest.0, Contains-later b apps rest.0 rest.1, rest.2)
+
+past_app : (app : LoadedApp) (j : ℕ) → app.first + length app.plan.packets ≤ j → asked_of_app app j ≡ None
+past_app app j past = (grind (arith, both_ways, of_app))
+
+pub asked_is : (apps : List LoadedApp) (app : LoadedApp) → ((i : ℕ) → app.first ≤ i → asked_of apps i ≡ None) → (j : ℕ) →
+    upto app (asked_of apps) (length app.plan.packets) j ≡ asked_of (apps ++ app ∷ []) j
+asked_is apps app none j = grind (arith, nat_tests, cases_lt, either_none, asked_more, past_app)
+
+-- and whatever the tables
+pub other_tables : (s : State) (nets : List NetPlan) (asked : ℕ → Option Asked) (tables : List (List Entry)) → MeetsLedgerFor s nets asked →
+    MeetsLedgerFor (record s { setup = record s.setup { tables = tables } }) nets asked
+other_tables s nets asked tables l = grind arith

@@ -2,39 +2,24 @@ mod Common
 pub mod Alike
 mod AppNets
 mod Bare
-mod Delivered
-mod Earlier
-mod FewClaims
-mod GroupLaws
-mod Holes
-mod Hosts
-mod Kept
+pub mod Earlier
+pub mod GroupLaws
+pub mod Hosts
+pub mod Kept
 mod LeavingLeast
-mod LeavingLedger
 mod LeavingLists
 mod Ledgers
 mod LeftHost
-mod LeftMesh
-mod LeftParts
 mod LoadedHost
-mod LoadedParts
-mod Numbers
 pub mod OneClaim
-mod Others
-mod PacketLedger
-mod RegionLaws
-mod Resting
+pub mod Others
+pub mod RegionLaws
+pub mod Resting
 mod RightRows
-mod RowClaims
-mod Unsent
-mod Served
-mod Serving
-mod Settling
-mod Spots
+pub mod Served
+pub mod Serving
+pub mod Settling
 pub mod SpotsOf
-mod BlockLists
-mod Blocks
 mod ClaimCases
-mod Claiming
+pub mod Claiming
 mod Copying
-mod RoomToGive

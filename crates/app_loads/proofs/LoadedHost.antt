@@ -1,18 +1,20 @@
--- A host to which an application came.
-use Rattle.app_loads.proofs.Common.{All, All-contains, All-each, All-push, All-weaker, AllPairs, AllPairs-across, AllPairs-append, Among, AppPlan, AreApps, AreFreeBeside, AreNetsOn, AreRuns, AreSent}
-use Rattle.app_loads.proofs.Common.{AreServed, AreTaken, Bool, Contains, Contains-append_left, Contains-append_right, Contains-at, Description, Entry, Free, HasLoaded, HaveDisjointBlocks}
-use Rattle.app_loads.proofs.Common.{HaveOtherNumbers, HaveRows, Host, IsAppNet, IsDueAlways, IsKeyOf, IsLoadRefusal, IsLoadedOn, IsPacketOfApp, IsPlan, IsRefusalDue, IsRoutingTree, IsServedApp}
-use Rattle.app_loads.proofs.Common.{IsSettled, IsWhyNotLoaded, List, LoadErr, LoadRefusal, Loaded, LoadedApp, Mark, MayLoad, McCopy, MeetsLedgerFor, NetPlan, None, NoneUnsent, Option, Packet, Range}
-use Rattle.app_loads.proofs.Common.{Refused, Region, ShareNoPlace, Some, Spot, State, [], all_nets, all_ranges, all_spots, among_any, among_contains, among_left, and_parts, ap, append-nil}
-use Rattle.app_loads.proofs.Common.{append_assoc, arith, asked_of, behind_unsent, cases_eq, claims_of, cons_option, contains_among, copy_from, enumerate_from, enumerate_more, eq-eqb, eqb-true, false}
-use Rattle.app_loads.proofs.Common.{false≢true, filter_map, filter_map-append, first_copy, flat_map_more, frees, gathered_among, get_or, if◌then◌else◌, inl, inr, is_loaded, is_spot_taken, is_taken}
-use Rattle.app_loads.proofs.Common.{length, list_any, list_any-append, ltb, marks_at, marks_of, ne_eqb, nets_of, none-some, not, option_map_or, or_parts, refl, same_Some, same_lists, slice_get}
-use Rattle.app_loads.proofs.Common.{slice_get-get_or, slice_get-set_other, slice_get-set_same, slice_get_there, slice_get_within, slice_set, spot_eq, spot_eq_same, subst, suc, sym, take, take_all}
-use Rattle.app_loads.proofs.Common.{true, unsent, unsent_marks, vertex_at_stands, zero, ℕ, ◌&&◌, ◌++◌, ◌+◌, ◌<◌, ◌==◌, ◌∙◌, ◌∷◌, ◌≡◌, ◌≢◌, ◌≤◌}
+-- A host to which an application came, or came not, and its fields.
+use Rattle.app_loads.proofs.Common.{All, All-contains, All-each, All-push, All-weaker, AllPairs, AllPairs-across, AllPairs-append, Among, AppPlan, AreApps, AreFreeAgain, AreFreeBeside, AreNetsOn}
+use Rattle.app_loads.proofs.Common.{AreRuns, AreSent, AreServed, AreTaken, AreWithSources, Bool, CanJoin, Contains, Contains-append_left, Contains-append_right, Contains-at, Description, Entry, Err}
+use Rattle.app_loads.proofs.Common.{Free, HasLoaded, HaveDisjointBlocks, HaveOtherNumbers, HaveRows, Host, IfSome, Inside, IsAppNet, IsDueAlways, IsHost, IsKeyOf, IsLoadRefusal, IsLoadedOn}
+use Rattle.app_loads.proofs.Common.{IsPacketOfApp, IsPlan, IsRefusalDue, IsRoutingTree, IsServedApp, IsSettled, IsWhyNotLoaded, List, LoadErr, LoadRefusal, Loaded, LoadedApp, Mark, MayLoad, McCopy}
+use Rattle.app_loads.proofs.Common.{MeetsLedgerFor, NetPlan, None, NoneUnsent, Ok, OnErr, OnOk, Option, Packet, Range, Refused, Region, Result, SendAlone, ShareNoPlace, Some, Spot, State, []}
+use Rattle.app_loads.proofs.Common.{all_nets, all_ranges, all_spots, among_any, among_contains, among_left, among_right, and_parts, ap, append-nil, append_assoc, arith, asked_of, behind_unsent}
+use Rattle.app_loads.proofs.Common.{cases_eq, claims_of, cons_option, contains_among, copy_from, enumerate_from, enumerate_more, eq-eqb, eqb-true, false, false≢true, filter_map, filter_map-append}
+use Rattle.app_loads.proofs.Common.{first_copy, flat_map_more, frees, gathered_among, get_or, host_of, if◌then◌else◌, inl, inr, is_err, is_loaded, is_some, is_spot_taken, is_taken, length, list_any}
+use Rattle.app_loads.proofs.Common.{list_any-append, ltb, map-append, marks_at, marks_of, mesh_in, ne_eqb, nets_of, none-some, not, option_map_or, or_parts, refl, same_Some, same_lists, slice_get}
+use Rattle.app_loads.proofs.Common.{slice_get-get_or, slice_get-set_other, slice_get-set_same, slice_get_there, slice_get_within, spot_eq, spot_eq_same, subst, suc, sym, take, take_all, true, unsent}
+use Rattle.app_loads.proofs.Common.{unsent_marks, vertex_at_stands, zero, ℕ, ◌&&◌, ◌++◌, ◌+◌, ◌<◌, ◌==◌, ◌^◌, ◌∙◌, ◌∷◌, ◌≡◌, ◌≢◌, ◌≤◌}
 use Rattle.app_loads.specs.declared.answers.LoadErr.TheVariants.{Memory}
-use Rattle.app_loads.proofs.{AppNets.disjoint_blocks, AppNets.facts_of, AppNets.nets_on, AppNets.packet_key, ClaimCases.facts, Holes.same_holes, Served.loaded_from, LeavingLists.any_flat}
-use Rattle.app_loads.proofs.{LeavingLists.flat_has, LeavingLists.flat_of, Ledgers.more_nets, Others.pairs_with_last, PacketLedger.asked_is, PacketLedger.none_past, PacketLedger.other_tables}
-use Rattle.app_loads.proofs.{PacketLedger.same_packets, PacketLedger.sent_ledger, RegionLaws.one_free, RightRows.RowsIn, RightRows.right_rows, RightRows.rows_stay, Settling.settled_mesh}
+use Rattle.app_loads.proofs.Ledgers.{asker, of_app, packet_bounds, asked_is, other_tables, same_packets, sent_ledger, more_nets}
+use Rattle.app_loads.proofs.{AppNets.disjoint_blocks, AppNets.facts_of, AppNets.nets_on, AppNets.packet_key, ClaimCases.facts, RegionLaws.same_holes, RegionLaws.one_free, Served.loaded_from}
+use Rattle.app_loads.proofs.{LeavingLists.any_flat, LeavingLists.flat_has, LeavingLists.flat_of, Others.pairs_with_last, RightRows.RowsIn, RightRows.right_rows, RightRows.rows_stay}
+use Rattle.app_loads.proofs.{Settling.settled_mesh, Resting.with_alone}
 
 -- regions with the same free places are the same
 pub same_frees : (m : Description) (taken : List Range) (xs ys : List Free) → AreFreeBeside m taken xs → AreFreeBeside m taken ys → xs ≡ ys
@@ -59,15 +61,8 @@ module _ (spots : List Spot) (app : LoadedApp) (v : ℕ) where
       let all : (b : Bool) → (one.vertex == v) ≡ b → sent_so_far (suc n) ≡ sent_so_far n ++ cons_option (if b then Some copy else None) [] =
       λ b is. sent_next n sent.1 sent.3 ∙ ap (λ o. sent_so_far n ++ cons_option o []) (chosen ∙ ap (λ b'. if b' then Some copy else None) is) in
       ap (λ l. slice_get l v) one.is ∙ elim (cases_eq v one.vertex) [
-        | inl same ↦
-            let mine : slice_get sent.0 v ≡ Some one.queue = ap (slice_get sent.0) same ∙ one.at in
-            let queue : one.queue ≡ q ++ sent_so_far n = same_Some _ _ (sym mine ∙ was) in
-            ap (λ w. slice_get (slice_set sent.0 w (one.queue ++ copy ∷ [])) v) (sym same)
-            ∙ (slice_get-set_same sent.0 v one.queue (one.queue ++ copy ∷ []) mine
-            ∙ ap Some (ap (λ l. l ++ copy ∷ []) queue ∙ (append_assoc q (sent_so_far n) (copy ∷ []) ∙ ap (λ l. q ++ l) (sym (all true (eq-eqb one.vertex v (sym same)))))))
-        | inr other ↦
-            slice_get-set_other sent.0 one.vertex v (one.queue ++ copy ∷ []) other
-            ∙ (was ∙ ap (λ l. Some (q ++ l)) (sym (all false (ne_eqb one.vertex v (λ e. other (sym e))) ∙ append-nil (sent_so_far n))))
+        | inl same ↦ grind (arith, same_Some, slice_get-set_same, append_assoc, eq-eqb)
+        | inr other ↦ grind (arith, slice_get-set_other sent.0 one.vertex v (one.queue ++ copy ∷ []) other, append-nil (sent_so_far n), ne_eqb)
       ]
 
 module _ (h : Host) (apps : AreApps h) (number : ℕ) (plan : AppPlan) (may : MayLoad h plan) (not_loaded : is_loaded h.apps number ≡ false) (old new : List Region) (old_is : frees old ≡ h.regions)
@@ -88,17 +83,11 @@ module _ (h : Host) (apps : AreApps h) (number : ℕ) (plan : AppPlan) (may : Ma
   abbrev all : List LoadedApp
   all = h.apps ++ app ∷ []
 
-  before_free : AreFreeBeside m (all_ranges h.apps) (frees old)
-  before_free = subst (AreFreeBeside m (all_ranges h.apps)) (sym old_is) apps.free
-
-  ranges_are : all_ranges all ≡ all_ranges h.apps ++ app.ranges
-  ranges_are = sym (flat_map_more (λ (a : LoadedApp). a.ranges) [] h.apps app)
-
   taken_now : AreTaken m (all_ranges h.apps) app.ranges new
-  taken_now = served.taken (all_ranges h.apps) apps.apart before_free
+  taken_now = served.taken (all_ranges h.apps) apps.apart (subst (AreFreeBeside m (all_ranges h.apps)) (sym old_is) apps.free)
 
   served_now : AreServed m (all_ranges h.apps) (claims_of m plan) app.ranges
-  served_now = served.served (all_ranges h.apps) apps.apart before_free
+  served_now = served.served (all_ranges h.apps) apps.apart (subst (AreFreeBeside m (all_ranges h.apps)) (sym old_is) apps.free)
 
   on : IsLoadedOn m app
   on = loaded_from m (all_ranges h.apps) new plan app may.valid served.plan_is served_now taken_now served.blocks
@@ -113,7 +102,7 @@ module _ (h : Host) (apps : AreApps h) (number : ℕ) (plan : AppPlan) (may : Ma
   loaded_now = All-push (IsLoadedOn m) h.apps app apps.loaded on
 
   apart_now : AllPairs ShareNoPlace (all_ranges all)
-  apart_now = subst (AllPairs ShareNoPlace) (sym ranges_are) taken_now.apart
+  apart_now = subst (AllPairs ShareNoPlace) (sym (sym (flat_map_more (λ (a : LoadedApp). a.ranges) [] h.apps app))) taken_now.apart
 
   disjoint_now : HaveDisjointBlocks (all_nets all)
   disjoint_now = disjoint_blocks m all loaded_now apart_now
@@ -130,7 +119,7 @@ module _ (h : Host) (apps : AreApps h) (number : ℕ) (plan : AppPlan) (may : Ma
         (λ r s in_r. across r s (flat_has (λ (x : LoadedApp). x.ranges) h.apps a r in_apps in_r))
         (All-contains (λ (b : LoadedApp). All (RowsIn m h.mesh.setup.tables b) b.ranges) h.apps a apps.rows.rows in_apps)))
         (All-each (RowsIn m t app) app.ranges settled.written.rows);
-    others = grind (arith, ranges_are, or_parts, list_any-append);
+    others = grind (arith, (sym (flat_map_more (λ (a : LoadedApp). a.ranges) [] h.apps app)), or_parts, list_any-append);
   }
 
   first_is : app.first ≡ h.packets
@@ -140,7 +129,7 @@ module _ (h : Host) (apps : AreApps h) (number : ℕ) (plan : AppPlan) (may : Ma
   keyed j p x at is = packet_key m app on p (All-contains (IsPacketOfApp app.plan.nets) app.plan.packets p on.plan.packets (Contains-at app.plan.packets j p at)) x is
 
   none_yet : (i : ℕ) → app.first ≤ i → asked_of h.apps i ≡ None
-  none_yet i past = none_past h.apps h.packets i apps.counted (let f = first_is in omega (arith, past, f))
+  none_yet i past = grind (arith, first_is, asker, packet_bounds, of_app, All-contains)
 
   ledger_now : MeetsLedgerFor after (all_nets all) (asked_of all)
   ledger_now =
@@ -176,7 +165,7 @@ module _ (h : Host) (apps : AreApps h) (number : ℕ) (plan : AppPlan) (may : Ma
         false≢true (sym (spots_free b in_b) ∙ subst (λ z. is_spot_taken h.apps z ≡ true) same (is_there a in_a))))));
     loaded = loaded_now;
     apart = apart_now;
-    free = subst (λ l. AreFreeBeside m l (frees new)) (sym ranges_are) taken_now.free;
+    free = subst (λ l. AreFreeBeside m l (frees new)) (sym (sym (flat_map_more (λ (a : LoadedApp). a.ranges) [] h.apps app))) taken_now.free;
     disjoint = disjoint_now;
     rows = rows_now;
     right = right_rows m t all loaded_now disjoint_now rows_now;
@@ -259,3 +248,112 @@ none_unsent h apps plan may net has v vertex = by_queue (slice_get h.mesh.unsent
         let own = All-contains (IsAppNet m' plan.spots) plan.nets net may.valid.nets has in
         let is_free = All-contains (λ z. is_spot_taken h.apps z ≡ false) plan.spots net.source may.free own.source in
         absurd (false≢true (sym is_free ∙ is_taken'))
+
+-- the fields are a host's, which is this one
+pub record Stands (i : Inside) (now : Host) : Type 0 where
+  pub host : IsHost i
+  pub view : host_of i ≡ now
+
+-- fields that say the same are the same host's
+pub still : {i j : Inside} {now : Host} → Stands i now → j.mesh ≡ i.mesh → frees j.regions.items ≡ frees i.regions.items → j.apps.items ≡ i.apps.items → j.packets ≡ i.packets →
+    j.numbers.items ≡ i.numbers.items → j.senders ≡ i.senders → Stands j now
+still {i} {j} stands mesh regions apps packets numbers senders = grind arith
+
+pub on_err : {A E : Type 0} (P : Type 0) {r : Result A E} {x : E} → r ≡ Err x → OnErr r P → P
+on_err P is known = subst (λ z. OnErr z P) is known
+
+pub on_ok : {A E : Type 0} (P : Type 0) (r : Result A E) → is_err r ≡ false → OnOk r P → P
+on_ok P (Ok x) none on = on
+on_ok P (Err e) none on = cc
+
+-- the mesh is taken out of a host, and the regions are lent
+pub record IsOut (i : Inside) (now : Host) (mesh : State) (given : List Region) : Type 0 where
+  pub stands : Stands i now
+  pub is : i.mesh ≡ Some mesh
+  pub given_is : given ≡ i.regions.items
+
+module _ {i : Inside} {now : Host} {mesh : State} {given : List Region} (out : IsOut i now mesh given) where
+  abbrev h : Host
+  h = host_of i
+
+  pub mesh_h : h.mesh ≡ mesh
+  mesh_h = ap mesh_in out.is
+
+  pub old_is : frees given ≡ h.regions
+  old_is = ap frees out.given_is
+
+  pub free : AreFreeBeside h.mesh.setup.machine (all_ranges h.apps) (frees given)
+  free = subst (AreFreeBeside h.mesh.setup.machine (all_ranges h.apps)) (sym old_is) out.stands.host.apps.free
+
+  -- ranges that were given back are free as before
+  pub free_again : (new : List Region) → AreFreeAgain mesh.setup.machine given new → frees new ≡ h.regions
+  free_again new back =
+      same_frees h.mesh.setup.machine (all_ranges h.apps) (frees new) h.regions
+      (subst (λ (s : State). AreFreeAgain s.setup.machine given new) (sym mesh_h) back (all_ranges h.apps) out.stands.host.apps.apart free) out.stands.host.apps.free
+
+  module _ (plan : AppPlan) (may : MayLoad now plan) where
+    pub may_h : MayLoad h plan
+    may_h = subst (λ (x : Host). MayLoad x plan) (sym out.stands.view) may
+
+    pub can_join : CanJoin mesh given i.packets plan
+    can_join = grind (arith, mesh_h, free, none_unsent, may_h)
+
+    pub packets_fit : i.packets + length plan.packets < 2 ^ 32
+    packets_fit = may_h.numbers
+
+    pub err_why : (number : ℕ) (err : LoadErr) → is_loaded now.apps number ≡ false → IsDueAlways mesh.setup.machine (claims_of mesh.setup.machine plan) given err → IsWhyNotLoaded now number plan err
+    err_why number err none due = grind (arith, mesh_h, why_not, old_is)
+
+-- an application joined it, and the fields are put back
+pub record Joins (i j : Inside) (now : Host) (mesh : State) (given : List Region) (number : ℕ) (plan : AppPlan) (app : LoadedApp) : Type 0 where
+  pub may : MayLoad now plan
+  pub none : is_loaded now.apps number ≡ false
+  pub after : State
+  pub new : List Region
+  pub served : IsServedApp mesh.setup.machine given number i.packets plan app new
+  pub settled : IsSettled app mesh after
+  pub mesh_is : j.mesh ≡ Some after
+  pub regions : j.regions.items ≡ new
+  pub apps : j.apps.items ≡ i.apps.items ++ app ∷ []
+  pub packets : j.packets ≡ i.packets + length app.plan.packets
+  pub numbers : j.numbers.items ≡ i.numbers.items ++ app.number ∷ []
+  pub sources : IfSome j.senders (AreWithSources after app.plan.nets i.senders)
+
+module _ {i j : Inside} {now : Host} {mesh : State} {given : List Region} {number : ℕ} {plan : AppPlan} {app : LoadedApp}
+    (out : IsOut i now mesh given) (joins : Joins i j now mesh given number plan app) where
+  abbrev old : Host
+  old = host_of i
+
+  abbrev new : Host
+  new = record { mesh = joins.after; regions = frees joins.new; apps = old.apps ++ app ∷ []; packets = old.packets + length plan.packets }
+
+  settled : IsSettled app old.mesh joins.after
+  settled = subst (λ (s : State). IsSettled app s joins.after) (sym (mesh_h out)) joins.settled
+
+  is_now : host_of j ≡ new
+  is_now = grind arith
+
+  both : AreApps new × HasLoaded old number plan new
+  both =
+      let served = subst (λ (s : State). IsServedApp s.setup.machine given number i.packets plan app joins.new) (sym (mesh_h out)) joins.served in
+      let may = may_h out plan joins.may in
+      let none = ap (λ (x : Host). is_loaded x.apps number) out.stands.view ∙ joins.none in (
+        apps_now old out.stands.host.apps number plan may none given joins.new (old_is out) app joins.after served settled,
+        loaded_host old out.stands.host.apps number plan may none given joins.new (old_is out) app joins.after served settled,
+      )
+
+  pub ok_loaded : HasLoaded now number plan (host_of j)
+  ok_loaded = subst (λ (x : Host). HasLoaded x number plan (host_of j)) out.stands.view (subst (HasLoaded old number plan) (sym is_now) both.1)
+
+  pub ok_host : IsHost j
+  ok_host = record {
+    there = ap is_some joins.mesh_is;
+    apps = subst AreApps (sym is_now) both.0;
+    numbers = grind (arith, map-append);
+    rest = subst (λ (o : Option State). IfSome j.senders (λ vertices. SendAlone vertices (mesh_in o))) (sym joins.mesh_is)
+        (with_alone (host_of j).mesh.setup.machine old.mesh joins.after app on settled i.senders j.senders app.plan.nets refl out.stands.host.rest joins.sources);
+  }
+    where
+      on : IsLoadedOn (host_of j).mesh.setup.machine app
+      on = All-contains (IsLoadedOn (host_of j).mesh.setup.machine) j.apps.items app (subst AreApps (sym is_now) both.0).loaded
+          (subst (λ (l : List LoadedApp). Contains l app) (sym joins.apps) (among_contains app (i.apps.items ++ app ∷ []) (among_right app i.apps.items (app ∷ []) (inl refl))))

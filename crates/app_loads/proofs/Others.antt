@@ -1,15 +1,18 @@
--- Lists of an application's items beside those of all others.
+-- Lists of an application's items beside those of all others, and the numbers of applications.
 use Rattle.app_loads.proofs.Common.{All, All-contains, All-each, All-weaker, AllPairs, AllPairs-across, AllPairs-append, AllPairs-head, AllPairs-left, AllPairs-right, AllPairs-tail, Among, Bool}
 use Rattle.app_loads.proofs.Common.{Contains, Contains-at, Contains-filter, Contains-from_filter, List, LoadedApp, Some, [], all_pairs_push, among_any, among_at, among_contains, among_filter}
-use Rattle.app_loads.proofs.Common.{any_among, ap, arith, cases_Bool, cond-false, cond-true, cond_both, contains_among, drop, eq-eqb, eqb-true, false, false≢true, filter, flat_map, get_or, inl, inr}
-use Rattle.app_loads.proofs.Common.{list_any, ne_eqb, not, or_cases, or_left, or_right, others_than, refl, same_Some, slice_get, slice_get-get_or, subst, suc, sym, take, true, zero, ℕ, ◌++◌, ◌==◌}
-use Rattle.app_loads.proofs.Common.{◌||◌, ◌∙◌, ◌∷◌, ◌≡◌, ◌≢◌, ◌⊎◌}
+use Rattle.app_loads.proofs.Common.{any_among, ap, arith, cases_Bool, cond-false, cond-true, cond_both, contains_among, drop, eq-eqb, eqb-true, false≢true, filter, flat_map, get_or, inl, inr}
+use Rattle.app_loads.proofs.Common.{is_loaded, list_any, ne_eqb, not, numbers_of, or_cases, or_left, or_right, others_than, refl, same_Some, slice_get, slice_get-get_or, subst, suc, sym, take, true}
+use Rattle.app_loads.proofs.Common.{zero, ℕ, ◌++◌, ◌==◌, ◌||◌, ◌∙◌, ◌∷◌, ◌≡◌, ◌≢◌, ◌⊎◌}
 use Rattle.app_loads.proofs.LeavingLists.{either_pair, flat_has, flat_of}
 
+-- a number is one of the list where it is loaded
+pub any_number : (n : ℕ) (apps : List LoadedApp) → list_any (λ other. other == n) (numbers_of apps) ≡ is_loaded apps n
+any_number n [] = refl
+any_number n (app ∷ apps) = ap (λ b. (app.number == n) || b) (any_number n apps)
+
 pub same_tests : (a b : Bool) → (a ≡ true → b ≡ true) → (b ≡ true → a ≡ true) → a ≡ b
-same_tests true b forth back = sym (forth refl)
-same_tests false true forth back = back refl
-same_tests false false forth back = refl
+same_tests a b forth back = grind arith
 
 -- a pair of each with the last
 pub pairs_with_last : {X : Type 0} (R : X → X → Type 0) (xs : List X) (x : X) → AllPairs R xs → ((a : X) → Contains xs a → R a x) → AllPairs R (xs ++ x ∷ [])
@@ -42,8 +45,7 @@ module _ {X Y : Type 0} (R : Y → Y → Type 0) (f : X → List Y) where
 
   first_with : (z : X) (a b : Y) (zs : List X) → AllPairs R (flat_map f (z ∷ zs)) → Contains (f z) a → (y : X) → Among y zs → Contains (f y) b → R a b
   first_with z a b zs pairs has_a y in_y has_b =
-      All-contains (R a) (flat_map f zs) b (All-contains (λ c. All (R c) (flat_map f zs)) (f z) a (AllPairs-across R (f z) (flat_map f zs) pairs) has_a)
-      (flat_has f zs y b (among_contains y zs in_y) has_b)
+      grind (arith, flat_has f zs y b (among_contains y zs in_y) has_b, among_contains y zs in_y, AllPairs-across R (f z) (flat_map f zs) pairs, All-contains)
 
   -- the pairs of two different lists
   pub across_pairs : ((a b : Y) → R a b → R b a) → (xs : List X) → AllPairs R (flat_map f xs) → (x y : X) → Among x xs → Among y xs → x ≢ y → (a b : Y) → Contains (f x) a → Contains (f y) b → R a b

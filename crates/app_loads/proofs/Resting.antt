@@ -1,9 +1,146 @@
--- Which vertices may have packets unsent, where no copy waits.
-use Rattle.app_loads.proofs.Common.{All, All-append, All-at, All-each, All-nil, Among, AppNet, AreSent, AreWithSources, Contains, Contains-at, Core, Description, Entry, IfSome, IsAtRest, IsLoadedOn}
-use Rattle.app_loads.proofs.Common.{IsSettled, List, LoadedApp, McCopy, NetPlan, None, NothingWaits, Option, SendAlone, Some, Spot, State, Unsent, [], among_at, among_contains, among_left}
-use Rattle.app_loads.proofs.Common.{among_right, ap, arith, cases_eq, contains_among, flat_map, inl, inr, length, mesh_without, nets_of, option_to_list, refl, slice_get, slice_get-set_other}
-use Rattle.app_loads.proofs.Common.{slice_get_within, source_vertex, subst, suc, sym, usable_parts, vertex_at, vertex_behind, vertex_behind-core, zero, ℕ, ◌++◌, ◌<◌, ◌∙◌, ◌∷◌, ◌≡◌}
-use Rattle.app_loads.proofs.{AppNets.facts_of, AppNets.usable_spot, LeavingLists.among_flat, LeavingLists.flat_among}
+-- Packets put to the vertices of their nets' sources, queues emptied, and which vertices may have packets unsent.
+use Rattle.app_loads.proofs.Common.{All, All-append, All-at, All-each, All-nil, Among, AppNet, AreCleared, AreSent, AreSources, AreWithSources, Block, CanAdd, Contains, Contains-at}
+use Rattle.app_loads.proofs.Common.{Contains-push_cases, Core, Description, Entry, IfSome, IsAtRest, IsLoadedOn, IsPacketOn, IsSameBeside, IsSendingFrom, IsSettled, List, LoadedApp, McCopy, NetPlan}
+use Rattle.app_loads.proofs.Common.{None, NoneUnsent, NothingWaits, Option, Packet, SendAlone, Setup, Some, Spot, State, Unsent, [], among_any, among_at, among_contains, among_left, among_right}
+use Rattle.app_loads.proofs.Common.{any_among, ap, arith, cases_Bool, cases_eq, contains_among, eq-eqb, eqb-true, false≢true, flat_map, get_or, inl, inr, length, length-map, length-set, list_any, map}
+use Rattle.app_loads.proofs.Common.{mesh_without, net_with, nets_of, nets_with, option_to_list, refl, same_Some, slice_get, slice_get-get_or, slice_get-mapped, slice_get-set_other, slice_get-set_same}
+use Rattle.app_loads.proofs.Common.{slice_get_there, slice_get_within, slice_set, source_at, source_vertex, subst, suc, sym, take, take_all, take_more_at, unwrap_or, usable_parts, vertex_at}
+use Rattle.app_loads.proofs.Common.{vertex_at-below, vertex_behind, vertex_behind-core, zero, ℕ, ◌++◌, ◌+◌, ◌<◌, ◌==◌, ◌^◌, ◌∙◌, ◌∷◌, ◌≡◌, ◌≢◌, ◌≤◌, ◌⊎◌}
+use Rattle.app_loads.proofs.{LeavingLists.same_items, LeavingLists.among_flat, LeavingLists.flat_among, AppNets.facts_of, AppNets.usable_spot}
+
+-- a net of the application, by its place
+pub nets_with_at : (nets : List AppNet) (blocks : List Block) (i : ℕ) (net : AppNet) (block : Block) → slice_get nets i ≡ Some net → slice_get blocks i ≡ Some block →
+    slice_get (nets_with nets blocks) i ≡ Some (net_with net block)
+nets_with_at (x ∷ xs) (y ∷ ys) zero net block n b = let p : x ≡ net = cc in let q : y ≡ block = cc in ap (λ z. Some (net_with z y)) p ∙ ap (λ z. Some (net_with net z)) q
+nets_with_at (x ∷ xs) (y ∷ ys) (suc i) net block n b = nets_with_at xs ys i net block n b
+nets_with_at nets blocks i net block n b = cc
+
+pub nets_with_long : (nets : List AppNet) (blocks : List Block) → length (nets_with nets blocks) ≤ length nets
+nets_with_long (x ∷ xs) (y ∷ ys) = let w = nets_with_long xs ys in omega (arith, w)
+nets_with_long nets blocks = omega arith
+
+-- all are emptied
+pub all_cleared : (sources : List ℕ) (old cur : List (List McCopy)) (i : ℕ) → length sources ≤ i → IsSameBeside sources old cur →
+    ((w : ℕ) → Contains (take i sources) w → slice_get cur w ≡ Some []) → AreCleared sources old cur
+all_cleared sources old cur i end same empty = record { beside = same; empty = λ v has. empty v (subst (λ (l : List ℕ). Contains l v) (sym (take_all i sources end)) has) }
+
+module _ (sources : List ℕ) (app : LoadedApp) (old cur : List (List McCopy)) (can : CanAdd sources app old) (same : IsSameBeside sources old cur)
+    (i : ℕ) (packet : Packet) (at : slice_get app.plan.packets i ≡ Some packet) where
+  on : IsPacketOn app.blocks (length sources) packet
+  on = All-at (IsPacketOn app.blocks (length sources)) app.plan.packets i packet can.packets at
+
+  pub queue_below : (d : ℕ) → get_or sources packet.net d < length cur
+  queue_below d = subst (λ n. get_or sources packet.net d < n) (sym same.long) (can.queues packet.net d on.net)
+
+  pub sent_more : (block : Block) (d : ℕ) (e : List McCopy) (after : List (List McCopy)) → slice_get app.blocks packet.net ≡ Some block →
+      (let copy : McCopy = record { packet = app.first + i; key = block.key + packet.index; payload = packet.payload; hop = 0 } in
+      after ≡ slice_set cur (get_or sources packet.net d) (get_or cur (get_or sources packet.net d) e ++ copy ∷ [])) →
+      (spots : List Spot) → AreSources spots app.plan.nets sources → AreSent spots app i old cur → AreSent spots app (i + 1) old after
+  sent_more block d e after is_block is spots are so_far =
+      let net = slice_get_there app.plan.nets packet.net (let n = on.net in let a = can.each_net in omega (arith, n, a)) in
+      let v : ℕ = get_or sources packet.net d in
+      let next : i + 1 ≡ suc i = omega arith in
+      subst (λ n. AreSent spots app n old after) (sym next) (
+        cur,
+        packet,
+        so_far,
+        at,
+        record {
+          net = net_with net.0 block;
+          is_net = nets_with_at app.plan.nets app.blocks packet.net net.0 block net.1 is_block;
+          vertex = v;
+          is_vertex = are.each packet.net v net.0 net.1 (slice_get-get_or sources packet.net d on.net);
+          queue = get_or cur v e;
+          at = slice_get-get_or cur v e (queue_below d);
+          is = is;
+        },
+      )
+
+  pub others_same : (d : ℕ) (q : List McCopy) → IsSameBeside sources old (slice_set cur (get_or sources packet.net d) q)
+  others_same d q = grind (arith, get_or, Contains-at, slice_get-get_or, length-set, slice_get-set_other)
+
+-- ---- queues emptied
+
+module _ (sources : List ℕ) (old cur : List (List McCopy)) (queues : All (λ v. v < length old) sources) (same : IsSameBeside sources old cur) (i : ℕ) (d : ℕ) (below : i < length sources) where
+  abbrev v : ℕ
+  v = get_or sources i d
+
+  at_v : slice_get sources i ≡ Some v
+  at_v = slice_get-get_or sources i d below
+
+  pub clear_below : v < length cur
+  clear_below = subst (λ n. v < n) (sym same.long) (queues i d below)
+
+  pub emptied_beside : (q : List McCopy) → q ≡ [] → IsSameBeside sources old (slice_set cur v q)
+  emptied_beside q none = grind (arith, Contains-at, at_v, length-set, slice_get-set_other)
+
+  pub emptied_more : (q : List McCopy) → q ≡ [] → ((w : ℕ) → Contains (take i sources) w → slice_get cur w ≡ Some []) → (w : ℕ) →
+      Contains (take (i + 1) sources) w → slice_get (slice_set cur v q) w ≡ Some []
+  emptied_more q none so_far w has = elim (cases_eq w v) [
+    | inl is ↦ ap (slice_get (slice_set cur v q)) is ∙ (let there = slice_get_there cur v clear_below in slice_get-set_same cur v there.0 q there.1 ∙ ap Some none)
+    | inr other ↦ slice_get-set_other cur v w q other ∙ so_far w (before (Contains-push_cases (take i sources) v w (subst (λ (l : List ℕ). Contains l w) (take_more_at sources i v at_v) has)) other)
+  ]
+    where
+      before : Contains (take i sources) w ⊎ (v ≡ w) → w ≢ v → Contains (take i sources) w
+      before its_0 other = grind arith
+
+-- Where the sources had nothing unsent, all is as before.
+pub put_back : (spots : List Spot) (nets : List AppNet) (sources : List ℕ) (old mid new : List (List McCopy)) → AreSources spots nets sources → NoneUnsent spots nets old →
+    IsSameBeside sources old mid → AreCleared sources mid new → new ≡ old
+put_back spots nets sources old mid new are none same cleared =
+    same_items new old (cleared.beside.long ∙ same.long) (λ k below. each k)
+  where
+    each : (w : ℕ) → slice_get new w ≡ slice_get old w
+    each w = elim (cases_Bool (list_any (λ k. k == w) sources)) [
+      | inl yes' ↦ (
+          let found = any_among (λ k. k == w) sources yes' in
+          let is : found.0 ≡ w = eqb-true found.0 w found.2 in
+          let has : Contains sources w = subst (Contains sources) is (among_contains found.0 sources found.1) in
+          cleared.empty w has ∙ sym (was_empty has)
+          )
+      | inr no' ↦ (
+          let other : Contains sources w → ⊥ = λ has. false≢true (sym no' ∙ among_any (λ k. k == w) w sources (contains_among w sources has) (eq-eqb w w refl)) in
+          cleared.beside.others w other ∙ same.others w other
+          )
+    ]
+      where
+        was_empty : Contains sources w → slice_get old w ≡ Some []
+        was_empty has =
+            let i : ℕ = has.0 in
+            let at : slice_get sources i ≡ Some w = slice_get-get_or sources i w has.1 ∙ ap Some has.2 in
+            let net = slice_get_there nets i (let n = has.1 in let a = are.all in omega (arith, n, a)) in
+            none net.0 (Contains-at nets i net.0 net.1) w (are.each i w net.0 net.1 at)
+
+-- ---- the sources of nets
+
+-- each source that has a vertex was given this one
+pub sources_of : (u : Setup) (nets given : List AppNet) (sources : List ℕ) → All (IsSendingFrom u) nets → given ≡ nets → sources ≡ map (source_at u.spots) given → AreSources u.spots nets sources
+sources_of u nets given sources sending given_is is = record {
+  all = ap length whole ∙ length-map nets (source_at u.spots);
+  each = λ i v net at here.
+      let on = All-at (IsSendingFrom u) nets i net sending at in
+      let mine : source_at u.spots net ≡ v = same_Some _ _ (sym (slice_get-mapped (source_at u.spots) nets i net at) ∙ (ap (λ l. slice_get l i) (sym whole) ∙ here)) in
+      on.is ∙ ap Some (sym (ap (λ o. unwrap_or o 0) on.is) ∙ mine);
+}
+  where
+    whole : sources ≡ map (source_at u.spots) nets
+    whole = is ∙ ap (map (source_at u.spots)) given_is
+
+-- what adding asks of the sources
+pub can_add : (setup_spots : List Spot) (queues : ℕ) (app : LoadedApp) (unsent : List (List McCopy)) (sources : List ℕ) → length unsent ≡ length setup_spots →
+    All (IsPacketOn app.blocks (length app.plan.nets)) app.plan.packets → length app.blocks ≡ length app.plan.nets → app.first + length app.plan.packets < 2 ^ 32 →
+    AreSources setup_spots app.plan.nets sources → CanAdd sources app unsent
+can_add spots queues app unsent sources long packets blocks numbers are = record {
+  queues = λ k d below. (
+      let net = slice_get_there app.plan.nets k (let a = are.all in omega (arith, below, a)) in
+      let is = are.each k (get_or sources k d) net.0 net.1 (slice_get-get_or sources k d below) in
+      subst (λ n. get_or sources k d < n) (sym long) (vertex_at-below spots net.0.source (get_or sources k d) is)
+      );
+  packets = subst (λ n. All (IsPacketOn app.blocks n) app.plan.packets) (sym are.all) packets;
+  blocks = blocks;
+  each_net = are.all;
+  numbers = numbers;
+}
 
 -- ---- after a load
 
@@ -19,9 +156,6 @@ sent_by_sources spots app vertices sources (suc n) before after sent own v k res
           sent_by_sources spots app vertices sources n before sent.0 sent.2 own v k rest
           (sym (slice_get-set_other sent.0 one.vertex v _ other) ∙ (ap (λ l. slice_get l v) (sym one.is) ∙ at))
     ]
-
-option_in : (o : Option ℕ) (v : ℕ) → o ≡ Some v → Among v (option_to_list o)
-option_in o v is = subst (λ (r : Option ℕ). Among v (option_to_list r)) (sym is) (inl refl)
 
 module _ (m : Description) (old new : State) (app : LoadedApp) (on : IsLoadedOn m app) (settled : IsSettled app old new) where
   spots_are : new.setup.spots ≡ old.setup.spots
@@ -43,7 +177,7 @@ module _ (m : Description) (old new : State) (app : LoadedApp) (on : IsLoadedOn 
       let most = (usable_parts m f.net.source (usable_spot m app on f.net.source f.valid.source)).2 in
       let behind : vertex_behind spots f.net.source.chip (Core f.net.source.core) ≡ Some v =
       vertex_behind-core spots f.net.source (omega (arith, most)) ∙ (ap (vertex_at spots) its ∙ at) in
-      flat_among (source_vertex spots) v app.plan.nets f.net (among_at app.plan.nets has.0 f.net f.at_net) (option_in (vertex_behind spots f.net.source.chip (Core f.net.source.core)) v behind)
+      flat_among (source_vertex spots) v app.plan.nets f.net (among_at app.plan.nets has.0 f.net f.at_net) (subst (λ (r : Option ℕ). Among v (option_to_list r)) (sym behind) (inl refl))
 
   alone_with : (was : List ℕ) → SendAlone was old → SendAlone (was ++ sources) new
   alone_with was alone = record {
@@ -68,8 +202,7 @@ module _ (m : Description) (old new : State) (app : LoadedApp) (on : IsLoadedOn 
 
 pub left_alone : (app : LoadedApp) (old new : State) (tables : List (List Entry)) (senders : Option (List ℕ)) → new ≡ mesh_without app tables old →
     IfSome senders (λ vertices. SendAlone vertices old) → IfSome senders (λ vertices. SendAlone vertices new)
-left_alone app old new tables None is rest = tt
-left_alone app old new tables (Some vertices) is rest = grind arith
+left_alone app old new tables senders is rest = grind arith
 
 -- ---- after a drain
 

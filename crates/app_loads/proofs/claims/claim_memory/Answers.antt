@@ -1,5 +1,5 @@
-use Rattle.app_loads.proofs.Common.{memory_claim, zip}
-use Rattle.app_loads.proofs.Claiming.{one_more, whole_at, zip_at, zip_long}
+use Rattle.app_loads.proofs.Common.{arith, length-zip, memory_claim, zip}
+use Rattle.app_loads.proofs.Claiming.{one_more, whole_at, zip_at}
 use Rattle.app_loads.proofs.claims.claim_memory.Goals as goal
 
 pub loop-vertex-preserved : goal.loop-vertex-preserved
@@ -8,6 +8,4 @@ loop-vertex-preserved c =
     (zip_at c.args.needs.spots.now c.args.needs.bytes.now c.loop-vertex.vertex _ _ c.args.needs.each c.loop-vertex-test.true) c.loop-vertex.invariant c.in_ok-push_memory.ensures
 
 pub returns : goal.returns
-returns c =
-    whole_at memory_claim (zip c.args.needs.spots.now c.args.needs.bytes.now) c.loop-vertex.vertex c.args.claims.now.items c.loop-vertex.claims.items
-    (zip_long c.args.needs.spots.now c.args.needs.bytes.now c.loop-vertex.vertex c.loop-vertex-test.false) c.loop-vertex.invariant
+returns c = grind (arith, whole_at, length-zip)

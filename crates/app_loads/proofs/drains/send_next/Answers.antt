@@ -1,4 +1,4 @@
-use Rattle.app_loads.proofs.Common.{Comes, IfSome, McCopy, None, Setup, all_grouped, arith, last_arrivals, reached_none, subst, sym, with_earlier}
+use Rattle.app_loads.proofs.Common.{Comes, IfSome, McCopy, None, all_grouped, arith, last_arrivals, subst}
 use Rattle.app_loads.proofs.{Kept.IsSentAgain, Kept.comes_there, Kept.first_sends, Kept.known_still, Kept.sent_again, Kept.some_there, drains.send_next.Goals.After-drop_unsent}
 use Rattle.app_loads.proofs.drains.send_next.Goals.{After-drop_unsent-in-Some}
 use Rattle.app_loads.proofs.drains.send_next.Goals as goal
@@ -23,9 +23,6 @@ to_places c =
     sent_again c.in-Some.it.now.arrivals (first_sends c.unsent.result.now no_copy c.requires.can c.unsent.ensures) c.in-Some.ensures.has
     (c.requires.known.come c.in-Some.ensures.first c.in-Some.it.now c.in-Some.ensures.is) c.in_ok-put-in-Some.ensures.put c.drop_unsent-in-Some.ensures
 
-pub returns-in_err-repeat-clause-reached : goal.returns-in_err-repeat-clause-reached
-returns-in_err-repeat-clause-reached c = grind (arith, reached_none (with_earlier (all_grouped c.args.earlier.now) c.args.mesh.now))
-
 pub returns-then-is_last : goal.returns-then-is_last
 returns-then-is_last c =
     let it = to_last (goal.at.returns-then-is_last c).After-drop_unsent in
@@ -34,12 +31,8 @@ returns-then-is_last c =
       clean = it.clean;
       unsent = it.unsent;
       known = known_still c.args.mesh.now.setup c.drop_unsent.new.self.setup c.args.vertex c.args.apps.now c.args.known.now it.setup c.requires.known;
-      last = subst (λ (u : Setup). IfSome c.args.last (Comes u c.args.vertex (last_arrivals c.repeat.new.self))) (sym it.setup)
-          (subst (λ l. IfSome c.args.last (Comes c.args.mesh.now.setup c.args.vertex l)) (sym c.repeat.ensures.arrivals) c.requires.last);
+      last = grind arith;
     }
-
-pub returns-in_err-put-in-Some-clause-reached : goal.returns-in_err-put-in-Some-clause-reached
-returns-in_err-put-in-Some-clause-reached c = grind (arith, reached_none (with_earlier (all_grouped c.args.earlier.now) c.args.mesh.now))
 
 pub returns-in_ok-put-in-Some : goal.returns-in_ok-put-in-Some
 returns-in_ok-put-in-Some c =
@@ -49,8 +42,7 @@ returns-in_ok-put-in-Some c =
       clean = it.clean;
       unsent = it.unsent;
       known = known_still c.args.mesh.now.setup c.drop_unsent-in-Some.new.self.setup c.args.vertex c.args.apps.now c.args.known.now it.setup c.requires.known;
-      last = comes_there c.args.mesh.now.setup c.drop_unsent-in-Some.new.self.setup c.args.vertex c.in-Some.it.now.block c.in-Some.it.now.arrivals (last_arrivals c.put.new.self) it.setup
-          c.in_ok-put-in-Some.ensures.arrivals (c.requires.known.come c.in-Some.ensures.first c.in-Some.it.now c.in-Some.ensures.is);
+      last = grind (arith, comes_there);
     }
 
 pub send_new-requires-clause-sends : goal.send_new-requires-clause-sends

@@ -1,5 +1,5 @@
 use Rattle.app_loads.proofs.Common.{Block, Claim, Global, Keys, Loaded, None, Range, Vec, ap, arith, length, length-set, subst, sym, ◌+◌, ◌∙◌}
-use Rattle.app_loads.proofs.BlockLists.{HaveBlocksBelow, key_range, net_there, block_more, block_skip, all_blocks}
+use Rattle.app_loads.proofs.Served.{all_blocks, HaveBlocksBelow, key_range, net_there, block_more, block_skip}
 use Rattle.app_loads.proofs.loads.app_of.Goals as goal
 
 abbrev no_claim : Claim
@@ -25,10 +25,7 @@ loop-at-preserved c = elim c.match-claim.branch [
         (block_more no_claim no_range c.requires c.loop-at-test.true w.in-KeysOut.is c.loop-at.blocks.items
         w.block_of.result c.loop-at.invariant.long w.block_of.ensures.key w.block_of.ensures.mask c.loop-at.invariant.each);
   }
-  | goal.in_default w ↦ record {
-    long = ap (λ (v : Vec Block Global). length v.items) w.blocks-is ∙ c.loop-at.invariant.long;
-    each = grind (arith, block_skip no_claim no_range c.requires c.loop-at-test.true c.loop-at.blocks.items w.in_default.not-KeysOut c.loop-at.invariant.each, HaveBlocksBelow);
-  }
+  | goal.in_default w ↦ grind (arith, block_skip no_claim no_range c.requires c.loop-at-test.true c.loop-at.blocks.items w.in_default.not-KeysOut c.loop-at.invariant.each, HaveBlocksBelow)
 ]
 
 pub returns-clause-blocks : goal.returns-clause-blocks

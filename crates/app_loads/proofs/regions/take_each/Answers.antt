@@ -1,15 +1,10 @@
-use Rattle.app_loads.proofs.Common.{Claim, Keys, Loaded, None, ap, arith, length, length-replicate, length-set, refl, slice_get, sym, ◌∙◌}
-use Rattle.app_loads.proofs.Serving.{few_held, pushed_long, claim_fair, claim_served, claim_due, claim_taken, claim_room, count_held, counts_more, none_counted, none_served, of_region, all_served}
+use Rattle.app_loads.proofs.Common.{Claim, Keys, Loaded, None, arith, length-replicate, length-set, refl, rules, ◌∙◌}
+use Rattle.app_loads.proofs.{LeavingLists.none_counted, Serving.few_held, Serving.pushed_long, Serving.claim_fair, Serving.claim_served, Serving.claim_taken, Serving.claim_room, Serving.count_held}
+use Rattle.app_loads.proofs.Serving.{counts_more, none_served, of_region, all_served}
 use Rattle.app_loads.proofs.regions.take_each.Goals as goal
 
 pub loop-claim-init : goal.loop-claim-init
-loop-claim-init c = record {
-  each_one = ap length c.requires.none;
-  room = c.requires.room;
-  served = none_served c.args.machine.now c.args.claims.now c.args.regions.now c.args.ranges.now.items c.requires.none;
-  counts = ap length c.requires.counts ∙ length-replicate (length c.args.regions.now) 0;
-  counted = λ k n at. none_counted (length c.args.regions.now) k n (ap (λ l. slice_get l k) (sym c.requires.counts) ∙ at) ∙ ap (of_region k) (sym c.requires.none);
-}
+loop-claim-init c = search (rules, none_served, length-replicate, none_counted, of_region)
 
 abbrev none : Claim
 none = record { region = Keys; size = 0; align = 0; fixed = None; refusal = Loaded }
@@ -23,9 +18,6 @@ take_claim-requires c = record {
         c.loop-claim.counts 0 c.loop-claim.invariant.counts c.loop-claim.invariant.counted c.requires.few,
   );
 }
-
-pub returns-in-Err-clause-refused : goal.returns-in-Err-clause-refused
-returns-in-Err-clause-refused c = grind (arith, claim_due)
 
 pub returns-in-Err-clause-taken : goal.returns-in-Err-clause-taken
 returns-in-Err-clause-taken c = claim_taken _ _ c.loop-claim-test.true c.loop-claim.invariant.each_one c.loop-claim.invariant.served c.requires.can c.place-at.ensures _ c.in-Err.ensures.unchanged

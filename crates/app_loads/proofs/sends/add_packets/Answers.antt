@@ -1,5 +1,5 @@
-use Rattle.app_loads.proofs.Common.{List, None, Packet, Some, ap, arith, get_or, length, slice_get, slice_get-get_or, sym, ℕ, ◌<◌, ◌∙◌, ◌≡◌}
-use Rattle.app_loads.proofs.Unsent.{sent_more, others_same, number_fits, net_below, key_fits, source_below, queue_below}
+use Rattle.app_loads.proofs.Common.{List, None, Packet, Some, ap, arith, get_or, length, same_Some, slice_get, slice_get-get_or, slice_get_within, sym, ℕ, ◌<◌, ◌∙◌, ◌≡◌}
+use Rattle.app_loads.proofs.Resting.{sent_more, others_same, queue_below}
 use Rattle.app_loads.proofs.sends.add_packets.Goals as goal
 
 abbrev no_packet : Packet
@@ -10,16 +10,16 @@ packet_at : (items : List Packet) {own : List Packet} (i : ℕ) → items ≡ ow
 packet_at items i same below = sym (ap (λ l. slice_get l i) same) ∙ slice_get-get_or items i no_packet below
 
 pub overflow_add-copy : goal.overflow_add-copy
-overflow_add-copy c = grind (arith, packet_at c.as_slice-packet-items.result.now c.loop-at.at c.as_slice-packet-items.ensures c.loop-at-test.true, number_fits)
+overflow_add-copy c = grind (arith, packet_at, slice_get_within)
 
 pub get-requires : goal.get-requires
-get-requires c = grind (arith, packet_at c.as_slice-packet-items.result.now c.loop-at.at c.as_slice-packet-items.ensures c.loop-at-test.true, net_below)
+get-requires c = grind (arith, packet_at)
 
 pub overflow_add-copy-in-loop-at : goal.overflow_add-copy-in-loop-at
-overflow_add-copy-in-loop-at c = grind (arith, packet_at c.as_slice-packet-items.result.now c.loop-at.at c.as_slice-packet-items.ensures c.loop-at-test.true, key_fits)
+overflow_add-copy-in-loop-at c = grind (arith, packet_at, same_Some)
 
 pub bounds-sources-net : goal.bounds-sources-net
-bounds-sources-net c = grind (arith, packet_at c.as_slice-packet-items.result.now c.loop-at.at c.as_slice-packet-items.ensures c.loop-at-test.true, source_below)
+bounds-sources-net c = grind (arith, packet_at)
 
 pub bounds-unsent-sources : goal.bounds-unsent-sources
 bounds-unsent-sources c = grind (arith, packet_at c.as_slice-packet-items.result.now c.loop-at.at c.as_slice-packet-items.ensures c.loop-at-test.true, queue_below)
