@@ -87,9 +87,6 @@ module _ (rows : List Row) (places : List ℕ) (ordered : IsOrdered rows) (in_ra
     pub found_before : All (λ t. t < p) places
     found_before = subst (λ n. All (λ t. t < n) places) (sym place_found) members_before
 
-    pub after_found : (new : List Row) → new ≡ kept places 0 (insert rows p m) → new ≡ after rows places
-    after_found new made = made ∙ ap (λ n. kept places 0 (insert rows n m)) place_found ∙ ap (λ x. kept places 0 (insert rows (insert_place rows places) x)) is ∙ after_is
-
 -- ---- the merged row
 
 pub aliases_more : (rows : List Row) (places : List ℕ) (i : ℕ) (r : Row) → All (λ s. s < length rows) places → i < length places

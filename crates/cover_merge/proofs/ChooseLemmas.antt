@@ -1,7 +1,7 @@
 -- The places of a route, and pairs.
-use Rattle.cover_merge.proofs.Common.{All-nil, AreNexts, AreThose, Bool, IsFirstLegalPair, IsFirstOfRoute, IsFirstPartner, IsLegalPair, IsMergeSet, IsNextOfRoute, IsOneRoute, List, Route, Row, []}
-use Rattle.cover_merge.proofs.Common.{add-one, ap, append-nil, arith, cond, eqb_tells, false, get_or, get_or_default, inl, inr, length, length-take, merge_rows, places_of, same_route, subst, suc, sym}
-use Rattle.cover_merge.proofs.Common.{take, take_all, take_more, true, zero, ℕ, ◌++◌, ◌+◌, ◌-◌, ◌<◌, ◌==◌, ◌∙◌, ◌∷◌, ◌≡◌, ◌≢◌, ◌≤◌, ◌⊎◌}
+use Rattle.cover_merge.proofs.Common.{All-nil, AreNexts, AreThose, Bool, IsFirstLegalPair, IsFirstPartner, IsLegalPair, IsMergeSet, IsNextOfRoute, IsOneRoute, List, Route, Row, [], add-one, ap}
+use Rattle.cover_merge.proofs.Common.{append-nil, arith, cond, eqb_tells, false, get_or, get_or_default, inl, inr, length, length-take, merge_rows, places_of, same_route, subst, suc, sym, take}
+use Rattle.cover_merge.proofs.Common.{take_all, take_more, true, zero, ℕ, ◌++◌, ◌+◌, ◌-◌, ◌<◌, ◌==◌, ◌∙◌, ◌∷◌, ◌≡◌, ◌≢◌, ◌≤◌, ◌⊎◌}
 use Rattle.cover_merge.proofs.{Positions.those_case, Positions.those_more, Positions.those_next, Positions.those_one, Positions.those_stay, Positions.pair_set, Lists.AllPairs-nil, Lists.cond_of}
 
 -- ---- the places of a route
@@ -95,15 +95,6 @@ first_found rows set i j is none partner = record {
 
 pub link_next : (rows : List Row) (nexts : List ℕ) → AreNexts rows nexts → (k x : ℕ) → k < length rows → x ≡ get_or nexts k x → IsNextOfRoute rows k x
 link_next rows nexts links k x inside is = subst (IsNextOfRoute rows k) (get_or_default nexts k 0 x (omega (arith, links.one_each, inside)) ∙ sym is) (links.next k inside)
-
--- no row of a route stands before its first
-pub places_begin : (rows : List Row) (bits x : ℕ) (places : List ℕ) → places ≡ [] → IsFirstOfRoute rows bits x → ArePlaces bits rows x places
-places_begin rows bits x places is first = subst (ArePlaces bits rows x) (sym is) (record {
-  ascending = AllPairs-nil (λ s t. s < t);
-  inside = All-nil (λ s. s < x);
-  each = All-nil (HasBits bits rows);
-  rest = λ s less. inl (λ low d. first.before s d less low);
-})
 
 -- one row of the route more, and then on to the next
 pub places_next : (rows : List Row) (bits place x : ℕ) (old new : List ℕ) → place < length rows → ((e : Row) → (get_or rows place e).route.bits ≡ bits) → IsNextOfRoute rows place x

@@ -5,13 +5,12 @@ pub use Rattle.cover_merge.specs.Known.{AreRoutesKept, AreStillKept, HasSameRout
 pub use Rattle.cover_merge.specs.Links.{AreLinks, AreNexts, AreNumbers, AreRoutes, IsAhead, IsEachOnce, IsFirstOfRoute, IsNextOfRoute, IsRouteAdded, place_of_route}
 pub use Rattle.cover_merge.specs.Merge.{IsClearOf, IsLegal, IsLegalMerge, IsMergeSet, IsOneRoute, PassesDown, PassesDownCheck, PassesUp, PassesUpCheck, SameRoute, after, aliases_at, has_row}
 pub use Rattle.cover_merge.specs.{Merge.insert_place, Merge.kept, Merge.merge_rows, Merge.merged_block, Merge.merged_row, Merge.picked, Merge.place_for, Merge.rows_at, Merges.sets_of}
-pub use Rattle.cover_merge.specs.Refinement.{AreMerges, IsBestBit, IsDownStep, IsFirstMet, IsFirstMetFrom, IsLastFailing, IsNarrowed, IsUpStep, Refines, can_choose, ends_empty, ends_legal, goes_down}
-pub use Rattle.cover_merge.specs.{Refinement.goes_up, Refinement.keeps, Refinement.kept_by, Refinement.kept_count, Refinement.set_without, Rivals.AreAlikeBehind, Rivals.AreJoined, Rivals.AreMet}
-pub use Rattle.cover_merge.specs.Rivals.{AreRivalsAfter, AreRivalsAt, AreThose, HasSerial, IsOriginal, IsPutIn, IsRivalAdded, IsRivalBehind, IsRivalOf, IsRivaled, MeetsAliasOf, MeetsNone, is_at_one}
-pub use Rattle.cover_merge.specs.{Rivals.rivals_left, Spans.AreSpansOf, Spans.AreSpansOfAll, Spans.IsFirstAt, Spans.IsFreeUpTo, Tried.AreChangesFrom, Tried.AreNewerOf, Tried.AreNoLater}
-pub use Rattle.cover_merge.specs.{Tried.AreTouched, Tried.AreTried, Tried.AreTriedUpTo, Tried.IsFresh, Tried.IsNextSince, Tried.IsTriedNow, Tried.LosesNone, declared.choosing.Fresh.Fresh}
-pub use Rattle.cover_merge.specs.declared.{covering.Covered.Covered, covering.Merge.Merge, keeping.Kept.Kept, keeping.Most.Most, knowing.Known.Known, rivals.Rival.Rival, rivals.Rivals.Rivals}
-pub use Rattle.cover_merge.specs.declared.times.Times.{Times}
+pub use Rattle.cover_merge.specs.Refinement.{AreMerges, IsBestBit, IsDownStep, IsFirstMet, IsFirstMetFrom, IsLastFailing, IsNarrowed, IsUpStep, Refines, ends_empty, ends_legal, goes_down, goes_up}
+pub use Rattle.cover_merge.specs.{Refinement.keeps, Refinement.kept_by, Refinement.kept_count, Refinement.set_without, Rivals.AreAlikeBehind, Rivals.AreJoined, Rivals.AreMet, Rivals.AreRivalsAfter}
+pub use Rattle.cover_merge.specs.Rivals.{AreRivalsAt, AreThose, HasSerial, IsOriginal, IsPutIn, IsRivalAdded, IsRivalBehind, IsRivalOf, IsRivaled, MeetsAliasOf, MeetsNone, is_at_one, rivals_left}
+pub use Rattle.cover_merge.specs.{Spans.AreSpansOf, Spans.AreSpansOfAll, Spans.IsFirstAt, Spans.IsFreeUpTo, Tried.AreChangesFrom, Tried.AreNewerOf, Tried.AreNoLater, Tried.AreTouched, Tried.AreTried}
+pub use Rattle.cover_merge.specs.{Tried.AreTriedUpTo, Tried.IsFresh, Tried.IsNextSince, Tried.IsTriedNow, Tried.LosesNone, declared.choosing.Fresh.Fresh, declared.covering.Covered.Covered}
+pub use Rattle.cover_merge.specs.declared.{covering.Merge.Merge, keeping.Kept.Kept, keeping.Most.Most, knowing.Known.Known, rivals.Rival.Rival, rivals.Rivals.Rivals, times.Times.Times}
 pub use Rattle.spin_base.proofs.{Ascending.same_in_order, RouteBits.same_route}
 pub use Rattle.spin_base.specs.declared.{blocks.Block.Block, routes.Route.Route}
 pub use Rattle.std.proofs.Common.{Bool, IsTrue, List, [], add-one, ap, append-nil, append_assoc, arith, cond, drop, false, get_or, get_or-drop, get_or-take, inl, inr, length, length-append}
@@ -30,9 +29,9 @@ pub use Rattle.std.proofs.lemmas.List.{Sums.sum_by-append, drop-set-lt, drop-tak
 pub use Rattle.std.proofs.lemmas.{List.map-append, List.take-append-le, List.take_all, List.take_at, List.take_more, List.take_more_set, List.take_rest, Map.Views.any-filter_same, Nat.Bits.bit_at-lt}
 pub use Rattle.std.proofs.lemmas.Nat.Bits.{bit_at-trailing_zeros, bit_at_above, bit_at_and, bit_at_clear_other, bit_at_clear_same, bit_at_not, bit_at_xor, shr_and_one}
 pub use Rattle.std.proofs.lemmas.{Nat.and_le_l, Option.get_or_from_slice_get, Option.slice_get-get_or, Option.slice_get_within, Slice.drop-put_mid}
-pub use Rattle.std.specs.{Int.bit_at, Int.bit_not, Int.trailing_zeros, Int.w32, List.Contains, List.Sorted.IsPermutation, List.cons_option, List.copy_within, List.flat_map, List.list_any}
-pub use Rattle.std.specs.{Option.option_copied, Option.option_map_or, Prelude.All, Prelude.AllPairs, Prelude.Err, Prelude.None, Prelude.Ok, Prelude.OnOk, Prelude.Option, Prelude.Result, Prelude.Some}
-pub use Rattle.std.specs.Prelude.{bit_and, bit_xor, filter, insert, map, min, nat_le, not, remove, slice_get, ⊤}
+pub use Rattle.std.specs.{Int.bit_at, Int.bit_not, Int.trailing_zeros, Int.w32, List.Contains, List.Sorted.IsPermutation, List.cons_option, List.copy_within, List.flat_map, Option.option_copied}
+pub use Rattle.std.specs.{Option.option_map_or, Prelude.All, Prelude.AllPairs, Prelude.Err, Prelude.None, Prelude.Ok, Prelude.OnOk, Prelude.Option, Prelude.Result, Prelude.Some, Prelude.bit_and}
+pub use Rattle.std.specs.Prelude.{bit_xor, filter, insert, map, min, nat_le, not, remove, slice_get, ⊤}
 pub use Rattle.tern_word.proofs.BlockLaws.{Intersects-sym, Intersects-wider, LiesIn-from_wants, LiesIn-merge, LiesIn-trans, generality-merge, generality-mono, generality_le, merge_of-is_merge}
 pub use Rattle.tern_word.proofs.BlockLaws.{merge_of-push}
 pub use Rattle.tern_word.specs.SoundTable.{HoldsItsAliases, IsOrdered, IsSound, Misses, Original, served, served_by}

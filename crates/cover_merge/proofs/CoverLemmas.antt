@@ -83,16 +83,13 @@ served_parts q i (x ∷ xs) =
     (IsPermutation-trans (first ++ served xs) (first ++ (served l ++ served r)) (served l ++ (first ++ served r)) rest (swapped first (served l) (served r)))
 
 module _ (rows : List Row) (places : List ℕ) (ascending : AllPairs (λ s t. s < t) places) (in_range : All (λ s. s < length rows) places) where
-  all_picked : rows_at rows places ≡ picked (has_row places) 0 rows
-  all_picked = rows_picked rows 0 rows places (λ k j is. ap (slice_get rows) (omega (arith, is))) ascending (λ k d inside. (omega arith, omega (arith, in_range k d inside)))
-
   -- the served blocks are those of the set and those of the rest
   pub served_out : IsPermutation (served rows) (served (rows_at rows places) ++ served (kept places 0 rows))
-  served_out = subst (λ l. IsPermutation (served rows) (served l ++ served (kept places 0 rows))) (sym all_picked) (served_parts (has_row places) 0 rows)
+  served_out = grind (arith, served_parts (has_row places) 0 rows, rows_picked)
 
   -- each place takes one row out
   pub length_out : length places + length (kept places 0 rows) ≡ length rows
-  length_out = omega (arith, both_picked (has_row places) 0 rows, ap length all_picked, rows_at-length rows places in_range)
+  length_out = grind (arith, both_picked (has_row places) 0 rows, rows_at-length rows places in_range, rows_picked)
 
 -- ---- the merge serves what its members serve
 
@@ -159,7 +156,7 @@ module _ (rows : List Row) (places : List ℕ) (set : IsMergeSet rows places) wh
 -- ---- one merge after another
 
 -- a table has its own routes
-routes_own : (rows : List Row) → HasRoutesOf rows rows
+pub routes_own : (rows : List Row) → HasRoutesOf rows rows
 routes_own rows = All-from_map (Contains (map (λ (x : Row). x.route) rows)) (λ (x : Row). x.route) rows (All-contains_itself (map (λ (x : Row). x.route) rows))
 
 -- what covering keeps from one merge to the next
@@ -170,9 +167,6 @@ pub record IsCoveredSoFar (target : ℕ) (start now : List Row) (merges : List M
   pub sound : IsSound now
   pub goes_on : (sets : List (List ℕ)) (covered : List Row) → Covers target now sets covered → Covers target start (sets_of merges ++ sets) covered
   pub serves : IsPermutation (served start) (served now)
-
-pub so_far_first : (target : ℕ) (start : List Row) → length start < 2 ^ 32 → IsSound start → IsCoveredSoFar target start start []
-so_far_first target start few sound = record { few = few; no_more = omega arith; routes = routes_own start; sound = sound; goes_on = λ sets covered h. h; serves = IsPermutation-refl (served start) }
 
 pub so_far_more : (target : ℕ) (start now new : List Row) (merges : List Merge) (m : Merge) → IsCoveredSoFar target start now merges → target < length now → IsChosen now m.places → new ≡ after now m.places
     → IsCoveredSoFar target start new (merges ++ m ∷ [])

@@ -1,8 +1,8 @@
 -- At most one refined set, one chosen merge, one covered table.
-use Rattle.cover_merge.proofs.Common.{Alias, Block, Covered, Covers, HasNoChosen, HasNoLargest, Intersects, IsBestBit, IsChosen, IsDownStep, IsFirstLegalPair, IsFirstMet, IsFirstMetFrom, IsLargest}
-use Rattle.cover_merge.proofs.Common.{IsLastFailing, IsNarrowed, IsNoRival, IsUpStep, List, Merge, Misses, PassesDown, PassesDownCheck, PassesUpCheck, Refines, Route, Row, [], after, ap, arith}
-use Rattle.cover_merge.proofs.Common.{cases_order, ends_empty, ends_legal, get_or, get_or_from_slice_get, goes_down, goes_up, inl, inr, insert_place, length, merge_rows, merged, merged_block}
-use Rattle.cover_merge.proofs.Common.{places_of, refl, set_without, sets_of, short, slice_get_within, stuck, subst, sym, ℕ, ◌<◌, ◌∙◌, ◌∷◌, ◌≡◌, ◌≤◌}
+use Rattle.cover_merge.proofs.Common.{Alias, Block, Covered, Covers, HasNoChosen, HasNoLargest, IsBestBit, IsChosen, IsDownStep, IsFirstLegalPair, IsFirstMet, IsFirstMetFrom, IsLargest, IsLastFailing}
+use Rattle.cover_merge.proofs.Common.{IsNoRival, IsUpStep, List, Merge, Misses, PassesDown, PassesUpCheck, Refines, Route, Row, [], after, ap, arith, cases_order, ends_empty, ends_legal, get_or}
+use Rattle.cover_merge.proofs.Common.{get_or_from_slice_get, goes_down, goes_up, inl, inr, insert_place, length, merge_rows, merged, merged_block, places_of, refl, rules, set_without, sets_of, short}
+use Rattle.cover_merge.proofs.Common.{slice_get_within, stuck, subst, sym, ℕ, ◌<◌, ◌∙◌, ◌∷◌, ◌≡◌, ◌≤◌}
 use Rattle.cover_merge.proofs.ChooseLemmas.{route_cases}
 
 -- ---- the first alias that a block meets
@@ -10,11 +10,8 @@ use Rattle.cover_merge.proofs.ChooseLemmas.{route_cases}
 first_alias : (b : Block) (aliases : List Alias) (met : Block) (first : IsFirstMet b aliases met) (d : Alias) → (get_or aliases first.at d).block ≡ met
 first_alias b aliases met first d = ap (λ (a : Alias). a.block) (get_or_from_slice_get aliases first.at first.alias d first.found) ∙ first.block
 
-first_not_later : (b : Block) (aliases : List Alias) (met other : Block) (one : IsFirstMet b aliases met) (two : IsFirstMet b aliases other) → one.at < two.at → ⊥
-first_not_later b aliases met other one two less = two.before one.at one.alias less (subst (Intersects b) (sym (first_alias b aliases met one one.alias)) one.meets)
-
 one_first : (b : Block) (aliases : List Alias) (met other : Block) → IsFirstMet b aliases met → IsFirstMet b aliases other → met ≡ other
-one_first b aliases met other one two = grind (arith, cases_order one.at two.at, first_alias b aliases met one one.alias, first_alias b aliases other two one.alias, get_or, first_not_later)
+one_first b aliases met other one two = grind (arith, cases_order one.at two.at, first_alias b aliases met one one.alias, first_alias b aliases other two one.alias, get_or, first_alias)
 
 pub met_not_missed : (b : Block) (row : Row) (met : Block) → IsFirstMet b row.aliases met → Misses b row → ⊥
 met_not_missed b row met first misses = grind (arith, slice_get_within row.aliases first.at first.alias first.found, first_alias b row.aliases met first first.alias)
@@ -59,14 +56,8 @@ module _ (rows : List Row) where
   one_bit : (old : List ℕ) (joined met : Block) (i j : ℕ) → i < 32 → j < 32 → IsBestBit rows old joined met i → IsBestBit rows old joined met j → i ≡ j
   one_bit old joined met i j low_i low_j one two = grind (arith, cases_order i j)
 
-  one_narrowed : (old : List ℕ) (joined met : Block) (xs ys : List ℕ) → IsNarrowed rows old joined met xs → IsNarrowed rows old joined met ys → xs ≡ ys
-  one_narrowed old joined met xs ys its_5 its_6 = grind (arith, one_bit)
-
   one_down : (old xs ys : List ℕ) → IsDownStep rows old xs → IsDownStep rows old ys → xs ≡ ys
-  one_down old xs ys one two = grind (arith, one_met (merged_block rows old) (insert_place rows old) one.met two.met one.first two.first, one_narrowed)
-
-  down_fails : (old new : List ℕ) → IsDownStep rows old new → PassesDownCheck rows old → ⊥
-  down_fails old new step down = met_fails (merged_block rows old) (insert_place rows old) step.met step.first down
+  one_down old xs ys one two = grind (arith, one_met (merged_block rows old) (insert_place rows old) one.met two.met one.first two.first, one_bit)
 
   -- ---- the refined set
 
@@ -78,13 +69,13 @@ module _ (rows : List Row) where
   one_refined places xs ys (ends_legal p two up down) (ends_empty q few) = absurd (omega arith)
   one_refined places xs ys (ends_legal p two up down) (ends_legal q also too low) = refl
   one_refined places xs ys (ends_legal p two up down) (goes_up q next a also step rest) = absurd (up_fails p next step up)
-  one_refined places xs ys (ends_legal p two up down) (goes_down q next a also step rest) = absurd (down_fails p next step down)
+  one_refined places xs ys (ends_legal p two up down) (goes_down q next a also step rest) = search (rules, met_fails)
   one_refined places xs ys (goes_up p next a two step rest) (ends_empty q few) = absurd (omega arith)
   one_refined places xs ys (goes_up p next a two step rest) (ends_legal q also up down) = absurd (up_fails p next step up)
   one_refined places xs ys (goes_up p next a two step rest) (goes_up q other b also move more) = one_refined next a b rest (subst (λ l. Refines rows l b) (one_up p other next move step) more)
   one_refined places xs ys (goes_up p next a two step rest) (goes_down q other b also move more) = absurd (up_fails p next step move.up)
   one_refined places xs ys (goes_down p next a two step rest) (ends_empty q few) = absurd (omega arith)
-  one_refined places xs ys (goes_down p next a two step rest) (ends_legal q also up down) = absurd (down_fails p next step down)
+  one_refined places xs ys (goes_down p next a two step rest) (ends_legal q also up down) = search (rules, met_fails)
   one_refined places xs ys (goes_down p next a two step rest) (goes_up q other b also move more) = absurd (up_fails p other move step.up)
   one_refined places xs ys (goes_down p next a two step rest) (goes_down q other b also move more) = one_refined next a b rest (subst (λ l. Refines rows l b) (one_down p other next move step) more)
 
@@ -94,9 +85,7 @@ module _ (rows : List Row) where
   route_of_set : (bits : ℕ) (set : List ℕ) → Refines rows (places_of bits 0 rows) set → 2 ≤ length set → (route : Route) × (route.bits ≡ bits)
   route_of_set bits set refined two = elim (route_cases bits rows) [
     | inl found ↦ ((get_or rows found.0 (merge_rows [])).route, found.2.1 (merge_rows []))
-    | inr none ↦
-        let empty : [] ≡ set = few_end [] set (omega arith) (subst (λ l. Refines rows l set) none refined) in
-        absurd (omega (arith, two, ap length empty))
+    | inr none ↦ grind (arith, few_end)
   ]
 
   largest_bound : (xs ys : List ℕ) (one : IsLargest rows xs) (two : IsLargest rows ys) → (length ys ≤ length xs) × (two.bits < one.bits → length ys < length xs)

@@ -1,18 +1,14 @@
 -- What is kept of routes: the greatest, and what a merge leaves.
-use Rattle.cover_merge.proofs.Common.{All, AreAllKept, AreLinks, AreNumbers, AreRoutesKept, AreStillKept, Block, Fresh, HasNoLargest, IsApart, IsDownStep, IsEachOnce, IsFirstOfRoute, IsFreshlyRefined}
-use Rattle.cover_merge.proofs.Common.{IsGone, IsKept, IsLargest, IsLegalMerge, IsMostBefore, IsNoRival, IsOneRoute, IsSound, Kept, LeadsWithin, List, Misses, MissesAllOf, Most, None, Option}
-use Rattle.cover_merge.proofs.Common.{PassesDownCheck, PassesUpCheck, Refines, RefinesWithin, Row, Some, [], after, ap, arith, below_more, cases_lt, ends_empty, generality, get_or, get_or-eq_default}
-use Rattle.cover_merge.proofs.Common.{get_or-set_at, get_or-set_other, get_or_default, inl, inr, length, length-set, merge_rows, merged_block, place_of_route, places_of, refl, set, subst, sym, ℕ, ◌+◌}
-use Rattle.cover_merge.proofs.Common.{◌<◌, ◌∙◌, ◌≡◌, ◌≢◌, ◌≤◌, ◌⊎◌}
+use Rattle.cover_merge.proofs.Common.{All, AreAllKept, AreNumbers, AreRoutesKept, AreStillKept, Block, Fresh, HasNoLargest, IsApart, IsDownStep, IsEachOnce, IsFreshlyRefined, IsGone, IsKept}
+use Rattle.cover_merge.proofs.Common.{IsLargest, IsLegalMerge, IsMostBefore, IsNoRival, IsOneRoute, IsSound, Kept, LeadsWithin, List, Misses, MissesAllOf, Most, None, Option, PassesDownCheck}
+use Rattle.cover_merge.proofs.Common.{PassesUpCheck, Refines, RefinesWithin, Row, Some, [], after, ap, arith, below_more, cases_lt, ends_empty, generality, generality_le, get_or, get_or-eq_default}
+use Rattle.cover_merge.proofs.Common.{get_or-set_at, get_or-set_other, inl, inr, length, length-set, merge_rows, merged_block, place_of_route, places_of, refl, rules, set, subst, sym, ℕ, ◌+◌, ◌<◌}
+use Rattle.cover_merge.proofs.Common.{◌∙◌, ◌≡◌, ◌≢◌, ◌≤◌, ◌⊎◌}
 use Rattle.cover_merge.proofs.{Lists.written_at, LinkLemmas.number_of_route, LinkLemmas.route_there, LinkLemmas.routes_all, KeptLemmas.forgets, KeptLemmas.kept_after, KeptLemmas.merge_other}
-use Rattle.cover_merge.proofs.{KeptLemmas.no_rival_kept, KeptLemmas.size_of_kept, ChooseLemmas.route_cases, KeptLemmasSteps.gone_checked, KeptLemmasSteps.gone_down, KeptLemmasSteps.gone_legal}
-use Rattle.cover_merge.proofs.KeptLemmasSteps.{gone_up}
+use Rattle.cover_merge.proofs.{KeptLemmas.no_rival_kept, KeptLemmas.size_of_kept, ChooseLemmas.route_cases, KeptLemmasSteps.gone_down, KeptLemmasSteps.gone_legal, KeptLemmasSteps.gone_up}
 
 pub none_some : (it : Kept) → None ≡ Some it → ⊥
 none_some it is = cc
-
-some_same : (it other : Kept) → ◌≡◌ {A = Option Kept} (Some it) (Some other) → it ≡ other
-some_same it other is = cc
 
 -- what is kept is kept of some route
 pub inside_some : (xs : List (Option Kept)) (k : ℕ) (it : Kept) → get_or xs k None ≡ Some it → k < length xs
@@ -23,7 +19,7 @@ inside_some xs k it is = grind (arith, cases_lt k (length xs), none_some, get_or
 module _ (routes : List ℕ) (kept : List (Option Kept)) (c : ℕ) (most : Most) (old : IsMostBefore routes kept c most) where
   module _ (own : Kept) (here_is : get_or kept c None ≡ Some own) (bits : ℕ) (read : bits ≡ get_or routes c 0) where
     last_is : (k : ℕ) (it : Kept) → k < c + 1 → c ≤ k → get_or kept k None ≡ Some it → (it ≡ own) × (get_or routes k 0 ≡ bits)
-    last_is k it less from is = grind (arith, some_same, get_or)
+    last_is k it less from is = grind (arith, get_or)
 
     pub most_new : (new : Most) → new.number ≡ c → new.bits ≡ bits → new.size ≡ own.size → c < length routes → (most.size < own.size) ⊎ ((own.size ≡ most.size) × (bits < most.bits)) → IsMostBefore routes kept (c + 1) new
     most_new new at bits_is size_is within wins =
@@ -31,17 +27,8 @@ module _ (routes : List ℕ) (kept : List (Option Kept)) (c : ℕ) (most : Most)
           inside = λ some. subst (λ i. i < length routes) (sym at) within;
           own = λ some. (own, ap (λ i. get_or kept i None) at ∙ here_is, sym size_is);
           bits = λ some. ap (λ i. get_or routes i 0) at ∙ sym read ∙ sym bits_is;
-          no_larger = λ k it less is. elim (cases_lt k c) [
-            | inl before ↦ omega (arith, old.no_larger k it before is, size_is, no_fewer)
-            | inr from ↦ let same = last_is k it less from is in subst (λ (x : Kept). x.size ≤ new.size) (sym same.0) (omega (arith, size_is))
-          ];
-          smaller = λ k it less is some low. elim (cases_lt k c) [
-            | inl before ↦ elim wins [
-              | inl fewer ↦ omega (arith, old.no_larger k it before is, fewer, size_is)
-              | inr tie ↦ let s = old.smaller k it before is (omega (arith, tie.0, size_is, some)) (omega (arith, low, bits_is, tie.1)) in omega (arith, s, tie.0, size_is)
-            ]
-            | inr from ↦ let same = last_is k it less from is in absurd (omega (arith, low, same.1, bits_is))
-          ];
+          no_larger = grind (arith, cases_lt, last_is);
+          smaller = grind (arith, cases_lt, last_is);
         }
 
 -- ---- the largest
@@ -82,16 +69,10 @@ module _ (routes : List ℕ) (rows : List Row) (numbers : List ℕ) (are : AreNu
         others = λ route. subst (IsNoRival rows route.bits most.bits) (sym many) (no_rival route.bits);
       }
 
--- the places of a route that were gathered from its first row on
-pub places_read : (routes : List ℕ) (rows : List Row) (nexts heads : List ℕ) → AreLinks routes rows nexts heads → (c : ℕ) → c < length routes → (x : ℕ) → x ≡ get_or heads c x → (places : List ℕ)
-    → ((bits : ℕ) → IsFirstOfRoute rows bits x → places ≡ places_of bits 0 rows) → places ≡ places_of (get_or routes c 0) 0 rows
-places_read routes rows nexts heads links c low x read places found = grind (arith, get_or_default heads c 0 x (omega (arith, links.one_each, low)), get_or routes c 0)
-
 -- ---- one route more of which something is kept
 
 pub kept_put : (routes : List ℕ) (rows : List Row) (kept : List (Option Kept)) (c : ℕ) (own : Kept) → c < length kept → IsKept rows (get_or routes c 0) own.size own.outer own.low → AreRoutesKept routes rows kept → AreRoutesKept routes rows (set kept c (Some own))
-kept_put routes rows kept c own inside here keeps k it = written_at (λ n o. n < length routes → o ≡ Some it → IsKept rows (get_or routes n 0) it.size it.outer it.low) kept c (Some own) None inside
-    (λ low is. subst (λ (x : Kept). IsKept rows (get_or routes c 0) x.size x.outer x.low) (some_same own it is) here) (λ n apart. keeps n it) k
+kept_put routes rows kept c own inside here keeps k it = search (rules, written_at, get_or)
 
 pub all_more : (kept : List (Option Kept)) (c : ℕ) (own : Kept) → c < length kept → ((k : ℕ) → k < c → (it : Kept) × (get_or kept k None ≡ Some it)) → (k : ℕ) → k < c + 1 → (it : Kept) × (get_or (set kept c (Some own)) k None ≡ Some it)
 all_more kept c own inside all = below_more (λ k. (it : Kept) × (get_or (set kept c (Some own)) k None ≡ Some it)) c
@@ -161,7 +142,7 @@ kept_over routes rows numbers old mid new places merged once are sound merge kee
 -- What the up-steps left is down-checked: the first block that was, and the generality of this one.
 module _ (rows : List Row) (start set left : List ℕ) (outer wide joined : Block) (low g : ℕ) (gone : IsGone rows start set outer low) (one : IsOneRoute rows set) (leads : (b : Block) (least : ℕ) → LeadsWithin rows b least set left) where
   pub turned : (2 ≤ length left) × (joined ≡ merged_block rows left) × (PassesUpCheck rows left) → ((32 < low) × (wide ≡ joined)) ⊎ ((low ≤ 32) × (wide ≡ outer)) → IsGone rows start left wide (generality (merged_block rows left))
-  turned sifted first = grind (arith, gone_up rows start set outer low gone left one.in_range leads, gone_checked)
+  turned sifted first = grind (arith, gone_up rows start set outer low gone left one.in_range leads, generality_le)
 
   module _ (sifted : (2 ≤ length left) × (joined ≡ merged_block rows left) × (PassesUpCheck rows left)) (first : ((32 < low) × (wide ≡ joined)) ⊎ ((low ≤ 32) × (wide ≡ outer))) (general : g ≡ generality joined) where
     low_is : generality (merged_block rows left) ≡ g

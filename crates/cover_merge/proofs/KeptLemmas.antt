@@ -1,10 +1,10 @@
 -- What is kept of a route is true in the table after a merge that leaves it alone.
 use Rattle.cover_merge.proofs.Common.{All, All-filter, All-head, All-map, All-nil, All-tail, Block, Bool, HoldsItsAliases, Intersects, Intersects-sym, Intersects-wider, IsDownStep, IsFirstMetFrom}
 use Rattle.cover_merge.proofs.Common.{IsKept, IsLastFailing, IsLegal, IsMergeSet, IsNarrowed, IsNoRival, IsSound, IsUpStep, LiesIn, LiesIn-from_wants, LiesIn-trans, List, LosesNone, Misses}
-use Rattle.cover_merge.proofs.Common.{PassesDown, PassesDownCheck, PassesUp, PassesUpCheck, Refines, RefinesWithin, Route, Row, Some, Wants, [], after, ap, arith, can_choose, cases_Bool, cases_lt}
-use Rattle.cover_merge.proofs.Common.{cases_order, cond, cons_option, eq-eqb, false, false_from_ne_true, filter, generality, generality-mono, get_or, get_or-map, get_or_default, get_or_from_slice_get}
-use Rattle.cover_merge.proofs.Common.{has_row, inl, inr, insert_place, keeps, kept_by, kept_count, length, length-map, map, merge_of, merge_of-is_merge, merged_block, merged_row, ne_eqb, not}
-use Rattle.cover_merge.proofs.Common.{place_for, places_of, refl, rows_at, slice_get, slice_get-get_or, slice_get_within, subst, suc, sym, true, zero, ℕ, ◌<◌, ◌==◌, ◌||◌, ◌∙◌, ◌∷◌, ◌≡◌, ◌≢◌, ◌≤◌, ◌⊎◌}
+use Rattle.cover_merge.proofs.Common.{PassesDown, PassesDownCheck, PassesUp, PassesUpCheck, Refines, RefinesWithin, Route, Row, Some, Wants, [], after, ap, arith, cases_Bool, cases_lt, cases_order}
+use Rattle.cover_merge.proofs.Common.{cond, cons_option, eq-eqb, false, false_from_ne_true, filter, generality, generality-mono, get_or, get_or-map, get_or_default, get_or_from_slice_get, has_row}
+use Rattle.cover_merge.proofs.Common.{inl, inr, insert_place, keeps, kept_by, kept_count, length, length-map, map, merge_of, merge_of-is_merge, merged_block, merged_row, ne_eqb, not, place_for}
+use Rattle.cover_merge.proofs.Common.{places_of, refl, rows_at, rules, slice_get, slice_get-get_or, slice_get_within, subst, suc, sym, true, zero, ℕ, ◌<◌, ◌==◌, ◌||◌, ◌∙◌, ◌∷◌, ◌≡◌, ◌≢◌, ◌≤◌, ◌⊎◌}
 use Rattle.cover_merge.proofs.{ChooseLemmas.are_places, KeptLemmasMoved.moved_from, KeptLemmasMoved.moved, KeptLemmasMoved.moved_less, KeptLemmasMoved.moved_get, KeptLemmasMoved.moved_onto}
 use Rattle.cover_merge.proofs.{KeptLemmasMoved.moved_places, Positions.has-at, Positions.has-place, Positions.All-has, Positions.rows_at-from, Positions.rows_at-has, Positions.rows_at-length}
 use Rattle.cover_merge.proofs.{Positions.some_blocks, Positions.place_for-le, Positions.place_for-below, Positions.place_for-above, Positions.member_le, Lists.All-from_map, Lists.cond_of}
@@ -176,8 +176,7 @@ module _ (rows : List Row) (merge : List ℕ) (sound : IsSound rows) (set : IsMe
     up_step_to : (next : List ℕ) → IsUpStep rows places next → IsUpStep new (map to places) (map to next)
     up_step_to next step = record {
       place = to step.place;
-      last = subst (λ b. IsLastFailing new (map to places) (place_for new (generality b)) (to step.place)) (sym (block_to places outs))
-          (last_to (generality (merged_block rows places)) step.place step.last);
+      last = search (rules, block_to, outs, last_to);
       result = ap (map to) step.result
           ∙ sym (filter_to to (λ t. not (t == to step.place)) (λ t. not (t == step.place)) places
           (λ k d within. ap not (same_test (get_or places k d) step.place (left k d within).at.out (left_at step.place step.last.member).at.out)));
@@ -232,14 +231,8 @@ module _ (rows : List Row) (merge : List ℕ) (sound : IsSound rows) (set : IsMe
 
     -- ---- the best bit
 
-    kept_to : (met : Block) (i : ℕ) → kept_by new met i (map to places) ≡ map to (kept_by rows met i places)
-    kept_to met i = grind (arith, filter_to, slice_to, get_or)
-
     count_to : (joined met : Block) (i : ℕ) → kept_count new (map to places) joined met i ≡ kept_count rows places joined met i
-    count_to joined met i = ap (λ n. cond (can_choose joined met i) n 0) (ap length (kept_to met i) ∙ length-map (kept_by rows met i places) to)
-
-    narrowed_to : (joined met : Block) (next : List ℕ) → IsNarrowed rows places joined met next → IsNarrowed new (map to places) joined met (map to next)
-    narrowed_to joined met next its_3 = grind (arith, count_to, kept_to)
+    count_to joined met i = grind (arith, length-map (kept_by rows met i places) to, filter_to, slice_to, get_or)
 
     module _ (outer : Block) (low : ℕ) (apart : (Intersects (merged_block rows merge) outer → ⊥) ⊎ (generality (merged_block rows merge) ≤ low)) (lies : LiesIn (merged_block rows places) outer) (high : low ≤ generality (merged_block rows places)) where
       apart_here : (row : Row) → IsUnder (merged_block rows merge) row → (Misses (merged_block rows places) row) ⊎ (generality row.block ≤ generality (merged_block rows places))
@@ -254,7 +247,7 @@ module _ (rows : List Row) (merge : List ℕ) (sound : IsSound rows) (set : IsMe
         up = up_check_to step.up;
         met = step.met;
         first = subst (λ b. IsFirstMetFrom new b (place_for new (generality b)) step.met) (sym (block_to places outs)) (met_to (merged_block rows places) apart_here step.met step.first);
-        narrowed = subst (λ b. IsNarrowed new (map to places) b step.met (map to next)) (sym (block_to places outs)) (narrowed_to (merged_block rows places) step.met next step.narrowed);
+        narrowed = subst (λ b. IsNarrowed new (map to places) b step.met (map to next)) (sym (block_to places outs)) (grind (arith, count_to, filter_to, slice_to, get_or));
       }
 
   -- ---- the refined set

@@ -157,8 +157,7 @@ module _ (rows : List Row) (merge : List ℕ) (ordered : IsOrdered rows) (in_ran
 
     pub item_moved : (k : ℕ) (d : X) → k < length xs → has_row merge k ≡ false → (moved rows merge k < length (left merge 0 (insert xs p m))) × (get_or (left merge 0 (insert xs p m)) (moved rows merge k) d ≡ get_or xs k d)
     item_moved k d within out =
-        let found = picked_get q (insert xs p m) (put p k) d (put_within k within) (stays_put k out) in
-        (found.0, found.1 ∙ put_get xs p k m d in_xs)
+        grind (arith, picked_get q (insert xs p m) (put p k) d (put_within k within) (stays_put k out), stays_put k out, put_get xs p k m d in_xs, cases_lt, longer, put_low, put_high)
 
     pub item_merged : (d : X) → (merged_at rows merge < length (left merge 0 (insert xs p m))) × (get_or (left merge 0 (insert xs p m)) (merged_at rows merge) d ≡ m)
     item_merged d =
@@ -171,12 +170,7 @@ module _ (rows : List Row) (merge : List ℕ) (ordered : IsOrdered rows) (in_ran
         let (j, inside, pass, rank_is) = rank_onto q (length (insert xs p m)) l (omega (arith, within, rank_length q 0 (length (insert xs p m)) (insert xs p m) (omega arith))) in
         elim (cases_eq j p) [
           | inl equal ↦ inr (omega (arith, rank_is, ap (rank q) equal))
-          | inr apart ↦
-              let from = put_onto p j apart in
-              elim (cases_lt from.0 p) [
-                | inl low ↦ inl (from.0, omega (arith, low, in_xs), not-true (has_row merge from.0) (ap q (sym (put_low p from.0 low) ∙ from.1) ∙ pass), ap (rank q) from.1 ∙ omega (arith, rank_is))
-                | inr high ↦ inl (from.0, omega (arith, put_high p from.0 high, from.1, inside, longer), none_behind from.0 high, ap (rank q) from.1 ∙ omega (arith, rank_is))
-              ]
+          | inr apart ↦ grind (arith, put_onto p j apart, cases_lt (put_onto p j apart).0 p, in_xs, longer, not-true, put_high, none_behind, put_low)
         ]
 
   pub moved_get : (k : ℕ) (d : Row) → k < length rows → has_row merge k ≡ false → (moved rows merge k < length (after rows merge)) × (get_or (after rows merge) (moved rows merge k) d ≡ get_or rows k d)
@@ -233,12 +227,8 @@ module _ (rows : List Row) (merge : List ℕ) (ordered : IsOrdered rows) (in_ran
     pub all_carried : (P : X → Row → Type 0) (d : X) (e : Row) → ((k : ℕ) → k < length xs → P (get_or xs k d) (get_or rows k e)) → P m (merged_row rows merge)
         → (l : ℕ) → l < length (left merge 0 (insert xs p m)) → P (get_or (left merge 0 (insert xs p m)) l d) (get_or (after rows merge) l e)
     all_carried P d e each own l within = elim (item_onto xs m same l within) [
-      | inl (k, inside, out, at) ↦
-          subst (λ n. P (get_or (left merge 0 (insert xs p m)) n d) (get_or (after rows merge) n e)) at
-          (subst₂ P (sym (item_moved xs m same k d inside out).1) (sym (moved_get k e (omega (arith, inside, same)) out).1) (each k inside))
-      | inr is ↦
-          subst (λ n. P (get_or (left merge 0 (insert xs p m)) n d) (get_or (after rows merge) n e)) (sym is)
-          (subst₂ P (sym (item_merged xs m same d).1) (sym (merged_get e).1) own)
+      | inl (k, inside, out, at) ↦ grind (arith, item_moved xs m same k d inside out, moved_get k e (omega (arith, inside, same)) out, left merge 0 (insert xs p m), get_or)
+      | inr is ↦ grind (arith, item_merged xs m same d, merged_get e, left merge 0 (insert xs p m), get_or)
     ]
 
   module _ (some : 0 < length merge) (bits : ℕ) (other : (s : ℕ) (d : Row) → has_row merge s ≡ true → (get_or rows s d).route.bits ≢ bits) where

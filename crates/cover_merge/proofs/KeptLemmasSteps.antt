@@ -1,6 +1,6 @@
 -- Steps of refinement one after another, and the bounds of the blocks that are down-checked on the way.
 use Rattle.cover_merge.proofs.Common.{All, All-filter, All-nil, Block, IsDownStep, IsGone, IsNarrowed, LeadsWithin, LiesIn, LiesIn-trans, List, PassesDownCheck, PassesUpCheck, RefinesWithin, Row, []}
-use Rattle.cover_merge.proofs.Common.{arith, generality, generality_le, get_or, has_row, inl, inr, keeps, length, merged_block, not, subst, sym, true, ℕ, ◌<◌, ◌==◌, ◌≡◌, ◌≤◌, ◌⊎◌}
+use Rattle.cover_merge.proofs.Common.{arith, generality, generality_le, get_or, has_row, inl, inr, keeps, length, merged_block, not, subst, sym, true, ℕ, ◌<◌, ◌==◌, ◌≡◌, ◌≤◌}
 use Rattle.cover_merge.proofs.{Positions.all_of, Positions.has-place, Positions.All-has, KeptLemmas.fewer_lies}
 
 -- places of places of a set
@@ -63,10 +63,6 @@ module _ (rows : List Row) where
 
     pub gone_empty : length set < 2 → RefinesWithin rows outer low start []
     gone_empty few = gone_refines [] (RefinesWithin.ends_empty set few)
-
-    -- Before a down-check `outer` becomes the merge of the set where it is the first, and `low` its generality.
-    pub gone_checked : (wide : Block) → 2 ≤ length set → ((32 < low) × (wide ≡ merged_block rows set)) ⊎ ((low ≤ 32) × (wide ≡ outer)) → IsGone rows start set wide (generality (merged_block rows set))
-    gone_checked wide two its_2 = grind (arith, generality_le)
 
   module _ (start set : List ℕ) (outer : Block) (two : 2 ≤ length set) (gone : IsGone rows start set outer (generality (merged_block rows set))) where
     lies_here : LiesIn (merged_block rows set) outer

@@ -1,22 +1,18 @@
 -- On a sound table both checks are true exactly where the table after the merge is sound.
 
 use Rattle.cover_merge.proofs.Common.{Alias, All, Block, HoldsItsAliases, Intersects, Intersects-sym, Intersects-wider, IsLegal, IsMergeSet, IsSound, LiesIn, LiesIn-merge, LiesIn-trans, List, Misses}
-use Rattle.cover_merge.proofs.Common.{PassesDownCheck, PassesUpCheck, Row, ap, arith, cases_order, false, flat_map, generality, get_or, get_or_default, has_row, inl, inr, insert_place, length, map}
-use Rattle.cover_merge.proofs.Common.{merge_of, merge_rows, merged_block, merged_row, rows_at, subst, subst₂, sym, true, true≢false, ℕ, ◌-◌, ◌<◌, ◌∙◌, ◌≡◌, ◌≤◌}
+use Rattle.cover_merge.proofs.Common.{PassesDownCheck, PassesUpCheck, Row, ap, arith, cases_order, false, generality, get_or, get_or_default, has_row, inl, inr, insert_place, length, map, merge_of}
+use Rattle.cover_merge.proofs.Common.{merge_rows, merged_block, merged_row, rows_at, subst, subst₂, sym, true, true≢false, ℕ, ◌-◌, ◌<◌, ◌∙◌, ◌≡◌, ◌≤◌}
 use Rattle.cover_merge.proofs.KeptLemmasMoved.{all_after, merged_at, merged_get, moved, moved_before, moved_behind, moved_get, none_behind, pairs_after}
 use Rattle.cover_merge.proofs.{ApplyLemmas.block_is, ApplyLemmas.merge_rows-block_of, Positions.All-has, Positions.rows_at-from, Positions.rows_at-has, Positions.place_for-le}
 use Rattle.cover_merge.proofs.{Positions.place_for-below, Positions.place_for-from, Lists.All-from_map, Lists.All-flat_map, Lists.All-from_flat_map}
 
--- the aliases of a merge
-merge_rows-aliases : (rows : List Row) → (merge_rows rows).aliases ≡ flat_map (λ (x : Row). x.aliases) rows
-merge_rows-aliases rows = grind arith
-
 -- a block misses a merge where it misses all its members
 pub Misses-merge : (b : Block) (rows : List Row) → All (Misses b) rows → Misses b (merge_rows rows)
-Misses-merge b rows all = subst (All (λ (a : Alias). Intersects b a.block → ⊥)) (sym (merge_rows-aliases rows)) (All-flat_map (λ (a : Alias). Intersects b a.block → ⊥) (λ (x : Row). x.aliases) rows all)
+Misses-merge b rows all = subst (All (λ (a : Alias). Intersects b a.block → ⊥)) (sym (grind arith)) (All-flat_map (λ (a : Alias). Intersects b a.block → ⊥) (λ (x : Row). x.aliases) rows all)
 
 pub Misses-members : (b : Block) (rows : List Row) → Misses b (merge_rows rows) → All (Misses b) rows
-Misses-members b rows misses = All-from_flat_map (λ (a : Alias). Intersects b a.block → ⊥) (λ (x : Row). x.aliases) rows (subst (All (λ (a : Alias). Intersects b a.block → ⊥)) (merge_rows-aliases rows) misses)
+Misses-members b rows misses = All-from_flat_map (λ (a : Alias). Intersects b a.block → ⊥) (λ (x : Row). x.aliases) rows (subst (All (λ (a : Alias). Intersects b a.block → ⊥)) (grind arith) misses)
 
 -- what a block misses, a narrower one misses
 pub narrower_misses : (b x : Block) (r : Row) → LiesIn x b → Misses b r → Misses x r
@@ -34,7 +30,7 @@ HoldsItsAliases-merge rows all =
     let members : All (λ (x : Row). LiesIn x.block merge) rows = All-from_map (λ (b : Block). LiesIn b merge) (λ (x : Row). x.block) rows (LiesIn-merge (map (λ (x : Row). x.block) rows)) in
     let each : All (λ (x : Row). All (λ (a : Alias). LiesIn a.block merge) x.aliases) rows = λ k d within j e inside. LiesIn-trans (get_or (get_or rows k d).aliases j e).block (get_or rows k d).block merge (all k d within j e inside) (members k d within) in
     subst (λ (b : Block). All (λ (a : Alias). LiesIn a.block b) (merge_rows rows).aliases) (sym (merge_rows-block_of rows))
-    (subst (All (λ (a : Alias). LiesIn a.block merge)) (sym (merge_rows-aliases rows)) (All-flat_map (λ (a : Alias). LiesIn a.block merge) (λ (x : Row). x.aliases) rows each))
+    (subst (All (λ (a : Alias). LiesIn a.block merge)) (sym (grind arith)) (All-flat_map (λ (a : Alias). LiesIn a.block merge) (λ (x : Row). x.aliases) rows each))
 
 -- the order of generality
 abbrev pub IsBefore : Row → Row → Type 0

@@ -1,7 +1,7 @@
 -- Numbers of routes, and the rows of one route one after another.
 use Rattle.cover_merge.proofs.Common.{All-map, AreLinks, AreNumbers, AreRoutes, IsAhead, IsEachOnce, IsFirstOfRoute, IsMergeSet, IsNextOfRoute, IsOrdered, IsRouteAdded, List, Route, Row, [], after}
 use Rattle.cover_merge.proofs.Common.{ap, arith, cases_lt, eqb-true, get_or, get_or-append_seam, get_or-map, get_or_append_left, get_or_default, insert, insert_place, length, length-append}
-use Rattle.cover_merge.proofs.Common.{length-map, map, merge_rows, merged_row, nat_tests, passes_at_first, position_or_len_push, subst, sym, ℕ, ◌++◌, ◌+◌, ◌<◌, ◌==◌, ◌∙◌, ◌∷◌, ◌≡◌}
+use Rattle.cover_merge.proofs.Common.{length-map, map, merge_rows, merged_row, nat_tests, passes_at_first, position_or_len_push, rules, subst, sym, ℕ, ◌++◌, ◌+◌, ◌<◌, ◌==◌, ◌∙◌, ◌∷◌, ◌≡◌}
 use Rattle.cover_merge.proofs.{KeptLemmasMoved.length_carried, KeptLemmasMoved.all_carried, ApplyLemmas.left, ApplyLemmas.route_is}
 use Rattle.cover_merge.specs.Links.{place_of_route}
 
@@ -73,10 +73,7 @@ pub links_made : (routes : List ℕ) (rows : List Row) (numbers : List ℕ) → 
     → AreLinks routes rows nexts heads
 links_made routes rows numbers once are nexts heads one_next one_head first next =
     let many = are.one_each in record {
-      next = record {
-        one_each = one_next ∙ many;
-        next = λ k inside. next_from routes rows numbers are k (get_or nexts k 0) inside (next k (omega (arith, many, inside)));
-      };
+      next = search (rules, next_from, get_or);
       one_each = one_head;
       head = λ c low. first_from routes rows numbers are once c (get_or heads c 0) low (first c low);
     }

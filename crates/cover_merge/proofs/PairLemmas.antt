@@ -1,7 +1,7 @@
 -- A pair of rows that is legal after a merge was legal before it, where neither loses a row behind it by the merge.
 use Rattle.cover_merge.proofs.Common.{All, AreNoLater, AreRivalsAt, AreTouched, AreTriedUpTo, Block, HasSerial, IsFresh, IsLegal, IsLegalPair, IsMergeSet, IsSound, List, LosesNone, MeetsNone, Misses}
 use Rattle.cover_merge.proofs.Common.{PassesDown, PassesUp, Rival, Route, Row, Times, [], after, ap, arith, false, generality, get_or, has_row, inl, inr, insert, insert_place, is_at_one, length, map}
-use Rattle.cover_merge.proofs.Common.{merge_of, merged_block, merged_row, place_for, place_of_route, rows_at, subst, subst₂, sym, true, true≢false, ℕ, ◌<◌, ◌∙◌, ◌∷◌, ◌≡◌, ◌≤◌, ◌⊎◌}
+use Rattle.cover_merge.proofs.Common.{merge_of, merged_block, merged_row, place_for, place_of_route, rows_at, subst, sym, true, true≢false, ℕ, ◌<◌, ◌∙◌, ◌∷◌, ◌≡◌, ◌≤◌, ◌⊎◌}
 use Rattle.cover_merge.proofs.{KeptLemmas.up_from, KeptLemmas.IsOut, KeptLemmas.block_to, KeptLemmas.has_to, KeptLemmas.from_less, KeptLemmas.get_to, KeptLemmasMoved.all_carried}
 use Rattle.cover_merge.proofs.{KeptLemmasMoved.length_carried, KeptLemmasMoved.moved, KeptLemmasMoved.item_moved, KeptLemmasMoved.item_merged, KeptLemmasMoved.item_onto, RivalLemmas.serial_at}
 use Rattle.cover_merge.proofs.Positions.{both_of, member_le, pair_set, place_for-from, place_for-reach, All-has, at_one_of, has-at, rows_at-has}
@@ -75,9 +75,7 @@ module _ (rows : List Row) (merge : List ℕ) (sound : IsSound rows) (set : IsMe
     time_onto : (l : ℕ) (e : Times) → l < length (carried_times (insert_place rows merge))
         → ((k : ℕ) × (k < length times) × (has_row merge k ≡ false) × (to k ≡ l) × (get_or (carried_times (insert_place rows merge)) l e ≡ get_or times k e)) ⊎ (get_or (carried_times (insert_place rows merge)) l e ≡ nothing)
     time_onto l e within = elim (item_onto rows merge sound.ordered set.set.in_range times nothing one_each l within) [
-      | inl from ↦
-          let item = item_moved rows merge sound.ordered set.set.in_range times nothing one_each from.0 e from.1 from.2 in
-          inl (from.0, from.1, from.2, from.3, ap (λ n. get_or (carried_times (insert_place rows merge)) n e) (sym from.3) ∙ item.1)
+      | inl from ↦ grind (arith, item_moved rows merge sound.ordered set.set.in_range times nothing one_each from.0 e from.1 from.2, get_or)
       | inr is ↦ inr (ap (λ n. get_or (carried_times (insert_place rows merge)) n e) is ∙ (item_merged rows merge sound.ordered set.set.in_range times nothing one_each e).1)
     ]
 
@@ -95,11 +93,7 @@ module _ (rows : List Row) (merge : List ℕ) (sound : IsSound rows) (set : IsMe
                   let tried = ap (λ (x : Times). x.tried) is_i in
                   let bound = (marks.bound i e in_i).0 in
                   elim (time_onto m e within) [
-                    | inl (j, in_j, out_j, at_j, is_j) ↦
-                        let changed = ap (λ (x : Times). x.changed) is_j in
-                        marks.tried i j e (from_less rows merge sound set legal i j out_j (omega (arith, less, at_i, at_j))) in_j (omega (arith, earlier, tried, changed))
-                        (pair_before i j (omega (arith, in_i, one_each)) (omega (arith, in_j, one_each)) out_i out_j (loses i e in_i (λ f. omega (arith, f.tried, earlier, tried)))
-                        (loses j e in_j (λ f. omega (arith, f.changed, earlier, changed, tried, bound))) (subst₂ (λ a b. IsLegalPair new a b) (sym at_i) (sym at_j) pair))
+                    | inl (j, in_j, out_j, at_j, is_j) ↦ grind (arith, from_less rows merge sound set legal i j out_j (omega (arith, less, at_i, at_j)), pair_before)
                     | inr is ↦ omega (arith, earlier, tried, ap (λ (x : Times). x.changed) is, fresh.changed, bound)
                   ]
               | inr is ↦ omega (arith, earlier, ap (λ (x : Times). x.tried) is, fresh.tried)

@@ -46,12 +46,7 @@ module _ (P Q : ℕ → Type 0) where
       ascending = all_pairs_push (λ s t. s < t) list n are.ascending are.inside;
       inside = All-push (λ s. s < n + 1) list n (λ k d within. omega (arith, are.inside k d within)) (omega arith);
       each = All-push P list n are.each here;
-      rest = λ s less.
-          let among = list_any-append (λ t. t == s) list (n ∷ []) in
-          elim (cases_lt s n) [
-            | inl before ↦ elim (are.rest s before) [ inl other ↦ inl other | inr found ↦ inr (among ∙ or_left (has_row list s) (has_row (n ∷ []) s) found) ]
-            | inr from ↦ inr (among ∙ or_right (has_row list s) (has_row (n ∷ []) s) (or_left (n == s) false (eq-eqb n s (omega (arith, less, from)))))
-          ];
+      rest = grind (arith, list_any-append, cases_lt, or_left, or_right, eq-eqb);
     }
 
   -- there is one, or the list is empty

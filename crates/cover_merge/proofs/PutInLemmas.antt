@@ -11,10 +11,6 @@ missed_behind rows places block place sound merge at = grind (arith, down_from_l
 
 -- ---- a rival that is put in
 
--- no rival of the list is more general
-pub put_last : (v : Rival) (old new : List Rival) (at : ℕ) → at ≤ length old → length old ≤ at → ((k : ℕ) (e : Rival) → k < at → (get_or old k e).general ≤ v.general) → new ≡ insert old at v → IsPutIn v old new
-put_last v old new at within end before is = grind arith
-
 -- the rival at its place is more general, and so are those behind it
 pub put_before : (v x : Rival) (old new : List Rival) (at : ℕ) → AllPairs (λ (v w : Rival). v.general ≤ w.general) old → at < length old → ((k : ℕ) (e : Rival) → k < at → (get_or old k e).general ≤ v.general)
     → x ≡ get_or old at x → v.general < x.general → new ≡ insert old at v → IsPutIn v old new

@@ -1,8 +1,8 @@
 -- Putting an item in and taking out those at places before it, in one pass.
 use Rattle.cover_merge.proofs.Common.{All, All-cons, All-nil, AllPairs, AllPairs-cons, List, [], ap, append_assoc, arith, cases_lt, copy_within, drop, drop-cons, drop-drop, drop-paste, drop-put_mid}
 use Rattle.cover_merge.proofs.Common.{drop-set-lt, drop-take, false, false_from_ne_true, get_or, get_or-append_seam, get_or_append_left, has_row, insert, length, length-append, length-drop}
-use Rattle.cover_merge.proofs.Common.{length-paste, length-take, not, paste, set, subst, suc, sym, take, take-add, take-paste, take_all, take_at, take_more_set, true, zero, ℕ, ◌++◌, ◌+◌, ◌-◌, ◌<◌}
-use Rattle.cover_merge.proofs.Common.{◌∙◌, ◌∷◌, ◌≡◌, ◌≤◌}
+use Rattle.cover_merge.proofs.Common.{length-paste, length-take, not, paste, rules, set, subst, suc, sym, take, take-add, take-paste, take_all, take_at, take_more_set, true, zero, ℕ, ◌++◌, ◌+◌, ◌-◌}
+use Rattle.cover_merge.proofs.Common.{◌<◌, ◌∙◌, ◌∷◌, ◌≡◌, ◌≤◌}
 use Rattle.cover_merge.proofs.{ApplyLemmas.left, ApplyLemmas.kept_out, ApplyLemmas.kept_free, ApplyLemmas.kept_none, ApplyLemmas.picked-append, Lists.AllPairs-append, Lists.AllPairs-nil}
 use Rattle.cover_merge.proofs.Positions.{has-at, has-place}
 
@@ -61,13 +61,7 @@ copied_down from to by dest old new fits order inside at made =
     let beyond : to ≡ goes_to + n + by = omega (arith, fits, order) in record {
       one_each = ap length is ∙ length-paste old goes_to tail n (omega (arith, fits, order, inside)) enough;
       front = ap (take (to - by)) is ∙ ap (λ m. take m (paste old goes_to tail n)) (sym behind) ∙ take-paste old goes_to tail n goes enough;
-      rest =
-          ap (drop to) is
-          ∙ ap (λ m. drop m (paste old goes_to tail n)) beyond
-          ∙ sym (drop-drop by (goes_to + n) (paste old goes_to tail n))
-          ∙ ap (drop by) (drop-paste old goes_to tail n goes enough)
-          ∙ drop-drop by (goes_to + n) old
-          ∙ ap (λ m. drop m old) (sym beyond);
+      rest = grind (arith, paste old goes_to tail n, drop-drop by (goes_to + n) (paste old goes_to tail n), drop-paste old goes_to tail n goes enough, drop-drop by (goes_to + n) old);
     }
 
 -- ---- the places one after another
@@ -91,7 +85,7 @@ module _ (places : List ℕ) (place : ℕ) (ascending : AllPairs (λ s t. s < t)
       AllPairs-append (λ s t. s < t) places (place ∷ []) ascending (AllPairs-cons (λ s t. s < t) place [] (All-nil (λ t. place < t)) (AllPairs-nil (λ s t. s < t)))
       (λ k d within. All-cons (λ t. get_or places k d < t) place [] (before k d within) (All-nil (λ t. get_or places k d < t)))
 
-  many : length (places ++ place ∷ []) ≡ length places + 1
+  pub many : length (places ++ place ∷ []) ≡ length places + 1
   many = length-append places (place ∷ [])
 
   pub end_next : (i : ℕ) → i < length places → end_at i < end_at (i + 1)
@@ -104,24 +98,18 @@ module _ (places : List ℕ) (place : ℕ) (ascending : AllPairs (λ s t. s < t)
   end_least zero within = omega arith
   end_least (suc i) within = grind (arith, ends_ascend i (suc i) 0 (omega arith) (omega (arith, many, within)), end_least i (omega (arith, within)))
 
-  end_order : (i j : ℕ) → i ≤ j → j ≤ length places → end_at i ≤ end_at j
-  end_order i j le within = grind (arith, cases_lt i j, many, ends_ascend)
-
   pub end_most : (i : ℕ) → i ≤ length places → end_at i ≤ place
-  end_most i within = omega (arith, end_order i (length places) within (omega arith), end_last)
+  end_most i within = grind (arith, end_last, cases_lt, many, ends_ascend)
 
   pub end_is : (i : ℕ) → i < length places → end_at i ≡ get_or places i 0
   end_is i within = get_or_append_left places (place ∷ []) 0 i within
 
   -- no place is between two that follow each other, or before the first
   free_between : (i k : ℕ) → i < length places → end_at i < k → k < end_at (i + 1) → has_row places k ≡ false
-  free_between i k within after less = grind (arith, false_from_ne_true, has-place, end_is, cases_lt, end_order)
+  free_between i k within after less = grind (arith, false_from_ne_true, has-place, end_is, cases_lt, many, ends_ascend)
 
   free_first : (k : ℕ) → k < end_at 0 → has_row places k ≡ false
-  free_first k less = false_from_ne_true (has_row places k) (λ found.
-      let at = has-place places k found in
-      let is : end_at at.0 ≡ k = end_is at.0 at.1 ∙ at.2 in
-      omega (arith, end_order 0 at.0 (omega arith) (omega (arith, at.1)), is, less))
+  free_first k less = search (rules, false_from_ne_true, has-place, end_is, cases_lt, many, ends_ascend)
 
   module _ {X : Type 0} (item : X) (old : List X) (fits : place ≤ length old) where
     pub none_closed : IsClosedUp places place old 0 old
@@ -165,7 +153,7 @@ module _ (places : List ℕ) (place : ℕ) (ascending : AllPairs (λ s t. s < t)
     pub room : 0 < length places → (length places ≤ place) × (place - length places < length old)
     room some = let least : length places ≤ place = omega (arith, end_least (length places) (omega arith), end_last) in (least, omega (arith, least, some, fits))
 
-    all_closed : (items new : List X) → 0 < length places → IsClosedUp places place old (length places) items
+    pub all_closed : (items new : List X) → 0 < length places → IsClosedUp places place old (length places) items
         → IsMovedDown place (length old) (length places - 1) (set items (place - length places) item) new
         → take (length old - (length places - 1)) new ≡ left places 0 (insert old place item)
     all_closed items new some closed moved =
@@ -187,9 +175,3 @@ module _ (places : List ℕ) (place : ℕ) (ascending : AllPairs (λ s t. s < t)
         ∙ sym (picked-append (λ j. not (has_row places j)) 0 (take place old) (item ∷ drop place old)
         ∙ ap (λ m. left places 0 (take place old) ++ left places m (item ∷ drop place old)) count
         ∙ ap (λ l. left places 0 (take place old) ++ l) (kept_none places place (item ∷ drop place old) before))
-
-    -- the same of what the code makes
-    pub all_replaced : (i len : ℕ) (items new done : List X) → 0 < length places → IsClosedUp places place old i items → length places ≤ i → i ≤ length places → len ≡ length items
-        → IsMovedDown place len (length places - 1) (set items (place - length places) item) new → done ≡ take (len - (length places - 1)) new
-        → done ≡ left places 0 (insert old place item)
-    all_replaced i len items new done some closed from to many moved taken = grind (arith, many, all_closed)

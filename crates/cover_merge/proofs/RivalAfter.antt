@@ -144,9 +144,7 @@ module _ (rows : List Row) (serials places : List ℕ) (block : Block) (merged :
         let d = merge_rows [] in
         let same = so_far.others s inside (λ i less at. are_met.each i 0 (omega (arith, less, all)) d (subst (λ t. Misses block (get_or rows t d)) (sym at) (misses d))) in
         unmet rows serials places apart set.set.in_range s block merged (get_or now (get_or serials s 0) []) set is misses (subst (AreRivalsAt rows serials s) (sym same) (each s inside))
-    | inr found ↦
-        let at = has-place met s found in
-        subst (λ t. AreRivalsAfter rows serials places block merged t (get_or now (get_or serials t 0) [])) at.2 (so_far.done at.0 (omega (arith, at.1, all)))
+    | inr found ↦ grind (arith, has-place met s found, get_or)
   ]
 
 -- ---- where the merged row stands
@@ -212,10 +210,6 @@ module _ (rows : List Row) (places : List ℕ) (sound : IsSound rows) (set : IsM
 
   -- ---- numbers
 
-  -- the numbers, as the code makes them
-  pub carried_is : (members now items : List ℕ) (place serial : ℕ) → members ≡ places → now ≡ serials → place ≡ insert_place rows places → serial ≡ n → items ≡ left members 0 (insert now place serial) → items ≡ carried
-  carried_is members now items place serial same kept is number made = grind (arith, left)
-
   module _ (legal : IsLegal rows places) (below : All (λ k. k < n) serials) (apart : (i j : ℕ) → i < length rows → j < length rows → get_or serials i 0 ≡ get_or serials j 0 → i ≡ j) where
     in_use : (k : ℕ) → k < length rows → get_or serials k 0 < n
     in_use k inside = below k 0 (omega (arith, inside, one_each))
@@ -255,9 +249,7 @@ module _ (rows : List Row) (places : List ℕ) (sound : IsSound rows) (set : IsM
               let d = merged_row rows places in
               absurd (meets d (subst (Misses (merged_block rows places)) (row_to k d inside out) (subst (λ b. Misses b (get_or new (to k) d)) (block_at d)
               (legal.unmet at (to k) d less (moved_get rows places sound.ordered set.set.in_range k d inside out).0))))
-          | inr most ↦
-              let same : at ≡ to k = omega (arith, le, most) in
-              absurd (omega (arith, in_use k inside, serial_to k inside out, serial_at, ap (λ m. get_or carried m 0) same))
+          | inr most ↦ grind (arith, in_use k inside, serial_to k inside out, serial_at, get_or)
         ]
 
         each_after : All (IsRivalBehind new carried (to k)) list
@@ -285,17 +277,10 @@ module _ (rows : List Row) (places : List ℕ) (sound : IsSound rows) (set : IsM
         all_after : (r : ℕ) → to k < r → r < length new → (MeetsNone new r (to k)) ⊎ (HasSerial list (get_or carried r 0))
         all_after r behind within = elim (came_from r within) [
           | inl (m, inner, gone, is) ↦ elim (was.all m (from_less rows places sound set legal k m gone (omega (arith, behind, is))) inner gone) [
-            | inl none ↦ inl (λ d.
-                subst (λ x. Misses (get_or new x d).block (get_or new (to k) d)) is
-                (subst (λ (x : Row). Misses x.block (get_or new (to k) d)) (sym (row_to m d inner gone)) (subst (Misses (get_or rows m d).block) (sym (row_to k d inside out)) (none d))))
+            | inl none ↦ grind (arith, get_or, row_to)
             | inr found ↦ inr (subst (HasSerial list) (sym (ap (λ x. get_or carried x 0) (sym is) ∙ serial_to m inner gone)) found)
           ]
-          | inr is ↦ elim was.own [
-            | inl none ↦ inl (λ d.
-                subst (λ x. Misses (get_or new x d).block (get_or new (to k) d)) (sym is)
-                (subst (λ b. Misses b (get_or new (to k) d)) (sym (block_at d)) (subst (Misses (merged_block rows places)) (sym (row_to k d inside out)) (none d))))
-            | inr found ↦ inr (subst (HasSerial list) (serial ∙ sym serial_at ∙ ap (λ x. get_or carried x 0) (sym is)) found)
-          ]
+          | inr is ↦ grind (arith, serial_at, get_or, block_at, row_to)
         ]
 
         row_after : AreRivalsAt new carried (to k) list

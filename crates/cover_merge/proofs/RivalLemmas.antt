@@ -1,12 +1,12 @@
 -- Rivals of rows: what they tell of the up-check, and how they are found.
-use Rattle.cover_merge.proofs.Common.{Alias, All, All-nil, All-push, AllPairs, Any-from_list_any, AreJoined, AreRivalsAt, AreSpansOf, AreSpansOfAll, Block, Bool, HasSerial, Intersects, Intersects-sym}
-use Rattle.cover_merge.proofs.Common.{Intersects-wider, IsLegal, IsMergeSet, IsOneRoute, IsOrdered, IsOriginal, IsRivalAdded, IsRivalBehind, IsRivalOf, IsRivaled, IsSound, IsTrue, LiesIn, List}
-use Rattle.cover_merge.proofs.Common.{MeetsAliasOf, MeetsNone, Misses, PassesDown, PassesUp, Rival, Rivals, Row, SameRoute, [], all_pairs_push, ap, append-nil, arith, below_more, bit_and, cases_lt}
-use Rattle.cover_merge.proofs.Common.{cases_order, eq-eqb, eqb-true, false, false_from_ne_true, generality, get_or, get_or_append_left, get_or_default, get_or_from_slice_get, get_or_push, has_row}
-use Rattle.cover_merge.proofs.Common.{inl, inr, insert_place, is_at_one, length, list_any, list_any-append, merge_rows, merged_block, or_left, or_right, pair_read, place_for, refl, slice_get_within}
-use Rattle.cover_merge.proofs.Common.{subst, sym, true, true≢false, ℕ, ◌++◌, ◌+◌, ◌<◌, ◌==◌, ◌^◌, ◌||◌, ◌↔◌, ◌∙◌, ◌∷◌, ◌≡◌, ◌≤◌, ◌⊎◌}
+use Rattle.cover_merge.proofs.Common.{Alias, All, All-push, AllPairs, Any-from_list_any, AreJoined, AreRivalsAt, AreSpansOf, AreSpansOfAll, Block, Bool, HasSerial, Intersects, Intersects-sym}
+use Rattle.cover_merge.proofs.Common.{Intersects-wider, IsLegal, IsMergeSet, IsOneRoute, IsOrdered, IsOriginal, IsRivalAdded, IsRivalBehind, IsRivaled, IsSound, IsTrue, LiesIn, List, MeetsAliasOf}
+use Rattle.cover_merge.proofs.Common.{MeetsNone, Misses, PassesDown, PassesUp, Rival, Rivals, Row, SameRoute, [], all_pairs_push, ap, append-nil, arith, below_more, bit_and, cases_lt, cases_order}
+use Rattle.cover_merge.proofs.Common.{eq-eqb, eqb-true, false, false_from_ne_true, generality, get_or, get_or_append_left, get_or_default, get_or_from_slice_get, get_or_push, has_row, inl, inr}
+use Rattle.cover_merge.proofs.Common.{insert_place, is_at_one, length, list_any-append, merge_rows, merged_block, or_left, or_right, place_for, refl, slice_get_within, subst, sym, true, true≢false, ℕ}
+use Rattle.cover_merge.proofs.Common.{◌++◌, ◌+◌, ◌<◌, ◌==◌, ◌^◌, ◌↔◌, ◌∙◌, ◌∷◌, ◌≡◌, ◌≤◌, ◌⊎◌}
 use Rattle.cover_merge.proofs.Positions.{All-has, both_of, at_one_of, has-at, has-place, place_for-above, place_for-below, place_for-le}
-use Rattle.cover_merge.proofs.{Lists.AllPairs-nil, Answering.answers_no, Answering.fails, Legal.up_from_legal, Legal.down_from_legal, Legal.legal_from_checks}
+use Rattle.cover_merge.proofs.{Answering.answers_no, Answering.fails, Legal.up_from_legal, Legal.down_from_legal, Legal.legal_from_checks}
 
 -- ---- numbers in a list of rivals
 
@@ -16,20 +16,9 @@ serial_at list serial has =
     let at = Any-from_list_any (λ (v : Rival). v.serial == serial) list has in
     (at.0, at.2, λ e. ap (λ (v : Rival). v.serial) (get_or_default list at.0 e at.1 at.2 ∙ at.3) ∙ eqb-true at.1.serial serial at.4)
 
-passed_on : (a b c : Bool) → (a || c) ≡ true → (a || (b || c)) ≡ true
-passed_on true b c is = refl
-passed_on false true c is = refl
-passed_on false false c is = is
-
 -- one more has its number, and the others have theirs
 pub listed_among : (xs ys : List Rival) (v : Rival) (n : ℕ) → (v.serial ≡ n) ⊎ (HasSerial (xs ++ ys) n) → HasSerial (xs ++ v ∷ ys) n
-listed_among xs ys v n is =
-    let test : Rival → Bool = λ w. w.serial == n in
-    let has : List Rival → Bool = λ l. list_any test l in
-    list_any-append test xs (v ∷ ys) ∙ elim is [
-      | inl same ↦ or_right (has xs) ((v.serial == n) || has ys) (or_left (v.serial == n) (has ys) (eq-eqb v.serial n same))
-      | inr old ↦ passed_on (has xs) (v.serial == n) (has ys) (sym (list_any-append test xs ys) ∙ old)
-    ]
+listed_among xs ys v n is = grind (arith, list_any-append, or_right, or_left, eq-eqb)
 
 -- ---- the rows of a set
 
@@ -62,9 +51,6 @@ place_found rows g p ordered within low high =
     ]
 
 -- ---- what the code reads
-
-pub missed_read : (rows : List Row) (s r : ℕ) (first e : Row) (t : Bool) → s < length rows → r < length rows → first ≡ get_or rows s first → (IsTrue t) ↔ (Misses (get_or rows r e).block first) → t ≡ true → (d : Row) → Misses (get_or rows r d).block (get_or rows s d)
-missed_read rows s r first e t in_s in_r is_first tells came d = grind (arith, pair_read, get_or, get_or_default)
 
 -- ---- a pair
 
@@ -164,22 +150,11 @@ module _ (rows : List Row) (rivals : Rivals) (rivaled : IsRivaled rows rivals) w
 pub met_read : (rows : List Row) (s r : ℕ) (first e : Row) (t : Bool) → s < length rows → r < length rows → first ≡ get_or rows s first → (IsTrue t) ↔ (Misses (get_or rows r e).block first) → t ≡ false → MeetsAliasOf rows r s
 met_read rows s r first e t in_s in_r is_first tells came d misses = grind (arith, get_or rows r e, get_or_default rows r d e in_r, get_or rows r d, get_or_default rows s d first in_s, fails)
 
--- a row that was read, as a rival
-pub rival_read : (rows : List Row) (serials : List ℕ) (r : ℕ) (a : Row) (v : Rival) → r < length rows → a ≡ get_or rows r a → v.serial ≡ get_or serials r 0 → v.general ≡ generality a.block → v.bits ≡ a.route.bits → IsRivalOf rows serials r v
-rival_read rows serials r a v inside read serial general bits = grind (arith, get_or_default)
-
 -- Of the rows for which Q holds the list has just the rivals of row s, in order of generality.
 pub record AreRivalsOf (Q : ℕ → Type 0) (rows : List Row) (serials : List ℕ) (s : ℕ) (list : List Rival) : Type 0 where
   pub ordered : AllPairs (λ (v w : Rival). v.general ≤ w.general) list
   pub each : All (λ v. (it : IsRivalBehind rows serials s v) × (Q it.place)) list
   pub all : (r : ℕ) → s < r → r < length rows → Q r → (MeetsNone rows r s) ⊎ (HasSerial list (get_or serials r 0))
-
-pub rivals_none : (Q : ℕ → Type 0) (rows : List Row) (serials : List ℕ) (s : ℕ) (list : List Rival) → list ≡ [] → ((r : ℕ) → s < r → Q r → ⊥) → AreRivalsOf Q rows serials s list
-rivals_none Q rows serials s list is none = subst (AreRivalsOf Q rows serials s) (sym is) (record {
-  ordered = AllPairs-nil (λ (v w : Rival). v.general ≤ w.general);
-  each = All-nil (λ v. (it : IsRivalBehind rows serials s v) × (Q it.place));
-  all = λ r after inside has. absurd (none r after has);
-})
 
 -- where the others are no rivals
 pub rivals_all : (Q : ℕ → Type 0) (rows : List Row) (serials : List ℕ) (s : ℕ) (list : List Rival) → ((r : ℕ) → s < r → r < length rows → (Q r) ⊎ (MeetsNone rows r s))
@@ -207,13 +182,7 @@ module _ (Q R : ℕ → Type 0) (n : ℕ) (into : (r : ℕ) → Q r → R r) (ou
         ordered = all_pairs_push (λ (a b : Rival). a.general ≤ b.general) old v are.ordered last;
         each = All-push (λ w. (it : IsRivalBehind rows serials s w) × (R it.place)) old v (λ k d within. let at = are.each k d within in (at.0, into at.0.place at.1))
             (record { place = n; behind = behind; is = is; meets = meets }, here);
-        all = λ r after inside has. elim (out r has) [
-          | inl past ↦ elim (are.all r after inside past) [
-            | inl misses ↦ inl misses
-            | inr listed ↦ inr (listed_among old [] v (get_or serials r 0) (inr (subst (λ l. HasSerial l (get_or serials r 0)) (sym (append-nil old)) listed)))
-          ]
-          | inr same ↦ inr (listed_among old [] v (get_or serials r 0) (inl (is.serial ∙ ap (λ i. get_or serials i 0) same)))
-        ];
+        all = grind (arith, listed_among old, append-nil old, get_or);
       })
 
 -- ---- rivals among the joined rows

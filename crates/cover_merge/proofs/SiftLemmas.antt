@@ -2,8 +2,8 @@
 use Rattle.cover_merge.proofs.Common.{All, All-drop, All-filter, All-head, All-tail, AllPairs, AreAlikeBehind, Block, Bool, IsLastFailing, IsOneRoute, IsOrdered, IsTrue, IsUpStep, List, PassesUp}
 use Rattle.cover_merge.proofs.Common.{PassesUpCheck, Row, [], any-filter_same, ap, arith, cases_lt, cond, drop, eq-eqb, eqb-true, false_from_ne_true, filter, generality, get_or, get_or-remove_above}
 use Rattle.cover_merge.proofs.Common.{get_or-take, get_or_append_left, get_or_default, get_or_push, has_row, inl, inr, insert_place, length, length-append, length-take, list_any-append, merge_rows}
-use Rattle.cover_merge.proofs.Common.{merged_block, ne_eqb, not, place_for, refl, remove, set, set_without, subst, suc, sym, take, take-append-drop, take-append-le, take-take, take_rest, true}
-use Rattle.cover_merge.proofs.Common.{true≢false, zero, ℕ, ◌++◌, ◌+◌, ◌-◌, ◌<◌, ◌==◌, ◌||◌, ◌↔◌, ◌∙◌, ◌∷◌, ◌≡◌, ◌≢◌, ◌≤◌}
+use Rattle.cover_merge.proofs.Common.{merged_block, ne_eqb, not, place_for, refl, remove, set, set_without, subst, suc, sym, take, take-append-drop, take-take, take_rest, true, true≢false, zero, ℕ}
+use Rattle.cover_merge.proofs.Common.{◌++◌, ◌+◌, ◌-◌, ◌<◌, ◌==◌, ◌↔◌, ◌∙◌, ◌∷◌, ◌≡◌, ◌≢◌, ◌≤◌}
 use Rattle.cover_merge.proofs.{ApplyLemmas.none_from, KeptLemmas.fewer_lies, Positions.all_of, Positions.has-at, Positions.place_for-above, Positions.place_for-below, Positions.place_for-le}
 use Rattle.cover_merge.proofs.{Lists.AllPairs-head, Lists.AllPairs-tail, RivalLemmas.one_route}
 
@@ -82,10 +82,6 @@ module _ (rows : List Row) (set : List ℕ) (one : IsOneRoute rows set) (ordered
 
 -- ---- one place, asked with those behind it
 
--- of the places, only those behind row r count where it is asked for
-has_behind : (front back : List ℕ) (r : ℕ) → All (λ t. t < r) front → has_row (front ++ back) r ≡ has_row back r
-has_behind front back r low = list_any-append (λ t. t == r) front back ∙ ap (λ b. b || has_row back r) (none_from front r low)
-
 module _ (rows : List Row) (xs : List ℕ) (one : IsOneRoute rows xs) (k : ℕ) (inside : k < length xs) where
   abbrev s : ℕ
   s = get_or xs k 0
@@ -104,8 +100,7 @@ module _ (rows : List Row) (xs : List ℕ) (one : IsOneRoute rows xs) (k : ℕ) 
       ]
 
   only_behind : (r : ℕ) → s < r → has_row xs r ≡ has_row behind r
-  only_behind r less =
-      ap (λ l. has_row l r) (sym (take-append-drop (k + 1) xs)) ∙ has_behind (take (k + 1) xs) (drop (k + 1) xs) r (low r less) ∙ ap (λ l. has_row l r) (sym (take_rest xs (k + 1)))
+  only_behind r less = grind (arith, take-append-drop (k + 1) xs, low r less, take_rest xs (k + 1), low, list_any-append, none_from)
 
   -- it is a row's place, and those behind have its route
   pub alike_behind : AreAlikeBehind rows behind s
@@ -127,6 +122,3 @@ module _ (rows : List Row) (xs : List ℕ) (one : IsOneRoute rows xs) (k : ℕ) 
 -- what begins alike begins alike up to less
 pub begins_less : (n i : ℕ) (xs start : List ℕ) → n ≤ i → take i xs ≡ take i start → take n xs ≡ take n start
 begins_less n i xs start le same = sym (take-take n i xs le) ∙ ap (take n) same ∙ take-take n i start le
-
-pub begins_removed : (n i : ℕ) (xs : List ℕ) → n ≤ i → i < length xs → take n (remove xs i) ≡ take n xs
-begins_removed n i xs le inside = take-append-le n (take i xs) (drop (suc i) xs) (omega (arith, le, inside, length-take i xs)) ∙ take-take n i xs le

@@ -1,7 +1,7 @@
 -- Pairs that were tried stay illegal until one of their rows loses a row behind it.
 use Rattle.cover_merge.proofs.Common.{All, AreNewerOf, AreNoLater, AreTried, AreTriedUpTo, Bool, IsEachOnce, IsLegalPair, IsMergeSet, IsNextSince, IsOrdered, IsTriedNow, List, Row, Times, [], after}
 use Rattle.cover_merge.proofs.Common.{ap, arith, cases_Bool, cases_eq, cases_order, get_or, get_or-set_other, get_or_default, has_row, inl, inr, length, length-set, merge_rows, merged_row}
-use Rattle.cover_merge.proofs.Common.{place_of_route, refl, set, subst, suc, sym, true, ℕ, ◌-◌, ◌<◌, ◌∙◌, ◌≡◌, ◌≢◌, ◌≤◌}
+use Rattle.cover_merge.proofs.Common.{place_of_route, refl, rules, set, subst, suc, sym, true, ℕ, ◌-◌, ◌<◌, ◌∙◌, ◌≡◌, ◌≢◌, ◌≤◌}
 use Rattle.cover_merge.proofs.{ChooseLemmas.pair_bits, ChooseLemmas.pair_inside, ChooseLemmas.pair_order, ChooseLemmas.ArePlaces, Positions.has-place, Lists.written_at, KeptLemmasMoved.merged_at}
 use Rattle.cover_merge.proofs.KeptLemmasMoved.{merged_get, moved, moved_get}
 
@@ -19,14 +19,9 @@ pub marked_put : (now : ℕ) (rows : List Row) (gs : List Times) (s : ℕ) (g : 
 marked_put now rows gs s g inside marks old is_old mark none = record {
   tried = λ i j e less within told pair. elim (cases_eq i s) [
     | inl same ↦ none j (subst (λ n. IsLegalPair rows n j) same pair)
-    | inr other ↦
-        marks.tried i j e less (omega (arith, within, length-set gs s g))
-        (omega (arith, told, mark_keeps now gs s g old inside is_old mark j e, ap (λ (x : Times). x.tried) (get_or-set_other gs s i g e other))) pair
+    | inr other ↦ grind (arith, length-set gs s g, mark_keeps now gs s g old inside is_old mark j e, get_or-set_other gs s i g e other)
   ];
-  bound = λ k e within.
-      written_at (λ n (x : Times). n < length gs → (x.tried ≤ now) × (x.changed ≤ now)) gs s g e inside
-      (λ low. (omega (arith, mark.tried), omega (arith, mark.changed, ap (λ (x : Times). x.changed) (is_old ∙ get_or_default gs s old g inside), (marks.bound s g inside).1)))
-      (λ n other low. marks.bound n e low) k (omega (arith, length-set gs s g, within));
+  bound = search (rules, written_at, get_or_default, length-set);
 }
 
 -- the time of a route, and those of a row of it, are put
@@ -53,10 +48,6 @@ module _ (rows : List Row) (places : List ℕ) (ordered : IsOrdered rows) (merge
 
 -- ---- the rows that changed since a row was tried
 
--- from a row that changed no later on to the next that did
-since_more : (rows : List Row) (gs : List Times) (k x y time t : ℕ) → x < length rows → IsNextSince rows gs k time x → ((e : Times) → (get_or gs x e).changed < time) → t ≤ time → IsNextSince rows gs x t y → IsNextSince rows gs k time y
-since_more rows gs k x y time t inside old low le next = grind (arith, cases_order, get_or)
-
 -- the next of a row's changes, which is of the row's route
 pub newer_next : (rows : List Row) (gs : List Times) (newer : List ℕ) (k x time : ℕ) (d : Row) (z : Times) → AreNewerOf (get_or rows k d).route.bits (suc k) rows gs newer → x < length rows → IsNextSince rows gs k time x
     → IsNextSince rows gs x (suc (get_or gs x z).changed) (get_or newer x 0)
@@ -64,7 +55,7 @@ newer_next rows gs newer k x time d z newer_are inside old = newer_are x d z old
 
 pub since_turn : (rows : List Row) (gs : List Times) (newer : List ℕ) (k x y time h : ℕ) (d : Row) (z : Times) → AreNewerOf (get_or rows k d).route.bits (suc k) rows gs newer → x < length rows → IsNextSince rows gs k (suc time) x
     → ((e : Times) → (get_or gs x e).changed ≡ h) → h ≤ time → y ≡ get_or newer x 0 → IsNextSince rows gs k (suc time) y
-since_turn rows gs newer k x y time h d z newer_are inside old is_h le is = grind (arith, get_or gs x z, newer_next rows gs newer k x (suc time) d z newer_are inside old, since_more)
+since_turn rows gs newer k x y time h d z newer_are inside old is_h le is = grind (arith, get_or gs x z, newer_next rows gs newer k x (suc time) d z newer_are inside old, cases_order, get_or)
 
 -- each of the places of a route, from the one of this number on, has its next one that changed later
 abbrev pub AreNewerAt : ℕ → List ℕ → List Row → List Times → List ℕ → Type 0
@@ -95,11 +86,7 @@ module _ (bits : ℕ) (rows : List Row) (places : List ℕ) (are : ArePlaces bit
       → AreNewerAt (suc n) places rows gs now → AreNewerAt n places rows gs new
   newer_more now new n k v was all many inside is next is_new done m e from within =
       let low : k < length now = omega (arith, all, is, are.inside n 0 inside) in
-      let later : get_or places m 0 ≢ k → n < m = λ apart. elim (cases_order m n) [
-        | inl here ↦ absurd (apart (ap (λ i. get_or places i 0) here ∙ is))
-        | inr (inl before) ↦ absurd (omega (arith, from, before))
-        | inr (inr behind) ↦ behind
-      ] in
+      let later : get_or places m 0 ≢ k → n < m = grind (arith, cases_order m n, get_or) in
       subst (λ l. IsNextSince rows gs (get_or places m 0) (suc (get_or gs (get_or places m 0) e).changed) (get_or l (get_or places m 0) 0)) (sym is_new)
       (written_at (λ j x. get_or places m 0 ≡ j → IsNextSince rows gs j (suc (get_or gs j e).changed) x) now k v 0 low
       (λ at. subst (λ t. IsNextSince rows gs k (suc t) v) (ap (λ (x : Times). x.changed) (get_or_default gs k was e (omega (arith, many, is, are.inside n 0 inside)))) next)

@@ -1,6 +1,6 @@
 -- Each turn moves the rows up to the next place down.
-use Rattle.cover_merge.proofs.Common.{arith, get_or, refl, ◌+◌, ◌∙◌}
-use Rattle.cover_merge.proofs.ReplaceLemmas.{all_replaced, none_closed, one_closed, room, starts}
+use Rattle.cover_merge.proofs.Common.{arith, get_or, refl, ◌+◌}
+use Rattle.cover_merge.proofs.ReplaceLemmas.{all_closed, many, none_closed, one_closed, room, starts}
 use Rattle.cover_merge.proofs.applying.put_in.Goals as goal
 
 pub loop-i-init : goal.loop-i-init
@@ -34,7 +34,4 @@ pub overflow_sub-len : goal.overflow_sub-len
 overflow_sub-len c = omega (arith, (room c.args.gaps.places.now c.args.gaps.place c.args.gaps.ascending c.args.gaps.before c.args.merged c.args.rows.now.items c.requires c.args.gaps.some).0, c.len-len.ensures, c.loop-i.invariant.one_each, c.requires)
 
 pub returns : goal.returns
-returns c =
-    all_replaced c.args.gaps.places.now c.args.gaps.place c.args.gaps.ascending c.args.gaps.before c.args.merged c.args.rows.now.items c.requires c.loop-i.i c.len-len.result c.loop-i.rows.items c.move_down-2.new.rows.items c.truncate.new.self.items
-    c.args.gaps.some c.loop-i.invariant c.loop-i-test.false c.loop-i.auto.i-end (c.len-len.ensures ∙ c.loop-i.rows.ok.0)
-    (record { one_each = c.move_down-2.ensures.one_each; front = c.move_down-2.ensures.front; rest = c.move_down-2.ensures.rest }) c.truncate.ensures.items
+returns c = grind (arith, many, all_closed)

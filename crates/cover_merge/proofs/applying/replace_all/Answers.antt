@@ -1,6 +1,6 @@
 -- Each turn moves the items up to the next place down.
-use Rattle.cover_merge.proofs.Common.{arith, get_or, length, length-set, refl, set, ◌+◌, ◌-◌, ◌∙◌, ◌≡◌, ◌≤◌}
-use Rattle.cover_merge.proofs.ReplaceLemmas.{all_replaced, copied_down, none_closed, one_closed, room, starts}
+use Rattle.cover_merge.proofs.Common.{arith, get_or, length, length-set, refl, ◌+◌, ◌-◌, ◌≡◌, ◌≤◌}
+use Rattle.cover_merge.proofs.ReplaceLemmas.{all_closed, many, copied_down, none_closed, one_closed, room, starts}
 use Rattle.cover_merge.proofs.applying.replace_all.Goals as goal
 
 pub loop-i-init : goal.loop-i-init
@@ -48,14 +48,4 @@ pub overflow_sub-len : goal.overflow_sub-len
 overflow_sub-len g c = omega (arith, (room c.args.gaps.places.now c.args.gaps.place c.args.gaps.ascending c.args.gaps.before c.args.item c.args.items.now.items c.requires c.args.gaps.some).0, c.len-len.ensures, c.loop-i.invariant.one_each, c.requires)
 
 pub returns : goal.returns
-returns g c =
-    let items = c.loop-i.items.items in
-    let written = set items (c.args.gaps.place - length c.args.gaps.places.now) c.args.item in
-    let gap = length c.args.gaps.places.now - 1 in
-    let least = (room c.args.gaps.places.now c.args.gaps.place c.args.gaps.ascending c.args.gaps.before c.args.item c.args.items.now.items c.requires c.args.gaps.some).0 in
-    let long : length written ≡ length items = length-set items (c.args.gaps.place - length c.args.gaps.places.now) c.args.item in
-    let fits : c.args.gaps.place ≤ c.len-len.result = omega (arith, c.len-len.ensures, c.loop-i.items.ok.0, c.loop-i.invariant.one_each, c.requires) in
-    let inside : c.len-len.result ≤ length written = omega (arith, long, c.len-len.ensures, c.loop-i.items.ok.0) in
-    all_replaced c.args.gaps.places.now c.args.gaps.place c.args.gaps.ascending c.args.gaps.before c.args.item c.args.items.now.items c.requires c.loop-i.i c.len-len.result items c.copy_within-2.new.self.items c.truncate.new.self.items
-    c.args.gaps.some c.loop-i.invariant c.loop-i-test.false c.loop-i.auto.i-end (c.len-len.ensures ∙ c.loop-i.items.ok.0)
-    (copied_down c.args.gaps.place c.len-len.result gap (c.args.gaps.place - gap) written c.copy_within-2.new.self.items (omega (arith, least)) fits inside refl c.copy_within-2.ensures.items) c.truncate.ensures.items
+returns g c = grind (arith, room, length-set, copied_down, many, all_closed)

@@ -1,8 +1,8 @@
 -- The rivals of all rows that stay are those after the merge, and those of the merged row are found.
 use Rattle.cover_merge.proofs.Common.{AreRivalsAfter, AreRivalsAt, AreSpansOf, IsRivaled, IsSound, List, Rivals, Row, [], after, ap, arith, generality, get_or, get_or_default, insert, insert_place}
 use Rattle.cover_merge.proofs.Common.{length, merged_block, subst, sym, ℕ, ◌+◌, ◌-◌, ◌<◌, ◌∙◌, ◌≡◌}
-use Rattle.cover_merge.proofs.{ApplyLemmas.left, ApplyLemmas.gaps_at, KeptLemmasMoved.merged_at, RivalAfter.place_is, RivalAfter.stands_at, RivalAfter.carried_is, RivalAfter.carried_length}
-use Rattle.cover_merge.proofs.{RivalAfter.at_inside, RivalAfter.rivaled_after, carrying.merge_rows.Goals.After-place_in-place, carrying.merge_rows.Goals.After-replace_all}
+use Rattle.cover_merge.proofs.{ApplyLemmas.left, ApplyLemmas.gaps_at, KeptLemmasMoved.merged_at, RivalAfter.place_is, RivalAfter.stands_at, RivalAfter.carried_length, RivalAfter.at_inside}
+use Rattle.cover_merge.proofs.{RivalAfter.rivaled_after, carrying.merge_rows.Goals.After-place_in-place, carrying.merge_rows.Goals.After-replace_all}
 use Rattle.cover_merge.proofs.carrying.merge_rows.Goals as goal
 
 -- the place is the insertion place
@@ -15,7 +15,7 @@ stands_here c = grind (arith, merged_at c.args.table.now.rows c.args.places.now,
 
 -- the numbers are carried over
 serials_here : (c : After-replace_all) → c.replace_all.new.items.items ≡ left c.args.places.now 0 (insert c.args.rivals.now.serials.items (insert_place c.args.table.now.rows c.args.places.now) (length c.args.rivals.now.of.items))
-serials_here c = grind (arith, carried_is, place_here)
+serials_here c = grind (arith, place_here, left)
 
 pub invariant_of-gaps : goal.invariant_of-gaps
 invariant_of-gaps c =
@@ -35,9 +35,7 @@ invariant_of-row c =
     let n = length c.args.rivals.now.of.items in
     let read = c.as_slice-rows.ensures ∙ c.in_ok-apply.ensures.ok in record {
       sound = subst IsSound (sym read) c.requires.merge.legal;
-      one_each = ap length (c.deref.ensures.value ∙ serials_here (goal.at.invariant_of-row c).After-replace_all)
-          ∙ carried_length rows c.args.places.now old.sound c.requires.merge.set serials old.one_each n
-          ∙ sym (ap length read);
+      one_each = grind (arith, serials_here (goal.at.invariant_of-row c).After-replace_all, carried_length rows c.args.places.now old.sound c.requires.merge.set serials old.one_each n);
       inside = omega (arith, stands_here (goal.at.invariant_of-row c).After-place_in-place, ap length read, at_inside rows c.args.places.now old.sound c.requires.merge.set serials old.one_each n);
     }
 

@@ -1,5 +1,5 @@
 -- The row at one place more loses none, or changed now, and nothing is kept of its route. The merge misses all other rows.
-use Rattle.cover_merge.proofs.Common.{AreStillKept, IsFresh, LosesNone, Times, ap, arith, below_more, cases_eq, cases_lt, get_or, inl, inr, subst, sym, ℕ, ◌+◌, ◌<◌, ◌∙◌, ◌≡◌, ◌⊎◌}
+use Rattle.cover_merge.proofs.Common.{AreStillKept, IsFresh, LosesNone, Times, arith, below_more, cases_eq, cases_lt, get_or, inl, inr, subst, sym, ℕ, ◌+◌, ◌<◌, ◌∙◌, ◌≡◌, ◌⊎◌}
 use Rattle.cover_merge.proofs.{KeepLemmas.left_twice, Legal.narrower_misses, Legal.member_lies, Positions.has-place}
 use Rattle.cover_merge.proofs.carrying.touch.Goals as goal
 
@@ -15,16 +15,11 @@ loop-k-preserved c =
       known = now.known;
       done = λ j e less. elim (cases_eq (get_or met j 0) (get_or met k 0)) [
         | inl same ↦ subst (λ n. IsDone n (get_or times n e)) (sym same) (now.touched.own e)
-        | inr apart ↦
-            let earlier : j < k = elim (cases_lt j k) [ inl before ↦ before | inr from ↦ let here : j ≡ k = omega (arith, from, less) in absurd (apart (ap (λ i. get_or met i 0) here)) ] in
-            subst (IsDone (get_or met j 0)) (sym (now.touched.others (get_or met j 0) e apart)) (old.done j e earlier)
+        | inr apart ↦ grind (arith, cases_lt j k, get_or met j 0)
       ];
       own = now.times c.index-own.result.now old.own;
       rivals = now.rivals ∙ old.rivals;
-      same = record {
-        numbers = now.same.numbers ∙ old.same.numbers;
-        routes = now.same.routes ∙ old.same.routes;
-      };
+      same = grind arith;
       left = left_twice (λ n it. (j : ℕ) → j < k → n ≡ get_or numbers (get_or met j 0) 0 → ⊥) (λ n it. n ≡ get_or numbers (get_or met k 0) 0 → ⊥)
           (λ n it. (j : ℕ) → j < k + 1 → n ≡ get_or numbers (get_or met j 0) 0 → ⊥) c.args.known.now.kept.items c.loop-k.known.kept.items c.touch_at.new.known.kept.items old.left
           (subst (λ l. AreStillKept (λ n it. n ≡ get_or l (get_or met k 0) 0 → ⊥) c.loop-k.known.kept.items c.touch_at.new.known.kept.items) old.same.numbers now.left)
@@ -50,9 +45,7 @@ returns-clause-left c = record {
         told.0,
         λ s d less within same. elim (c.requires.met.rest s within) [
           | inl missed ↦ missed d
-          | inr found ↦
-              let at = has-place c.args.met.now s found in
-              absurd (told.1 at.0 (omega (arith, at.1, c.loop-k-test.false)) (sym same ∙ ap (λ i. get_or c.args.known.now.numbers.items i 0) (sym at.2)))
+          | inr found ↦ grind (arith, has-place c.args.met.now s found, get_or)
         ],
       );
 }

@@ -64,19 +64,7 @@ loop-i-preserved c =
       none = below_more (λ a. (b : ℕ) → IsLegalPair rows a b → ⊥) i old.none none;
       marks = marked_put c.args.now rows gs i g inside old.marks was read mark none;
       changes = record {
-        linked = record {
-          known = record {
-            rivaled = told.rivaled;
-            one_each = as_long;
-            one_time = told.one_time;
-            latest = latest;
-            once = told.once;
-            numbers = told.numbers;
-            one_route = told.one_route;
-            kept = told.kept;
-          };
-          links = ready.linked.links;
-        };
+        linked = grind arith;
         places = ready.places;
         one_each = ready.one_each;
         newer = λ k e low is. newer_kept c.args.now (get_or known.routes.items k 0) rows gs (set gs i g) c.make_ready.new.changes.newer.items i g was inside read refl mark (ready.newer k e low is);

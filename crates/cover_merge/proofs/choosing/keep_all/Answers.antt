@@ -1,5 +1,5 @@
 -- Of one route more something is kept.
-use Rattle.cover_merge.proofs.Common.{Kept, None, Some, ap, arith, below_more, get_or, get_or_default, length, length-set, sym, ◌<◌, ◌∙◌, ◌≡◌}
+use Rattle.cover_merge.proofs.Common.{Kept, None, Some, ap, arith, below_more, get_or, get_or_default, length, length-set, rules, sym, ◌<◌, ◌∙◌, ◌≡◌}
 use Rattle.cover_merge.proofs.KeepLemmas.{all_more, fresh_more, kept_put}
 use Rattle.cover_merge.proofs.choosing.keep_all.Goals as goal
 
@@ -27,19 +27,7 @@ loop-c-preserved c =
     let told = c.in_ok-set.ensures in
     let was = old.linked.known in
     let inside : c.loop-c.c < length known.kept.items = omega (arith, was.one_route, c.loop-c-test.true, c.len-c-end.ensures, ap length old.routes) in record {
-      linked = record {
-        known = record {
-          one_each = was.one_each;
-          rivaled = was.rivaled;
-          one_time = was.one_time;
-          latest = was.latest;
-          once = was.once;
-          numbers = was.numbers;
-          one_route = length-set known.kept.items c.loop-c.c (Some it) ∙ was.one_route;
-          kept = kept_put routes rows known.kept.items c.loop-c.c it inside (record { set = own.set; refined = told.refined; size_is = told.size }) was.kept;
-        };
-        links = old.linked.links;
-      };
+      linked = search (rules, length-set, kept_put);
       times = old.times;
       routes = old.routes;
       all = all_more known.kept.items c.loop-c.c it inside old.all;

@@ -1,18 +1,14 @@
 -- The route of which most places are kept has the largest set.
-use Rattle.cover_merge.proofs.Common.{IsMostBefore, RefinesWithin, arith, get_or, length, places_of, subst}
-use Rattle.cover_merge.proofs.{KeepLemmas.none_largest, KeepLemmas.best_largest, choosing.largest.Goals.After-most_of-most}
+use Rattle.cover_merge.proofs.Common.{RefinesWithin, arith, get_or, places_of, subst}
+use Rattle.cover_merge.proofs.KeepLemmas.{none_largest, best_largest}
 use Rattle.cover_merge.proofs.choosing.largest.Goals as goal
-
--- the route of which most places are kept
-most_is : (c : After-most_of-most) → let known = c.args.known.now in IsMostBefore known.routes.items known.kept.items (length known.routes.items) c.most_of-most.result
-most_is c = grind arith
 
 pub returns-then-most-lt2 : goal.returns-then-most-lt2
 returns-then-most-lt2 c =
     let known = c.args.known.now in
     let told = c.requires.linked.known in
     none_largest known.routes.items c.args.rows.now known.numbers.items told.numbers known.kept.items told.kept c.requires.all c.most_of-most.result
-    (most_is (goal.at.returns-then-most-lt2 c).After-most_of-most) c.if-most-lt2.true
+    (grind arith) c.if-most-lt2.true
 
 pub returns-then-len-most : goal.returns-then-len-most
 returns-then-len-most c =
@@ -23,7 +19,7 @@ returns-then-len-most c =
     let fresh = c.args.fresh in
     let refined = c.requires.fresh (omega (arith, c.if-most-lt2.false, c.if-len-most.true, c.len.ensures)) in
     best_largest routes rows known.numbers.items told.numbers known.kept.items told.kept c.requires.all c.most_of-most.result
-    (most_is (goal.at.returns-then-len-most c).After-most_of-most) fresh.set (omega (arith, c.if-most-lt2.false)) refined.0 refined.1
+    (grind arith) fresh.set (omega (arith, c.if-most-lt2.false)) refined.0 refined.1
     (subst (λ n. RefinesWithin rows refined.0 refined.1 (places_of (get_or routes n 0) 0 rows) fresh.set) c.if-fresh-most.true refined.2)
 
 pub returns : goal.returns
@@ -32,4 +28,4 @@ returns c =
     let told = c.requires.linked.known in
     let found = c.in_ok-set.field-0 in
     best_largest known.routes.items c.args.rows.now known.numbers.items told.numbers known.kept.items told.kept c.requires.all c.most_of-most.result
-    (most_is (goal.at.returns c).After-most_of-most) found.set (omega (arith, c.if-most-lt2.false)) found.kept.outer found.kept.low c.in_ok-set.ensures.refined
+    (grind arith) found.set (omega (arith, c.if-most-lt2.false)) found.kept.outer found.kept.low c.in_ok-set.ensures.refined

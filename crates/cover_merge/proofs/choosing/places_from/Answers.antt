@@ -1,10 +1,10 @@
 -- From each row on to the next of its route.
-use Rattle.cover_merge.proofs.Common.{arith, ◌∙◌}
-use Rattle.cover_merge.proofs.ChooseLemmas.{link_next, places_begin, places_next, places_only}
+use Rattle.cover_merge.proofs.Common.{All-nil, arith, ◌∙◌}
+use Rattle.cover_merge.proofs.{Lists.AllPairs-nil, ChooseLemmas.link_next, ChooseLemmas.places_next, ChooseLemmas.places_only}
 use Rattle.cover_merge.proofs.choosing.places_from.Goals as goal
 
 pub loop-place-init : goal.loop-place-init
-loop-place-init c bits first = record { same = first.same; found = places_begin c.args.linked.table.rows.now bits c.args.first c.new-places.result.items (grind arith) first }
+loop-place-init c bits first = grind (arith, AllPairs-nil, All-nil)
 
 pub loop-place-preserved : goal.loop-place-preserved
 loop-place-preserved c bits first =

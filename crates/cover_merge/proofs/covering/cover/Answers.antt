@@ -1,11 +1,11 @@
 -- Each round makes a chosen merge, which is legal.
-use Rattle.cover_merge.proofs.Common.{AreTriedUpTo, Covers, HasNoChosen, HasNoLegalPair, HasRoutesOf, IsChosen, IsPermutation, IsSound, [], after, arith, inr, length, length-append, served, sets_of}
-use Rattle.cover_merge.proofs.Common.{subst, sym, ◌++◌, ◌<◌, ◌∷◌, ◌≡◌, ◌≤◌, ◌⊎◌}
-use Rattle.cover_merge.proofs.{TriedLemmas.marked_later, CoverLemmas.IsCoveredSoFar, CoverLemmas.so_far_first, CoverLemmas.so_far_more, CoverLemmas.covered_short, CoverLemmas.covered_stuck}
+use Rattle.cover_merge.proofs.Common.{Covers, HasNoChosen, HasNoLegalPair, HasRoutesOf, IsChosen, IsPermutation, IsPermutation-refl, IsSound, after, arith, inr, length, length-append, served, sets_of}
+use Rattle.cover_merge.proofs.Common.{subst, sym, ◌<◌, ◌≡◌, ◌≤◌, ◌⊎◌}
+use Rattle.cover_merge.proofs.{CoverLemmas.routes_own, CoverLemmas.IsCoveredSoFar, CoverLemmas.so_far_more, CoverLemmas.covered_short, CoverLemmas.covered_stuck, TriedLemmas.marked_later}
 use Rattle.cover_merge.proofs.covering.cover.Goals as goal
 
 pub merging-init : goal.merging-init
-merging-init c = grind (arith, IsCoveredSoFar c.args.target c.args.table.rows c.args.table.rows, so_far_first c.args.target c.args.table.rows c.requires.few c.requires.sound)
+merging-init c = grind (arith, IsCoveredSoFar, routes_own, IsPermutation-refl)
 
 pub merging-preserved : goal.merging-preserved
 merging-preserved c =
@@ -15,12 +15,7 @@ merging-preserved c =
     let more : c.args.target < length rows = omega (arith, c.len.ensures) in record {
       so_far = subst (IsCoveredSoFar c.args.target c.args.table.rows c.merge_next.new.table.rows) (sym c.in_ok-push-in-Some.ensures.ok)
           (so_far_more c.args.target c.args.table.rows rows c.merge_next.new.table.rows c.merging.merges (record { places = c.in-Some.places }) c.merging.invariant.so_far more chosen next);
-      known = record {
-        told = c.in_ok-places.ensures.known.told;
-        marks = subst (λ l. AreTriedUpTo (length l) c.merge_next.new.table.rows c.merge_next.new.known.times.items) (sym c.in_ok-push-in-Some.ensures.ok)
-            (marked_later c.len-now.result c.merge_next.new.table.rows c.merge_next.new.known.times.items (length (c.merging.merges ++ record { places = c.in-Some.places } ∷ []))
-            (omega (arith, c.len-now.ensures, length-append c.merging.merges (record { places = c.in-Some.places } ∷ []))) c.in_ok-places.ensures.known.marks);
-      };
+      known = grind (arith, marked_later, length-append);
     }
 
 pub returns-in-None : goal.returns-in-None

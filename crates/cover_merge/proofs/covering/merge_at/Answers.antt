@@ -37,13 +37,7 @@ pub forget-requires-clause-inside : goal.forget-requires-clause-inside
 forget-requires-clause-inside c =
     let told = c.touch.ensures.known.told in
     let set = c.requires.merge.0 in
-    let first : get_or c.as_slice-members.result.now 0 0 < length c.touch.new.known.numbers.items = omega (
-      arith,
-      told.numbers.one_each,
-      ap length c.as_slice-rows.ensures,
-      ap (λ l. get_or l 0 0) c.as_slice-members.ensures,
-      set.set.in_range 0 0 (omega (arith, set.two)),
-    ) in
+    let first : get_or c.as_slice-members.result.now 0 0 < length c.touch.new.known.numbers.items = grind (arith, get_or) in
     omega (
       arith,
       told.one_route,

@@ -1,8 +1,8 @@
 -- Each place taken out is a step, and those behind it still pass the up-check.
 use Rattle.cover_merge.proofs.Common.{All, AreMerges, IsLastFailing, IsOneRoute, IsTrue, IsUpStep, LeadsWithin, List, PassesUp, Row, ap, arith, generality, get_or, inl, length, length-remove}
-use Rattle.cover_merge.proofs.Common.{merged_block, place_for, refl, remove, subst, sym, take, take_all, ℕ, ◌+◌, ◌-◌, ◌<◌, ◌↔◌, ◌∙◌, ◌≡◌, ◌≤◌}
+use Rattle.cover_merge.proofs.Common.{length-take, merged_block, place_for, refl, remove, subst, sym, take, take-append-le, take-take, take_all, ℕ, ◌+◌, ◌-◌, ◌<◌, ◌↔◌, ◌∙◌, ◌≡◌, ◌≤◌}
 use Rattle.cover_merge.proofs.{RefineLemmas.one_route_after, RefineLemmas.last_found, RefineLemmas.last_more, RefineLemmas.none_fails, KeptLemmasSteps.leads_on, SiftLemmas.all_pass}
-use Rattle.cover_merge.proofs.{SiftLemmas.begins_less, SiftLemmas.begins_removed, SiftLemmas.sift_behind, SiftLemmas.sift_step, refining.sift.Goals.After-passes_at, refining.sift.Goals.After-remove}
+use Rattle.cover_merge.proofs.{SiftLemmas.begins_less, SiftLemmas.sift_behind, SiftLemmas.sift_step, refining.sift.Goals.After-passes_at, refining.sift.Goals.After-remove}
 use Rattle.cover_merge.proofs.refining.sift.Goals.{then-loop-i-test+else-len-ge2, else-loop-i-test}
 use Rattle.cover_merge.proofs.refining.sift.Goals as goal
 
@@ -15,9 +15,7 @@ loop-i-init c =
       fewer = omega arith;
       set = c.requires.set;
       some = omega (arith, c.requires.two);
-      merge = c.index-merged.ensures
-          ∙ known.each (c.len.result - 1) c.index-merged.result.now (omega (arith, known.one_each, c.len.ensures, c.requires.two))
-          ∙ ap (merged_block rows) (take_all (c.len.result - 1 + 1) xs (omega (arith, c.len.ensures)));
+      merge = grind (arith, take_all (c.len.result - 1 + 1) xs (omega (arith, c.len.ensures)));
       before = refl;
       behind = λ k low high. absurd (omega (arith, low, high, c.len-i.ensures));
       leads = λ outer low. LeadsWithin.stands xs;
@@ -55,7 +53,7 @@ module _ (c : After-remove) where
 
   -- what is left begins as the set did
   begins : (n : ℕ) → n ≤ c.loop-i.i - 1 → take n new ≡ take n c.args.set.now.items
-  begins n le = ap (take n) c.remove.ensures.items ∙ begins_removed n (c.loop-i.i - 1) xs le inside ∙ begins_less n c.loop-i.i xs c.args.set.now.items (omega (arith, le)) c.loop-i.invariant.before
+  begins n le = grind (arith, inside, begins_less, take-append-le, length-take, take-take)
 
   module _ (tell : (IsTrue c.passes_at.result) ↔ (PassesUp rows xs (get_or xs (c.loop-i.i - 1) 0) p)) where
     last : IsLastFailing rows xs p (get_or xs (c.loop-i.i - 1) 0)
@@ -77,10 +75,7 @@ invariant_of-left c =
     let known : AreMerges c.args.table.rows.now start c.in_ok-merges.merges.items = subst (λ l. AreMerges c.args.table.rows.now l c.in_ok-merges.merges.items) c.deref.ensures.value c.in_ok-merges.ensures in record {
       inside = subst (All (λ s. s < length c.args.table.rows.now)) (sym is) (one_route here (tells at.After-passes_at)).in_range;
       some = omega (arith, ap length is, one_less here, two here);
-      known = λ k d low within.
-          ap (λ l. get_or l k d) merges
-          ∙ known.each k d (subst (λ l. k < length l) merges within)
-          ∙ ap (merged_block c.args.table.rows.now) (sym (ap (take (k + 1)) is ∙ begins here (k + 1) (omega (arith, low))));
+      known = grind (arith, get_or, begins);
       many = omega (arith, ap length merges, known.one_each, c.loop-i.invariant.within, c.loop-i.invariant.fewer);
     }
 

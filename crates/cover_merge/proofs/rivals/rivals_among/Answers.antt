@@ -1,10 +1,10 @@
 -- One place more: all other rows are original, and so meet no alias.
-use Rattle.cover_merge.proofs.Common.{arith}
-use Rattle.cover_merge.proofs.RivalLemmas.{IsAmong, among_all, among_more, rivals_none}
+use Rattle.cover_merge.proofs.Common.{All-nil, arith}
+use Rattle.cover_merge.proofs.{Lists.AllPairs-nil, RivalLemmas.IsAmong, RivalLemmas.among_all, RivalLemmas.among_more}
 use Rattle.cover_merge.proofs.rivals.rivals_among.Goals as goal
 
 pub loop-k-init : goal.loop-k-init
-loop-k-init c = rivals_none (IsAmong c.args.joined.now 0) c.args.row.rows.now c.args.row.serials.now c.args.row.s c.new-list.result c.new-list.ensures (λ r after has. omega (arith, has.1))
+loop-k-init c = grind (arith, IsAmong, AllPairs-nil, All-nil)
 
 pub add_rival-requires : goal.add_rival-requires
 add_rival-requires c = c.requires.inside c.loop-k.k 0 c.loop-k-test.true

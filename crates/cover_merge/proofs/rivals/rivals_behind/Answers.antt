@@ -1,10 +1,10 @@
 -- One row more.
-use Rattle.cover_merge.proofs.Common.{arith, cases_lt, inl, inr, ◌+◌, ◌<◌}
-use Rattle.cover_merge.proofs.RivalLemmas.{rivals_all, rivals_none, rivals_turn}
+use Rattle.cover_merge.proofs.Common.{All-nil, arith, cases_lt, inl, inr, ◌+◌, ◌<◌}
+use Rattle.cover_merge.proofs.{Lists.AllPairs-nil, RivalLemmas.rivals_all, RivalLemmas.rivals_turn}
 use Rattle.cover_merge.proofs.rivals.rivals_behind.Goals as goal
 
 pub loop-r-init : goal.loop-r-init
-loop-r-init c = rivals_none (λ k. k < c.args.row.s + 1) c.args.row.rows.now c.args.row.serials.now c.args.row.s c.new-list.result c.new-list.ensures (λ r after less. omega (arith, after, less))
+loop-r-init c = grind (arith, AllPairs-nil, All-nil)
 
 pub loop-r-preserved : goal.loop-r-preserved
 loop-r-preserved c =
