@@ -27,7 +27,7 @@ ALONE = r"\((Tests alone|No command)"
 MOST = {
     "conditions a function, in hundredths": 29,
     "conditions of one function": 4,
-    "lines of proofs": 58094,
+    "lines of proofs": 58112,
     "lines of proofs of app_loads, cover_merge and mesh_round": 15657,
     "lines of proofs longer than 200 characters": 304,
     "lines of proofs longer than 300 characters": 0,

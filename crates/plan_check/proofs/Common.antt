@@ -1,8 +1,8 @@
 -- The names that the proofs of this crate cite from outside of them, passed on from one place. Declares nothing.
-pub use Rattle.cover_merge.proofs.{Legal.legal_from_checks, Lists.All-flat_map, Lists.All-from_flat_map, Lists.All-left, Lists.All-right, Lists.picked-at, Positions.All-has, Positions.rows_at-from}
+pub use Rattle.cover_merge.proofs.{Legal.legal_from_checks, Lists.All-flat_map, Lists.All-from_flat_map, Lists.All-left, Lists.All-right, Positions.All-has, Positions.rows_at-from}
 pub use Rattle.cover_merge.proofs.Positions.{rows_at-has}
 pub use Rattle.cover_merge.specs.{Covering.Covers, Covering.IsChosen, Covering.merged, Covering.places_of, Covering.short, Covering.stuck, Merge.IsLegal, Merge.after, Merge.has_row}
-pub use Rattle.cover_merge.specs.{Merge.insert_place, Merge.kept, Merge.merge_rows, Merge.merged_row, Merge.rows_at, Refinement.Refines, Refinement.ends_empty, Refinement.ends_legal}
+pub use Rattle.cover_merge.specs.{Merge.insert_place, Merge.kept, Merge.merge_rows, Merge.merged_row, Merge.picked, Merge.rows_at, Refinement.Refines, Refinement.ends_empty, Refinement.ends_legal}
 pub use Rattle.cover_merge.specs.Refinement.{goes_down, goes_up, keeps}
 pub use Rattle.default_routes.specs.{KeptRows.AreKept, KeptRows.IsStrippable, KeptRows.KeptFrom, KeptRows.ends, KeptRows.goes, KeptRows.stays, declared.stripping.Final.Final}
 pub use Rattle.link_detours.specs.{Repair.EdgeStep, Steps.Steps}

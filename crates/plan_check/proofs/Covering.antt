@@ -2,8 +2,23 @@
 use Rattle.plan_check.proofs.Common.{Alias, All, All-cons, All-filter, All-flat_map, All-from_flat_map, All-from_map, All-has, All-head, All-left, All-map, All-nil, All-right, All-tail, All-weaker}
 use Rattle.plan_check.proofs.Common.{Bool, Covers, IsChosen, IsLegal, IsSound, List, Original, Refines, Route, Row, [], after, ap, arith, cases_Bool, cases_lt, cond, drop, ends_empty, ends_legal}
 use Rattle.plan_check.proofs.Common.{eqb-true, false, flat_map, get_or, get_or-drop, get_or-take, get_or_default, goes_down, goes_up, has_row, inl, inr, insert_place, keeps, kept, legal_from_checks}
-use Rattle.plan_check.proofs.Common.{length, length-drop, length-take, merge_rows, merged, merged_row, not, not_from_false, picked-at, places_of, refl, rows_at, rows_at-from, rows_at-has, same_route}
-use Rattle.plan_check.proofs.Common.{served, served_by, short, stuck, subst, suc, sym, take, true, ℕ, ◌+◌, ◌-◌, ◌<◌, ◌==◌, ◌∙◌, ◌∷◌, ◌≡◌, ◌≤◌}
+use Rattle.plan_check.proofs.Common.{length, length-drop, length-take, merge_rows, merged, merged_row, not, not_from_false, picked, places_of, refl, rows_at, rows_at-from, rows_at-has, same_route}
+use Rattle.plan_check.proofs.Common.{served, served_by, short, stuck, subst, suc, sym, take, true, zero, ℕ, ◌+◌, ◌-◌, ◌<◌, ◌==◌, ◌∙◌, ◌∷◌, ◌≡◌, ◌≤◌}
+
+-- what holds of the picked items holds at each place that passes
+module _ {X : Type 0} (P : X → Type 0) where
+  rest_of_cond : (b : Bool) (x : X) (ys : List X) → All P (cond b (x ∷ ys) ys) → All P ys
+  rest_of_cond true x ys all = All-tail P x ys all
+  rest_of_cond false x ys all = all
+
+  head_of_cond : (b : Bool) (x : X) (ys : List X) → b ≡ true → All P (cond b (x ∷ ys) ys) → P x
+  head_of_cond b x ys pass all = All-head P x ys (subst (λ c. All P (cond c (x ∷ ys) ys)) pass all)
+
+  picked-at : (q : ℕ → Bool) (i : ℕ) (xs : List X) → All P (picked q i xs) → (k j : ℕ) (d : X) → j ≡ i + k → k < length xs → q j ≡ true → P (get_or xs k d)
+  picked-at q i [] all k j d place in_range pass = absurd (omega arith)
+  picked-at q i (x ∷ xs) all zero j d place in_range pass = grind (arith, head_of_cond (q i) x (picked q (suc i) xs) (ap q (omega arith) ∙ pass) all)
+  picked-at q i (x ∷ xs) all (suc k) j d place in_range pass =
+      picked-at q (suc i) xs (rest_of_cond (q i) x (picked q (suc i) xs) all) k j d (omega arith) (omega arith) pass
 
 -- an alias with a route
 abbrev marked : Route → Alias → Original

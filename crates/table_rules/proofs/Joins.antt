@@ -1,8 +1,7 @@
 -- Blocks that are joined have all keys of the blocks taken in, and none of the pieces behind.
-use Rattle.std.proofs.Common.{rules}
 use Rattle.table_rules.proofs.Common.{All, All-head, All-tail, Among, Block, Contains-filter, Contains-map, GoesBy, Intersects, LiesIn, LiesIn-merge, List, Matches, None, Route, RoutedBlock, []}
-use Rattle.table_rules.proofs.Common.{among_any, among_contains, among_filter, any_among, ap, arith, cases_Bool, contains_among, eq-eqb, eqb-true, eqb_tells, false, false≢true, filter, first_with}
-use Rattle.table_rules.proofs.Common.{fold, goes_by, inl, inr, joined_blocks, map, meets_one, meets_tells, merge_two, others, own_blocks, refl, row_blocks, row_by, rows_by_routes, same_route, subst}
+use Rattle.table_rules.proofs.Common.{among_any, among_contains, among_filter, any_among, ap, arith, cases_Bool, contains_among, eq-eqb, eqb-true, eqb_tells, false, false≢true, first_with, fold}
+use Rattle.table_rules.proofs.Common.{goes_by, inl, inr, joined_blocks, map, meets_one, meets_tells, merge_two, others, own_blocks, refl, row_blocks, row_by, rows_by_routes, rules, same_route, subst}
 use Rattle.table_rules.proofs.Common.{sym, with_block, ℕ, ◌++◌, ◌<◌, ◌^◌, ◌∙◌, ◌∷◌, ◌≡◌, ◌⊎◌}
 use Rattle.table_rules.proofs.FirstRows.{first_hit, first_miss, has_tells}
 

@@ -1,9 +1,7 @@
 -- The rows of joined pieces say what the given rows say, and behind a wall no more.
-use Rattle.std.proofs.Common.{arith}
 use Rattle.table_rules.proofs.Common.{Among, AreJoinedRows, AreLeft, AreRoutesOf, Contains, GoesBy, HasNoNewKeys, IsFree, IsPermutation, IsPermutation-refl, IsShorterOf, IsSound, IsTableMadeOf}
-use Rattle.table_rules.proofs.Common.{KeepsRoutes, List, Matches, Original, Route, RoutedBlock, Row, Some, [], all_keys, among_contains, among_map, ap, by_row, contains_among, few, fewer, find-append}
-use Rattle.table_rules.proofs.Common.{first_with, many, map, map_among, no_fewer, option_or, others, pieces_of, refl, row_by, same_Some, served, subst, sym, takes_key, wall_of, walled, ℕ, ◌<◌, ◌^◌}
-use Rattle.table_rules.proofs.Common.{◌∙◌, ◌∷◌, ◌≡◌}
+use Rattle.table_rules.proofs.Common.{KeepsRoutes, List, Matches, Original, Route, RoutedBlock, Row, Some, [], all_keys, among_contains, among_map, ap, arith, by_row, contains_among, find-append}
+use Rattle.table_rules.proofs.Common.{first_with, map, map_among, option_or, others, pieces_of, refl, row_by, same_Some, served, subst, sym, takes_key, wall_of, walled, ℕ, ◌<◌, ◌^◌, ◌∙◌, ◌∷◌, ◌≡◌}
 use Rattle.table_rules.proofs.{Faithful.is_served, Faithful.keeps, Faithful.made_is_sound, FirstRows.first_hit, FirstRows.first_next, Joins.AreApart, Joins.of_others, Joins.piece_goes}
 use Rattle.table_rules.proofs.{Joins.piece_is_missed, Joins.to_others, Sounds.GoesWhere, Sounds.all_go, Walls.all_match, Walls.found_holds}
 

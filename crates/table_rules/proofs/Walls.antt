@@ -1,12 +1,13 @@
 -- Behind a wall no key is new: the rows of its route have all keys, and those before them have none of the wall's.
-use Rattle.table_rules.proofs.Common.{Alias, All, All-append, All-at, All-cons, All-drop, All-flat_map, All-has, All-head, All-map, All-nil, All-picked, All-tail, All-take, AllPairs, AllPairs-head}
-use Rattle.table_rules.proofs.Common.{AllPairs-left, AreLeft, Block, Contains, Contains-append_cases, Contains-append_left, Contains-append_right, Covers, HasNoNewKeys, HoldsItsAliases, Intersects}
+use Rattle.table_rules.proofs.Common.{Alias, All, All-append, All-at, All-cons, All-drop, All-flat_map, All-has, All-head, All-map, All-nil, All-tail, All-take, AllPairs, AllPairs-head, AllPairs-left}
+use Rattle.table_rules.proofs.Common.{AreLeft, Block, Bool, Contains, Contains-append_cases, Contains-append_left, Contains-append_right, Covers, HasNoNewKeys, HoldsItsAliases, Intersects}
 use Rattle.table_rules.proofs.Common.{IsCoveredWithin, IsFree, IsPermutation, IsRowAdded, IsShortWithin, IsShorterOf, IsSound, IsTableFrom, IsTableMadeOf, KeepsRoutes, List, Matches, Misses, None}
 use Rattle.table_rules.proofs.Common.{Option, Original, Port, Route, RoutedBlock, Row, Some, StandsBefore, [], after, all_keys, and_le_l, and_le_r, ap, arith, bit_and, bit_at, bit_at-zero, bit_not}
 use Rattle.table_rules.proofs.Common.{bit_xor, cond, cons_option, done, drop, eqb_tells, false, find-append, find_at, first_with, fold, generality, generality-mono, get_or, has_row, in_pieces, inl}
 use Rattle.table_rules.proofs.Common.{inr, insert_place, kept, left_out, length, length-append, length-take, map, merge_rows, merged, merged_row, more, nat_le, nat_tests, not, option_or, others}
-use Rattle.table_rules.proofs.Common.{piece_row, pieces_of, place_for, position_or_len, refl, rows_at, rows_at-from, rows_before, served, served_by, slice_get, stuck, subst, sum_by-append, sym, take}
-use Rattle.table_rules.proofs.Common.{take-append-drop, take_while-cons, takes_key, true, w32, wall_of, walled, whole, whole_row, ℕ, ◌++◌, ◌-◌, ◌<◌, ◌==◌, ◌^◌, ◌∙◌, ◌∷◌, ◌≡◌, ◌≤◌}
+use Rattle.table_rules.proofs.Common.{picked, piece_row, pieces_of, place_for, position_or_len, refl, rows_at, rows_at-from, rows_before, served, served_by, slice_get, stuck, subst, suc}
+use Rattle.table_rules.proofs.Common.{sum_by-append, sym, take, take-append-drop, take_while-cons, takes_key, true, w32, wall_of, walled, whole, whole_row, ℕ, ◌++◌, ◌-◌, ◌<◌, ◌==◌, ◌^◌, ◌∙◌, ◌∷◌, ◌≡◌}
+use Rattle.table_rules.proofs.Common.{◌≤◌}
 use Rattle.cover_merge.specs.Covering.{short}
 use Rattle.tern_word.specs.Ternary.{merge_two}
 use Rattle.table_rules.proofs.{Faithful.IsServed, Faithful.is_served, Faithful.sent_on, Kept.kept_within, Kept.none_of, FirstRows.first_hit, FirstRows.first_next, Sounds.all_insert}
@@ -63,13 +64,22 @@ module _ (bits : ℕ) where
   wide_merge [] all is = refl
   wide_merge (r ∷ rows) all is = fold_none r.block (map (λ (x : Row). x.block) rows) (All-head AreWide r rows all is)
 
+  wide_cond : (b : Bool) (x : Row) (ys : List Row) → (b ≡ true → AreWide x) → All AreWide ys → All AreWide (cond b (x ∷ ys) ys)
+  wide_cond true x ys here rest = All-cons AreWide x ys (here refl) rest
+  wide_cond false x ys here rest = rest
+
+  -- of wide rows those that are picked are wide
+  wide_picked : (q : ℕ → Bool) (i : ℕ) (xs : List Row) → All AreWide xs → All AreWide (picked q i xs)
+  wide_picked q i [] all = All-nil AreWide
+  wide_picked q i (x ∷ xs) all = wide_cond (q i) x (picked q (suc i) xs) (λ _. All-head AreWide x xs all) (wide_picked q (suc i) xs (All-tail AreWide x xs all))
+
   wide_after : (rows : List Row) (places : List ℕ) → All AreWide rows → All AreWide (after rows places)
   wide_after rows places all =
       let p = insert_place rows places in
       let q = λ (k : ℕ). not (has_row places k) in
       All-append AreWide (kept places 0 (take p rows)) (merged_row rows places ∷ kept places p (drop p rows))
-      (All-picked AreWide q 0 (take p rows) (All-take AreWide p rows all))
-      (All-cons AreWide (merged_row rows places) (kept places p (drop p rows)) (wide_merge (rows_at rows places) (at_places rows places all)) (All-picked AreWide q p (drop p rows) (All-drop AreWide p rows all)))
+      (wide_picked q 0 (take p rows) (All-take AreWide p rows all))
+      (All-cons AreWide (merged_row rows places) (kept places p (drop p rows)) (wide_merge (rows_at rows places) (at_places rows places all)) (wide_picked q p (drop p rows) (All-drop AreWide p rows all)))
 
   wide_covered : (target : ℕ) (table : List Row) (sets : List (List ℕ)) (rows : List Row) → Covers target table sets rows → All AreWide table → All AreWide rows
   wide_covered target table sets rows (short r few) all = all

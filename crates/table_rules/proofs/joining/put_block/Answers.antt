@@ -1,6 +1,5 @@
 -- A block that may take it in, or the end.
-use Rattle.std.proofs.Common.{arith}
-use Rattle.table_rules.proofs.Common.{Block, ap, meets_one, merge_two, not, position, position-Some, position_nowhere, set, sym, ◌∙◌}
+use Rattle.table_rules.proofs.Common.{arith, position-Some, position_nowhere}
 use Rattle.table_rules.proofs.JoinTurns.{put_at_end, taken_in}
 use Rattle.table_rules.proofs.joining.put_block.Goals as goal
 

@@ -1,5 +1,5 @@
 -- One alias more.
-use Rattle.std.proofs.Common.{rules}
+use Rattle.table_rules.proofs.Common.{rules}
 use Rattle.table_rules.proofs.JoinTurns.{aliases_all}
 use Rattle.table_rules.proofs.pieces.put_aliases.Goals as goal
 
