@@ -1,9 +1,8 @@
 -- What machines with the same applications have in common, and that unloads and runs keep it.
-use Rattle.app_loads.proofs.Common.{All, All-head, All-tail, Among, AreAlike, AreApps, Contains, Ended, HasMovedMesh, HasUnloaded, Host, IsAtRest, IsMesh, IsQuiet, IsUnderWayAt, List, LoadedApp, Mark}
-use Rattle.app_loads.proofs.Common.{McCopy, MeetsLedgerFor, None, NoneUnderWay, NothingWaits, State, WaitsIn, [], all_nets, ap, arith, asked_of, filter, flat_map, flat_map-append, held_packets}
-use Rattle.app_loads.proofs.Common.{is_delivery_of, is_packet_of, length, marks_of, mesh_without, packet_numbers_of, refl, same_lists, setup_after, subst, sym, true, usable_spots, ℕ, ◌++◌, ◌∙◌, ◌∷◌}
-use Rattle.app_loads.proofs.Common.{◌≡◌}
-use Rattle.app_loads.proofs.{Delivered.HasOneWay, Delivered.no_more, LeavingLeast.listed_waits, LeavingLeast.under_way, LeavingLeast.waits_listed}
+use Rattle.app_loads.proofs.{LeavingLeast.only_unsent, LeavingLeast.listed_waits, LeavingLeast.under_way, LeavingLeast.waits_listed, Delivered.HasOneWay, Delivered.no_more}
+use Rattle.app_loads.proofs.Common.{All, Among, AreAlike, AreApps, Contains, Ended, HasMovedMesh, HasUnloaded, Host, IsAtRest, IsMesh, IsQuiet, IsUnderWayAt, List, LoadedApp, Mark, McCopy}
+use Rattle.app_loads.proofs.Common.{MeetsLedgerFor, NoneUnderWay, State, WaitsIn, [], all_nets, ap, arith, asked_of, filter, is_delivery_of, is_packet_of, length, marks_of, mesh_without, refl}
+use Rattle.app_loads.proofs.Common.{same_lists, setup_after, subst, sym, true, usable_spots, ℕ, ◌∙◌, ◌≡◌}
 
 pub alike_too : (h g : Host) → AreAlike h g → AreAlike g h
 alike_too h g alike = grind arith
@@ -13,19 +12,6 @@ pub same_spots : (h g : Host) → AreApps h → AreApps g → h.mesh.setup.machi
 same_spots h g apps also machine = apps.vertices ∙ (ap usable_spots machine ∙ sym also.vertices)
 
 -- ---- the packets under way
-
-flat_of_none : {X Y : Type 0} (f : X → List Y) (e : X) → f e ≡ [] → (xs : List X) → All (λ x. x ≡ e) xs → flat_map f xs ≡ []
-flat_of_none f e none [] all = refl
-flat_of_none {X} {Y} f e none (x ∷ xs) all =
-    ap (λ (l : List Y). l ++ flat_map f xs) (ap f (All-head (λ y. y ≡ e) x xs all) ∙ none) ∙ flat_of_none f e none xs (All-tail (λ y. y ≡ e) x xs all)
-
--- only unsent packets are under way where no copy waits
-only_unsent : (s : State) → NothingWaits s → under_way s ≡ ((flat_map packet_numbers_of s.unsent ++ []) ++ []) ++ []
-only_unsent s quiet =
-    let inputs = flat_of_none packet_numbers_of [] refl s.inputs quiet.inputs_empty in
-    let hands = flat_of_none held_packets None refl s.hands quiet.hands_empty in
-    let cores = flat_of_none packet_numbers_of [] refl s.cores quiet.cores_empty in
-    rw (flat_map-append packet_numbers_of (s.unsent ++ s.inputs) s.cores, flat_map-append packet_numbers_of s.unsent s.inputs, inputs, hands, cores) refl
 
 module _ (h g : Host) (alike : AreAlike h g) where
   same_under_way : under_way h.mesh ≡ under_way g.mesh

@@ -1,7 +1,7 @@
 -- The blocks of nets, made of the ranges that their claims got.
+use Rattle.app_loads.proofs.{LeavingLists.set_cases, ClaimCases.same_net}
 use Rattle.app_loads.proofs.Common.{AppNet, AreBlocks, AreKeyed, Block, Claim, IsBlockOf, IsKeyRange, KeysOut, List, Range, Some, arith, cases_lt, get_or, length, same_Some, slice_get}
 use Rattle.app_loads.proofs.Common.{slice_get-get_or, slice_get_within, slice_set, ℕ, ◌+◌, ◌<◌, ◌^◌, ◌≡◌, ◌≤◌}
-use Rattle.app_loads.proofs.{Serving.set_cases, ClaimCases.same_net}
 
 -- the nets of the claims up to a place have their blocks
 abbrev pub HaveBlocksBelow : List Claim → List Range → List Block → ℕ → Type 0

@@ -2,7 +2,7 @@
 pub use Rattle.app_loads.specs.{Alike.AreAlike, Alike.IsQuiet, Applications.AreApps, Applications.HasRows, Applications.HaveOtherNumbers, Applications.HaveRows, Applications.IsLoadedOn}
 pub use Rattle.app_loads.specs.{Applications.IsRangeFor, Claims.AreBlocks, Claims.AreServed, Claims.IsBlockOf, Claims.IsLeastOpenRange, Claims.IsOpenRange, Claims.IsRefusalDue, Claims.IsRefusedClaim}
 pub use Rattle.app_loads.specs.{Claims.claims_of, Claims.entries_claim, Claims.fixed_claim, Claims.has_chip, Claims.key_claim, Claims.memory_claim, Claims.row_claim, Claims.size_for, Counting.HasTree}
-pub use Rattle.app_loads.specs.{Counting.HasTreeInside, Counting.IsRunEnd, Counting.chip_places, Counting.end_places, Counting.run_claim, Counting.tree_places, Earlier.with_earlier, Grouping.Grouped}
+pub use Rattle.app_loads.specs.{Counting.HasTreeInside, Counting.AreCounted, Counting.chip_places, Counting.end_places, Counting.tree_places, Earlier.with_earlier, Grouping.Grouped}
 pub use Rattle.app_loads.specs.{Grouping.HasPut, Grouping.all_grouped, Grouping.is_mixed_group, Grouping.is_others_group, Grouping.is_own_group, Groups.EndsWith, Groups.IsBetween, Groups.IsGroup}
 pub use Rattle.app_loads.specs.{Groups.deliveries_at, Groups.deliveries_in, Groups.delivery_of, Groups.grouped_of, Groups.last_arrivals, Groups.sent_of, Host.Free, Host.Host, Host.all_nets}
 pub use Rattle.app_loads.specs.Host.{all_ranges, all_spots, asked_of, asked_of_app, either, is_loaded, is_spot_taken, net_with, nets_of, nets_with}
@@ -90,3 +90,9 @@ pub use Rattle.tcam_find.specs.Memory.{empty_memory, unused}
 pub use Rattle.tern_word.proofs.BlockLaws.{key_small, range_keys, same_block}
 pub use Rattle.tern_word.specs.{Entries.entry_of, SoundTable.Original, Ternary.Matches, declared.tables.Row.Row, declared.tables.Table.Table}
 pub use borrow.Author.Tests.{tests}
+pub use Rattle.std.proofs.lemmas.Grind.{get_or-set_at}
+pub use Rattle.std.proofs.lemmas.List.{get_or-set_other}
+pub use Rattle.net_tables.proofs.Trees.{edges_inside}
+pub use Rattle.mesh_drain.specs.Draining.{BringsAlways}
+pub use Rattle.app_loads.specs.Running.{CanDrain}
+pub use Rattle.std.proofs.lemmas.Result.{on_ok_weaker, on_err_weaker, IfOk-weaker}

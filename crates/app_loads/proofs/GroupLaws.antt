@@ -1,12 +1,10 @@
 -- Deliveries held in groups.
-use Rattle.app_loads.proofs.Common.{All, All-flat_map, All-head, All-map, All-tail, All-weaker, Arrival, Bool, Delivery, EndsWith, Err, Grouped, HasPut, IfOk, IsBetween, IsGroup, List, LoadedApp}
-use Rattle.app_loads.proofs.Common.{McCopy, Ok, OnErr, Result, Sent, Some, [], all_grouped, and_from, and_parts, ap, append-nil, append_assoc, arith, cases_Bool, cases_lt, cond, deliveries_at}
-use Rattle.app_loads.proofs.Common.{deliveries_in, delivery_of, drop, drop_at, false, false≢true, filter, filter-append, flat_map-append, grouped_of, inl, inr, is_delivery_of, is_mixed_group}
-use Rattle.app_loads.proofs.Common.{is_others_group, is_own_group, is_packet_of, last_arrivals, le-leb, leb, leb-true, length, length-append, length-filter_both, length-map, length-take-le, list_any}
-use Rattle.app_loads.proofs.Common.{lt-ltb, ltb, ltb-true, not, not-false, not-true, or_parts, refl, same_Some, sent_of, set-get_or, set_at, slice_get, slice_get-get_or, slice_get_within}
-use Rattle.app_loads.proofs.Common.{slice_index_or, slice_set, subst, sym, take, take_all, take_more_at, true, ℕ, ◌&&◌, ◌++◌, ◌+◌, ◌-◌, ◌<◌, ◌||◌, ◌∙◌, ◌∷◌, ◌≡◌, ◌≢◌, ◌≤◌}
+use Rattle.app_loads.proofs.Common.{on_err_weaker, IfOk-weaker, nat_tests, All, All-flat_map, All-head, All-map, All-tail, All-weaker, Arrival, Bool, Delivery, EndsWith, Grouped, HasPut, IfOk}
+use Rattle.app_loads.proofs.Common.{IsBetween, IsGroup, List, LoadedApp, McCopy, OnErr, Result, Sent, Some, [], all_grouped, ap, append-nil, append_assoc, arith, cond, deliveries_at, deliveries_in}
+use Rattle.app_loads.proofs.Common.{delivery_of, false, filter, filter-append, flat_map-append, grouped_of, is_delivery_of, is_mixed_group, is_others_group, is_own_group, is_packet_of, last_arrivals}
+use Rattle.app_loads.proofs.Common.{leb, length, length-take-le, list_any, ltb, not, not-false, or_parts, refl, sent_of, set-get_or, set_at, slice_get, slice_get-get_or, slice_get_within}
+use Rattle.app_loads.proofs.Common.{slice_index_or, slice_set, subst, sym, take, take_all, take_more_at, true, ℕ, ◌&&◌, ◌++◌, ◌+◌, ◌-◌, ◌||◌, ◌∙◌, ◌∷◌, ◌≡◌, ◌≢◌, ◌≤◌}
 use Rattle.app_loads.specs.declared.group.Group.TheInside.{Inside}
-use Rattle.app_loads.proofs.PacketLedger.{packet_bounds}
 
 -- ---- one group
 
@@ -20,8 +18,17 @@ at_last sent q p at is =
 pub last_packet : (sent before : List Sent) (p : Sent) (arrivals : List Arrival) → sent ≡ before ++ p ∷ [] → deliveries_in sent arrivals ≡ deliveries_in before arrivals ++ deliveries_at arrivals p
 last_packet sent before p arrivals is = grind (arith, flat_map-append, before, append-nil)
 
-pub ends_with : (g : Inside) (copy : McCopy) (count : ℕ) (before : List Sent) → g.sent ≡ before ++ sent_of copy ∷ [] → length g.arrivals ≡ count → EndsWith (grouped_of g) (sent_of copy) count
+pub ends_with : (g : Inside) (copy : McCopy) (count : ℕ) (before : List Sent) → g.sent ≡ before ++ sent_of copy ∷ [] → length g.arrivals ≡ count → EndsWith (deliveries_in g.sent g.arrivals) g.arrivals (sent_of copy) count
 ends_with g copy count before is long = record { before = deliveries_in before g.arrivals; is = last_packet g.sent before (sent_of copy) g.arrivals is; long = long }
+
+-- a number between two of a range is one of it
+between_own : (first end least greatest n : ℕ) → ((leb first least && ltb least end) && (leb first greatest && ltb greatest end)) ≡ true → least ≤ n → n ≤ greatest → (leb first n && ltb n end) ≡ true
+between_own first end least greatest n own above below = grind (arith, nat_tests)
+
+-- and between two before it, or two behind it, it is none
+between_others : (first end least greatest n : ℕ) → (ltb greatest first || (leb first least && not (leb first least && ltb least end))) ≡ true → least ≤ n → n ≤ greatest →
+    (leb first n && ltb n end) ≡ false
+between_others first end least greatest n others above below = grind (arith, nat_tests)
 
 module _ (app : LoadedApp) (g : Inside) (is : IsGroup g) where
   -- what holds of all numbers between the least and the greatest holds of all deliveries
@@ -31,37 +38,11 @@ module _ (app : LoadedApp) (g : Inside) (is : IsGroup g) where
       (All-weaker (IsBetween g.least g.greatest) (λ p. All (λ (d : Delivery). P d.copy.packet) (deliveries_at g.arrivals p))
       (λ p between. All-map (λ (d : Delivery). P d.copy.packet) (delivery_of p) g.arrivals (λ i d below. holds p.packet between.low between.high)) g.sent is.between)
 
-  abbrev end : ℕ
-  end = app.first + length app.plan.packets
-
-  is_one : (n : ℕ) → app.first ≤ n → n < end → is_packet_of app n ≡ true
-  is_one n low high = and_from _ _ (le-leb app.first n low) (lt-ltb n end high)
-
   pub own_all : is_own_group app (grouped_of g) ≡ true → All (λ (d : Delivery). is_delivery_of app d ≡ true) (deliveries_in g.sent g.arrivals)
-  own_all own =
-      let parts = and_parts _ _ own in
-      let low = (packet_bounds app g.least parts.0).0 in
-      let high = (packet_bounds app g.greatest parts.1).1 in
-      of_all (λ n. is_packet_of app n ≡ true) (λ n above below. is_one n (omega (arith, low, above)) (omega (arith, high, below)))
-
-  before : (n : ℕ) → n < app.first → is_packet_of app n ≡ false
-  before n low = elim (cases_Bool (is_packet_of app n)) [ inr none ↦ none | inl one ↦ (let b = (packet_bounds app n one).0 in absurd (omega (arith, b, low))) ]
-
-  behind : (n : ℕ) → end ≤ n → is_packet_of app n ≡ false
-  behind n high = elim (cases_Bool (is_packet_of app n)) [ inr none ↦ none | inl one ↦ (let b = (packet_bounds app n one).1 in absurd (omega (arith, b, high))) ]
-
-  -- a number that is none of the application's, and not before its first one, is behind them
-  past : (n : ℕ) → app.first ≤ n → is_packet_of app n ≡ false → end ≤ n
-  past n low none = elim (cases_lt n end) [ inr high ↦ high | inl below ↦ absurd (false≢true (sym none ∙ is_one n low below)) ]
+  own_all own = of_all (λ n. is_packet_of app n ≡ true) (λ n above below. between_own app.first (app.first + length app.plan.packets) g.least g.greatest n own above below)
 
   pub others_all : is_others_group app (grouped_of g) ≡ true → All (λ (d : Delivery). is_delivery_of app d ≡ false) (deliveries_in g.sent g.arrivals)
-  others_all others = elim (cases_Bool (ltb g.greatest app.first)) [
-    | inl low ↦ (let b = ltb-true g.greatest app.first low in of_all (λ n. is_packet_of app n ≡ false) (λ n above below. before n (omega (arith, b, below))))
-    | inr not_low ↦
-        let parts = and_parts (leb app.first g.least) (not (is_packet_of app g.least)) (sym (ap (λ b. b || (leb app.first g.least && not (is_packet_of app g.least))) not_low) ∙ others) in
-        let b = past g.least (leb-true app.first g.least parts.0) (not-true (is_packet_of app g.least) parts.1) in
-        of_all (λ n. is_packet_of app n ≡ false) (λ n above below. behind n (omega (arith, b, above)))
-  ]
+  others_all others = of_all (λ n. is_packet_of app n ≡ false) (λ n above below. between_others app.first (app.first + length app.plan.packets) g.least g.greatest n others above below)
 
 -- a group that is not mixed, and not the application's, is of others
 pub not_own : (app : LoadedApp) (g : Grouped) → is_mixed_group app g ≡ false → is_own_group app g ≡ false → is_others_group app g ≡ true
@@ -132,22 +113,12 @@ last_put false gs count g new more long some value put =
 
 pub last_put_if : {E : Type 0} (r : Result Bool E) (gs : List Grouped) (count : ℕ) (g new : Grouped) (more : List Delivery) → count ≡ length gs → count ≢ 0 → g ≡ slice_index_or gs (count - 1) g →
     IfOk r (λ put. HasPut put g.deliveries more new.deliveries) → IfOk r (λ put. HasPut put (all_grouped gs) more (all_grouped (slice_set gs (count - 1) new)))
-last_put_if (Ok b) gs count g new more long some value put = last_put b gs count g new more long some value put
-last_put_if (Err e) gs count g new more long some value put = tt
-
-pub last_same : (gs : List Grouped) (count : ℕ) (g new : Grouped) → count ≡ length gs → count ≢ 0 → g ≡ slice_index_or gs (count - 1) g → new.deliveries ≡ g.deliveries →
-    all_grouped (slice_set gs (count - 1) new) ≡ all_grouped gs
-last_same gs count g new long some value same = last_put false gs count g new [] long some value same
-
--- what holds anyway holds after a refusal
-pub on_err : {X E P : Type 0} (r : Result X E) → P → OnErr r P
-on_err (Ok x) p = tt
-on_err (Err e) p = p
+last_put_if r gs count g new more long some value =
+    IfOk-weaker r (λ b. HasPut b g.deliveries more new.deliveries) (λ b. HasPut b (all_grouped gs) more (all_grouped (slice_set gs (count - 1) new))) (λ b. last_put b gs count g new more long some value)
 
 pub last_same_if : {X E : Type 0} (r : Result X E) (gs : List Grouped) (count : ℕ) (g new : Grouped) → count ≡ length gs → count ≢ 0 → g ≡ slice_index_or gs (count - 1) g →
     OnErr r (new.deliveries ≡ g.deliveries) → OnErr r (all_grouped (slice_set gs (count - 1) new) ≡ all_grouped gs)
-last_same_if (Ok x) gs count g new long some value same = tt
-last_same_if (Err e) gs count g new long some value same = last_put false gs count g new [] long some value same
+last_same_if r gs count g new long some value = on_err_weaker r (last_put false gs count g new [] long some value)
 
 -- ---- parting
 
@@ -163,61 +134,29 @@ room_still gs rest g n put cap kept is room one same = let long = ap length is i
 pub none_of_rest : {X : Type 0} (p : X → Bool) (gs rest : List X) (g : X) → gs ≡ g ∷ rest → list_any p gs ≡ false → list_any p rest ≡ false
 none_of_rest p gs rest g is none = (or_parts (p g) (list_any p rest) (sym (ap (list_any p) is) ∙ none)).1
 
-module _ (p : Delivery → Bool) (all own others : List Delivery) (count left : ℕ) (counted : count ≡ length all) (so_far : left + length own ≡ count) where
-  abbrev q : Delivery → Bool
-  q d = not (p d)
-
-  both : length (filter p all) + length (filter q all) ≡ length all
-  both = length-filter_both p q (λ d. refl) all
-
-  -- of a group that is left, no more pass than are left
-  pub few_more : (g rest : List Delivery) (n : ℕ) → own ++ filter p (g ++ rest) ≡ filter p all → n ≡ length (filter p g) → n ≤ left
-  few_more g rest n own_is n_is = grind (arith, length-append own (filter p (g ++ rest)), filter-append p g rest, length-append (filter p g) (filter p rest), both)
-
-  -- and when it is put, the rest are still counted
-  pub still_counted : (g rest put : List Delivery) (n : ℕ) → own ++ filter p (g ++ rest) ≡ filter p all → put ≡ own ++ filter p g → n ≡ length (filter p g) → (left - n) + length put ≡ count
-  still_counted g rest put n own_is put_is n_is = grind (arith, length-append own (filter p g), few_more g rest n own_is n_is)
-
-  -- at the end those that are left are the others
-  pub left_others : own ++ [] ≡ filter p all → others ++ [] ≡ filter q all → left ≡ length others
-  left_others own_is others_are = grind (arith, append-nil own, append-nil others, both)
-
 -- ---- the last group
 
 module _ (gs : List Grouped) (count : ℕ) (g : Grouped) (long : count ≡ length gs) (some : count ≢ 0) (value : g ≡ slice_index_or gs (count - 1) g) where
-  last_there : slice_get gs (count - 1) ≡ Some g
-  last_there = slice_get-get_or gs (count - 1) g (omega (arith, long, some)) ∙ ap Some (sym value)
-
   last : IsLast gs (count - 1) g
   last = last_one gs count g long some value
 
   pub last_arrivals_are : last_arrivals gs ≡ g.arrivals
   last_arrivals_are = ap last_arrivals last.is ∙ last_pushed last.front g
 
-  -- where the last group ends with a packet's deliveries, which are as many as come behind others, they are those behind
-  pub behind_others : (first all left : ℕ) (p : Sent) → all ≡ length (all_grouped gs) → first ≤ all → left ≡ all - first → EndsWith g p left →
-      drop first (all_grouped gs) ≡ deliveries_at (last_arrivals gs) p
-  behind_others first all left p total within less ends =
-      let own : List Delivery = deliveries_at g.arrivals p in
+  -- where the last group ends with a packet's deliveries, all do
+  pub all_end : (p : Sent) (more : ℕ) → EndsWith g.deliveries g.arrivals p more → EndsWith (all_grouped gs) (last_arrivals gs) p more
+  all_end p more ends =
       let front : List Delivery = all_grouped last.front in
-      let is : all_grouped gs ≡ (front ++ ends.before) ++ own = last.all ∙ (ap (λ l. front ++ l) ends.is ∙ sym (append_assoc front ends.before own)) in
-      let sum = ap length is ∙ length-append (front ++ ends.before) own in
-      let one = length-map g.arrivals (delivery_of p) in
-      let place : length (front ++ ends.before) ≡ first = omega (arith, total, within, less, sum, one, ends.long) in
-      ap (drop first) is ∙ (drop_at (front ++ ends.before) own first place ∙ ap (λ l. deliveries_at l p) (sym last_arrivals_are))
+      subst (λ l. EndsWith (all_grouped gs) l p more) (sym last_arrivals_are) (record {
+        before = front ++ ends.before;
+        is = last.all ∙ (ap (λ l. front ++ l) ends.is ∙ sym (append_assoc front ends.before (deliveries_at g.arrivals p)));
+        long = ends.long;
+      })
 
   -- a packet more in the last group
   pub repeated : (new : Grouped) (p : Sent) → new.deliveries ≡ g.deliveries ++ deliveries_at g.arrivals p →
       all_grouped (slice_set gs (count - 1) new) ≡ all_grouped gs ++ deliveries_at (last_arrivals gs) p
   repeated new p put = last_put true gs count g new (deliveries_at g.arrivals p) long some value put ∙ ap (λ l. all_grouped gs ++ deliveries_at l p) (sym last_arrivals_are)
-
-  pub counted_again : (new : Grouped) (p : Sent) (all width more : ℕ) → new.deliveries ≡ g.deliveries ++ deliveries_at g.arrivals p → all ≡ length (all_grouped gs) → width ≡ length g.arrivals →
-      more ≡ all + width → more ≡ length (all_grouped (slice_set gs (count - 1) new))
-  counted_again new p all width more put total wide sum =
-      grind (arith, last_put true gs count g new (deliveries_at g.arrivals p) long some value put, length-append (all_grouped gs) (deliveries_at g.arrivals p), length-map g.arrivals (delivery_of p))
-
-  pub same_item : (h : Grouped) → h ≡ slice_index_or gs (count - 1) h → h ≡ g
-  same_item h is = same_Some h g (sym (slice_get-get_or gs (count - 1) h (omega (arith, long, some)) ∙ ap Some (sym is)) ∙ last_there)
 
   pub last_arrivals_stay : (new : Grouped) → new.arrivals ≡ g.arrivals → last_arrivals (slice_set gs (count - 1) new) ≡ last_arrivals gs
   last_arrivals_stay new same = ap last_arrivals (last.now new) ∙ (last_pushed last.front new ∙ (same ∙ sym last_arrivals_are))
@@ -231,10 +170,6 @@ module _ (gs : List Grouped) (count : ℕ) (g : Grouped) (long : count ≡ lengt
 module _ (gs new : List Grouped) (g : Grouped) (p : Sent) (arrivals : List Arrival) (is : new ≡ gs ++ g ∷ []) where
   pub put_back : g.deliveries ≡ deliveries_at arrivals p → all_grouped new ≡ all_grouped gs ++ deliveries_at arrivals p
   put_back own = ap all_grouped is ∙ (grouped_push gs g ∙ ap (λ l. all_grouped gs ++ l) own)
-
-  pub put_counted : (all width more : ℕ) → g.deliveries ≡ deliveries_at arrivals p → all ≡ length (all_grouped gs) → width ≡ length arrivals →
-      more ≡ all + width → more ≡ length (all_grouped new)
-  put_counted all width more own total wide sum = grind (arith, put_back own, length-append (all_grouped gs) (deliveries_at arrivals p), length-map arrivals (delivery_of p))
 
   pub put_last_arrivals : g.arrivals ≡ arrivals → last_arrivals new ≡ arrivals
   put_last_arrivals own = ap last_arrivals is ∙ (last_pushed gs g ∙ own)

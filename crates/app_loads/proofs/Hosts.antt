@@ -1,8 +1,8 @@
 -- What holds of a host holds after events of its mesh, and of its fields; keys of one block of an application are alike.
-use Rattle.app_loads.proofs.Common.{All-contains, AppNet, AreAlikeInBlocks, AreApps, Block, Contains, Contains-at, Did, Err, Event, HasMovedMesh, Host, IfSome, Inside, IsAfter, IsHost, IsKeyOf}
-use Rattle.app_loads.proofs.Common.{IsLoadedOn, IsMesh, IsMesh-after_events, IsMoved, List, LoadedApp, MeetsLedgerFor, MeetsSomeLedger, Memory, NetPlan, Ok, OnErr, OnOk, Option, Result, SendAlone}
-use Rattle.app_loads.proofs.Common.{Some, State, after_event, after_none, after_one, after_setup, all_nets, ap, arith, asked_of, events_keep_for, host_of, label_of, length, mesh_in, net_with, nets_of}
-use Rattle.app_loads.proofs.Common.{nets_with, refl, slice_get, slice_get_there, slice_get_within, subst, sym, ℕ, ◌≡◌}
+use Rattle.app_loads.proofs.Common.{CanDrain, All-contains, AppNet, AreAlikeInBlocks, AreApps, Block, Contains, Contains-at, Did, Err, Event, HasMovedMesh, Host, IfSome, Inside, IsAfter, IsHost}
+use Rattle.app_loads.proofs.Common.{IsKeyOf, IsLoadedOn, IsMesh, IsMesh-after_events, IsMoved, List, LoadedApp, MeetsLedgerFor, MeetsSomeLedger, Memory, NetPlan, Ok, OnErr, OnOk, Option, Result}
+use Rattle.app_loads.proofs.Common.{SendAlone, Some, State, after_event, after_none, after_one, after_setup, all_nets, ap, arith, asked_of, events_keep_for, host_of, label_of, length, mesh_in}
+use Rattle.app_loads.proofs.Common.{net_with, nets_of, nets_with, refl, slice_get, slice_get_there, slice_get_within, subst, sym, ℕ, ◌≡◌}
 use Rattle.app_loads.proofs.{AppNets.member_at, LeavingLists.flat_has, RightRows.alike, Unsent.nets_with_at}
 
 -- the net that has a block
@@ -40,27 +40,15 @@ apps_after h mesh apps after =
     apps
 
 -- the mesh of a host can be drained
-pub apps_kept : (h : Host) → AreApps h → MeetsSomeLedger h.mesh
+apps_kept : (h : Host) → AreApps h → MeetsSomeLedger h.mesh
 apps_kept h apps = record { mesh = apps.mesh; nets = all_nets h.apps; labels = λ i. label_of (asked_of h.apps i); right = apps.right; ledger = apps.ledger.ledger }
 
-mesh_is : (i : Inside) (m : State) → i.mesh ≡ Some m → (host_of i).mesh ≡ m
-mesh_is i m e = ap mesh_in e
-
--- the mesh of a host can be drained
-pub host_kept : (i : Inside) (m : State) → IsHost i → i.mesh ≡ Some m → MeetsSomeLedger m
-host_kept i m host e = subst MeetsSomeLedger (mesh_is i m e) (apps_kept (host_of i) host.apps)
-
-pub known_in : (i : Inside) (m : State) → IsHost i → i.mesh ≡ Some m → IfSome i.senders (λ vertices. SendAlone vertices m)
-known_in i m host e = subst (λ (s : State). IfSome i.senders (λ vertices. SendAlone vertices s)) (mesh_is i m e) host.rest
-
-pub alike_in : (i : Inside) (m : State) → IsHost i → i.mesh ≡ Some m → AreAlikeInBlocks m.setup i.apps.items
-alike_in i m host e = subst (λ (s : State). AreAlikeInBlocks s.setup i.apps.items) (mesh_is i m e) (alike_in_blocks (host_of i) host.apps)
-
-after_in : (i : Inside) (m t : State) → i.mesh ≡ Some m → IsAfter m t → IsAfter (host_of i).mesh t
-after_in i m t e after = subst (λ x. IsAfter x t) (sym (mesh_is i m e)) after
+pub can_drain : (i : Inside) (m : State) → IsHost i → i.mesh ≡ Some m → CanDrain m i.senders i.apps.items
+can_drain i m host e = subst (λ (s : State). CanDrain s i.senders i.apps.items) (ap mesh_in e)
+    (record { kept = apps_kept (host_of i) host.apps; known = host.rest; alike = alike_in_blocks (host_of i) host.apps })
 
 pub apps_after_in : (i : Inside) (m t : State) → IsHost i → i.mesh ≡ Some m → IsAfter m t → AreApps (host_of (record i { mesh = Some t }))
-apps_after_in i m t host e after = apps_after (host_of i) t host.apps (after_in i m t e after)
+apps_after_in i m t host e after = apps_after (host_of i) t host.apps (subst (λ x. IsAfter x t) (sym (ap mesh_in e)) after)
 
 pub host_after : (i : Inside) (m t : State) (senders : Option (List ℕ)) → IsHost i → i.mesh ≡ Some m → IsAfter m t →
     IfSome senders (λ vertices. SendAlone vertices t) → IsHost (record i { mesh = Some t; senders = senders })
@@ -68,7 +56,7 @@ host_after i m t senders host e after alone = grind (arith, apps_after_in i m t 
 
 -- what moved in the mesh, moved in the host
 pub host_moved : (i : Inside) (m t : State) (old : Host) → host_of i ≡ old → i.mesh ≡ Some m → IsMoved m t → HasMovedMesh old (host_of (record i { mesh = Some t }))
-host_moved i m t old is e moved = grind (arith, mesh_is i m e)
+host_moved i m t old is e moved = let same : (host_of i).mesh ≡ m = ap mesh_in e in grind arith
 
 -- whatever a step answers, it is an event or nothing
 pub step_after : (r : Result Did Memory) (s t : State) (e : Event) → OnOk r (t ≡ after_event s e) → OnErr r (t ≡ s) → IsAfter s t

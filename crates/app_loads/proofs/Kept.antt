@@ -1,15 +1,11 @@
 -- A mesh whose earlier deliveries are held apart, seen as one mesh.
-use Rattle.app_loads.proofs.Common.{AreAlikeInBlocks, AreKnown, AreRoutedAlike, Arrival, BTreeMap, Block, Bool, CanSettle, Comes, Delivery, Err, HasBrought, HasBroughtMore, HasFirstUnsent}
-use Rattle.app_loads.proofs.Common.{HasSomeUnsent, IsClean, IsKeyOf, IsMesh, IsMoved, IsReachedDropless, IsWhyHere, KnownBlock, List, LoadedApp, MaySend, McCopy, NoneUnderWay, NothingWaits, Ok, OnOk}
-use Rattle.app_loads.proofs.Common.{Option, Result, SendAlone, Setup, Some, State, UnloadErr, Updates, Waiting, WaitsIn, [], ap, append-nil, arith, cases_Bool, count_by-le-length, delivered}
-use Rattle.app_loads.proofs.Common.{deliveries_at, drop, drop_at, drop_front, dumped_reached, eq-eqb, filter, get_or, is_at, kept_reached, length, length-filter, lookup, map, nat_cmp, none-some}
-use Rattle.app_loads.proofs.Common.{of_packet, refl, same_Some, sent_of, setup_reached, slice_get, slice_set, subst, sym, with_earlier, ℕ, ◌++◌, ◌+◌, ◌<◌, ◌^◌, ◌∙◌, ◌∷◌, ◌≡◌, ◌≢◌}
-use Rattle.app_loads.proofs.{Earlier.kept_without, Earlier.reached_with, LeavingLedger.still_marked, LeftMesh.mesh_with}
-
--- what follows where a call was answered
-pub ok_then : {X E : Type 0} {P Q : Type 0} (r : Result X E) → (P → Q) → OnOk r P → OnOk r Q
-ok_then (Ok x) f p = f p
-ok_then (Err e) f p = tt
+use Rattle.app_loads.proofs.Common.{BringsAlways, EndsWith, delivery_of, length-append, length-map, AreAlikeInBlocks, AreKnown, AreRoutedAlike, Arrival, BTreeMap, Block, Bool, CanSettle, Comes}
+use Rattle.app_loads.proofs.Common.{Delivery, HasBrought, HasBroughtMore, HasFirstUnsent, HasSomeUnsent, IsClean, IsKeyOf, IsMesh, IsMoved, IsReachedDropless, IsWhyHere, KnownBlock, List, LoadedApp}
+use Rattle.app_loads.proofs.Common.{MaySend, McCopy, NoneUnderWay, NothingWaits, Option, SendAlone, Setup, Some, State, UnloadErr, Updates, Waiting, WaitsIn, [], ap, append-nil, arith, cases_Bool}
+use Rattle.app_loads.proofs.Common.{count_by-le-length, delivered, deliveries_at, drop, drop_at, drop_front, dumped_reached, eq-eqb, filter, get_or, is_at, kept_reached, length, length-filter, lookup}
+use Rattle.app_loads.proofs.Common.{map, nat_cmp, none-some, of_packet, refl, same_Some, sent_of, setup_reached, slice_get, slice_set, subst, sym, with_earlier, ℕ, ◌++◌, ◌+◌, ◌<◌, ◌^◌, ◌∙◌, ◌∷◌, ◌≡◌}
+use Rattle.app_loads.proofs.Common.{◌≢◌}
+use Rattle.app_loads.proofs.{LeavingLeast.still_marked, Earlier.kept_without, Earlier.reached_with, LeftMesh.mesh_with}
 
 -- ---- the same mesh, whose deliveries are held otherwise
 
@@ -74,8 +70,15 @@ module _ (xs ys : List Delivery) (s t u : State) (clean : IsClean xs s) (reached
   }
 
   -- what it brought came behind the earlier ones
-  pub brought_more : (v key : ℕ) → u.delivered ≡ [] → HasBrought s t v key → HasBroughtMore xs ys u.setup v key
-  brought_more v key none has = grind (arith, setup_reached s t reached, is, append-nil ys)
+  pub brought_more : (v key count : ℕ) → u.delivered ≡ [] → count ≡ length t.delivered → HasBrought s t v key → HasBroughtMore xs ys u.setup v key count
+  brought_more v key count none counted has =
+      let own : t.delivered ≡ has.come = has.is ∙ ap (λ l. l ++ has.come) clean.none_delivered in
+      record {
+        come = has.come;
+        is = sym (append-nil ys) ∙ (ap (λ l. ys ++ l) (sym none) ∙ (all ∙ ap (λ l. xs ++ l) own));
+        long = ap length (sym own) ∙ sym counted;
+        always = subst (λ w. BringsAlways w v key has.come) (sym (ap (λ (x : State). x.setup) is ∙ setup_reached s t reached)) has.always;
+      }
 
 -- ---- a packet with a key of the same block
 
@@ -87,10 +90,19 @@ module _ (k copy : McCopy) where
   same_places [] = refl
   same_places (a ∷ more) = grind (arith, eq-eqb copy.key copy.key refl, same_places more)
 
+-- lists that end with as many items end with the same
+same_tail : {X : Type 0} (a b c d : List X) → a ++ b ≡ c ++ d → length b ≡ length d → b ≡ d
+same_tail a b c d is long =
+    let place : length a ≡ length c = omega (arith, ap length is, length-append a b, length-append c d, long) in
+    sym (drop_at a b (length c) place) ∙ (ap (drop (length c)) is ∙ drop_at c d (length c) refl)
+
 -- where what came is the last group's, it is known where others come
-pub comes_again : (before after : List Delivery) (u : Setup) (v first : ℕ) (copy : McCopy) (arrivals : List Arrival) (block : Block) → HasBroughtMore before after u v copy.key →
-    first ≡ length before → drop first after ≡ deliveries_at arrivals (sent_of copy) → ((other : ℕ) → IsKeyOf block other → AreRoutedAlike u copy.key other) → Comes u v arrivals block
-comes_again before after u v first copy arrivals block has long behind alike = grind (arith, drop_at before has.come first (sym long), same_places)
+pub comes_again : (before after : List Delivery) (u : Setup) (v count : ℕ) (copy : McCopy) (arrivals : List Arrival) (block : Block) → HasBroughtMore before after u v copy.key count →
+    EndsWith after arrivals (sent_of copy) count → ((other : ℕ) → IsKeyOf block other → AreRoutedAlike u copy.key other) → Comes u v arrivals block
+comes_again before after u v count copy arrivals block has ends alike =
+    let own : has.come ≡ deliveries_at arrivals (sent_of copy) = same_tail before has.come ends.before (deliveries_at arrivals (sent_of copy)) (sym has.is ∙ ends.is)
+    (has.long ∙ sym (length-map arrivals (delivery_of (sent_of copy)) ∙ ends.long)) in
+    grind (arith, own, same_places)
 
 -- a list of unsent copies that has one has a first
 pub some_there : (q : List McCopy) (unsent : List (List McCopy)) (v : ℕ) → slice_get unsent v ≢ Some [] → slice_get unsent v ≡ Some q → 0 < length q

@@ -1,10 +1,10 @@
 -- The least packet of an application that is under way, from the lists of the mesh.
-use Rattle.app_loads.proofs.Common.{All, All-at, All-contains, Among, Bool, Chip, Contains, FitsHand, Hand, IfNone, IfSome, IsLeastUnderWay, IsMesh, IsUnderWayAt, List, LoadedApp, Mark, McCopy, None}
-use Rattle.app_loads.proofs.Common.{NoneUnderWay, Option, Out, SendAlone, Some, StandsAt, State, Station, WaitsIn, [], all_hand_marks, among_at, among_contains, among_either, among_left, among_map}
-use Rattle.app_loads.proofs.Common.{among_right, ap, arith, at_core, behind_hands, behind_inputs, behind_unsent, cases_lt, chip_of, contains_among, core_marks, delivered_marks, dumped_marks, false}
-use Rattle.app_loads.proofs.Common.{flat_map, fold, gathered, gathered_among, get_or, get_or_from_slice_get, hand_marks, held_packets, if◌then◌else◌, in_hand, in_queue, inl, input_marks, inr}
-use Rattle.app_loads.proofs.Common.{is_packet_of, least_own_packet, length, lesser_of, map_among, mark, mark_stands, marks_at, marks_of, min, own_packet, packet_numbers_of, port_of, refl, slice_get}
-use Rattle.app_loads.proofs.Common.{slice_get-get_or, subst, sym, true, unsent, unsent_marks, unsent_numbers, ℕ, ◌%◌, ◌++◌, ◌/◌, ◌<◌, ◌∙◌, ◌∷◌, ◌≡◌, ◌≤◌}
+use Rattle.app_loads.proofs.Common.{delivered, dumped, unsent, All-head, All-tail, Delivery, DumpRec, Entry, NothingWaits, among_gathered, append-nil, All, All-at, All-contains, Among, Bool, Chip}
+use Rattle.app_loads.proofs.Common.{Contains, FitsHand, Hand, IfNone, IfSome, IsLeastUnderWay, IsMesh, IsUnderWayAt, List, LoadedApp, Mark, McCopy, None, NoneUnderWay, Option, Out, SendAlone, Some}
+use Rattle.app_loads.proofs.Common.{State, Station, WaitsIn, [], all_hand_marks, among_at, among_contains, among_either, among_left, among_map, among_right, ap, arith, at_core, cases_lt, chip_of}
+use Rattle.app_loads.proofs.Common.{contains_among, core_marks, delivered_marks, dumped_marks, false, flat_map, fold, gathered, gathered_among, get_or, get_or_from_slice_get, hand_marks, held_packets}
+use Rattle.app_loads.proofs.Common.{if◌then◌else◌, in_hand, in_queue, inl, input_marks, inr, is_packet_of, least_own_packet, length, lesser_of, map_among, mark, marks_at, marks_of, min, own_packet}
+use Rattle.app_loads.proofs.Common.{packet_numbers_of, port_of, refl, slice_get, slice_get-get_or, subst, sym, true, unsent_marks, unsent_numbers, ℕ, ◌%◌, ◌++◌, ◌/◌, ◌<◌, ◌∙◌, ◌∷◌, ◌≡◌, ◌≤◌}
 use Rattle.app_loads.proofs.{AppNets.member_at, LeavingLists.among_flat, LeavingLists.flat_among}
 
 -- ---- the least of some numbers
@@ -67,49 +67,96 @@ module _ (app : LoadedApp) where
       least_more app o _ _ (k.packet ∷ []) (packet_numbers_of rest) (packet_numbers_of (k ∷ rest)) (ap (lesser_of o) (sym (none_right (own_packet app k.packet))))
       (copies_folded rest (lesser_of o (own_packet app k.packet))) refl
 
+  -- four lists, one after the other
+  pub all_folded : (xs ys zs ws : List ℕ) (a b c d : Option ℕ) → a ≡ lesser_of None (least_own_packet app xs) → b ≡ lesser_of a (least_own_packet app ys) →
+      c ≡ lesser_of b (least_own_packet app zs) → d ≡ lesser_of c (least_own_packet app ws) → d ≡ least_own_packet app (xs ++ (ys ++ (zs ++ ws)))
+  all_folded xs ys zs ws a b c d e f g h = grind (arith, least_append app xs (ys ++ (zs ++ ws)), least_append app ys (zs ++ ws), least_append app zs ws)
+
 -- ---- the packets under way
 
 -- the packets of all copies that are unsent or wait
 abbrev pub under_way : State → List ℕ
-under_way s = flat_map packet_numbers_of ((s.unsent ++ s.inputs) ++ s.cores) ++ flat_map held_packets s.hands
+under_way s = flat_map packet_numbers_of s.unsent ++ (flat_map packet_numbers_of s.inputs ++ (flat_map held_packets s.hands ++ flat_map packet_numbers_of s.cores))
+
+flat_of_none : {X Y : Type 0} (f : X → List Y) (e : X) → f e ≡ [] → (xs : List X) → All (λ x. x ≡ e) xs → flat_map f xs ≡ []
+flat_of_none f e none [] all = refl
+flat_of_none {X} {Y} f e none (x ∷ xs) all =
+    ap (λ (l : List Y). l ++ flat_map f xs) (ap f (All-head (λ y. y ≡ e) x xs all) ∙ none) ∙ flat_of_none f e none xs (All-tail (λ y. y ≡ e) x xs all)
+
+-- only unsent packets are under way where no copy waits
+pub only_unsent : (s : State) → NothingWaits s → under_way s ≡ flat_map packet_numbers_of s.unsent
+only_unsent s quiet =
+    let inputs = flat_of_none packet_numbers_of [] refl s.inputs quiet.inputs_empty in
+    let hands = flat_of_none held_packets None refl s.hands quiet.hands_empty in
+    let cores = flat_of_none packet_numbers_of [] refl s.cores quiet.cores_empty in
+    rw (inputs, hands, cores) (append-nil (flat_map packet_numbers_of s.unsent))
+
+-- an item of two lists makes one of two others, where it does so for each
+beside : {X Y : Type 0} (x : X) (y : Y) (a b : List X) (c d : List Y) → (Among x a → Among y c) → (Among x b → Among y d) → Among x (a ++ b) → Among y (c ++ d)
+beside x y a b c d left right h = elim (among_either x a b h) [ inl l ↦ among_left y c d (left l) | inr r ↦ among_right y c d (right r) ]
 
 module _ (s : State) where
+  -- no mark of a delivery or a dump record is under way
+  ended : (k : Mark) → IsUnderWayAt k.station → Among k (delivered_marks s ++ dumped_marks s) → ⊥
+  ended k under a = elim (among_either k (delivered_marks s) (dumped_marks s) a) [
+    | inl b ↦ (let d = among_map (λ (x : Delivery). mark x.copy (delivered x.vertex)) k s.delivered b in subst (λ (m : Mark). IsUnderWayAt m.station) d.2 under)
+    | inr b ↦ (let r = among_map (λ (x : DumpRec). mark x.copy (dumped x.chip x.out)) k s.dumped b in subst (λ (m : Mark). IsUnderWayAt m.station) r.2 under)
+  ]
+
+  -- a mark under way is one of the mesh with other tables, deliveries and records too
+  pub still_marked : (tables : List (List Entry)) (ds : List Delivery) (rs : List DumpRec) (k : Mark) → IsUnderWayAt k.station → Contains (marks_of s) k →
+      Contains (marks_of (record s { setup = record s.setup { tables = tables }; delivered = ds; dumped = rs })) k
+  still_marked tables ds rs k under has =
+      among_contains k _ (beside k k (unsent_marks s) _ (unsent_marks s) _ (λ a. a) (beside k k (input_marks s) _ (input_marks s) _ (λ a. a)
+      (beside k k (all_hand_marks s) _ (all_hand_marks s) _ (λ a. a) (beside k k (core_marks s) _ (core_marks s) _ (λ a. a) (λ a. absurd (ended k under a)))))
+      (contains_among k (marks_of s) has))
+
+  -- the packet of a mark in a list of queues is one of theirs
+  queue_listed : (st : ℕ → Station) (queues : List (List McCopy)) (k : Mark) → Among k (gathered (λ i copies. marks_at (st i) copies) 0 queues) → Among k.copy.packet (flat_map packet_numbers_of queues)
+  queue_listed st queues k a =
+      let q = among_gathered (λ i copies. marks_at (st i) copies) k queues a in
+      let c = among_map (λ (x : McCopy). mark x (st q.0)) k q.1 q.3 in
+      flat_among packet_numbers_of k.copy.packet queues q.1 (among_at queues q.0 q.1 q.2)
+      (subst (λ (m : Mark). Among m.copy.packet (packet_numbers_of q.1)) (sym c.2) (map_among (λ (x : McCopy). x.packet) c.0 q.1 c.1))
+
+  hand_listed : (k : Mark) → Among k (all_hand_marks s) → Among k.copy.packet (flat_map held_packets s.hands)
+  hand_listed k a =
+      let h = among_gathered (λ i x. hand_marks (chip_of s.setup.machine i) x) k s.hands a in
+      flat_among held_packets k.copy.packet s.hands h.1 (among_at s.hands h.0 h.1 h.2) (of_hand (chip_of s.setup.machine h.0) h.1 h.3)
+    where
+      of_hand : (c : Chip) (h : Option Hand) → Among k (hand_marks c h) → Among k.copy.packet (held_packets h)
+      of_hand c (Some h) b = inl (ap (λ (m : Mark). m.copy.packet) (among_map (λ o. mark h.copy (in_hand c o)) k h.outs b).2)
+      of_hand c None b = absurd b
+
+  listed : (k : Mark) → IsUnderWayAt k.station → Among k (marks_of s) → Among k.copy.packet (under_way s)
+  listed k under =
+      beside k k.copy.packet (unsent_marks s) _ (flat_map packet_numbers_of s.unsent) _ (queue_listed unsent s.unsent k)
+      (beside k k.copy.packet (input_marks s) _ (flat_map packet_numbers_of s.inputs) _ (queue_listed (λ i. in_queue (chip_of s.setup.machine (i / 7)) (port_of (i % 7))) s.inputs k)
+      (beside k k.copy.packet (all_hand_marks s) _ (flat_map held_packets s.hands) _ (hand_listed k)
+      (λ a. elim (among_either k (core_marks s) (delivered_marks s ++ dumped_marks s) a) [ inl b ↦ queue_listed at_core s.cores k b | inr e ↦ absurd (ended k under e) ])))
+
   place_of : {X : Type 0} (x : X) (xs : List X) → Among x xs → (i : ℕ) × (slice_get xs i ≡ Some x)
   place_of x xs a = let has = among_contains x xs a in (has.0, member_at xs x has)
-
-  -- the packets of a queue are under way
-  of_queue : (q : List McCopy) (n : ℕ) → Among q ((s.unsent ++ s.inputs) ++ s.cores) → Among n (packet_numbers_of q) → Among n (under_way s)
-  of_queue q n there a =
-      among_left n (flat_map packet_numbers_of ((s.unsent ++ s.inputs) ++ s.cores)) (flat_map held_packets s.hands)
-      (flat_among packet_numbers_of n ((s.unsent ++ s.inputs) ++ s.cores) q there a)
-
-  of_unsent : (q : List McCopy) (n : ℕ) → Among q s.unsent → Among n (packet_numbers_of q) → Among n (under_way s)
-  of_unsent q n there = of_queue q n (among_left q (s.unsent ++ s.inputs) s.cores (among_left q s.unsent s.inputs there))
-
-  -- a copy that stands there is of one of the packets under way
-  listed : (c : McCopy) (at : Station) → IsUnderWayAt at → StandsAt s c at → Among c.packet (under_way s)
-  listed c (unsent v) under (q, at, a) = of_unsent q c.packet (among_at s.unsent v q at) (map_among (λ (k : McCopy). k.packet) c q a)
-  listed c (in_queue chip port) under (i, q, at, is_chip, is_port, a) =
-      of_queue q c.packet (among_left q (s.unsent ++ s.inputs) s.cores (among_right q s.unsent s.inputs (among_at s.inputs i q at))) (map_among (λ (k : McCopy). k.packet) c q a)
-  listed c (in_hand chip out) under (i, h, at, is_chip, is, a) =
-      among_right c.packet (flat_map packet_numbers_of ((s.unsent ++ s.inputs) ++ s.cores)) (flat_map held_packets s.hands)
-      (flat_among held_packets c.packet s.hands (Some h) (among_at s.hands i (Some h) at) (inl (ap (λ (k : McCopy). k.packet) (sym is))))
-  listed c (at_core v) under (q, at, a) =
-      of_queue q c.packet (among_right q (s.unsent ++ s.inputs) s.cores (among_at s.cores v q at)) (map_among (λ (k : McCopy). k.packet) c q a)
-  listed c at under stands = absurd under
 
   -- a mark of this packet that is under way
   abbrev IsMarked : ℕ → List Mark → Type 0
   IsMarked n marks = (k : Mark) × Among k marks × (k.copy.packet ≡ n) × IsUnderWayAt k.station
 
+  marked_beside : (n : ℕ) (c d : List ℕ) (a b : List Mark) → (Among n c → IsMarked n a) → (Among n d → IsMarked n b) → Among n (c ++ d) → IsMarked n (a ++ b)
+  marked_beside n c d a b left right h = elim (among_either n c d h) [
+    | inl l ↦ (let m = left l in (m.0, among_left m.0 a b m.1, m.2, m.3))
+    | inr r ↦ (let m = right r in (m.0, among_right m.0 a b m.1, m.2, m.3))
+  ]
+
   -- a copy in a list of queues has a mark, at the station of its queue
-  queue_marked : (st : ℕ → Station) → ((i : ℕ) → IsUnderWayAt (st i)) → (queues : List (List McCopy)) (n : ℕ) (q : List McCopy) → Among q queues → Among n (packet_numbers_of q) →
+  queue_marked : (st : ℕ → Station) → ((i : ℕ) → IsUnderWayAt (st i)) → (queues : List (List McCopy)) (n : ℕ) → Among n (flat_map packet_numbers_of queues) →
       IsMarked n (gathered (λ i copies. marks_at (st i) copies) 0 queues)
-  queue_marked st under queues n q there a =
-      let copy = among_map (λ (c : McCopy). c.packet) n q a in
-      let at = place_of q queues there in (
+  queue_marked st under queues n a =
+      let q = among_flat packet_numbers_of n queues a in
+      let copy = among_map (λ (c : McCopy). c.packet) n q.0 q.2 in
+      let at = place_of q.0 queues q.1 in (
         mark copy.0 (st at.0),
-        gathered_among (λ i copies. marks_at (st i) copies) (mark copy.0 (st at.0)) queues at.0 q at.1 (map_among (λ (c : McCopy). mark c (st at.0)) copy.0 q copy.1),
+        gathered_among (λ i copies. marks_at (st i) copies) (mark copy.0 (st at.0)) queues at.0 q.0 at.1 (map_among (λ (c : McCopy). mark c (st at.0)) copy.0 q.0 copy.1),
         sym copy.2,
         under at.0,
       )
@@ -132,39 +179,18 @@ module _ (s : State) where
       of_hand c (Some h) some (inr none) = absurd none
       of_hand c None some a' = absurd a'
 
-  -- what follows wherever a packet is under way
-  by_list : {P : Type 0} (n : ℕ) → ((q : List McCopy) → Among q s.unsent → Among n (packet_numbers_of q) → P) → ((q : List McCopy) → Among q s.inputs → Among n (packet_numbers_of q) → P) →
-      (Among n (flat_map held_packets s.hands) → P) → ((q : List McCopy) → Among q s.cores → Among n (packet_numbers_of q) → P) → Among n (under_way s) → P
-  by_list n at_start at_ports at_routers at_cores a =
-      elim (among_either n (flat_map packet_numbers_of ((s.unsent ++ s.inputs) ++ s.cores)) (flat_map held_packets s.hands) a) [
-        | inr b ↦ at_routers b
-        | inl b ↦ (let q = among_flat packet_numbers_of n ((s.unsent ++ s.inputs) ++ s.cores) b in elim (among_either q.0 (s.unsent ++ s.inputs) s.cores q.1) [
-          | inr d ↦ at_cores q.0 d q.2
-          | inl d ↦ elim (among_either q.0 s.unsent s.inputs d) [ inl e ↦ at_start q.0 e q.2 | inr e ↦ at_ports q.0 e q.2 ]
-        ])
-      ]
-
   -- each of the packets under way has a mark
   has_mark : IsMesh s → (n : ℕ) → Among n (under_way s) → IsMarked n (marks_of s)
-  has_mark mesh n a =
-      by_list n
-      (λ q there b. let m = queue_marked unsent (λ i. tt) s.unsent n q there b in (m.0, among_left m.0 (unsent_marks s) (behind_unsent s) m.1, m.2, m.3))
-      (λ q there b. let m = queue_marked (λ i. in_queue (chip_of s.setup.machine (i / 7)) (port_of (i % 7))) (λ i. tt) s.inputs n q there b in
-      (m.0, in_after_unsent m.0 (among_left m.0 (input_marks s) (behind_inputs s) m.1), m.2, m.3))
-      (λ b. let m = hand_marked mesh n b in (m.0, in_after_unsent m.0 (in_after_inputs m.0 (among_left m.0 (all_hand_marks s) (behind_hands s) m.1)), m.2, m.3))
-      (λ q there b. let m = queue_marked at_core (λ i. tt) s.cores n q there b in
-      (m.0, in_after_unsent m.0 (in_after_inputs m.0 (among_right m.0 (all_hand_marks s) (behind_hands s) (among_left m.0 (core_marks s) (delivered_marks s ++ dumped_marks s) m.1))), m.2, m.3)) a
-    where
-      in_after_unsent : (k : Mark) → Among k (behind_unsent s) → Among k (marks_of s)
-      in_after_unsent k b = among_right k (unsent_marks s) (behind_unsent s) b
-
-      in_after_inputs : (k : Mark) → Among k (behind_inputs s) → Among k (behind_unsent s)
-      in_after_inputs k b = among_right k (input_marks s) (behind_inputs s) b
+  has_mark mesh n =
+      marked_beside n (flat_map packet_numbers_of s.unsent) _ (unsent_marks s) _ (queue_marked unsent (λ i. tt) s.unsent n)
+      (marked_beside n (flat_map packet_numbers_of s.inputs) _ (input_marks s) _ (queue_marked (λ i. in_queue (chip_of s.setup.machine (i / 7)) (port_of (i % 7))) (λ i. tt) s.inputs n)
+      (marked_beside n (flat_map held_packets s.hands) _ (all_hand_marks s) _ (hand_marked mesh n)
+      (λ a. let m = queue_marked at_core (λ i. tt) s.cores n a in (m.0, among_left m.0 (core_marks s) (delivered_marks s ++ dumped_marks s) m.1, m.2, m.3))))
 
   -- the application's packets of which a copy waits are those of its own among all that are under way
   pub waits_listed : (app : LoadedApp) (n : ℕ) → WaitsIn s app n → Among n (under_way s)
   waits_listed app n (own, (k, has, is, under)) =
-      subst (λ m. Among m (under_way s)) is (listed k.copy k.station under (mark_stands s k (contains_among k (marks_of s) has)))
+      subst (λ m. Among m (under_way s)) is (listed k under (contains_among k (marks_of s) has))
 
   pub listed_waits : IsMesh s → (app : LoadedApp) (n : ℕ) → is_packet_of app n ≡ true → Among n (under_way s) → WaitsIn s app n
   listed_waits mesh app n own a = let m = has_mark mesh n a in (own, (m.0, among_contains m.0 (marks_of s) m.1, m.2, m.3))
@@ -172,20 +198,11 @@ module _ (s : State) where
   -- what these vertices have unsent is all that is under way, where they alone have packets unsent
   in_sender : (vertices : List ℕ) → SendAlone vertices s → (n : ℕ) → Among n (under_way s) → Among n (flat_map (unsent_numbers s.unsent) vertices)
   in_sender vertices alone n a =
-      by_list n
-      (λ q there e.
-      let at = place_of q s.unsent there in
-      flat_among (unsent_numbers s.unsent) n vertices at.0 (contains_among at.0 vertices (sender_of at.0 q at.1 e))
-      (subst (λ (l : List McCopy). Among n (packet_numbers_of l)) (sym (get_or_from_slice_get s.unsent at.0 q [] at.1)) e))
-      (no_copies s.inputs alone.quiet.inputs_empty) (λ d. absurd (no_hands s.hands n alone.quiet.hands_empty d)) (no_copies s.cores alone.quiet.cores_empty) a
+      let q = among_flat packet_numbers_of n s.unsent (subst (Among n) (only_unsent s alone.quiet) a) in
+      let at = place_of q.0 s.unsent q.1 in
+      flat_among (unsent_numbers s.unsent) n vertices at.0 (contains_among at.0 vertices (sender_of at.0 q.0 at.1 q.2))
+      (subst (λ (l : List McCopy). Among n (packet_numbers_of l)) (sym (get_or_from_slice_get s.unsent at.0 q.0 [] at.1)) q.2)
     where
-      no_copies : {P : Type 0} (queues : List (List McCopy)) → All (λ (q : List McCopy). q ≡ []) queues → (q : List McCopy) → Among q queues → Among n (packet_numbers_of q) → P
-      no_copies queues empty q there b =
-          absurd (subst (λ (l : List McCopy). Among n (packet_numbers_of l)) (All-contains (λ (l : List McCopy). l ≡ []) queues q empty (among_contains q queues there)) b)
-
-      no_hands : (hands : List (Option Hand)) (m : ℕ) → All (λ (h : Option Hand). h ≡ None) hands → Among m (flat_map held_packets hands) → ⊥
-      no_hands hands m empty b = grind (arith, among_flat held_packets m hands b, among_contains (among_flat held_packets m hands b).0 hands (among_flat held_packets m hands b).1, All-contains, Among)
-
       sender_of : (v : ℕ) (q : List McCopy) → slice_get s.unsent v ≡ Some q → Among n (packet_numbers_of q) → Contains vertices v
       sender_of v [] at b = absurd b
       sender_of v (k ∷ rest) at b = alone.others v k rest at
@@ -195,7 +212,7 @@ module _ (s : State) where
       let v = among_flat (unsent_numbers s.unsent) n vertices a in
       let there = All-contains (λ w. w < length s.setup.spots) vertices v.0 alone.there (among_contains v.0 vertices v.1) in
       let at = slice_get-get_or s.unsent v.0 [] (omega (arith, there, mesh.unsent_lists)) in
-      of_unsent (get_or s.unsent v.0 []) n (among_at s.unsent v.0 (get_or s.unsent v.0 []) at) v.2
+      among_left n (flat_map packet_numbers_of s.unsent) _ (flat_among packet_numbers_of n s.unsent (get_or s.unsent v.0 []) (among_at s.unsent v.0 (get_or s.unsent v.0 []) at) v.2)
 
   -- so where a list has all that are under way, the least found in it is the least that waits, and where none is found, none waits
   module _ (app : LoadedApp) (own : List ℕ) (all : (n : ℕ) → Among n (under_way s) → Among n own) (o : Option ℕ) (is : o ≡ least_own_packet app own) where

@@ -1,27 +1,11 @@
 -- The ledger of a mesh without the deliveries and dump records of an application of which no packet is under way.
-use Rattle.app_loads.proofs.Common.{Among, AreApps, AreNetsOn, Asked, Contains, Contains-first, Contains-from_filter, Contains-later, Delivery, DumpRec, Entry, HaveOtherNumbers, Host, IsUnderWayAt}
-use Rattle.app_loads.proofs.Common.{List, LoadedApp, Mark, McCopy, MeetsLedgerFor, None, NoneUnderWay, Some, StandsAt, State, Station, [], all_hand_marks, all_nets, among_contains, among_either}
-use Rattle.app_loads.proofs.Common.{among_filter, among_left, among_map, among_right, ap, arith, asked_of, asked_of_app, both_ways, cases_Bool, cond_both, contains_among, core_marks, count_by}
-use Rattle.app_loads.proofs.Common.{count_by-append, count_by-map, delivered, delivered_marks, dumped, dumped_marks, either, eq-eqb, eqb-true, false, filter, inl, input_marks, inr, is_delivery_of}
-use Rattle.app_loads.proofs.Common.{is_packet_of, is_record_of, map, mark, mark_stands, marks_of, mesh_without, nat_tests, nets_of, not, not-false, not-true, others_than, refl, subst, sym, true}
-use Rattle.app_loads.proofs.Common.{unsent_marks, ℕ, ◌++◌, ◌+◌, ◌==◌, ◌∙◌, ◌∷◌, ◌≡◌, ◌⊎◌}
-use Rattle.app_loads.proofs.{LeavingLists.count_of_filter, LeavingLists.either_pair, LeavingLists.flat_has, Ledgers.HaveSamePacket, Ledgers.from_packets, Ledgers.marked_too, Ledgers.trailed}
-use Rattle.app_loads.proofs.{Ledgers.trailed_still, Others.only_one, PacketLedger.asker, PacketLedger.none_of_app, PacketLedger.of_app, PacketLedger.packet_bounds}
-
--- a mark under way is one of the mesh with other tables, deliveries and records too
-pub still_marked : (s : State) (tables : List (List Entry)) (ds : List Delivery) (rs : List DumpRec) (k : Mark) → IsUnderWayAt k.station → Contains (marks_of s) k →
-    Contains (marks_of (record s { setup = record s.setup { tables = tables }; delivered = ds; dumped = rs })) k
-still_marked s tables ds rs k under has =
-    among_contains k _
-    (inside (unsent_marks s) _ _ (inside (input_marks s) _ _ (inside (all_hand_marks s) _ _ (inside (core_marks s) (delivered_marks s ++ dumped_marks s) _
-    (λ a. absurd (ended (among_either k (delivered_marks s) (dumped_marks s) a)))))) (contains_among k (marks_of s) has))
-  where
-    inside : (front xs ys : List Mark) → (Among k xs → Among k ys) → Among k (front ++ xs) → Among k (front ++ ys)
-    inside front xs ys more a = elim (among_either k front xs a) [ inl here ↦ among_left k front ys here | inr later ↦ among_right k front ys (more later) ]
-
-    ended : Among k (delivered_marks s) ⊎ Among k (dumped_marks s) → ⊥
-    ended (inl b) = let d = among_map (λ (x : Delivery). mark x.copy (delivered x.vertex)) k s.delivered b in subst (λ (m : Mark). IsUnderWayAt m.station) d.2 under
-    ended (inr b) = let r = among_map (λ (x : DumpRec). mark x.copy (dumped x.chip x.out)) k s.dumped b in subst (λ (m : Mark). IsUnderWayAt m.station) r.2 under
+use Rattle.app_loads.proofs.{LeavingLeast.still_marked, LeavingLists.count_of_filter, LeavingLists.either_pair, LeavingLists.flat_has, Ledgers.HaveSamePacket, Ledgers.from_packets, Ledgers.marked_too}
+use Rattle.app_loads.proofs.{Ledgers.trailed, Ledgers.trailed_still, Others.only_one, PacketLedger.asker, PacketLedger.none_of_app, PacketLedger.of_app, PacketLedger.packet_bounds}
+use Rattle.app_loads.proofs.Common.{AreApps, AreNetsOn, Asked, Contains, Contains-first, Contains-from_filter, Contains-later, Delivery, DumpRec, Entry, HaveOtherNumbers, Host, IsUnderWayAt, List}
+use Rattle.app_loads.proofs.Common.{LoadedApp, Mark, McCopy, MeetsLedgerFor, None, NoneUnderWay, Some, StandsAt, State, Station, [], all_hand_marks, all_nets, among_filter, ap, arith, asked_of}
+use Rattle.app_loads.proofs.Common.{asked_of_app, both_ways, cases_Bool, cond_both, contains_among, core_marks, count_by, count_by-append, count_by-map, delivered, delivered_marks, dumped}
+use Rattle.app_loads.proofs.Common.{dumped_marks, either, eq-eqb, eqb-true, false, filter, inl, input_marks, inr, is_delivery_of, is_packet_of, is_record_of, map, mark, mark_stands, marks_of}
+use Rattle.app_loads.proofs.Common.{mesh_without, nat_tests, nets_of, not, not-false, not-true, others_than, refl, sym, true, unsent_marks, ℕ, ◌++◌, ◌+◌, ◌==◌, ◌∙◌, ◌∷◌, ◌≡◌}
 
 module _ (h : Host) (app : LoadedApp) (tables : List (List Entry)) (apps : AreApps h) (has : Contains h.apps app) (none : NoneUnderWay h.mesh app) where
   abbrev s : State

@@ -3,12 +3,12 @@ pub mod Alike
 mod AppNets
 mod Bare
 mod Delivered
-mod Earlier
+pub mod Earlier
 mod FewClaims
-mod GroupLaws
+pub mod GroupLaws
 mod Holes
-mod Hosts
-mod Kept
+pub mod Hosts
+pub mod Kept
 mod LeavingLeast
 mod LeavingLedger
 mod LeavingLists
@@ -18,23 +18,23 @@ mod LeftMesh
 mod LeftParts
 mod LoadedHost
 mod LoadedParts
-mod Numbers
+pub mod Numbers
 pub mod OneClaim
 mod Others
 mod PacketLedger
 mod RegionLaws
 mod Resting
 mod RightRows
-mod RowClaims
-mod Unsent
-mod Served
-mod Serving
-mod Settling
+pub mod RowClaims
+pub mod Unsent
+pub mod Served
+pub mod Serving
+pub mod Settling
 mod Spots
 pub mod SpotsOf
-mod BlockLists
+pub mod BlockLists
 mod Blocks
 mod ClaimCases
-mod Claiming
+pub mod Claiming
 mod Copying
-mod RoomToGive
+pub mod RoomToGive

@@ -1,8 +1,8 @@
 -- The fields of a host to which an application came, or came not.
 use Rattle.app_loads.proofs.Common.{All-contains, AppPlan, AreApps, AreFreeAgain, AreFreeBeside, AreWithSources, CanJoin, Contains, Err, Free, HasLoaded, Host, IfSome, Inside, IsDueAlways, IsHost}
-use Rattle.app_loads.proofs.Common.{IsLoadedOn, IsServedApp, IsSettled, IsWhyNotLoaded, List, LoadErr, LoadedApp, MayLoad, None, Ok, OnErr, OnOk, Option, Region, Result, SendAlone, Some, State, []}
+use Rattle.app_loads.proofs.Common.{IsLoadedOn, IsServedApp, IsSettled, IsWhyNotLoaded, List, LoadErr, LoadedApp, MayLoad, Ok, OnErr, OnOk, Option, Region, Result, SendAlone, Some, State, []}
 use Rattle.app_loads.proofs.Common.{all_ranges, among_contains, among_right, ap, arith, claims_of, false, frees, host_of, inl, is_err, is_loaded, is_some, length, map-append, mesh_in, numbers_of}
-use Rattle.app_loads.proofs.Common.{refl, subst, sym, true, ℕ, ◌++◌, ◌+◌, ◌<◌, ◌^◌, ◌∙◌, ◌∷◌, ◌≡◌}
+use Rattle.app_loads.proofs.Common.{refl, subst, sym, ℕ, ◌++◌, ◌+◌, ◌<◌, ◌^◌, ◌∙◌, ◌∷◌, ◌≡◌}
 use Rattle.app_loads.proofs.{LoadedHost.apps_now, LoadedHost.loaded_host, LoadedHost.none_unsent, LoadedHost.same_frees, LoadedHost.why_not, Resting.with_alone}
 
 one_host : (a b : State) (r s : List Free) (p q : List LoadedApp) (n k : ℕ) → a ≡ b → r ≡ s → p ≡ q → n ≡ k →
@@ -22,10 +22,6 @@ pub record Stands (i : Inside) (now : Host) : Type 0 where
 pub still : {i j : Inside} {now : Host} → Stands i now → j.mesh ≡ i.mesh → frees j.regions.items ≡ frees i.regions.items → j.apps.items ≡ i.apps.items → j.packets ≡ i.packets →
     j.numbers.items ≡ i.numbers.items → j.senders ≡ i.senders → Stands j now
 still {i} {j} stands mesh regions apps packets numbers senders = grind (arith, host_is j (host_of i) (ap mesh_in mesh) regions apps packets)
-
-pub never_none : (o r : Option State) → is_some o ≡ true → r ≡ o → r ≡ None → ⊥
-never_none None r some same none = cc
-never_none (Some x) r some same none = cc
 
 pub on_err : {A E : Type 0} (P : Type 0) {r : Result A E} {x : E} → r ≡ Err x → OnErr r P → P
 on_err P is if = subst (λ z. OnErr z P) is if

@@ -1,10 +1,10 @@
 -- The ledger of a mesh to which an application's packets came.
-use Rattle.app_loads.proofs.Common.{All, All-contains, AreSent, Asked, Contains, Contains-first, Contains-later, Description, Entry, IsKeyOf, IsRoutingTree, List, LoadedApp, McCopy, MeetsLedgerFor}
-use Rattle.app_loads.proofs.Common.{NetPlan, None, Option, Packet, Some, Spot, State, [], and_from, and_parts, ap, arith, asked_by, asked_from, asked_of, asked_of_app, asked_parts, both_ways}
-use Rattle.app_loads.proofs.Common.{cases_Bool, cases_eq, cases_lt, either, eq-eqb, false, false_from_ne_true, get_or_from_slice_get, if◌then◌else◌, inl, inr, is_packet_of, label_in, le-leb, leb}
-use Rattle.app_loads.proofs.Common.{leb-true, length, length-map, link_on_branch, lt-leb, lt-ltb, ltb, ltb-true, ne_eqb, net_in_list, nets_of, none-some, refl, slice_get, slice_get_within, slice_set}
-use Rattle.app_loads.proofs.Common.{subst, suc, sym, true, zero, ℕ, ◌++◌, ◌+◌, ◌-◌, ◌<◌, ◌==◌, ◌∙◌, ◌∷◌, ◌≡◌, ◌≢◌, ◌≤◌}
-use Rattle.app_loads.proofs.Ledgers.{one_packet_more}
+use Rattle.app_loads.proofs.Ledgers.{also, one_packet_more}
+use Rattle.app_loads.proofs.Common.{nat_tests, ◌&&◌, All, All-contains, AreSent, Asked, Contains, Contains-first, Contains-later, Description, Entry, IsKeyOf, IsRoutingTree, List, LoadedApp, McCopy}
+use Rattle.app_loads.proofs.Common.{MeetsLedgerFor, NetPlan, None, Option, Packet, Some, Spot, State, [], and_from, and_parts, ap, arith, asked_by, asked_from, asked_of, asked_of_app, asked_parts}
+use Rattle.app_loads.proofs.Common.{both_ways, cases_Bool, cases_eq, cases_lt, either, false, false_from_ne_true, get_or_from_slice_get, if◌then◌else◌, inl, inr, is_packet_of, label_in, leb, leb-true}
+use Rattle.app_loads.proofs.Common.{length, length-map, link_on_branch, lt-ltb, ltb, ltb-true, net_in_list, nets_of, none-some, refl, slice_get, slice_get_within, subst, suc, sym, true, zero, ℕ, ◌++◌}
+use Rattle.app_loads.proofs.Common.{◌+◌, ◌-◌, ◌<◌, ◌∙◌, ◌∷◌, ◌≡◌, ◌≤◌}
 
 -- a routing tree has a target
 some_target : (m : Description) (net : NetPlan) → IsRoutingTree m net.tree.root net.tree.edges net.targets → (t : Spot) × Contains net.targets t
@@ -17,30 +17,36 @@ some_target m net tree = elim (tree.ends_are_targets net.tree.root (inl refl)) [
     target_of [] k within = absurd (omega (arith, within))
     target_of (t ∷ ts) k within = (t, (0, omega arith, refl))
 
+-- the ledger holds of the same packets
+pub same_packets : (s : State) (nets : List NetPlan) (f g : ℕ → Option Asked) → ((j : ℕ) → f j ≡ g j) → MeetsLedgerFor s nets f → MeetsLedgerFor s nets g
+same_packets s nets f g same = subst (MeetsLedgerFor s nets) (λ i j. same j i)
+
 module _ (app : LoadedApp) (asked : ℕ → Option Asked) where
   -- the packets, and the first n of the application's
   abbrev pub upto : ℕ → ℕ → Option Asked
-  upto zero j = asked j
-  upto (suc n) j = if j == app.first + n then asked_by (nets_of app) app.plan.packets n else upto n j
+  upto n j = if leb app.first j && ltb j (app.first + n) then asked_by (nets_of app) app.plan.packets (j - app.first) else asked j
 
-  upto_else : (n j : ℕ) → ((i : ℕ) → i < n → j ≢ app.first + i) → upto n j ≡ asked j
-  upto_else zero j other = refl
-  upto_else (suc n) j other =
-      ap (λ b. if b then asked_by (nets_of app) app.plan.packets n else upto n j) (ne_eqb j (app.first + n) (other n (omega arith)))
-      ∙ upto_else n j (λ i less. other i (omega (arith, less)))
+  upto_none : (j : ℕ) → asked j ≡ upto 0 j
+  upto_none j = grind (arith, nat_tests)
 
-  upto_at : (n j : ℕ) → app.first ≤ j → j < app.first + n → upto n j ≡ asked_by (nets_of app) app.plan.packets (j - app.first)
-  upto_at zero j low high = absurd (omega (arith, low, high))
-  upto_at (suc n) j low high = elim (cases_eq j (app.first + n)) [
-    | inl same ↦ grind (arith, eq-eqb j (app.first + n) same)
-    | inr other ↦ grind (arith, ne_eqb j (app.first + n) other, upto_at n j low (omega (arith, high, other)))
+  upto_free : (n : ℕ) → asked (app.first + n) ≡ None → upto n (app.first + n) ≡ None
+  upto_free n none = grind (arith, nat_tests)
+
+  upto_more : (n j : ℕ) (a : Asked) → asked_by (nets_of app) app.plan.packets n ≡ Some a → also (upto n) (app.first + n) a j ≡ upto (suc n) j
+  upto_more n j a is = elim (cases_eq j (app.first + n)) [
+    | inl same ↦
+        let place : j - app.first ≡ n = omega (arith, same) in
+        let own : asked_by (nets_of app) app.plan.packets (j - app.first) ≡ Some a = ap (asked_by (nets_of app) app.plan.packets) place ∙ is in
+        grind (arith, nat_tests)
+    | inr other ↦ grind (arith, nat_tests)
   ]
 
   module _ (s : State) (nets : List NetPlan) (ledger : MeetsLedgerFor s nets asked) (none : (i : ℕ) → app.first ≤ i → asked i ≡ None)
       (own : (x : NetPlan) → Contains (nets_of app) x → Contains nets x × IsRoutingTree s.setup.machine x.tree.root x.tree.edges x.targets)
       (keyed : (j : ℕ) (p : Packet) (x : NetPlan) → slice_get app.plan.packets j ≡ Some p → slice_get (nets_of app) p.net ≡ Some x → IsKeyOf x.block (x.block.key + p.index)) where
     pub sent_ledger : (n : ℕ) (q : List (List McCopy)) → AreSent s.setup.spots app n s.unsent q → MeetsLedgerFor (record s { unsent = q }) nets (upto n)
-    sent_ledger zero q sent = subst (λ (l : List (List McCopy)). MeetsLedgerFor (record s { unsent = l }) nets asked) (sym sent) ledger
+    sent_ledger zero q sent =
+        same_packets (record s { unsent = q }) nets asked (upto 0) upto_none (subst (λ (l : List (List McCopy)). MeetsLedgerFor (record s { unsent = l }) nets asked) (sym sent) ledger)
     sent_ledger (suc n) q sent =
         let before = sent_ledger n sent.0 sent.2 in
         let one = sent.4 in
@@ -50,13 +56,11 @@ module _ (app : LoadedApp) (asked : ℕ → Option Asked) where
         let asks : asked_by (nets_of app) app.plan.packets n ≡ Some a = asked_from (nets_of app) app.plan.packets n p one.net sent.3 one.is_net in
         let is_own = own one.net (p.net, slice_get_within (nets_of app) p.net one.net one.is_net, get_or_from_slice_get (nets_of app) p.net one.net one.net one.is_net) in
         let target = some_target s.setup.machine one.net is_own.1 in
-        let free : upto n i ≡ None = upto_else n i (λ k less e. omega (arith, less, e)) ∙ none i (omega arith) in
+        let free = upto_free n (none i (omega arith)) in
         let more = one_packet_more (record s { unsent = sent.0 }) nets (upto n) i a one.vertex one.queue target.0 before one.at free one.is_vertex is_own.0
         (keyed n p one.net sent.3 one.is_net) target.1 in
         subst (λ (l : List (List McCopy)). MeetsLedgerFor (record s { unsent = l }) nets (upto (suc n))) (sym one.is)
-        (subst (λ (o : Option Asked). MeetsLedgerFor (record s
-        { unsent = slice_set sent.0 one.vertex (one.queue ++ record { packet = i; key = a.label.key; payload = a.label.payload; hop = 0 } ∷ []) })
-        nets (λ j. if j == i then o else upto n j)) (sym asks) more)
+        (same_packets _ nets (also (upto n) i a) (upto (suc n)) (λ j. upto_more n j a asks) more)
 
 -- ---- packets of all applications
 
@@ -120,12 +124,9 @@ past_app app j past = none_of_app app j (false_from_ne_true (is_packet_of app j)
 
 pub asked_is : (apps : List LoadedApp) (app : LoadedApp) → ((i : ℕ) → app.first ≤ i → asked_of apps i ≡ None) → (j : ℕ) →
     upto app (asked_of apps) (length app.plan.packets) j ≡ asked_of (apps ++ app ∷ []) j
-asked_is apps app none j = grind (arith, cases_lt, either_none, asked_more, upto_else, lt-leb, upto_at, le-leb, past_app)
+asked_is apps app none j = grind (arith, nat_tests, cases_lt, either_none, asked_more, past_app)
 
--- the ledger holds of the same packets, whatever the tables
-pub same_packets : (s : State) (nets : List NetPlan) (f g : ℕ → Option Asked) → ((j : ℕ) → f j ≡ g j) → MeetsLedgerFor s nets f → MeetsLedgerFor s nets g
-same_packets s nets f g same = subst (MeetsLedgerFor s nets) (λ i j. same j i)
-
+-- and whatever the tables
 pub other_tables : (s : State) (nets : List NetPlan) (asked : ℕ → Option Asked) (tables : List (List Entry)) → MeetsLedgerFor s nets asked →
     MeetsLedgerFor (record s { setup = record s.setup { tables = tables } }) nets asked
 other_tables s nets asked tables l = grind arith

@@ -1,15 +1,15 @@
 -- Tables with the plain rows of all applications are right for their nets, and give all keys of a net's block the same.
-use Rattle.app_loads.proofs.Common.{All, All-contains, All-each, All-from_get_or, AllZip-at_first, AreRight, Block, Bool, Chip, Contains, Contains-at, Contains-cases, Contains-first, Contains-later}
-use Rattle.app_loads.proofs.Common.{Contains-map, Contains-none, Contains-permutation, Contains-unmap, Description, Entry, HasChip, HasRows, HaveDisjointBlocks, HaveRows, IsInside, IsKeyOf}
-use Rattle.app_loads.proofs.Common.{IsLoadedOn, IsOriginalOf, IsOutput, IsPermutation-sym, IsPlainTable, IsRangeFor, IsRoutingTree, List, LoadedApp, NetPlan, Original, Out, Port, Range, Route}
-use Rattle.app_loads.proofs.Common.{RoutesByTree, Row, Rows, ShareNoPlace, Some, [], all_nets, all_ranges, and_parts, and_zero_r, ap, arith, bit_and, cases_Bool, chip_of, chip_of-index_of}
-use Rattle.app_loads.proofs.Common.{chip_of-inside, chips_inside, claims_of, comes_in_tree, cond, contains_among, count_by, count_some, default_route, drop, entry_of, eq-eqb, eqb-true, false}
-use Rattle.app_loads.proofs.Common.{false≢true, find, from_net, get_or, has, has_chip, has_original, index_below, index_of, index_of-chip_of, inl, inr, is_taken, is_wanted, leb-true, length, ltb-true}
-use Rattle.app_loads.proofs.Common.{map, matches, nets_of, one_net, option_map_or, place_of, range_has, refl, row_of, same_Some, slice_get, slice_get-get_or, slice_get-mapped, subst, suc, sym}
-use Rattle.app_loads.proofs.Common.{table_at, take, true, unmapped, unused, zero, ℕ, ◌*◌, ◌+◌, ◌-◌, ◌<◌, ◌==◌, ◌∙◌, ◌∷◌, ◌≡◌, ◌≤◌}
+use Rattle.app_loads.proofs.Common.{length-take, slice_get_within, counted, in_from, All, All-contains, All-each, All-from_get_or, AllZip-at_first, AreRight, Block, Bool, Chip, Contains, Contains-at}
+use Rattle.app_loads.proofs.Common.{Contains-cases, Contains-first, Contains-later, Contains-map, Contains-none, Contains-permutation, Contains-unmap, Description, Entry, HasChip, HasRows}
+use Rattle.app_loads.proofs.Common.{HaveDisjointBlocks, HaveRows, IsInside, IsKeyOf, IsLoadedOn, IsOriginalOf, IsOutput, IsPermutation-sym, IsPlainTable, IsRangeFor, IsRoutingTree, List, LoadedApp}
+use Rattle.app_loads.proofs.Common.{NetPlan, Original, Out, Port, Range, Route, RoutesByTree, Row, Rows, ShareNoPlace, Some, [], all_nets, all_ranges, and_parts, and_zero_r, ap, arith, bit_and}
+use Rattle.app_loads.proofs.Common.{cases_Bool, chip_of, chip_of-index_of, chip_of-inside, chips_inside, claims_of, comes_in_tree, cond, contains_among, count_by, count_some, default_route, drop}
+use Rattle.app_loads.proofs.Common.{entry_of, eq-eqb, eqb-true, false, false≢true, find, from_net, get_or, has, has_chip, has_original, index_below, index_of, index_of-chip_of, inl, inr, is_taken}
+use Rattle.app_loads.proofs.Common.{is_wanted, leb-true, length, ltb-true, map, matches, nets_of, one_net, option_map_or, place_of, range_has, refl, row_of, same_Some, slice_get, slice_get-get_or}
+use Rattle.app_loads.proofs.Common.{slice_get-mapped, subst, sym, table_at, take, true, unmapped, unused, ℕ, ◌*◌, ◌+◌, ◌-◌, ◌<◌, ◌==◌, ◌∙◌, ◌∷◌, ◌≡◌, ◌≤◌}
+use Rattle.app_loads.proofs.{LeavingLists.part_at, LeavingLists.flat_has, LeavingLists.flat_of, AppNets.facts_of, AppNets.member_at, AppNets.spot_inside, ClaimCases.chip_claim, Copying.mine_at}
+use Rattle.app_loads.proofs.{Copying.same_part, Serving.by_taken, Serving.none_taken, Settling.has_chip-true}
 use Rattle.spin_base.specs.Lookup.{lookup}
-use Rattle.app_loads.proofs.{AppNets.facts_of, AppNets.member_at, AppNets.spot_inside, ClaimCases.chip_claim, Copying.mine_at, Copying.same_part, LeavingLists.flat_has, LeavingLists.flat_of}
-use Rattle.app_loads.proofs.{Serving.by_taken, Serving.none_taken, Settling.has_chip-true}
 
 -- ---- lookup in a table where all that match agree
 
@@ -25,25 +25,6 @@ found key o w other (e ∷ es) each x there hit = elim (cases_Bool (matches e ke
         | inr after ↦ after
       ]) hit
 ]
-
--- an item of a part of a list
-part_at : {X : Type 0} (xs : List X) (p s k : ℕ) (x : X) → p ≤ k → k < p + s → slice_get xs k ≡ Some x → slice_get (take s (drop p xs)) (k - p) ≡ Some x
-part_at [] p s k x low high e = cc
-part_at (y ∷ ys) zero zero k x low high e = absurd (omega (arith, high))
-part_at (y ∷ ys) zero (suc s) zero x low high e = e
-part_at (y ∷ ys) zero (suc s) (suc k) x low high e = grind (arith, part_at ys 0 s k x (omega arith) (omega (arith, high)) e)
-part_at (y ∷ ys) (suc p) s zero x low high e = absurd (omega (arith, low))
-part_at (y ∷ ys) (suc p) s (suc k) x low high e = grind (arith, part_at ys p s k x (omega (arith, low)) (omega (arith, high)) e)
-
-of_part : {X : Type 0} (xs : List X) (p s j : ℕ) (x : X) → slice_get (take s (drop p xs)) j ≡ Some x → slice_get xs (p + j) ≡ Some x
-of_part [] zero zero j x e = cc
-of_part [] zero (suc s) j x e = cc
-of_part [] (suc p) zero j x e = cc
-of_part [] (suc p) (suc s) j x e = cc
-of_part (y ∷ ys) zero zero j x e = cc
-of_part (y ∷ ys) zero (suc s) zero x e = e
-of_part (y ∷ ys) zero (suc s) (suc j) x e = let z : 0 + suc j ≡ suc (0 + j) = omega arith in ap (slice_get (y ∷ ys)) z ∙ of_part ys 0 s j x e
-of_part (y ∷ ys) (suc p) s j x e = let z : suc p + j ≡ suc (p + j) = omega arith in ap (slice_get (y ∷ ys)) z ∙ of_part ys p s j x e
 
 in_parts : (range : Range) (region k : ℕ) → range_has region k range ≡ true → (range.region ≡ region) × (range.place ≤ k) × (k < range.place + range.size)
 in_parts range region k e = grind (arith, and_parts, eqb-true, leb-true, ltb-true)
@@ -63,7 +44,7 @@ rows_stay m old new changed app long others apart rows = All-each (RowsIn m new 
       rows = was.rows;
       plain = was.plain;
       entries = same_part (table_at m new c) (table_at m old c) r.place r.size (long c inside)
-          (λ k low high. others c k inside (none_taken changed r (λ s. apart r s in_app) (place_of m (Rows c)) k (mine_at r (place_of m (Rows c)) k region low high))) ∙ was.entries;
+          (λ k low high. others c k inside (none_taken changed r (λ s. apart r s in_app) (place_of m (Rows c)) k (mine_at r (place_of m (Rows c)) k region (in_from r.place r.size k low high)))) ∙ was.entries;
     })
 
 module _ (m : Description) (tables : List (List Entry)) (apps : List LoadedApp) (loaded : All (IsLoadedOn m) apps) (disjoint : HaveDisjointBlocks (all_nets apps)) (rows : HaveRows m tables apps) where
@@ -109,7 +90,9 @@ module _ (m : Description) (tables : List (List Entry)) (apps : List LoadedApp) 
           let f = flat_of (λ (a : LoadedApp). a.ranges) apps owned.0 owned.1 in
           let parts = in_parts owned.0 (place_of m (Rows c)) k owned.2 in
           let r = rows_at f.0 f.1 owned.0 f.2 c inside parts.0 in
-          let there = part_at T owned.0.place owned.0.size k e parts.1 parts.2 at in
+          let place : owned.0.place + (k - owned.0.place) ≡ k = omega (arith, parts.1) in
+          let there : slice_get (take owned.0.size (drop owned.0.place T)) (k - owned.0.place) ≡ Some e =
+          part_at T owned.0.place owned.0.size (k - owned.0.place) (omega (arith, parts)) ∙ (ap (slice_get T) place ∙ at) in
           let row = unmapped entry_of r.rows (k - owned.0.place) e (sym (ap (λ l. slice_get l (k - owned.0.place)) r.entries) ∙ there) in
           let its = of_row f.0 f.1 r.rows r.plain row.0 (Contains-at r.rows (k - owned.0.place) row.0 row.1) (ap (λ (z : Entry). matches z key) row.2 ∙ hit) in
           (its.0, its.1, ap entry_of its.2 ∙ row.2)
@@ -168,7 +151,7 @@ module _ (m : Description) (tables : List (List Entry)) (apps : List LoadedApp) 
         ap (λ l. slice_get l in_rows.0) r.entries ∙ slice_get-mapped entry_of r.rows in_rows.0 row (member_at r.rows row in_rows) in
         let block_is : row.block ≡ x.block = mine.2.keys ∙ ap (λ (n : NetPlan). n.block) own.in_app.2 in (
           entry_of row,
-          Contains-at table (range.place + in_rows.0) (entry_of row) (of_part table range.place range.size in_rows.0 (entry_of row) at_part),
+          Contains-at table (range.place + in_rows.0) (entry_of row) (sym (part_at table range.place range.size in_rows.0 (omega (arith, slice_get_within _ in_rows.0 (entry_of row) at_part, length-take range.size (drop range.place table)))) ∙ at_part),
           eq-eqb (bit_and key row.block.mask) row.block.key (ap (λ (b : Block). bit_and key b.mask) block_is ∙ (keyed.matches ∙ sym (ap (λ (b : Block). b.key) block_is))),
         )
 

@@ -1,25 +1,20 @@
 -- Ranges taken one after the other for claims, and given back.
-use Rattle.app_loads.proofs.Common.{All, All-append, All-cons, All-contains, All-head, All-nil, All-tail, All-weaker, AllPairs, AllPairs-across, AllPairs-append, AllPairs-head, AllPairs-left}
-use Rattle.app_loads.proofs.Common.{AllPairs-right, AllPairs-tail, AreFreeBeside, AreRuns, AreServedAlways, AreTaken, AreTakenAlways, CanGive, CanServe, Claim, Contains, Description, Free, HaveRoom}
-use Rattle.app_loads.proofs.Common.{HaveServed, IfSome, IsDueAlways, IsDueOf, IsFair, IsFairFor, IsFreeBeside, IsLeastOpenRange, IsRangeWithin, IsRefusalDue, List, LoadErr, Range, Refused, Region}
-use Rattle.app_loads.proofs.Common.{ServesClaim, ShareNoPlace, Some, [], among_any, among_contains, among_either, among_right, and_from, and_parts, and_right, any_among, ap, append-nil, append_assoc}
-use Rattle.app_loads.proofs.Common.{arith, both_ways, cases_Bool, cases_eq, contains_among, count_by, count_by-append, count_by-cons, count_by-le-length, drop, drop_all, drop_more, eq-eqb, eqb-true}
+use Rattle.app_loads.proofs.Common.{Bool, AreCounted, has, All, All-append, All-cons, All-contains, All-head, All-nil, All-tail, All-weaker, AllPairs, AllPairs-across, AllPairs-append, AllPairs-head}
+use Rattle.app_loads.proofs.Common.{AllPairs-left, AllPairs-right, AllPairs-tail, AreFreeBeside, AreRuns, AreServedAlways, AreTaken, AreTakenAlways, CanGive, CanServe, Claim, Contains, Description}
+use Rattle.app_loads.proofs.Common.{Free, HaveRoom, HaveServed, IfSome, IsDueAlways, IsDueOf, IsFair, IsFairFor, IsFreeBeside, IsLeastOpenRange, IsRangeWithin, IsRefusalDue, List, LoadErr, Range}
+use Rattle.app_loads.proofs.Common.{Refused, Region, ServesClaim, ShareNoPlace, Some, [], among_any, among_contains, among_either, among_right, and_from, and_parts, and_right, any_among, ap}
+use Rattle.app_loads.proofs.Common.{append-nil, append_assoc, arith, both_ways, cases_Bool, contains_among, count_by, count_by-cons, count_by-le-length, drop, drop_all, drop_more, eq-eqb, eqb-true}
 use Rattle.app_loads.proofs.Common.{false, false_from_ne_true, free_places_in, frees, get_or, in_facts, in_range, inl, inr, is_free, is_taken, length, length-set, length_push, list_any-append, lt-ltb}
-use Rattle.app_loads.proofs.Common.{ltb, map-set, ne_eqb, none-some, not, or-false, or_right, place_of, range_has, refl, region_size, replicate, same_Some, set-slice_get, slice_get, slice_get-get_or}
-use Rattle.app_loads.proofs.Common.{slice_get-mapped, slice_get-push_cases, slice_get-set_other, slice_get-set_same, slice_get_within, slice_set, subst, suc, sym, take, take-append-le, take_at, true}
-use Rattle.app_loads.proofs.Common.{zero, ℕ, ◌%◌, ◌&&◌, ◌++◌, ◌+◌, ◌<◌, ◌==◌, ◌||◌, ◌∙◌, ◌∷◌, ◌≡◌, ◌≢◌, ◌≤◌, ◌⊎◌}
+use Rattle.app_loads.proofs.Common.{ltb, map-set, ne_eqb, none-some, not, or-false, place_of, range_has, refl, region_size, same_Some, set-slice_get, slice_get, slice_get-get_or, slice_get-mapped}
+use Rattle.app_loads.proofs.Common.{slice_get-push_cases, slice_get_within, slice_set, subst, sym, take, take-append-le, take_at, true, ℕ, ◌%◌, ◌&&◌, ◌++◌, ◌+◌, ◌<◌, ◌==◌, ◌||◌, ◌∙◌, ◌∷◌, ◌≡◌, ◌≢◌}
+use Rattle.app_loads.proofs.Common.{◌≤◌}
+use Rattle.app_loads.proofs.{LeavingLists.counted_push, LeavingLists.more_here, LeavingLists.none_elsewhere, LeavingLists.set_cases, LeavingLists.one_if, Others.pairs_with_last}
 use Rattle.app_loads.specs.declared.answers.LoadErr.TheVariants.{Memory}
-use Rattle.app_loads.proofs.{LeavingLists.one_if, Others.pairs_with_last}
 
 -- ---- lists
 
 pub pushed_long : {X : Type 0} (xs ys : List X) (y : X) → ys ≡ xs ++ y ∷ [] → length ys ≡ length xs + 1
 pushed_long xs ys y is = let one = length_push xs y in let all = ap length is in omega (arith, one, all)
-
--- an item of a list in which one was written
-pub set_cases : {X : Type 0} (xs : List X) (i j : ℕ) (x y z : X) → slice_get xs i ≡ Some x → slice_get (slice_set xs i y) j ≡ Some z →
-    ((j ≡ i) × (z ≡ y)) ⊎ ((j ≢ i) × (slice_get xs j ≡ Some z))
-set_cases xs i j x y z at e = grind (arith, cases_eq j i, slice_get-set_same xs i x y at, same_Some, slice_get-set_other)
 
 -- ---- how many ranges are of each region
 
@@ -27,29 +22,8 @@ set_cases xs i j x y z at e = grind (arith, cases_eq j i, slice_get-set_same xs 
 abbrev pub of_region : ℕ → List Range → ℕ
 of_region k ranges = count_by (λ (range : Range). range.region == k) ranges
 
--- so many counts of no range
-pub none_counted : (n k c : ℕ) → slice_get (replicate n 0) k ≡ Some c → c ≡ 0
-none_counted zero k c e = cc
-none_counted (suc n) zero c e = same_Some _ _ (sym e)
-none_counted (suc n) (suc k) c e = none_counted n k c e
-
-module _ (ranges : List Range) (range : Range) where
-  one_more : (k : ℕ) → of_region k (ranges ++ range ∷ []) ≡ of_region k ranges + one_if (range.region == k)
-  one_more k = grind (arith, count_by-append, count_by-cons)
-
-  pub more_here : of_region range.region (ranges ++ range ∷ []) ≡ of_region range.region ranges + 1
-  more_here = let more = one_more range.region in let one : one_if (range.region == range.region) ≡ 1 = ap one_if (eq-eqb range.region range.region refl) in omega (arith, more, one)
-
-  pub none_elsewhere : (k : ℕ) → k ≢ range.region → of_region k (ranges ++ range ∷ []) ≡ of_region k ranges
-  none_elsewhere k other = let more = one_more k in let none : one_if (range.region == k) ≡ 0 = ap one_if (ne_eqb range.region k (λ e. other (sym e))) in omega (arith, more, none)
-
-  -- the counts of all regions, once the range is counted
-  pub counted_push : (counts : List ℕ) (count next : ℕ) → slice_get counts range.region ≡ Some count → ((k n : ℕ) → slice_get counts k ≡ Some n → n ≡ of_region k ranges) → next ≡ count + 1 →
-      (k n : ℕ) → slice_get (slice_set counts range.region next) k ≡ Some n → n ≡ of_region k (ranges ++ range ∷ [])
-  counted_push counts count next there counted is k n at = elim (set_cases counts range.region k count next n there at) [
-    | inl mine ↦ grind (arith, counted range.region count there, more_here)
-    | inr other ↦ counted k n other.1 ∙ sym (none_elsewhere k other.0)
-  ]
+abbrev pub region_in : Range → ℕ
+region_in range = range.region
 
 -- ---- what is taken
 
@@ -68,6 +42,27 @@ by_taken ranges region k e = let found = any_among (range_has region k) ranges e
 pub none_taken : (ranges : List Range) (range : Range) → ((other : Range) → Contains ranges other → ShareNoPlace range other) → (region k : ℕ) → range_has region k range ≡ true →
     is_taken ranges region k ≡ false
 none_taken ranges range apart region k here = grind (arith, false_from_ne_true, by_taken, here)
+
+-- without one of ranges that are apart, all places but its own are taken as before
+taken_without : (others rest : List Range) (range : Range) → AllPairs ShareNoPlace (others ++ range ∷ rest) → (region k : ℕ) →
+    is_taken (others ++ rest) region k ≡ (is_taken (others ++ range ∷ rest) region k && not (range_has region k range))
+taken_without others rest range apart region k = elim (cases_Bool (range_has region k range)) [
+  | inl mine ↦
+      none_taken (others ++ rest) range alone region k mine
+      ∙ sym (ap (λ b. is_taken (others ++ range ∷ rest) region k && not b) mine ∙ and_right (is_taken (others ++ range ∷ rest) region k) false refl)
+  | inr out ↦ grind (arith, list_any-append (range_has region k) others rest, list_any-append (range_has region k) others (range ∷ rest))
+]
+  where
+    alone : (other : Range) → Contains (others ++ rest) other → ShareNoPlace range other
+    alone other has = elim (among_either other others rest (contains_among other (others ++ rest) has)) [
+      | inl before ↦ (λ a n mine its. All-head (ShareNoPlace other) range rest (All-contains (λ r. All (ShareNoPlace r) (range ∷ rest)) others other
+          (AllPairs-across ShareNoPlace others (range ∷ rest) apart) (among_contains other others before)) a n its mine)
+      | inr later ↦ All-contains (ShareNoPlace range) rest other (AllPairs-head ShareNoPlace range rest (AllPairs-right ShareNoPlace others (range ∷ rest) apart)) (among_contains other rest later)
+    ]
+
+-- what is free once a range is given back
+given_back : (free low taken mine : Bool) → free ≡ (low && not taken) → (mine ≡ true → low ≡ true) → (free || mine) ≡ (low && not (taken && not mine))
+given_back free low taken mine is within = grind (arith, cases_Bool mine, cases_Bool taken, cases_Bool low)
 
 -- the free places of all regions, where one region changed, and in it what is taken
 set_free : (m : Description) (taken now : List Range) (old : List Region) (p : ℕ) (before after : Region) → AreFreeBeside m taken (frees old) → slice_get old p ≡ Some before →
@@ -129,12 +124,6 @@ module _ (ranges : List Range) {others : List Range} {i : ℕ} {regions : List R
   give_within : range.place + range.size ≤ before.size
   give_within = let w = within_here.within in let s = beside_here.size in omega (arith, w, s)
 
-  both : (region k : ℕ) → is_taken (others ++ range ∷ rest) region k ≡ (is_taken others region k || (range_has region k range || is_taken rest region k))
-  both region k = list_any-append (range_has region k) others (range ∷ rest)
-
-  left : (region k : ℕ) → is_taken (others ++ rest) region k ≡ (is_taken others region k || is_taken rest region k)
-  left region k = list_any-append (range_has region k) others rest
-
   mine : (k : ℕ) → in_range range.place range.size k ≡ true → range_has range.region k range ≡ true
   mine k it = and_from (range.region == range.region) (in_range range.place range.size k) (eq-eqb range.region range.region refl) it
 
@@ -145,49 +134,25 @@ module _ (ranges : List Range) {others : List Range} {i : ℕ} {regions : List R
       in_middle : Contains (others ++ range ∷ rest) range
       in_middle = among_contains range (others ++ range ∷ rest) (among_right range others (range ∷ rest) (inl refl))
 
-  across : All (λ a. All (ShareNoPlace a) (range ∷ rest)) others
-  across = AllPairs-across ShareNoPlace others (range ∷ rest) here.apart
-
-  right : AllPairs ShareNoPlace (range ∷ rest)
-  right = AllPairs-right ShareNoPlace others (range ∷ rest) here.apart
-
-  -- what is left is apart from it
-  not_left : (k : ℕ) → in_range range.place range.size k ≡ true → is_taken (others ++ rest) range.region k ≡ false
-  not_left k it = none_taken (others ++ rest) range (λ other has. elim (among_either other others rest (contains_among other (others ++ rest) has)) [
-    | inl other_one ↦ (λ region n a b.
-        (All-head (ShareNoPlace other) range rest (All-contains (λ a'. All (ShareNoPlace a') (range ∷ rest)) others other across (among_contains other others other_one))) region n b a)
-    | inr later ↦ All-contains (ShareNoPlace range) rest other (AllPairs-head ShareNoPlace range rest right) (among_contains other rest later)
-  ]) range.region k (mine k it)
-
   pub back_at : (after : Region) → after.size ≡ before.size → AreRuns 0 after.size after.holes →
       ((k : ℕ) → is_free after.holes k ≡ (is_free before.holes k || in_range range.place range.size k)) → AreTaken m others rest (slice_set regions range.region after)
   back_at after size runs free = record {
     within = subst (λ n. All (IsRangeWithin m n) rest) (sym (length-set regions range.region after)) (All-tail (IsRangeWithin m (length regions)) range rest here.within);
-    apart = AllPairs-append ShareNoPlace others rest (AllPairs-left ShareNoPlace others (range ∷ rest) here.apart) (AllPairs-tail ShareNoPlace range rest right)
-        (All-weaker (λ a. All (ShareNoPlace a) (range ∷ rest)) (λ a. All (ShareNoPlace a) rest) (λ a all. All-tail (ShareNoPlace a) range rest all) others across);
+    apart = AllPairs-append ShareNoPlace others rest (AllPairs-left ShareNoPlace others (range ∷ rest) here.apart)
+        (AllPairs-tail ShareNoPlace range rest (AllPairs-right ShareNoPlace others (range ∷ rest) here.apart))
+        (All-weaker (λ a. All (ShareNoPlace a) (range ∷ rest)) (λ a. All (ShareNoPlace a) rest) (λ a all. All-tail (ShareNoPlace a) range rest all) others
+        (AllPairs-across ShareNoPlace others (range ∷ rest) here.apart));
     free = set_free m (others ++ range ∷ rest) (others ++ rest) regions range.region before after here.free at_place
-        (λ region k other. grind (arith, both region k, ne_eqb range.region region (λ e'. other (sym e')), left region k)) (record {
+        (λ region k other. grind (arith, taken_without others rest range here.apart region k, ne_eqb range.region region (λ e'. other (sym e')))) (record {
           size = size ∙ beside_here.size;
           runs = runs;
-          free = λ k. free k ∙ elim (cases_Bool (in_range range.place range.size k)) [
-            | inl inside ↦
-                let low : ltb k after.size ≡ true = lt-ltb k after.size (omega (arith, in_facts range.place range.size k inside, give_within, size)) in
-                ap (λ b. is_free before.holes k || b) inside ∙ (or_right (is_free before.holes k) true refl
-                ∙ sym (ap (λ b. b && not (is_taken (others ++ rest) range.region k)) low ∙ ap (λ b. true && not b) (not_left k inside)))
-            | inr outside ↦
-                ap (λ b. is_free before.holes k || b) outside
-                ∙ (or-false (is_free before.holes k)
-                ∙ (beside_here.free k
-                ∙ (ap (λ b. ltb k before.size && not b) (same_outside k outside) ∙ ap (λ n. ltb k n && not (is_taken (others ++ rest) range.region k)) (sym size))))
-          ];
+          free = λ k.
+              free k
+              ∙ (given_back (is_free before.holes k) (ltb k before.size) (is_taken (others ++ range ∷ rest) range.region k) (in_range range.place range.size k) (beside_here.free k)
+              (λ it. lt-ltb k before.size (omega (arith, in_facts range.place range.size k it, give_within)))
+              ∙ grind (arith, taken_without others rest range here.apart range.region k, eq-eqb range.region range.region refl, size));
         });
   }
-    where
-      same_outside : (k : ℕ) → in_range range.place range.size k ≡ false → is_taken (others ++ range ∷ rest) range.region k ≡ is_taken (others ++ rest) range.region k
-      same_outside k outside =
-          both range.region k
-          ∙ (ap (λ b. is_taken others range.region k || (((range.region == range.region) && b) || is_taken rest range.region k)) outside
-          ∙ (ap (λ b. is_taken others range.region k || (b || is_taken rest range.region k)) (and_right (range.region == range.region) false refl) ∙ sym (left range.region k)))
 
   module _ (room : HaveRoom (drop i ranges) regions) where
     counted : (n : ℕ) → of_region n (drop i ranges) ≡ one_if (range.region == n) + of_region n rest
@@ -258,7 +223,7 @@ module _ {m : Description} {claims : List Claim} {old mid : List Region} {ranges
       }
 
   -- what is counted of the claim's region
-  module _ (counts : List ℕ) (f : ℕ) (long : length counts ≡ length old) (counted : (k n : ℕ) → slice_get counts k ≡ Some n → n ≡ of_region k ranges) where
+  module _ (counts : List ℕ) (f : ℕ) (long : length counts ≡ length old) (counted : AreCounted region_in ranges counts) where
     pub count_there : at < length counts
     count_there = let there = fair.there in omega (arith, there, long, at_is)
 
@@ -269,10 +234,9 @@ module _ {m : Description} {claims : List Claim} {old mid : List Region} {ranges
     pub few_held : length claims ≤ 262144 → get_or counts at f < 262144
     few_held few = grind (arith, count_held, count_by-le-length)
 
-    pub counts_more : (place : ℕ) (list : List Range) → list ≡ ranges ++ range_here place ∷ [] → (next : ℕ) → next ≡ get_or counts at f + 1 →
-        (k n : ℕ) → slice_get (slice_set counts at next) k ≡ Some n → n ≡ of_region k list
-    counts_more place list pushed next is k n got =
-        counted_push ranges (range_here place) counts (get_or counts at f) next (slice_get-get_or counts at f count_there) counted is k n got ∙ ap (of_region k) (sym pushed)
+    pub counts_more : (place : ℕ) (list : List Range) → list ≡ ranges ++ range_here place ∷ [] → (next : ℕ) → next ≡ get_or counts at f + 1 → AreCounted region_in list (slice_set counts at next)
+    counts_more place list pushed next is = subst (λ l. AreCounted region_in l (slice_set counts at next)) (sym pushed)
+        (counted_push region_in ranges (range_here place) counts (get_or counts at f) next (slice_get-get_or counts at f count_there) counted is)
 
   pub claim_served : (after : Region) (place : ℕ) (list : List Range) (held : ℕ) → held ≡ of_region at ranges → list ≡ ranges ++ range_here place ∷ [] → ServesClaim claim before' after place →
       held + 1 ≤ after.spare → HaveServed m claims old list (slice_set mid at after)
@@ -313,8 +277,8 @@ module _ {m : Description} {claims : List Claim} {old mid : List Region} {ranges
       | inl mine ↦
           let same : region.spare ≡ after.spare = ap (λ (x : Region). x.spare) mine.1 in
           let number : of_region k (ranges ++ r ∷ []) ≡ of_region at (ranges ++ r ∷ []) = ap (λ n. of_region n (ranges ++ r ∷ [])) mine.0 in
-          omega (arith, more_here ranges r, spare, same, number, counted)
-      | inr other ↦ omega (arith, so_far.room k region other.1, none_elsewhere ranges r k other.0)
+          omega (arith, more_here region_in ranges r, spare, same, number, counted)
+      | inr other ↦ omega (arith, so_far.room k region other.1, none_elsewhere region_in ranges r k other.0)
     ];
     long = length-set mid at after ∙ so_far.long;
   })

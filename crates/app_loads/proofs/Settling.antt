@@ -1,13 +1,13 @@
 -- An application's rows and packets on a mesh.
-use Rattle.app_loads.proofs.Common.{All, All-at, All-contains, All-each, All-head, All-push, All-set, AllZip-at_second, AppNet, AreCopied, AreOriginals, AreSent, AreWritten, AtEach, Block, CanCopy}
-use Rattle.app_loads.proofs.Common.{CanSend, CanSettle, Chip, Contains, Contains-at, Delivery, Description, DumpRec, Edge, Entry, FitsTable, HaveRooms, IsAppNet, IsInside, IsMesh, IsPacketOfApp}
-use Rattle.app_loads.proofs.Common.{IsPacketOn, IsPermutation-refl, IsPlainTable, IsRangeFor, IsRangeWithin, IsSendingFrom, IsSettled, IsTreeChip, List, LoadedApp, McCopy, Option, Original, Packet}
-use Rattle.app_loads.proofs.Common.{Range, Row, Rows, Setup, Some, Spot, State, Table, [], among_any, among_contains, any_among, ap, arith, chip_count, chip_eq, chip_eq-from_same, chip_eq_true}
-use Rattle.app_loads.proofs.Common.{chip_of-index_of, claims_of, contains_among, count_by, count_by-cons, drop, end_of, entry_of, false, false_from_ne_true, has_chip, if◌then◌else◌, in_from}
-use Rattle.app_loads.proofs.Common.{index_below, index_of, inl, inr, leb, length, length-map, length-set, length_permutation, list_any, map, nat_tests, net_with, nets_of, nets_with, option_map_or}
-use Rattle.app_loads.proofs.Common.{or_cases, or_left, or_right, place_of, refl, region_size, row_entry, row_of, slice_get, slice_get_there, slice_get_within, subst, suc, sym, table_at, take}
-use Rattle.app_loads.proofs.Common.{tree_cases, tree_end, true, usable_parts, vertex_there, zero, ℕ, ◌*◌, ◌++◌, ◌+◌, ◌-◌, ◌==◌, ◌∙◌, ◌∷◌, ◌≡◌, ◌≤◌}
-use Rattle.app_loads.proofs.{AppNets.member_at, AppNets.packet_key, AppNets.spot_inside, AppNets.usable_spot, ClaimCases.row_size, Copying.part_is, LeavingLists.one_if, RowClaims.leads_to}
+use Rattle.app_loads.proofs.Common.{chip_of, chip_of-inside, has, index_of-chip_of, All, All-at, All-contains, All-each, All-head, All-push, All-set, AllZip-at_second, AppNet, AreCopied, AreOriginals}
+use Rattle.app_loads.proofs.Common.{AreSent, AreWritten, AtEach, Block, CanCopy, CanSend, CanSettle, Chip, Contains, Contains-at, Delivery, Description, DumpRec, Edge, Entry, FitsTable, HaveRooms}
+use Rattle.app_loads.proofs.Common.{IsAppNet, IsInside, IsMesh, IsPacketOfApp, IsPacketOn, IsPermutation-refl, IsPlainTable, IsRangeFor, IsRangeWithin, IsSendingFrom, IsSettled, IsTreeChip, List}
+use Rattle.app_loads.proofs.Common.{LoadedApp, McCopy, Option, Original, Packet, Range, Row, Rows, Setup, Some, Spot, State, Table, [], among_any, among_contains, any_among, ap, arith, chip_count}
+use Rattle.app_loads.proofs.Common.{chip_eq, chip_eq-from_same, chip_eq_true, chip_of-index_of, claims_of, contains_among, count_by, count_by-cons, drop, end_of, entry_of, false, false_from_ne_true}
+use Rattle.app_loads.proofs.Common.{has_chip, in_from, index_below, index_of, inl, inr, length, length-map, length-set, length_permutation, list_any, map, nat_tests, net_with, nets_of, nets_with}
+use Rattle.app_loads.proofs.Common.{option_map_or, or_cases, or_left, or_right, place_of, refl, region_size, row_entry, row_of, slice_get, slice_get_there, slice_get_within, subst, suc, sym, table_at}
+use Rattle.app_loads.proofs.Common.{take, tree_cases, tree_end, true, usable_parts, vertex_there, zero, ℕ, ◌*◌, ◌++◌, ◌+◌, ◌-◌, ◌∙◌, ◌∷◌, ◌≡◌, ◌≤◌}
+use Rattle.app_loads.proofs.{Copying.part_is, AppNets.member_at, AppNets.packet_key, AppNets.spot_inside, AppNets.usable_spot, ClaimCases.row_size, LeavingLists.one_if, RowClaims.leads_to}
 use Rattle.app_loads.proofs.{Spots.usable_there, Unsent.nets_with_at}
 
 -- ---- rows of a chip
@@ -39,15 +39,7 @@ plain_count m c nets blocks rows long plain =
     grind (arith, length_permutation (map row_of plain.originals) rows plain.one_row_each, originals_count m c nets blocks plain.originals long plain.originals_are, length-map plain.originals row_of)
 
 pub rows_size : (m : Description) (i : ℕ) → region_size m (1 + (chip_count m + i)) ≡ 1024
-rows_size m i =
-    ap (λ b. if b then 4294967296 else (if leb (1 + (chip_count m + i)) (chip_count m) then m.sdram else 1024)) (not_zero (chip_count m + i))
-    ∙ ap (λ b. if b then m.sdram else 1024) (too_great (chip_count m) i)
-  where
-    not_zero : (k : ℕ) → (1 + k == 0) ≡ false
-    not_zero k = grind arith
-
-    too_great : (n k : ℕ) → leb (1 + (n + k)) n ≡ false
-    too_great n k = grind (arith, nat_tests)
+rows_size m i = grind (arith, nat_tests)
 
 module _ (s : State) (app : LoadedApp) (can : CanSettle s app) where
   abbrev its_machine : Description
@@ -123,11 +115,14 @@ module _ (s : State) (app : LoadedApp) (can : CanSettle s app) (mesh : IsMesh s)
 
   module _ {rows lent : List Table} {ranges : List Range} (plain : ArePlain m app rows) (is_rows : lent ≡ rows) (is_ranges : ranges ≡ app.ranges) where
     fit_there : (range : Range) → Contains app.ranges range → FitsTable m rows range
-    fit_there range has c t inside region at =
-        let size = range_size s app can range has c inside region in
-        let many = plain_count m c app.plan.nets app.blocks t.rows can.loaded.blocks.all (plain.1 c t inside at) in
+    fit_there range has j t region at =
+        let c : Chip = chip_of m j in
+        let is : index_of m c ≡ j = index_of-chip_of m j in
+        let inside = chip_of-inside m j (omega (arith, slice_get_within rows j t at, plain.0)) in
+        let size = range_size s app can range has c inside (region ∙ ap (λ k. 1 + (chip_count m + k)) (sym is)) in
+        let many = plain_count m c app.plan.nets app.blocks t.rows can.loaded.blocks.all (plain.1 c t inside (ap (slice_get rows) is ∙ at)) in
         let within = (All-contains (IsRangeWithin m (1 + (chip_count m + chip_count m))) app.ranges range can.loaded.within has).within in
-        let ends : range.place + range.size ≤ 1024 = subst (λ r. range.place + range.size ≤ r) (ap (region_size m) region ∙ rows_size m (index_of m c)) within in
+        let ends : range.place + range.size ≤ 1024 = subst (λ r. range.place + range.size ≤ r) (ap (region_size m) region ∙ rows_size m j) within in
         (omega (arith, size, many, ends), size ∙ sym many)
 
     pub can_copy : {rooms : List ℕ} → HaveRooms m ranges rooms → CanCopy m s.setup.tables lent ranges rooms
@@ -157,7 +152,7 @@ module _ (s : State) (app : LoadedApp) (can : CanSettle s app) (mesh : IsMesh s)
         entries_of : AreCopied m rows app.ranges s.setup.tables new → (range : Range) → Contains app.ranges range → (c : Chip) → IsInside m c → range.region ≡ place_of m (Rows c) →
             (t : Table) → slice_get rows (index_of m c) ≡ Some t → take range.size (drop range.place (table_at m new c)) ≡ map entry_of t.rows
         entries_of c' range has c inside region t at =
-            let fits = fit_there range has c t inside region at in
+            let fits = fit_there range has (index_of m c) t region at in
             let many = length-map t.rows entry_of in
             let size : range.size ≡ length (map entry_of t.rows) = omega (arith, fits, many) in
             ap (λ n. take n (drop range.place (table_at m new c))) size

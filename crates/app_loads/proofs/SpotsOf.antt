@@ -1,17 +1,14 @@
 -- The application of a number, where its place is asked for.
+use Rattle.app_loads.proofs.Common.{position_nowhere}
 use Rattle.app_loads.proofs.Common.{All, All-contains, Among, AreApps, Bool, Contains, Host, IsLoadedOn, IsUsable, List, LoadedApp, None, Some, Spot, among_any, among_at, among_contains, among_filter}
 use Rattle.app_loads.proofs.Common.{any_among, ap, arith, both_ways, contains_among, eq-eqb, false, false_from_ne_true, get_or, is_loaded, is_spot_taken, list_any, not, not-true, others_than}
 use Rattle.app_loads.proofs.Common.{position, spot_eq, spot_eq_true, sym, true, ℕ, ◌==◌, ◌||◌, ◌∙◌, ◌≡◌, ◌≢◌}
 pub use Rattle.app_loads.proofs.Others.{same_tests}
 use Rattle.app_loads.proofs.{LeftParts.found_app, LeftParts.not_loaded, Others.HaveNumbers, Others.across_pairs, Others.any_app, Others.only_one}
 
--- a number of an application is loaded
-number_loaded : (apps : List LoadedApp) (number : ℕ) (app : LoadedApp) → Contains apps app → app.number ≡ number → is_loaded apps number ≡ true
-number_loaded apps number app has its = grind (arith, contains_among app apps has, eq-eqb app.number number its, among_any)
-
 -- where no place is found, no application has the number
 pub no_app : (apps : List LoadedApp) (number : ℕ) → position (λ (a : LoadedApp). a.number == number) apps ≡ None → (app : LoadedApp) → Contains apps app → app.number ≡ number → ⊥
-no_app apps number none app has its = absurd (both_ways _ (not_loaded apps number none) (number_loaded apps number app has its))
+no_app apps number none app has its = position_nowhere (λ (a : LoadedApp). a.number == number) apps app none (contains_among app apps has) (eq-eqb app.number number its)
 
 module _ (apps : List LoadedApp) (number at : ℕ) (found : LoadedApp) (place : position (λ (a : LoadedApp). a.number == number) apps ≡ Some at) (value : found ≡ get_or apps at found) where
   -- the application at the place that is found is the only one of the number

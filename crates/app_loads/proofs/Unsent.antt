@@ -1,9 +1,10 @@
 -- Packets put to the vertices of their nets' sources, and queues emptied.
+use Rattle.app_loads.proofs.LeavingLists.{same_items}
 use Rattle.app_loads.proofs.Common.{All, All-at, AppNet, AreCleared, AreSent, AreSources, Block, CanAdd, Contains, Contains-at, Contains-push_cases, IsPacketOn, IsSameBeside, IsSendingFrom, List}
 use Rattle.app_loads.proofs.Common.{LoadedApp, McCopy, NoneUnsent, Packet, Setup, Some, Spot, [], among_any, among_contains, any_among, ap, arith, cases_Bool, cases_eq, contains_among, eq-eqb}
-use Rattle.app_loads.proofs.Common.{eqb-true, false≢true, get_or, inl, inr, length, length-map, length-set, list_any, map, net_with, nets_with, refl, same_Some, same_lists, slice_get}
-use Rattle.app_loads.proofs.Common.{slice_get-get_or, slice_get-mapped, slice_get-set_other, slice_get-set_same, slice_get_there, slice_get_within, slice_set, source_at, subst, suc, sym, take}
-use Rattle.app_loads.proofs.Common.{take_all, take_more_at, unwrap_or, unwrap_or-slice_get, vertex_at-below, zero, ℕ, ◌++◌, ◌+◌, ◌<◌, ◌==◌, ◌^◌, ◌∙◌, ◌∷◌, ◌≡◌, ◌≢◌, ◌≤◌, ◌⊎◌}
+use Rattle.app_loads.proofs.Common.{eqb-true, false≢true, get_or, inl, inr, length, length-map, length-set, list_any, map, net_with, nets_with, refl, same_Some, slice_get, slice_get-get_or}
+use Rattle.app_loads.proofs.Common.{slice_get-mapped, slice_get-set_other, slice_get-set_same, slice_get_there, slice_get_within, slice_set, source_at, subst, suc, sym, take, take_all, take_more_at}
+use Rattle.app_loads.proofs.Common.{unwrap_or, vertex_at-below, zero, ℕ, ◌++◌, ◌+◌, ◌<◌, ◌==◌, ◌^◌, ◌∙◌, ◌∷◌, ◌≡◌, ◌≢◌, ◌≤◌, ◌⊎◌}
 
 -- a net of the application, by its place
 pub nets_with_at : (nets : List AppNet) (blocks : List Block) (i : ℕ) (net : AppNet) (block : Block) → slice_get nets i ≡ Some net → slice_get blocks i ≡ Some block →
@@ -102,7 +103,7 @@ all_cleared sources old cur i end same empty = record { beside = same; empty = �
 pub put_back : (spots : List Spot) (nets : List AppNet) (sources : List ℕ) (old mid new : List (List McCopy)) → AreSources spots nets sources → NoneUnsent spots nets old →
     IsSameBeside sources old mid → AreCleared sources mid new → new ≡ old
 put_back spots nets sources old mid new are none same cleared =
-    same_lists new old (cleared.beside.long ∙ same.long) (λ k d below. sym (unwrap_or-slice_get new k d) ∙ (ap (λ o. unwrap_or o d) (each k) ∙ unwrap_or-slice_get old k d))
+    same_items new old (cleared.beside.long ∙ same.long) (λ k below. each k)
   where
     each : (w : ℕ) → slice_get new w ≡ slice_get old w
     each w = elim (cases_Bool (list_any (λ k. k == w) sources)) [

@@ -1,14 +1,12 @@
 -- How often nets have a chip in their trees, as the private functions say it.
-use Rattle.std.specs.Prelude.{◌≡◌, ℕ, ◌<◌, ◌≤◌, ◌==◌, List, [], ◌∷◌, All, Option, Some, None, count_by, length, slice_get}
+use Rattle.std.specs.Prelude.{◌≡◌, ℕ, ◌≤◌, ◌==◌, List, [], ◌∷◌, All, Option, Some, None, count_by, slice_get}
 use Rattle.std.specs.List.{flat_map}
 use Rattle.spin_base.specs.declared.chips.Chip.{Chip}
 use Rattle.machine_desc.specs.declared.trees.Edge.{Edge}
 use Rattle.machine_desc.specs.Description.{Description}
 use Rattle.machine_desc.specs.Live.{index_of, IsInside}
 use Rattle.machine_desc.specs.RoutingTree.{end_of, IsRoutingTree}
-use Rattle.app_loads.specs.declared.loaded.Claim.{Claim}
 use Rattle.app_loads.specs.declared.plans.AppNet.{AppNet}
-use Rattle.app_loads.specs.Claims.{entries_claim}
 
 -- a net can need so many keys: at least one, and at most all of 32 bits
 pub record IsKeyCount (keys : ℕ) : Type 0 where
@@ -37,13 +35,6 @@ end_places m e = chip_places m (end_of m e)
 abbrev pub tree_places : Description → AppNet → List ℕ
 tree_places m net = index_of m net.tree.root ∷ flat_map (end_places m) net.tree.edges
 
--- what is claimed of the chip of an index: as many entries as the list has the index
-abbrev pub run_claim : Description → List ℕ → ℕ → List Claim
-run_claim m chips i = entries_claim m i (count_by (λ k. k == i) chips)
-
--- The items from a place up to the end are equal, and the item at the end is another.
-pub record IsRunEnd (items : List ℕ) (at end : ℕ) : Type 0 where
-  pub after : at < end
-  pub within : end ≤ length items
-  pub same : (k x y : ℕ) → at ≤ k → k < end → slice_get items k ≡ Some x → slice_get items at ≡ Some y → x ≡ y
-  pub other : (x y : ℕ) → slice_get items end ≡ Some x → slice_get items at ≡ Some y → x ≡ y → ⊥
+-- A list has for each number, as far as it is long, how often a function of items gives it.
+abbrev pub AreCounted : {X : Type 0} → (X → ℕ) → List X → List ℕ → Type 0
+AreCounted f xs counts = (k n : ℕ) → slice_get counts k ≡ Some n → n ≡ count_by (λ x. f x == k) xs

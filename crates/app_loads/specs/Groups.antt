@@ -41,11 +41,11 @@ pub record IsGroup (g : Inside) : Type 0 where
   pub counted : g.count ≡ length (deliveries_in g.sent g.arrivals)
   pub between : All (IsBetween g.least g.greatest) g.sent
 
--- A group's last deliveries, so many, are those of a packet.
-pub record EndsWith (g : Grouped) (p : Sent) (count : ℕ) : Type 0 where
+-- The last of some deliveries, so many, are those of a packet that came there.
+pub record EndsWith (deliveries : List Delivery) (arrivals : List Arrival) (p : Sent) (count : ℕ) : Type 0 where
   pub before : List Delivery
-  pub is : g.deliveries ≡ before ++ deliveries_at g.arrivals p
-  pub long : length g.arrivals ≡ count
+  pub is : deliveries ≡ before ++ deliveries_at arrivals p
+  pub long : length arrivals ≡ count
 
 -- where the packets of the last group came
 abbrev pub last_arrivals : List Grouped → List Arrival

@@ -66,10 +66,11 @@ pub record AreKnownIn (parts : State) (senders : Option (List ℕ)) : Type 0 whe
   pub mesh : IsMesh parts
   pub known : IfSome senders (λ vertices. SendAlone vertices parts)
 
--- deliveries came behind others, and so they come whenever the vertex sends a packet with a key alike to this one
-pub record HasBroughtMore (before after : List Delivery) (u : Setup) (v key : ℕ) : Type 0 where
+-- so many deliveries came behind others, and so they come whenever the vertex sends a packet with a key alike to this one
+pub record HasBroughtMore (before after : List Delivery) (u : Setup) (v key count : ℕ) : Type 0 where
   pub come : List Delivery
   pub is : after ≡ before ++ come
+  pub long : length come ≡ count
   pub always : BringsAlways u v key come
 
 -- whenever a vertex may send a packet with a key of this block first, it comes to these places by events of which none drops a copy

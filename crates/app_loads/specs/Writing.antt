@@ -1,5 +1,5 @@
 -- Rows put into ranges of entries, and taken out of them, as the private functions say it.
-use Rattle.std.specs.Prelude.{◌≡◌, ℕ, ◌+◌, ◌-◌, ◌<◌, ◌≤◌, true, false, List, [], All, AllPairs, Contains, Option, Some, length, map, slice_get}
+use Rattle.std.specs.Prelude.{◌≡◌, ℕ, ◌+◌, ◌-◌, ◌<◌, ◌≤◌, true, false, List, [], All, AllPairs, Contains, Option, Some, length, map, slice_get, if◌then◌else◌}
 use Rattle.std.specs.Option.{option_map_or}
 use Rattle.spin_base.specs.declared.blocks.Entry.{Entry}
 use Rattle.spin_base.specs.declared.chips.Chip.{Chip}
@@ -27,15 +27,14 @@ pub record HasEntriesFrom (table : List Entry) (first count : ℕ) : Type 0 wher
 abbrev pub tables_in : List (List Mark) → List Table
 tables_in lists = map table_of_sorted lists
 
--- the range lies within the chip's table, and has as many places as the chip has rows
+-- the range lies within its table, and has as many places as there are rows of the table's chip
 abbrev pub FitsTable : Description → List Table → Range → Type 0
 FitsTable m rows range =
-    (c : Chip) (t : Table) → IsInside m c → range.region ≡ place_of m (Rows c) → slice_get rows (index_of m c) ≡ Some t →
-    (range.place + length t.rows ≤ ROUTER_ENTRIES) × (range.size ≡ length t.rows)
+    (j : ℕ) (t : Table) → range.region ≡ 1 + (chip_count m + j) → slice_get rows j ≡ Some t → (range.place + length t.rows ≤ ROUTER_ENTRIES) × (range.size ≡ length t.rows)
 
 -- a range of entries that lies within a table has room for its places
 abbrev pub HasRoom : Description → Range → ℕ → Type 0
-HasRoom m range room = (c : Chip) → range.region ≡ place_of m (Rows c) → range.place + range.size ≤ ROUTER_ENTRIES → range.place + range.size ≤ room
+HasRoom m range room = chip_count m < range.region → range.place + range.size ≤ ROUTER_ENTRIES → range.place + range.size ≤ room
 
 -- there is a room for each range, in their order
 pub record HaveRooms (m : Description) (ranges : List Range) (rooms : List ℕ) : Type 0 where
@@ -55,8 +54,7 @@ pub record CanCopy (m : Description) (tables : List (List Entry)) (rows : List T
 -- so many entries from a place on are these, and all others as they were
 pub record FillsFrom (first count : ℕ) (fill : ℕ → Option Entry) (old new : List Entry) : Type 0 where
   pub all : length new ≡ length old
-  pub filled : (k : ℕ) → k < length old → in_range first count k ≡ true → slice_get new k ≡ fill k
-  pub others : (k : ℕ) → in_range first count k ≡ false → slice_get new k ≡ slice_get old k
+  pub each : (k : ℕ) → slice_get new k ≡ (if in_range first count k then fill k else slice_get old k)
 
 -- the entries of each range of a chip's table are these, and all others as they were
 pub record AreFilled (m : Description) (fill : Range → Chip → ℕ → Option Entry) (ranges : List Range) (old new : List (List Entry)) : Type 0 where

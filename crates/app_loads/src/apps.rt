@@ -1,5 +1,5 @@
 // The applications of a machine, and what can be asked of them.
-ghost use Rattle.std.specs.Prelude.{◌≡◌, ◌==◌, ◌+◌, ◌≤◌, [], Contains, IfOk, OnOk, Some, false, vec_capacity, vec_len};
+ghost use Rattle.std.specs.Prelude.{◌≡◌, ◌==◌, ◌+◌, ◌≤◌, [], Contains, IfOk, OnOk, Some, false, is_some, true, vec_capacity, vec_len};
 ghost use Rattle.std.specs.List.{list_any};
 ghost use Rattle.spin_base.specs.Equality.{spot_eq};
 ghost use Rattle.app_loads.specs.Applications.{AreApps};
@@ -85,6 +85,7 @@ impl Apps {
     }
 
     /// Whether an application of that number is loaded. It takes no memory.
+    #[tactic(auto, using(crate::proofs::Numbers::any_number))]
     pub fn loaded(&self, number: u32) -> bool
         ensures { result ≡ is_loaded self.now.apps number }
     {
@@ -123,6 +124,17 @@ pub(crate) fn put<T: Drop>(held: &mut Option<T>, item: T)
     ensures { held.new ≡ Some item }
 {
     *held = Some(item);
+}
+
+// Takes the mesh out of its place, where it is.
+pub(crate) fn take_out(held: &mut Option<KeptMesh>) -> KeptMesh
+    requires { is_some held.old ≡ true }
+    ensures { held.old ≡ Some result }
+{
+    let Some(mesh) = held.take() else {
+        unreachable!()
+    };
+    mesh
 }
 
 // Whether the number is one of the list.

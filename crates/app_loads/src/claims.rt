@@ -1,13 +1,12 @@
 // What a plan asks the regions for.
-ghost use Rattle.std.specs.Prelude.{◌≡◌, ◌+◌, ◌*◌, ◌-◌, ◌^◌, ◌<◌, ◌≤◌, ◌++◌, All, AllPairs, IfOk, OnOk, IfSome, length, zip};
+ghost use Rattle.std.specs.Prelude.{◌≡◌, ◌+◌, ◌*◌, ◌-◌, ◌^◌, ◌<◌, ◌≤◌, ◌++◌, All, IfOk, OnOk, IfSome, length, zip};
 ghost use Rattle.std.specs.List.{flat_map, range_with_len};
-ghost use Rattle.std.specs.List.Sorted.{IsPermutation};
 ghost use Rattle.spin_base.specs.Gathered.{gathered};
 ghost use Rattle.machine_desc.specs.Live.{IsInside};
 ghost use Rattle.app_graph.specs.ValidGraph.{IsFixedFor};
 ghost use Rattle.app_loads.specs.declared.plans.AppNet.{AppNet as ANet};
 ghost use Rattle.app_loads.specs.Claims.{claims_of, memory_claim, fixed_claim, key_claim, entries_claim, row_claim, size_for};
-ghost use Rattle.app_loads.specs.Counting.{HasTree, HasTreeInside, IsKeyCount, IsRunEnd, end_places, run_claim, tree_places};
+ghost use Rattle.app_loads.specs.Counting.{AreCounted, HasTree, HasTreeInside, IsKeyCount, end_places, tree_places};
 ghost use Rattle.app_loads.specs.Plans.{IsPlan, IsAppNet};
 ghost use Rattle.app_loads.specs.Regions.{chip_count};
 
@@ -70,21 +69,13 @@ struct EdgeInside<'a> {
     ghost inside: { IsInside machine.now edge.chip },
 }
 
-// Indices of chips of a machine, in order.
+// For each chip of a machine a number of rows.
 #[derive(Clone, Copy)]
-struct ChipIndices<'a> {
+struct RowCounts<'a> {
     machine: &'a Machine,
-    list: &'a [u32],
-    ghost sorted: { AllPairs (λ a b. a ≤ b) list.now },
-    ghost inside: { All (λ i. i < chip_count machine.now) list.now },
-}
-
-// Where a run of equal indices begins.
-#[derive(Clone, Copy)]
-struct RunStart<'a> {
-    list: &'a [u32],
-    at: usize,
-    ghost within: { at < length list.now },
+    list: &'a [u64],
+    ghost all: { length list.now ≡ chip_count machine.now },
+    ghost few: { length list.now ≤ 4096 },
 }
 
 // Some rows of the chip of an index.
@@ -94,7 +85,6 @@ struct ChipRows<'a> {
     index: u32,
     count: u64,
     ghost inside: { index < chip_count machine.now },
-    ghost some: { 0 < count },
 }
 
 // The claims of a plan, in the order in which they are served: memory vertex by vertex, the fixed blocks of its nets, the blocks of
@@ -181,6 +171,7 @@ fn push_fixed(claims: &mut Vec<Claim>, net: u32, fixed: Option<Block>) -> Result
 }
 
 // The blocks of the nets that have no fixed one.
+#[tactic(auto, using(crate::proofs::Claiming::whole_at))]
 fn claim_keys(claims: &mut Vec<Claim>, nets: NumberedNets) -> Result<(), Memory>
     ensures { OnOk result (claims.new.items ≡ claims.old.items
         ++ gathered (λ j (net : ANet). key_claim j net.keys net.fixed) 0 nets.entry.list.now) }
@@ -220,6 +211,7 @@ fn size_for(keyed: KeyedNet) -> u64
 }
 
 // Entries, chip by chip.
+#[tactic(auto, using(crate::proofs::RowClaims::trees_inside, crate::proofs::RowClaims::places_inside))]
 fn claim_rows<'x>(
     alloc: Global,
     claims: &mut Vec<Claim>,
@@ -230,76 +222,79 @@ fn claim_rows<'x>(
     ensures { OnOk result (claims.new.items ≡ claims.old.items
         ++ flat_map (row_claim machine.now nets.now) (range_with_len 0 (chip_count machine.now))) }
 {
+    // (without nets no list for all chips is made)
+    if nets.is_empty() {
+        return Ok(());
+    }
     let trees = NetsInside {
         machine,
         list: nets,
     };
     let chips = tree_chips(alloc, trees)?;
-    let indices = ChipIndices {
+    let counts = counts_of(alloc, machine, &chips)?;
+    let rows = RowCounts {
         machine,
-        list: &chips,
+        list: &counts,
     };
-    claim_runs(claims, indices)
+    claim_counted(claims, rows)
 }
 
-// Entries for each run of equal indices in a list in order: as many as the run is long.
-fn claim_runs(claims: &mut Vec<Claim>, indices: ChipIndices) -> Result<(), Memory>
-    ensures { OnOk result (claims.new.items ≡ claims.old.items
-        ++ flat_map (run_claim indices.entry.machine.now indices.entry.list.now)
-        (range_with_len 0 (chip_count indices.entry.machine.now))) }
+// How often a list has the index of each chip.
+fn counts_of(alloc: Global, machine: &Machine, indices: &[u32]) -> Result<Vec<u64>, Memory>
+    requires { All (λ i. i < chip_count machine.now) indices.now }
+    ensures all { IfOk result (λ counts. length counts.items ≡ chip_count machine.now) }
+    ensures few { IfOk result (λ counts. length counts.items ≤ 4096) }
+    ensures each { IfOk result (λ counts. AreCounted (λ i. i) indices.now counts.items) }
 {
-    let mut at = 0;
-    'runs: while at < indices.list.len() {
-        let start = RunStart {
-            list: indices.list,
-            at,
+    let mut counts = vec![in alloc; 0u64; machine.chips()]?;
+    for index in indices {
+        let at = *index as usize;
+        let count = counts[at];
+        counts[at] = count + 1;
+    }
+    Ok(counts)
+}
+
+// As many entries of each chip as are counted.
+fn claim_counted(claims: &mut Vec<Claim>, rows: RowCounts) -> Result<(), Memory>
+    ensures { OnOk result (claims.new.items ≡ claims.old.items
+        ++ gathered (entries_claim rows.entry.machine.now) 0 rows.entry.list.now) }
+{
+    let list = rows.list;
+    for (index, count) in list.iter().enumerate() {
+        let of_chip = ChipRows {
+            machine: rows.machine,
+            index: index as u32,
+            count: *count,
         };
-        let end = run_end(start);
-        let rows = ChipRows {
-            machine: indices.machine,
-            index: indices.list[at],
-            count: (end - at) as u64,
-        };
-        push_rows(claims, rows)?;
-        at = end;
+        push_rows(claims, of_chip)?;
     }
     Ok(())
 }
 
-// So many entries of a chip.
+// So many entries of a chip, if any.
 fn push_rows(claims: &mut Vec<Claim>, rows: ChipRows) -> Result<(), Memory>
     ensures { OnOk result (claims.new.items ≡ claims.old.items
         ++ entries_claim rows.entry.machine.now rows.entry.index rows.entry.count) }
 {
-    let chip = rows.machine.chip_at(rows.index);
-    claims.push(Claim {
-        region: Region::Rows(chip),
-        size: rows.count,
-        align: 1,
-        fixed: None,
-        refusal: LoadRefusal::RowsOut { chip },
-    })?;
+    if rows.count > 0 {
+        let chip = rows.machine.chip_at(rows.index);
+        claims.push(Claim {
+            region: Region::Rows(chip),
+            size: rows.count,
+            align: 1,
+            fixed: None,
+            refusal: LoadRefusal::RowsOut { chip },
+        })?;
+    }
     Ok(())
 }
 
-// The place after the last of the run's items, which are equal.
-fn run_end(start: RunStart) -> usize
-    ensures { IsRunEnd start.entry.list.now start.entry.at result }
-{
-    let items = start.list;
-    let at = start.at;
-    let mut end = at + 1;
-    'items: while end < items.len() && items[end] == items[at] {
-        end += 1;
-    }
-    end
-}
-
-// The indices of the chips of all nets' trees, in order: each as often as a net has it.
+// The indices of the chips of all nets' trees: each as often as a net has it.
+#[tactic(auto, using(std::proofs::lemmas::List::take_all))]
 fn tree_chips(alloc: Global, nets: NetsInside) -> Result<Vec<u32>, Memory>
-    ensures same { IfOk result (λ chips. IsPermutation
-        (flat_map (tree_places nets.entry.machine.now) nets.entry.list.now) chips.items) }
-    ensures sorted { IfOk result (λ chips. AllPairs (λ a b. a ≤ b) chips.items) }
+    ensures { IfOk result (λ chips. chips.items
+        ≡ flat_map (tree_places nets.entry.machine.now) nets.entry.list.now) }
 {
     let mut chips = Vec::new(alloc);
     for net in nets.list {
@@ -309,11 +304,11 @@ fn tree_chips(alloc: Global, nets: NetsInside) -> Result<Vec<u32>, Memory>
         };
         push_tree(&mut chips, one)?;
     }
-    chips.sort_unstable();
     Ok(chips)
 }
 
 // The indices of the chips of a net's tree: its root, and where its edges lead.
+#[tactic(auto, using(std::proofs::lemmas::List::take_all))]
 fn push_tree(chips: &mut Vec<u32>, one: NetInside) -> Result<(), Memory>
     ensures { OnOk result (chips.new.items ≡ chips.old.items
         ++ tree_places one.entry.machine.now one.entry.net.now) }

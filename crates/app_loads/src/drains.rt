@@ -31,6 +31,7 @@ impl Apps {
     /// # Errors
     ///
     /// `Memory` where memory runs out. Each copy is then where some events brought it.
+    #[tactic(auto, using(crate::proofs::Hosts::host_moved))]
     pub fn drain(&mut self, alloc: Global) -> Result<(), Memory>
         ensures at_rest { OnOk result (IsAtRest self.new.mesh) }
         ensures moved { HasMovedMesh self.old self.new }
@@ -69,6 +70,7 @@ fn drain_known(
 
 // The same for a mesh on which no copy waits, and no vertex but these has packets unsent. Where none was dropped, each packet's
 // deliveries are held apart as soon as it has arrived: so no list of all deliveries is made.
+#[tactic(auto, using(crate::proofs::Kept::moved_as, crate::proofs::Kept::same_mesh, mesh_drain::proofs::Senders::moved_of_reached))]
 fn drain_known_from(
     alloc: Global,
     mesh: &mut KeptMesh,
@@ -89,6 +91,7 @@ fn drain_known_from(
 }
 
 // These vertices send all their packets, one after the other.
+#[tactic(auto, using(mesh_drain::proofs::Frame::reached_none, mesh_drain::proofs::Frame::reached_then))]
 fn send_each(
     alloc: Global,
     mesh: &mut Mesh,
@@ -110,6 +113,7 @@ fn send_each(
 }
 
 // A vertex sends all its packets, one after the other.
+#[tactic(auto, using(mesh_drain::proofs::Frame::reached_none, mesh_drain::proofs::Frame::reached_then, crate::proofs::Kept::none_known, mesh_drain::proofs::Turns::as_before, mesh_drain::proofs::Turns::all_sent_there, mesh_drain::proofs::Turns::was_there, mesh_drain::proofs::Turns::is_none, mesh_drain::proofs::Turns::there_still))]
 fn send_all(
     alloc: Global,
     mesh: &mut Mesh,
@@ -134,6 +138,7 @@ fn send_all(
 // A vertex sends its first packet. Where it is known of its net's block where it comes, it is not brought there step by step: to where
 // the packets of the last group came, or to the block's places. Answers the block whose packets come where those of the last group
 // came, if that is known.
+#[tactic(auto, using(mesh_drain::proofs::Frame::reached_none))]
 fn send_next(
     alloc: Global,
     mesh: &mut Mesh,
@@ -173,6 +178,7 @@ fn send_next(
 }
 
 // A vertex sends its first packet, of whose block nothing is known yet.
+#[tactic(auto, using(crate::proofs::Kept::some_first))]
 fn send_new(
     alloc: Global,
     mesh: &mut Mesh,
@@ -194,11 +200,10 @@ fn send_new(
     ensures last { IfOk result (λ now.
         IfSome now (Comes mesh.new.setup vertex (last_arrivals earlier.new))) }
 {
-    let before = earlier.len();
-    send_one(alloc, mesh, earlier, vertex)?;
+    let come = send_one(alloc, mesh, earlier, vertex)?;
     share_near(earlier, known, copy.key);
     earlier.join();
-    if !earlier.ends_with(copy, before) {
+    if !earlier.ends_with(copy, come) {
         return Ok(None);
     }
     let Some(block) = block_of(apps, copy) else {
@@ -218,8 +223,14 @@ fn is_last(last: Option<Block>, key: u32) -> bool
     }
 }
 
-// A vertex sends its first packet, whose deliveries are held apart.
-fn send_one(alloc: Global, mesh: &mut Mesh, earlier: &mut Groups, vertex: u32) -> Result<(), Memory>
+// A vertex sends its first packet, whose deliveries are held apart. How many these are.
+#[tactic(auto, using(crate::proofs::Kept::sent_reached, crate::proofs::Kept::may_send, crate::proofs::Earlier::reached_with))]
+fn send_one(
+    alloc: Global,
+    mesh: &mut Mesh,
+    earlier: &mut Groups,
+    vertex: u32,
+) -> Result<usize, Memory>
     requires { HasSomeUnsent (all_grouped earlier.old) mesh.old vertex }
     ensures reached { IsReachedDropless (with_earlier (all_grouped earlier.old) mesh.old)
         (with_earlier (all_grouped earlier.new) mesh.new) }
@@ -227,10 +238,13 @@ fn send_one(alloc: Global, mesh: &mut Mesh, earlier: &mut Groups, vertex: u32) -
     ensures unsent { OnOk result ((copy : Copy) (rest : List Copy)
         → slice_get mesh.old.unsent vertex ≡ Some (copy ∷ rest) →
         mesh.new.unsent ≡ slice_set mesh.old.unsent vertex rest) }
-    ensures brought { OnOk result ((copy : Copy) (rest : List Copy)
+    ensures brought { IfOk result (λ come. (copy : Copy) (rest : List Copy)
         → slice_get mesh.old.unsent vertex ≡ Some (copy ∷ rest) →
-        HasBroughtMore (all_grouped earlier.old) (all_grouped earlier.new) mesh.new.setup vertex copy.key) }
+        HasBroughtMore (all_grouped earlier.old) (all_grouped earlier.new) mesh.new.setup vertex copy.key
+        come) }
 {
     send_first(alloc, mesh, vertex)?;
-    keep(alloc, mesh, earlier)
+    let come = mesh.delivered().len();
+    keep(alloc, mesh, earlier)?;
+    Ok(come)
 }

@@ -83,13 +83,6 @@ impl Group {
         self.count
     }
 
-    // How many deliveries each of its packets has.
-    pub(crate) fn width(&self) -> usize
-        ensures { result ≡ length self.now.arrivals }
-    {
-        self.arrivals.len()
-    }
-
     // Puts a delivery at the back, where it is one of the only packet.
     pub(crate) fn extend(&mut self, delivery: Delivery) -> Result<bool, Memory>
         ensures put { IfOk result (λ put.
@@ -153,8 +146,9 @@ impl Group {
     }
 
     // Whether its last deliveries, so many, are those of the copy's packet.
+    #[tactic(auto, using(crate::proofs::GroupLaws::ends_with))]
     pub(crate) fn ends_with(&self, copy: McCopy, count: usize) -> bool
-        ensures { result ≡ true → EndsWith self.now (sent_of copy) count }
+        ensures { result ≡ true → EndsWith self.now.deliveries self.now.arrivals (sent_of copy) count }
     {
         let width = self.arrivals.len();
         if width != count {
@@ -181,6 +175,7 @@ impl Group {
     }
 
     // Whether the least and the greatest packet are the application's: so all are.
+    #[tactic(auto, using(crate::proofs::GroupLaws::own_all, std::proofs::lemmas::Bool::and_from))]
     pub(crate) fn is_own(&self, app: &LoadedApp) -> bool
         ensures own { result ≡ is_own_group app.now self.now }
         ensures all { result ≡ true
@@ -190,6 +185,7 @@ impl Group {
     }
 
     // Whether both come before the application's packets, or both behind them: so none is the application's.
+    #[tactic(auto, using(crate::proofs::GroupLaws::others_all, std::proofs::lemmas::Bool::Decides::nat_tests, std::proofs::lemmas::Bool::and_from))]
     pub(crate) fn is_others(&self, app: &LoadedApp) -> bool
         ensures others { result ≡ is_others_group app.now self.now }
         ensures none { result ≡ true

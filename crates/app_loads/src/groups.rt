@@ -1,9 +1,9 @@
 // Groups of deliveries, one after the other.
-ghost use Rattle.std.specs.Prelude.{◌≡◌, ◌≤◌, ◌+◌, ◌++◌, ◌∷◌, [], IfOk, IfSome, OnOk, OnErr, drop, filter, length, not, vec_capacity, vec_len, true, false};
+ghost use Rattle.std.specs.Prelude.{◌≡◌, ◌≤◌, ◌+◌, ◌^◌, ◌++◌, ◌∷◌, [], IfNone, IfOk, IfSome, OnOk, OnErr, filter, length, not, vec_capacity, vec_len, true, false};
 ghost use Rattle.std.specs.List.{list_any};
 ghost use Rattle.spin_base.specs.declared.copies.Delivery.{Delivery as ADelivery};
 ghost use Rattle.app_loads.specs.Grouping.{CanPutOne, HasPut, all_grouped, is_mixed_group};
-ghost use Rattle.app_loads.specs.Groups.{deliveries_at, last_arrivals, sent_of};
+ghost use Rattle.app_loads.specs.Groups.{EndsWith, deliveries_at, last_arrivals, sent_of};
 ghost use Rattle.app_loads.specs.Leaving.{is_delivery_of};
 ghost use Rattle.app_loads.specs.Parting.{HasRoomFor};
 
@@ -21,22 +21,19 @@ pub struct Room {
     pub others: Vec<Group>,
 }
 
-// Deliveries, in the order in which they came, and how many they are.
+// Deliveries, in the order in which they came.
 #[derive(Drop)]
 pub struct Groups {
     pub groups: Vec<Group>,
-    pub count: usize,
 }
 
 impl Model for Groups {
-    ghost use Rattle.std.specs.Prelude.{List, length, ◌≡◌};
-    ghost use Rattle.app_loads.specs.Grouping.{Grouped, all_grouped};
+    ghost use Rattle.std.specs.Prelude.{List};
+    ghost use Rattle.app_loads.specs.Grouping.{Grouped};
 
     ghost Value = { List Grouped };
 
     ghost view = { λ g. g.groups.items };
-
-    ghost invariant = { λ g. g.count ≡ length (all_grouped g.groups.items) };
 }
 
 impl Groups {
@@ -46,15 +43,15 @@ impl Groups {
     {
         Groups {
             groups: Vec::new(alloc),
-            count: 0,
         }
     }
 
-    // How many deliveries there are.
-    pub(crate) fn len(&self) -> usize
-        ensures { result ≡ length (all_grouped self.now) }
+    // How many deliveries there are, if they can be counted. It takes time as the groups.
+    pub(crate) fn count(&self) -> Option<usize>
+        ensures some { IfSome result (λ count. count ≡ length (all_grouped self.now)) }
+        ensures none { IfNone result (2 ^ 64 ≤ length (all_grouped self.now)) }
     {
-        self.count
+        count_groups(&self.groups)
     }
 
     // Puts a delivery at the back. After a refusal the same were delivered as before.
@@ -62,12 +59,7 @@ impl Groups {
         ensures put { OnOk result (all_grouped self.new ≡ all_grouped self.old ++ delivery ∷ []) }
         ensures refused { OnErr result (all_grouped self.new ≡ all_grouped self.old) }
     {
-        let Some(count) = self.count.checked_add(1) else {
-            return Err(Memory);
-        };
-        push_last(alloc, &mut self.groups, delivery)?;
-        self.count = count;
-        Ok(())
+        push_last(alloc, &mut self.groups, delivery)
     }
 
     // Joins the last group to the one before, where its only packet came to the same vertices.
@@ -77,19 +69,17 @@ impl Groups {
         join_last(&mut self.groups);
     }
 
-    // Whether those behind so many deliveries are those of the copy's packet, which came to the vertices of the last group.
-    pub(crate) fn ends_with(&self, copy: McCopy, before: usize) -> bool
-        ensures { result ≡ true → drop before (all_grouped self.now)
-            ≡ deliveries_at (last_arrivals self.now) (sent_of copy) }
+    // Whether the last deliveries, so many, are those of the copy's packet, which came to the vertices of the last group.
+    #[tactic(auto, using(crate::proofs::GroupLaws::all_end))]
+    pub(crate) fn ends_with(&self, copy: McCopy, last: usize) -> bool
+        ensures { result ≡ true → EndsWith (all_grouped self.now) (last_arrivals self.now)
+            (sent_of copy) last }
     {
         let count = self.groups.len();
         if count == 0 {
             return false;
         }
-        if self.count < before {
-            return false;
-        }
-        self.groups[count - 1].ends_with(copy, self.count - before)
+        self.groups[count - 1].ends_with(copy, last)
     }
 
     // Puts the copy's packet at the back, which came to the vertices of the last group.
@@ -99,19 +89,11 @@ impl Groups {
         ensures refused { OnErr result (all_grouped self.new ≡ all_grouped self.old) }
         ensures arrivals { last_arrivals self.new ≡ last_arrivals self.old }
     {
-        let count = self.groups.len();
-        if count == 0 {
-            return Ok(());
-        }
-        let Some(more) = self.count.checked_add(self.groups[count - 1].width()) else {
-            return Err(Memory);
-        };
-        self.groups[count - 1].repeat(copy)?;
-        self.count = more;
-        Ok(())
+        repeat_last(&mut self.groups, copy)
     }
 
     // Puts the copy's packet at the back, which came there.
+    #[tactic(auto, using(crate::proofs::GroupLaws::put_back, crate::proofs::GroupLaws::put_last_arrivals))]
     pub(crate) fn put(
         &mut self,
         alloc: Global,
@@ -123,15 +105,12 @@ impl Groups {
         ensures refused { OnErr result (all_grouped self.new ≡ all_grouped self.old) }
         ensures arrivals { OnOk result (last_arrivals self.new ≡ arrivals.now) }
     {
-        let Some(count) = self.count.checked_add(arrivals.len()) else {
-            return Err(Memory);
-        };
         self.groups.push(Group::at(alloc, copy, arrivals)?)?;
-        self.count = count;
         Ok(())
     }
 
     // Where the packets of the last group came.
+    #[tactic(auto, using(crate::proofs::GroupLaws::last_arrivals_are))]
     pub(crate) fn last_arrivals(&self) -> Option<&Arrivals>
         ensures { IfSome result (λ arrivals. arrivals.now ≡ last_arrivals self.now) }
     {
@@ -143,6 +122,7 @@ impl Groups {
     }
 
     // The last group holds a list in place of its own, where both are the same. Answers whether it does.
+    #[tactic(auto, using(crate::proofs::GroupLaws::same_groups))]
     pub(crate) fn share(&mut self, arrivals: &Arrivals) -> bool
         ensures { self.new ≡ self.old }
     {
@@ -179,6 +159,7 @@ impl Groups {
     }
 
     // The deliveries of the application's packets, and those of all others.
+    #[tactic(auto, using(std::proofs::lemmas::Bool::or_parts))]
     pub(crate) fn part(self, app: &LoadedApp, room: Room) -> (Groups, Groups)
         requires unmixed { list_any (is_mixed_group app.now) self ≡ false }
         requires holds { HasRoomFor self room }
@@ -186,26 +167,28 @@ impl Groups {
         ensures others { all_grouped result.1
             ≡ filter (λ d. not (is_delivery_of app.now d)) (all_grouped self) }
     {
-        let Groups { groups, count } = self;
+        let Groups { groups } = self;
         let Room {
             mut own,
             mut others,
         } = room;
-        let mut others_count = count;
         for group in groups {
-            others_count -= put_by(group, app, &mut own, &mut others);
+            put_by(group, app, &mut own, &mut others);
         }
-        (
-            Groups {
-                groups: own,
-                count: count - others_count,
-            },
-            Groups {
-                groups: others,
-                count: others_count,
-            },
-        )
+        (Groups { groups: own }, Groups { groups: others })
     }
+}
+
+// How many deliveries groups have, if they can be counted.
+fn count_groups(groups: &[Group]) -> Option<usize>
+    ensures some { IfSome result (λ count. count ≡ length (all_grouped groups.now)) }
+    ensures none { IfNone result (2 ^ 64 ≤ length (all_grouped groups.now)) }
+{
+    let mut count = 0usize;
+    for group in groups {
+        count = count.checked_add(group.len())?;
+    }
+    Some(count)
 }
 
 // Puts the deliveries of groups at the back of a list.
@@ -225,31 +208,42 @@ fn is_mixed(group: &Group, app: &LoadedApp) -> bool
     !group.is_own(app) && !group.is_others(app)
 }
 
-// Puts a group into one of two lists: that of the application's, or that of all others. How many of its deliveries are the application's.
-fn put_by(group: Group, app: &LoadedApp, own: &mut Vec<Group>, others: &mut Vec<Group>) -> usize
+// Puts a group into one of two lists: that of the application's, or that of all others.
+fn put_by(group: Group, app: &LoadedApp, own: &mut Vec<Group>, others: &mut Vec<Group>)
     requires { CanPutOne app.now group (vec_len own.old) (vec_capacity own.old) (vec_len others.old)
         (vec_capacity others.old) }
     ensures own { all_grouped own.new.items
         ≡ all_grouped own.old.items ++ filter (is_delivery_of app.now) group.deliveries }
     ensures others { all_grouped others.new.items ≡ all_grouped others.old.items
         ++ filter (λ d. not (is_delivery_of app.now d)) group.deliveries }
-    ensures count { result ≡ length (filter (is_delivery_of app.now) group.deliveries) }
     ensures own_length { vec_len own.new ≤ vec_len own.old + 1 }
     ensures others_length { vec_len others.new ≤ vec_len others.old + 1 }
     ensures own_room { vec_capacity own.new ≡ vec_capacity own.old }
     ensures others_room { vec_capacity others.new ≡ vec_capacity others.old }
 {
     if group.is_own(app) {
-        let count = group.len();
         own.push_reserved(group);
-        count
-    } else {
-        // It is of others then.
-        let is_others = group.is_others(app);
-        prove!(is_others);
-        others.push_reserved(group);
-        0
+        return;
     }
+    // It is of others then.
+    let is_others = group.is_others(app);
+    prove!(is_others);
+    others.push_reserved(group);
+}
+
+// Puts the copy's packet at the back of the last group.
+#[tactic(auto, using(crate::proofs::GroupLaws::last_same_if, crate::proofs::GroupLaws::last_arrivals_stay, crate::proofs::GroupLaws::repeated, std::proofs::lemmas::Result::on_ok_weaker))]
+fn repeat_last(groups: &mut Vec<Group>, copy: McCopy) -> Result<(), Memory>
+    ensures put { OnOk result (all_grouped groups.new.items ≡ all_grouped groups.old.items
+        ++ deliveries_at (last_arrivals groups.old.items) (sent_of copy)) }
+    ensures refused { OnErr result (all_grouped groups.new.items ≡ all_grouped groups.old.items) }
+    ensures arrivals { last_arrivals groups.new.items ≡ last_arrivals groups.old.items }
+{
+    let count = groups.len();
+    if count == 0 {
+        return Ok(());
+    }
+    groups[count - 1].repeat(copy)
 }
 
 // Puts a delivery at the back: into the last group, where it is of the same packet.
@@ -267,6 +261,7 @@ fn push_last(alloc: Global, groups: &mut Vec<Group>, delivery: Delivery) -> Resu
 }
 
 // Puts a delivery into the last group, where it is of its only packet.
+#[tactic(auto, using(crate::proofs::GroupLaws::last_same_if))]
 fn extend_last(groups: &mut Vec<Group>, delivery: Delivery) -> Result<bool, Memory>
     ensures put { IfOk result (λ put. HasPut put (all_grouped groups.old.items) (delivery ∷ [])
         (all_grouped groups.new.items)) }
@@ -292,6 +287,7 @@ fn join_last(groups: &mut Vec<Group>)
 }
 
 // Puts a group's deliveries into the last group of a list, where that is the same for its packet.
+#[tactic(auto, using(crate::proofs::GroupLaws::last_put))]
 fn joins_last(groups: &mut Vec<Group>, more: &Group) -> bool
     ensures joined { HasPut result (all_grouped groups.old.items) more.now.deliveries
         (all_grouped groups.new.items) }

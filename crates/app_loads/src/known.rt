@@ -66,6 +66,7 @@ pub(crate) fn share_near(earlier: &mut Groups, known: &Known, key: u32)
 }
 
 // It is known of a block that packets with its keys come where those of the last group came.
+#[tactic(auto, using(crate::proofs::Kept::one_known, crate::proofs::Kept::comes_there))]
 pub(crate) fn remember(earlier: &Groups, known: &mut Known, block: Block) -> Result<(), Memory>
     ensures { OnOk result ((u : Setup) (v : ℕ) (apps : List AnApp) → AreKnown u v apps known.old →
         Comes u v (last_arrivals earlier.now) block → AreKnown u v apps known.new) }

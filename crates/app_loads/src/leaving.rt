@@ -1,6 +1,5 @@
 // What leaves a mesh with an application: its deliveries and dump records, once none of its packets is under way.
-ghost use Rattle.std.specs.Prelude.{◌≡◌, not, filter, IfOk, IfSome, IfNone};
-ghost use Rattle.std.specs.List.{flat_map};
+ghost use Rattle.std.specs.Prelude.{◌≡◌, not, filter, fold, IfOk, IfSome, IfNone, None};
 ghost use Rattle.mesh_core.specs.State.{IsMesh};
 ghost use Rattle.app_loads.specs.Running.{AreKnownIn};
 ghost use Rattle.app_loads.specs.Leaving.{is_packet_of, is_delivery_of, is_record_of, IsPartedBy, IsLeastUnderWay, NoneUnderWay, lesser_of, own_packet, least_own_packet, packet_numbers_of, held_packets, unsent_numbers};
@@ -106,8 +105,8 @@ pub(crate) fn least_waiting<'x>(
 
 // The least of the application's packets that these vertices have not sent.
 fn least_unsent(unsent: &[Fifo<McCopy>], vertices: &[usize], app: &LoadedApp) -> Option<u32>
-    ensures { result ≡ least_own_packet app.now
-        (flat_map (unsent_numbers unsent.now) vertices.now) }
+    ensures { result ≡ fold (λ least vertex. lesser_of least
+        (least_own_packet app.now (unsent_numbers unsent.now vertex))) None vertices.now }
 {
     vertices.iter().fold(None, |least, vertex| {
         least_of_vertex(unsent, *vertex, app, least)
@@ -135,11 +134,21 @@ fn least_of_all(parts: &MeshParts, app: &LoadedApp) -> Option<u32>
     ensures some { IsMesh parts.now → IfSome result (IsLeastUnderWay parts.now app.now) }
     ensures none { IfNone result (NoneUnderWay parts.now app.now) }
 {
-    let sources = parts.unsent.as_slice().iter();
-    let queues = sources.chain(parts.inputs.as_slice());
-    let all = queues.chain(parts.cores.as_slice());
-    let least = all.fold(None, |least, queue| least_in(queue.as_slice(), app, least));
-    least_in_hands(parts.hands.as_slice(), app, least)
+    let least = least_in_queues(parts.unsent.as_slice(), app, None);
+    let least = least_in_queues(parts.inputs.as_slice(), app, least);
+    let least = least_in_hands(parts.hands.as_slice(), app, least);
+    least_in_queues(parts.cores.as_slice(), app, least)
+}
+
+// The lesser of the least so far and the least of the application's packets in some queues.
+fn least_in_queues(queues: &[Fifo<McCopy>], app: &LoadedApp, so_far: Option<u32>) -> Option<u32>
+    ensures { result ≡ fold (λ least queue. lesser_of least
+        (least_own_packet app.now (packet_numbers_of queue))) so_far queues.now }
+{
+    queues.iter().fold(
+        so_far,
+        |least, queue| least_in(queue.as_slice(), app, least),
+    )
 }
 
 // The lesser of the least so far and the least of the application's packets in a queue.
@@ -153,8 +162,8 @@ fn least_in(copies: &[McCopy], app: &LoadedApp, so_far: Option<u32>) -> Option<u
 
 // The same of what routers hold in hand.
 fn least_in_hands(hands: &[Option<Hand>], app: &LoadedApp, so_far: Option<u32>) -> Option<u32>
-    ensures { result
-        ≡ lesser_of so_far (least_own_packet app.now (flat_map held_packets hands.now)) }
+    ensures { result ≡ fold (λ least hand. lesser_of least
+        (least_own_packet app.now (held_packets hand))) so_far hands.now }
 {
     hands
         .iter()

@@ -9,7 +9,7 @@ ghost use Rattle.app_loads.specs.Taking.{AreFreeAgain, HaveRoom, IsDueAlways};
 ghost use Rattle.app_loads.specs.Writing.{AreCopied, CanCopy, tables_in};
 
 use crate::answers::{LoadErr, LoadRefusal};
-use crate::apps::{Apps, put, reserve_one};
+use crate::apps::{Apps, put, reserve_one, take_out};
 use crate::claims::claims_of;
 use crate::loaded::{Claim, LoadedApp, Range};
 use crate::meshes::KeptMesh;
@@ -50,9 +50,7 @@ impl Apps {
         if reserve_one(&mut self.apps, &mut self.numbers).is_err() {
             return Err(LoadErr::Memory);
         }
-        let Some(mesh) = self.mesh.take() else {
-            return Err(LoadErr::Memory);
-        };
+        let mesh = take_out(&mut self.mesh);
         let (mesh, joined) = join(alloc, mesh, &mut self.regions, number, self.packets, plan);
         match joined {
             Ok(app) => {
@@ -176,6 +174,7 @@ fn app_of(
 }
 
 // Puts the application's rows and packets on the mesh. After a refusal the mesh is as before.
+#[tactic(auto, using(crate::proofs::Settling::parted_mesh, std::proofs::lemmas::List::with_items_is))]
 fn settle_mesh(alloc: Global, mesh: Mesh, app: &LoadedApp) -> (Mesh, Result<(), Memory>)
     requires { CanSettle mesh app.now }
     ensures settled { OnOk result.1 (IsSettled app.now mesh result.0) }

@@ -57,6 +57,7 @@ impl KeptMesh {
     }
 
     // One event.
+    #[tactic(auto, using(crate::proofs::Earlier::event_with, std::proofs::lemmas::Result::on_ok_weaker))]
     pub(crate) fn step(&mut self, e: Event) -> Result<Did, Memory>
         ensures answer { IfOk result (λ did. did ≡ answer self.old e) }
         ensures moves { OnOk result (self.new ≡ after_event self.old e) }

@@ -1,6 +1,6 @@
 // The regions of a machine, and where each stands in the list of them.
-ghost use Rattle.std.specs.Prelude.{◌≡◌, ◌+◌, ◌<◌};
-ghost use Rattle.app_loads.specs.Regions.{chip_count, IsRegion, place_of};
+ghost use Rattle.std.specs.Prelude.{◌≡◌};
+ghost use Rattle.app_loads.specs.Regions.{IsRegion, place_of};
 
 use machine_desc::Machine;
 use spin_base::Chip;
@@ -30,22 +30,6 @@ impl Region {
             Region::Keys => KEYS,
             Region::Memory(chip) => 1 + machine.index(chip) as usize,
             Region::Rows(chip) => 1 + (machine.chips() + machine.index(chip) as usize),
-        }
-    }
-
-    /// The region that stands at a place of the list.
-    pub fn at(machine: &Machine, place: usize) -> Region
-        requires { place < 1 + (chip_count machine.now + chip_count machine.now) }
-        ensures its { IsRegion machine.now result }
-        ensures place { place_of machine.now result ≡ place }
-    {
-        let chips = machine.chips();
-        if place == KEYS {
-            Region::Keys
-        } else if place <= chips {
-            Region::Memory(machine.chip_at((place - 1) as u32))
-        } else {
-            Region::Rows(machine.chip_at((place - 1 - chips) as u32))
         }
     }
 }

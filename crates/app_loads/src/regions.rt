@@ -42,6 +42,7 @@ pub(crate) fn take_all(
 
 // Serves the claims in order, up to the first that cannot be served, and puts their ranges into the list, which has room for all. It
 // counts the ranges of each region.
+#[tactic(auto, using(crate::proofs::Serving::claim_due))]
 fn take_each(
     machine: &Machine,
     regions: &mut [Ranges],
@@ -117,6 +118,7 @@ fn take_with_room(region: &mut Ranges, claim: &Claim, room: u32) -> Result<Optio
 }
 
 // Makes room in each region to give back those of the ranges that are its own. What is free stays as it is.
+#[tactic(auto, using(crate::proofs::RoomToGive::frees_still, crate::proofs::RoomToGive::region_there))]
 pub(crate) fn make_room(
     alloc: Global,
     regions: &mut [Ranges],

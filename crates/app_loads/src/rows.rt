@@ -1,5 +1,5 @@
 // The plain rows of an application, and their ranges in the tables.
-ghost use Rattle.std.specs.Prelude.{◌≡◌, ◌+◌, ◌*◌, ◌≤◌, IfOk, Some, length, map};
+ghost use Rattle.std.specs.Prelude.{◌≡◌, ◌+◌, ◌*◌, ◌≤◌, IfNone, IfOk, IfSome, Some, length, map};
 ghost use Rattle.std.specs.List.{AllZip};
 ghost use Rattle.machine_desc.specs.declared.nets.NetPlan.{NetPlan as Plan};
 ghost use Rattle.tcam_find.specs.Memory.{unused};
@@ -8,10 +8,10 @@ ghost use Rattle.net_tables.specs.Marks.{IsTableOf, row_of_mark, table_of_sorted
 ghost use Rattle.net_tables.specs.PlainTable.{AtEach, IsPlainTable};
 ghost use Rattle.app_loads.specs.Host.{net_with, nets_of};
 ghost use Rattle.app_loads.specs.Joining.{HasRoutes};
+ghost use Rattle.app_loads.specs.Regions.{chip_count};
 ghost use Rattle.app_loads.specs.Writing.{AreCopied, FillsFrom, AreUnused, CanClear, CanCopy, HasEntriesFrom, HasRoom, HaveRooms, row_entry, tables_in};
 
 use crate::loaded::{LoadedApp, Range};
-use crate::places::Region;
 use crate::plans::AppNet;
 use machine_desc::{Machine, NetPlan};
 use net_tables::marks::Mark;
@@ -22,6 +22,7 @@ use tcam_find::{Room, RoomyTcam, Tcam};
 
 // The original blocks of the application's nets, by the chips' indices, in the order of the rows of their plain tables. So no row is
 // made, and none has a list of aliases.
+#[tactic(auto, using(std::proofs::lemmas::Option::slice_get_read, crate::proofs::Unsent::nets_with_at, spin_base::proofs::Places::take_more_at))]
 pub(crate) fn originals_of(
     alloc: Global,
     machine: &Machine,
@@ -115,6 +116,15 @@ fn room_for(alloc: Global, machine: &Machine, range: &Range) -> Result<Room, Mem
     Room::new(alloc, end as u32)
 }
 
+// Where the table stands, by its chip's index, whose entries are the region of a number, if these are entries.
+fn table_of(machine: &Machine, region: usize) -> Option<usize>
+    ensures some { IfSome result (λ at. region ≡ 1 + (chip_count machine.now + at)) }
+    ensures none { IfNone result (region ≤ chip_count machine.now) }
+    ensures few { chip_count machine.now ≤ 4096 }
+{
+    region.checked_sub(1 + machine.chips())
+}
+
 // Puts the rows of each chip's original blocks into the range of its table.
 pub(crate) fn write_rows(
     alloc: Global,
@@ -133,8 +143,7 @@ pub(crate) fn write_rows(
         let Some(room) = rooms.next() else {
             unreachable!()
         };
-        if let Region::Rows(chip) = Region::at(machine, range.region) {
-            let at = machine.index(chip) as usize;
+        if let Some(at) = table_of(machine, range.region) {
             put_rows(
                 alloc,
                 &mut tables[at],
@@ -179,12 +188,8 @@ pub(crate) fn clear_rows(machine: &Machine, tables: &mut [Tcam], ranges: &[Range
     ensures { AreUnused machine.now ranges.now tables.old tables.new }
 {
     for range in ranges {
-        if let Region::Rows(chip) = Region::at(machine, range.region) {
-            clear_entries(
-                &mut tables[machine.index(chip) as usize],
-                range.place as u32,
-                range.size as u32,
-            );
+        if let Some(at) = table_of(machine, range.region) {
+            clear_entries(&mut tables[at], range.place as u32, range.size as u32);
         }
     }
 }

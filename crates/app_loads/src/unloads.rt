@@ -13,7 +13,7 @@ ghost use Rattle.app_loads.specs.Unloading.{HasUnloaded, IsWhyNotUnloaded, NoneW
 ghost use Rattle.app_loads.specs.Writing.{AreUnused, CanClear};
 
 use crate::answers::{Ended, UnloadErr};
-use crate::apps::{Apps, put};
+use crate::apps::{Apps, put, take_out};
 use crate::deliveries::Deliveries;
 use crate::groups::{Groups, Room};
 use crate::leaving::{Left, Parted, least_waiting, part};
@@ -45,9 +45,7 @@ impl Apps {
         let Some(at) = self.place_of(number) else {
             return Err(UnloadErr::NotLoaded);
         };
-        let Some(mesh) = self.mesh.take() else {
-            return Err(UnloadErr::Memory);
-        };
+        let mesh = take_out(&mut self.mesh);
         let (mesh, left) = leave(
             alloc,
             mesh,
@@ -118,7 +116,10 @@ fn make_groups_ready(
     ensures ready { IfOk result (CanPart app.now earlier.new mesh.new.delivered) }
 {
     unmix(alloc, mesh, earlier, app)?;
-    if earlier.len().checked_add(mesh.delivered().len()).is_none() {
+    let Some(count) = earlier.count() else {
+        return Err(Memory);
+    };
+    if count.checked_add(mesh.delivered().len()).is_none() {
         return Err(Memory);
     }
     earlier.room(alloc)
@@ -144,6 +145,7 @@ fn unmix(
 }
 
 // The mesh without the application, where its groups are ready to be parted.
+#[tactic(auto, using(crate::proofs::Kept::few_own, crate::proofs::Kept::why_with))]
 fn leave_ready(
     alloc: Global,
     mesh: Mesh,
@@ -171,7 +173,11 @@ fn leave_ready(
         Ok(left) => {
             let (own, others) = earlier.part(app, room);
             let Left { delivered, dumped } = left;
-            let count = own.len() + delivered.len();
+            // (all were counted before)
+            let Some(early) = own.count() else {
+                unreachable!()
+            };
+            let count = early + delivered.len();
             let delivered = Deliveries {
                 early: own,
                 late: delivered,

@@ -1,13 +1,5 @@
-use Rattle.app_loads.proofs.Common.{all_grouped, all_sent_there, arith, as_before, is_none, is_some', one_less, reached_none, reached_then, same_Some, sym, there_still, was_there, with_earlier, ◌∙◌}
-use Rattle.app_loads.proofs.Kept.{none_known}
+use Rattle.app_loads.proofs.Common.{arith, is_some', one_less, reached_then, same_Some, sym, there_still, ◌∙◌}
 use Rattle.app_loads.proofs.drains.send_all.Goals as goal
-
-pub packets-init : goal.packets-init
-packets-init c = grind (arith, reached_none, none_known, as_before)
-
-pub unsent-requires : goal.unsent-requires
-unsent-requires c =
-    there_still (with_earlier (all_grouped c.args.earlier.now) c.args.mesh.now) (with_earlier (all_grouped c.packets.earlier) c.packets.mesh) c.args.vertex c.packets.invariant.reached c.requires.there
 
 pub send_next-requires-clause-can : goal.send_next-requires-clause-can
 send_next-requires-clause-can c = record {
@@ -28,9 +20,3 @@ packets-preserved c = record {
   unsent = (one_less c.args.mesh.now.unsent c.packets.mesh.unsent c.send_next.new.mesh.unsent c.args.vertex c.packets.invariant.unsent.0 c.unsent.result.now
       c.packets.invariant.unsent.1 c.unsent.ensures (is_some' c.unsent.result.now c.packets-test.ensures) c.in_ok-last.ensures.unsent).0;
 }
-
-pub returns-clause-unsent : goal.returns-clause-unsent
-returns-clause-unsent c = grind (arith, all_sent_there, was_there, is_none)
-
-pub returns-in_err-last-clause-reached : goal.returns-in_err-last-clause-reached
-returns-in_err-last-clause-reached c = grind (arith, reached_then)

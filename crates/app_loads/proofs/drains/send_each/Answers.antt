@@ -1,13 +1,6 @@
-use Rattle.app_loads.proofs.Common.{AreAlikeInBlocks, all_grouped, arith, few_spots, one_less_sender, reached_none, reached_then, rest_from, sender_there, setup_reached, subst, sym, was_there}
-use Rattle.app_loads.proofs.Common.{with_earlier}
+use Rattle.app_loads.proofs.Common.{few_spots, arith, with_earlier, all_grouped, AreAlikeInBlocks, one_less_sender, reached_then, rest_from, sender_there, setup_reached, subst, sym, was_there}
 use Rattle.app_loads.proofs.Kept.{alone_with}
 use Rattle.app_loads.proofs.drains.send_each.Goals as goal
-
-pub overflow_cast-vertex : goal.overflow_cast-vertex
-overflow_cast-vertex c = grind (arith, few_spots (with_earlier (all_grouped c.args.earlier.now) c.args.mesh.now) c.requires.clean.kept)
-
-pub loop-vertex-init : goal.loop-vertex-init
-loop-vertex-init c = grind (arith, reached_none (with_earlier (all_grouped c.args.earlier.now) c.args.mesh.now))
 
 pub send_all-requires : goal.send_all-requires
 send_all-requires c = record {
@@ -36,5 +29,5 @@ pub returns-clause-at_rest : goal.returns-clause-at_rest
 returns-clause-at_rest c =
     rest_from c.args.mesh.now c.loop-vertex.mesh c.args.vertices.now c.loop-vertex.vertex-index c.loop-vertex-test.false c.loop-vertex.invariant.clean.quiet c.loop-vertex.invariant.unsent
 
-pub returns-in_err-send_all-clause-reached : goal.returns-in_err-send_all-clause-reached
-returns-in_err-send_all-clause-reached c = grind (arith, reached_then)
+pub overflow_cast-vertex : goal.overflow_cast-vertex
+overflow_cast-vertex c = grind (arith, few_spots (with_earlier (all_grouped c.args.earlier.now) c.args.mesh.now) c.requires.clean.kept)

@@ -1,4 +1,4 @@
-use Rattle.app_loads.proofs.Common.{Comes, IfSome, McCopy, None, Setup, all_grouped, arith, last_arrivals, reached_none, subst, sym, with_earlier}
+use Rattle.app_loads.proofs.Common.{Comes, IfSome, McCopy, None, Setup, all_grouped, last_arrivals, subst, sym}
 use Rattle.app_loads.proofs.{Kept.IsSentAgain, Kept.comes_there, Kept.first_sends, Kept.known_still, Kept.sent_again, Kept.some_there, drains.send_next.Goals.After-drop_unsent}
 use Rattle.app_loads.proofs.drains.send_next.Goals.{After-drop_unsent-in-Some}
 use Rattle.app_loads.proofs.drains.send_next.Goals as goal
@@ -23,9 +23,6 @@ to_places c =
     sent_again c.in-Some.it.now.arrivals (first_sends c.unsent.result.now no_copy c.requires.can c.unsent.ensures) c.in-Some.ensures.has
     (c.requires.known.come c.in-Some.ensures.first c.in-Some.it.now c.in-Some.ensures.is) c.in_ok-put-in-Some.ensures.put c.drop_unsent-in-Some.ensures
 
-pub returns-in_err-repeat-clause-reached : goal.returns-in_err-repeat-clause-reached
-returns-in_err-repeat-clause-reached c = grind (arith, reached_none (with_earlier (all_grouped c.args.earlier.now) c.args.mesh.now))
-
 pub returns-then-is_last : goal.returns-then-is_last
 returns-then-is_last c =
     let it = to_last (goal.at.returns-then-is_last c).After-drop_unsent in
@@ -37,9 +34,6 @@ returns-then-is_last c =
       last = subst (λ (u : Setup). IfSome c.args.last (Comes u c.args.vertex (last_arrivals c.repeat.new.self))) (sym it.setup)
           (subst (λ l. IfSome c.args.last (Comes c.args.mesh.now.setup c.args.vertex l)) (sym c.repeat.ensures.arrivals) c.requires.last);
     }
-
-pub returns-in_err-put-in-Some-clause-reached : goal.returns-in_err-put-in-Some-clause-reached
-returns-in_err-put-in-Some-clause-reached c = grind (arith, reached_none (with_earlier (all_grouped c.args.earlier.now) c.args.mesh.now))
 
 pub returns-in_ok-put-in-Some : goal.returns-in_ok-put-in-Some
 returns-in_ok-put-in-Some c =

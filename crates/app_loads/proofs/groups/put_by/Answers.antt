@@ -1,4 +1,4 @@
-use Rattle.app_loads.proofs.Common.{Delivery, List, [], all_grouped, ap, append-nil, arith, filter, is_delivery_of, length, not, sym, ◌∙◌, ◌≡◌}
+use Rattle.app_loads.proofs.Common.{[], all_grouped, append-nil, arith, filter, is_delivery_of, not, sym, ◌∙◌, ◌≡◌}
 use Rattle.app_loads.proofs.{GroupLaws.all_apart, GroupLaws.grouped_push, GroupLaws.none_apart, GroupLaws.not_own, groups.put_by.Goals.After-is_others-is_others}
 use Rattle.app_loads.proofs.groups.put_by.Goals as goal
 
@@ -15,14 +15,8 @@ pub returns-then-is_own-clause-others : goal.returns-then-is_own-clause-others
 returns-then-is_own-clause-others c =
     grind (arith, append-nil (all_grouped c.args.others.now.items), all_apart (is_delivery_of c.args.app.now) c.args.group.deliveries (c.is_own.ensures.all c.if-is_own.true))
 
-pub returns-then-is_own-clause-count : goal.returns-then-is_own-clause-count
-returns-then-is_own-clause-count c = grind (arith, all_apart (is_delivery_of c.args.app.now) c.args.group.deliveries (c.is_own.ensures.all c.if-is_own.true))
+pub returns-clause-own : goal.returns-clause-own
+returns-clause-own c = grind (arith, append-nil (all_grouped c.args.own.now.items), apart (goal.at.returns-clause-own c).After-is_others-is_others)
 
-pub returns-else-is_own-clause-own : goal.returns-else-is_own-clause-own
-returns-else-is_own-clause-own c = grind (arith, append-nil (all_grouped c.args.own.now.items), apart (goal.at.returns-else-is_own-clause-own c).After-is_others-is_others)
-
-pub returns-else-is_own-clause-others : goal.returns-else-is_own-clause-others
-returns-else-is_own-clause-others c = grind (arith, grouped_push c.args.others.now.items c.args.group, apart (goal.at.returns-else-is_own-clause-others c).After-is_others-is_others)
-
-pub returns-else-is_own-clause-count : goal.returns-else-is_own-clause-count
-returns-else-is_own-clause-count c = ap (λ (l : List Delivery). length l) (sym (apart (goal.at.returns-else-is_own-clause-count c).After-is_others-is_others).0)
+pub returns-clause-others : goal.returns-clause-others
+returns-clause-others c = grind (arith, grouped_push c.args.others.now.items c.args.group, apart (goal.at.returns-clause-others c).After-is_others-is_others)

@@ -1,10 +1,6 @@
-use Rattle.app_loads.proofs.Common.{AreKeyed, AreServed, AreServedAlways, AreTaken, AreTakenAlways, Claim, List, Range, arith, claims_of, length, subst, sym, ◌∙◌}
+use Rattle.app_loads.proofs.Common.{arith, AreKeyed, AreServed, AreServedAlways, AreTaken, AreTakenAlways, Claim, List, Range, claims_of, length, subst, sym, ◌∙◌}
 use Rattle.app_loads.proofs.Served.{can_serve, keyed_from}
 use Rattle.app_loads.proofs.loads.serve.Goals as goal
-
-pub take_all-requires : goal.take_all-requires
-take_all-requires c =
-    grind (arith, can_serve c.args.machine.now c.args.plan.now c.args.regions.now c.deref.result.now c.requires.plan c.requires.regions (c.deref.ensures.value ∙ c.in-Ok.ensures.claims))
 
 pub app_of-requires : goal.app_of-requires
 app_of-requires c =
@@ -35,3 +31,7 @@ pub returns-clause-back : goal.returns-clause-back
 returns-clause-back c taken apart free =
     c.give_all.ensures.free c.args.machine.now taken
     (subst (λ (l : List Range). AreTaken c.args.machine.now taken l c.take_all.new.regions) (sym c.deref-in-Err-app_of.ensures.value) (c.in-Ok-take_all.ensures.taken taken apart free))
+
+pub take_all-requires : goal.take_all-requires
+take_all-requires c =
+    grind (arith, can_serve c.args.machine.now c.args.plan.now c.args.regions.now c.deref.result.now c.requires.plan c.requires.regions (c.deref.ensures.value ∙ c.in-Ok.ensures.claims))

@@ -1,5 +1,5 @@
-use Rattle.app_loads.proofs.Common.{HaveRoom, Some, frees, length, slice_get, take, ℕ, ◌≡◌}
-use Rattle.app_loads.proofs.Serving.{of_region}
+use Rattle.app_loads.proofs.Common.{AreCounted, HaveRoom, frees, length, take, ◌≡◌}
+use Rattle.app_loads.proofs.Serving.{region_in}
 use Rattle.app_loads.proofs.regions.make_room.Given as goal
 
 -- the ranges so far are counted by their regions, which have room for them
@@ -9,5 +9,5 @@ invariant-loop-range l = record {
   same : frees l.regions ≡ frees l.fn.regions;
   long : length l.regions ≡ length l.fn.regions;
   counts : length l.counts.items ≡ length l.fn.regions;
-  counted : (k n : ℕ) → slice_get l.counts.items k ≡ Some n → n ≡ of_region k (take l.range-index l.ranges);
+  counted : AreCounted region_in (take l.range-index l.ranges) l.counts.items;
 }

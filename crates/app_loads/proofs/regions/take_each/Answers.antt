@@ -1,5 +1,6 @@
+use Rattle.app_loads.proofs.{LeavingLists.none_counted, Serving.few_held, Serving.pushed_long, Serving.claim_fair, Serving.claim_served, Serving.claim_taken, Serving.claim_room, Serving.count_held}
+use Rattle.app_loads.proofs.Serving.{counts_more, none_served, of_region, all_served}
 use Rattle.app_loads.proofs.Common.{Claim, Keys, Loaded, None, ap, arith, length, length-replicate, length-set, refl, slice_get, sym, ◌∙◌}
-use Rattle.app_loads.proofs.Serving.{few_held, pushed_long, claim_fair, claim_served, claim_due, claim_taken, claim_room, count_held, counts_more, none_counted, none_served, of_region, all_served}
 use Rattle.app_loads.proofs.regions.take_each.Goals as goal
 
 pub loop-claim-init : goal.loop-claim-init
@@ -23,9 +24,6 @@ take_claim-requires c = record {
         c.loop-claim.counts 0 c.loop-claim.invariant.counts c.loop-claim.invariant.counted c.requires.few,
   );
 }
-
-pub returns-in-Err-clause-refused : goal.returns-in-Err-clause-refused
-returns-in-Err-clause-refused c = grind (arith, claim_due)
 
 pub returns-in-Err-clause-taken : goal.returns-in-Err-clause-taken
 returns-in-Err-clause-taken c = claim_taken _ _ c.loop-claim-test.true c.loop-claim.invariant.each_one c.loop-claim.invariant.served c.requires.can c.place-at.ensures _ c.in-Err.ensures.unchanged

@@ -1,5 +1,5 @@
-use Rattle.app_loads.proofs.Common.{HaveServed, Some, length, slice_get, ℕ, ◌≡◌, ◌≤◌}
-use Rattle.app_loads.proofs.Serving.{of_region}
+use Rattle.app_loads.proofs.Common.{AreCounted, HaveServed, length, ◌≡◌, ◌≤◌}
+use Rattle.app_loads.proofs.Serving.{region_in}
 use Rattle.app_loads.proofs.regions.take_each.Given as goal
 
 -- the claims so far have their ranges, which are counted by their regions
@@ -9,5 +9,5 @@ invariant-loop-claim l = record {
   room : length l.claims ≤ l.ranges.cap;
   served : HaveServed l.machine l.claims l.fn.regions l.ranges.items l.regions;
   counts : length l.counts ≡ length l.fn.regions;
-  counted : (k n : ℕ) → slice_get l.counts k ≡ Some n → n ≡ of_region k l.ranges.items;
+  counted : AreCounted region_in l.ranges.items l.counts;
 }

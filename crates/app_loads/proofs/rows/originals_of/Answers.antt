@@ -1,9 +1,6 @@
-use Rattle.app_loads.proofs.Common.{AreBlocksOf, AreRoutedApart, List, NetPlan, all_plain_tables, arith, nets_of, slice_get_read, subst, sym, tables_in, take_all, take_more_at, ◌≡◌}
-use Rattle.app_loads.proofs.{Unsent.nets_with_at, Unsent.nets_with_long, rows.originals_of.Goals.After-loop-at}
+use Rattle.app_loads.proofs.Common.{AreBlocksOf, AreRoutedApart, List, NetPlan, all_plain_tables, arith, nets_of, subst, sym, tables_in, take_all, ◌≡◌}
+use Rattle.app_loads.proofs.{Unsent.nets_with_long, rows.originals_of.Goals.After-loop-at}
 use Rattle.app_loads.proofs.rows.originals_of.Goals as goal
-
-pub loop-at-preserved : goal.loop-at-preserved
-loop-at-preserved c = grind (arith, slice_get_read, nets_with_at, take_more_at)
 
 whole : (c : After-loop-at) → c.loop-at.nets ≡ nets_of c.args.app.now
 whole c = grind (arith, nets_with_long, take_all)

@@ -1,12 +1,6 @@
-use Rattle.app_loads.proofs.Common.{AreCleared, IsSameBeside, List, arith, subst, ℕ}
-use Rattle.app_loads.proofs.Unsent.{can_add, put_back, sources_of}
+use Rattle.app_loads.proofs.Common.{AreCleared, IsSameBeside, List, subst, ℕ}
+use Rattle.app_loads.proofs.Unsent.{put_back, sources_of}
 use Rattle.app_loads.proofs.sends.send.Goals as goal
-
-pub add_packets-requires : goal.add_packets-requires
-add_packets-requires c = grind (arith, can_add, sources_of)
-
-pub clear-requires : goal.clear-requires
-clear-requires c = grind (arith, can_add, sources_of)
 
 pub returns-clause-refused : goal.returns-clause-refused
 returns-clause-refused c =

@@ -1,10 +1,9 @@
 use Rattle.app_loads.proofs.Common.{AreGivenBack, Ended, HasLeft, IfErr-at_err, IfOk-at_ok, IsWhyHere, NoneUnderWay, arith, refl, sym, with_items, with_items_is, ◌∙◌}
 use Rattle.app_loads.proofs.LeftParts.{HasGone, Leaves, can_leave, not_loaded, ok_host, ok_none, ok_unloaded, on_ok_is, senders_known, why_stays}
-use Rattle.app_loads.proofs.{LoadedParts.Stands, LoadedParts.never_none, LoadedParts.on_err, LoadedParts.still, apps.Apps.unload.Goals.After-index, apps.Apps.unload.Goals.After-put}
-use Rattle.app_loads.proofs.apps.Apps.unload.Goals.{After-put-in-Err}
+use Rattle.app_loads.proofs.{LoadedParts.Stands, LoadedParts.on_err, LoadedParts.still, apps.Apps.unload.Goals.After-index, apps.Apps.unload.Goals.After-put, apps.Apps.unload.Goals.After-put-in-Err}
 use Rattle.app_loads.proofs.apps.Apps.unload.Goals as goal
 
-leaves : (c : After-index) → Leaves c.self.inside c.args.self.now c.args.number c.in-Some.at c.index.result.now c.in-Some-take.mesh c.deref_mut.result.now
+leaves : (c : After-index) → Leaves c.self.inside c.args.self.now c.args.number c.in-Some.at c.index.result.now c.take_out-mesh.result c.deref_mut.result.now
 leaves c = grind arith
 
 -- it left
@@ -13,13 +12,13 @@ gone : (c : After-put) → HasGone c.self.inside (record c.self.inside {
   regions = with_items c.self.inside.regions c.leave-mesh.new.regions;
   apps = c.remove-in-Ok.new.self;
   numbers = c.remove.new.self;
-}) c.in-Some-take.mesh c.deref_mut.result.now c.args.number c.in-Some.at c.index.result.now c.in-Ok.ended
+}) c.take_out-mesh.result c.deref_mut.result.now c.args.number c.in-Some.at c.index.result.now c.in-Ok.ended
 gone c = record {
   after = c.leave-mesh.result.0;
   new = c.leave-mesh.new.regions;
-  back = on_ok_is (AreGivenBack c.in-Some-take.mesh.setup.machine c.index.result.now.ranges c.deref_mut.result.now c.leave-mesh.new.regions) c.in-Ok.is c.leave-mesh.ensures.given;
-  left = IfOk-at_ok (λ (e : Ended). HasLeft c.index.result.now c.in-Some-take.mesh e.delivered e.dumped c.leave-mesh.result.0) c.in-Ok.is c.leave-mesh.ensures.left;
-  none = on_ok_is (NoneUnderWay c.in-Some-take.mesh c.index.result.now) c.in-Ok.is c.leave-mesh.ensures.none;
+  back = on_ok_is (AreGivenBack c.take_out-mesh.result.setup.machine c.index.result.now.ranges c.deref_mut.result.now c.leave-mesh.new.regions) c.in-Ok.is c.leave-mesh.ensures.given;
+  left = IfOk-at_ok (λ (e : Ended). HasLeft c.index.result.now c.take_out-mesh.result e.delivered e.dumped c.leave-mesh.result.0) c.in-Ok.is c.leave-mesh.ensures.left;
+  none = on_ok_is (NoneUnderWay c.take_out-mesh.result c.index.result.now) c.in-Ok.is c.leave-mesh.ensures.none;
   mesh_is = c.put.ensures;
   regions = with_items_is c.self.inside.regions c.leave-mesh.new.regions (c.leave-mesh.auto.regions ∙ c.deref_mut.ensures.len);
   apps = c.remove-in-Ok.ensures.items;
@@ -39,13 +38,7 @@ pub leave-mesh-requires : goal.leave-mesh-requires
 leave-mesh-requires c = let it = leaves (goal.at.leave-mesh-requires c).After-index in record { can = can_leave it; known = senders_known it }
 
 pub invariant_of-self : goal.invariant_of-self
-invariant_of-self c = absurd (never_none c.self.inside.mesh c.take.result c.self.invariant.there c.take.ensures.value c.in_default-take.is)
-
-pub returns-in_default-take : goal.returns-in_default-take
-returns-in_default-take c = absurd (never_none c.self.inside.mesh c.take.result c.self.invariant.there c.take.ensures.value c.in_default-take.is)
-
-pub invariant_of-self-in-Ok : goal.invariant_of-self-in-Ok
-invariant_of-self-in-Ok c = ok_host (leaves (goal.at.invariant_of-self-in-Ok c).After-index) (gone (goal.at.invariant_of-self-in-Ok c).After-put)
+invariant_of-self c = ok_host (leaves (goal.at.invariant_of-self c).After-index) (gone (goal.at.invariant_of-self c).After-put)
 
 pub invariant_of-self-in-Err : goal.invariant_of-self-in-Err
 invariant_of-self-in-Err c = (stays (goal.at.invariant_of-self-in-Err c).After-put-in-Err).host
@@ -62,7 +55,7 @@ returns-in-Err c =
     record {
       unloaded = tt;
       none_waits = tt;
-      why = why_stays (leaves (goal.at.returns-in-Err c).After-index) c.in-Err.cause (IfErr-at_err (IsWhyHere c.in-Some-take.mesh c.index.result.now) c.in-Err.is c.leave-mesh.ensures.why);
+      why = why_stays (leaves (goal.at.returns-in-Err c).After-index) c.in-Err.cause (IfErr-at_err (IsWhyHere c.take_out-mesh.result c.index.result.now) c.in-Err.is c.leave-mesh.ensures.why);
       refused = it.view;
       apps = it.host.apps;
     }

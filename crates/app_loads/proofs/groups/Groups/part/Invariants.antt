@@ -9,7 +9,6 @@ invariant-loop-group l =
     × (all_grouped l.own.items ++ filter (is_delivery_of l.app) (all_grouped (into_iter_items l.group-iterator)) ≡ filter (is_delivery_of l.app) (all_grouped l.fn.self))
     × (all_grouped l.others.items ++ filter (λ d. not (is_delivery_of l.app d)) (all_grouped (into_iter_items l.group-iterator))
     ≡ filter (λ d. not (is_delivery_of l.app d)) (all_grouped l.fn.self))
-    × (l.others_count + length (all_grouped l.own.items) ≡ l.count)
     × (vec_len l.own + length (into_iter_items l.group-iterator) ≤ vec_capacity l.own)
     × (vec_len l.others + length (into_iter_items l.group-iterator) ≤ vec_capacity l.others)
     × (list_any (is_mixed_group l.app) (into_iter_items l.group-iterator) ≡ false)
