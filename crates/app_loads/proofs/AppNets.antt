@@ -1,11 +1,40 @@
--- The nets of a loaded application: their blocks are ranges of their own, and their trees stand on its spots.
-use Rattle.app_loads.proofs.Common.{All, All-at, All-contains, All-each, All-flat_map, All-head, All-tail, All-weaker, AllPairs, AllPairs-across, AllPairs-append, AllPairs-left, AllPairs-nil}
-use Rattle.app_loads.proofs.Common.{AllPairs-right, AllZip, AllZip-at_first, AppNet, AreNetsOn, AreRoutedApart, Block, Claim, Contains, Contains-at, Description, HaveDisjointBlocks, IsAppNet}
-use Rattle.app_loads.proofs.Common.{IsBlockOf, IsInside, IsKeyOf, IsLoadedOn, IsPacketOfApp, IsRangeFor, IsRangeWithin, IsRoutingTree, IsSpotBefore, IsUsable, KeysOut, List, LoadedApp, Matches}
-use Rattle.app_loads.proofs.Common.{NetPlan, Packet, Range, ShareNoPlace, Some, Spot, [], all_nets, all_ranges, and_from, ap, arith, cases_eq, cases_lt, chip_count, claims_of, eq-eqb, get_or}
-use Rattle.app_loads.proofs.Common.{get_or_from_slice_get, in_from, inl, inr, live_inside, net_with, nets_of, nets_with, place_of, range_has, refl, region_size, same_Some, slice_get, slice_get-get_or}
-use Rattle.app_loads.proofs.Common.{slice_get_within, subst, suc, sym, true, usable_parts, usable_spots, zero, ℕ, ◌+◌, ◌<◌, ◌^◌, ◌↔◌, ◌∙◌, ◌∷◌, ◌≡◌, ◌≢◌, ◌≤◌}
-use Rattle.app_loads.proofs.{Blocks.block_keys, ClaimCases.IsKeyClaim, ClaimCases.facts, ClaimCases.same_net, LeavingLists.flat_has, LeavingLists.flat_of, Spots.usable_there}
+-- The usable cores of a machine as a list; the nets of a loaded application: their blocks are ranges of their own, and their trees stand on its spots.
+use Rattle.app_loads.proofs.Common.{AllPairs, AllPairs-filter, Contains, Contains-at, Contains-filter, Description, IsUsable, Some, Spot, ap, arith, chip_of, chip_of-index_of}
+use Rattle.app_loads.proofs.Common.{get_or-map-range_with_len, grid_spots, index_below, index_of, index_of-chip_of, is_usable, length-map-range_with_len, live_inside, same_spot, slice_get}
+use Rattle.app_loads.proofs.Common.{slice_get-map_range, spot_of, usable_parts, usable_spots, ℕ, ◌%◌, ◌*◌, ◌+◌, ◌-◌, ◌/◌, ◌∙◌, ◌≡◌, ◌≢◌, All, All-at, All-contains, All-each, All-flat_map, All-head}
+use Rattle.app_loads.proofs.Common.{All-tail, All-weaker, AllPairs-across, AllPairs-append, AllPairs-left, AllPairs-nil, AllPairs-right, AllZip, AllZip-at_first, AppNet, AreNetsOn, AreRoutedApart}
+use Rattle.app_loads.proofs.Common.{Block, Claim, HaveDisjointBlocks, IsAppNet, IsBlockOf, IsInside, IsKeyOf, IsLoadedOn, IsPacketOfApp, IsRangeFor, IsRangeWithin, IsRoutingTree, IsSpotBefore}
+use Rattle.app_loads.proofs.Common.{KeysOut, List, LoadedApp, Matches, NetPlan, Packet, Range, ShareNoPlace, [], all_nets, all_ranges, and_from, cases_eq, cases_lt, chip_count, claims_of, eq-eqb}
+use Rattle.app_loads.proofs.Common.{get_or, get_or_from_slice_get, in_from, inl, inr, net_with, nets_of, nets_with, place_of, range_has, refl, region_size, same_Some, slice_get-get_or}
+use Rattle.app_loads.proofs.Common.{slice_get_within, subst, suc, sym, true, zero, ◌<◌, ◌^◌, ◌↔◌, ◌∷◌, ◌≤◌}
+use Rattle.app_loads.proofs.{ClaimCases.block_keys, ClaimCases.IsKeyClaim, ClaimCases.facts, ClaimCases.same_net, LeavingLists.flat_has, LeavingLists.flat_of}
+
+-- two numbers of one spot are one number
+same_number : (m : Description) (i j : ℕ) → spot_of m i ≡ spot_of m j → i ≡ j
+same_number m i j same = grind (arith, index_of-chip_of m (i / 17), index_of-chip_of m (j / 17))
+
+grid_different : (m : Description) → AllPairs (λ a b. a ≢ b) (grid_spots m)
+grid_different m i j d before within same = grind (arith, length-map-range_with_len, get_or-map-range_with_len, same_number)
+
+pub usable_different : (m : Description) → AllPairs (λ a b. a ≢ b) (usable_spots m)
+usable_different m = AllPairs-filter (λ a b. a ≢ b) (is_usable m) (grid_spots m) (grid_different m)
+
+-- each usable core is in the list of them
+pub usable_there : (m : Description) (s : Spot) → IsUsable m s → Contains (usable_spots m) s
+usable_there m s usable =
+    let parts = usable_parts m s usable in
+    let inside = live_inside m s.chip parts.0 in
+    let below = index_below m s.chip inside in
+    let some = parts.1 in
+    let most = parts.2 in
+    let k : ℕ = 17 * index_of m s.chip + (s.core - 1) in
+    let chip_is : k / 17 ≡ index_of m s.chip = omega (arith, some, most) in
+    let core_is : k % 17 + 1 ≡ s.core = omega (arith, some, most) in
+    let same : spot_of m k ≡ s = same_spot (spot_of m k) s (ap (chip_of m) chip_is ∙ chip_of-index_of m s.chip inside) core_is in
+    let z : 0 + k ≡ k = omega arith in
+    let at : slice_get (grid_spots m) k ≡ Some s = slice_get-map_range (spot_of m) 0 (17 * (m.width * m.height)) k (omega (arith, below, some, most))
+    ∙ (ap (λ i. Some (spot_of m i)) z ∙ ap Some same) in
+    Contains-filter (is_usable m) (grid_spots m) s (Contains-at (grid_spots m) k s at) usable
 
 -- a net with its block is made of the net and the block of its place
 pub nets_with_parts : (nets : List AppNet) (blocks : List Block) (i : ℕ) (x : NetPlan) → slice_get (nets_with nets blocks) i ≡ Some x →

@@ -1,13 +1,30 @@
 -- What the claims of a plan are, and that each net and chip has its own.
-use Rattle.app_loads.proofs.Common.{All-at, Among, AppNet, AppPlan, Block, Bool, Claim, Contains, Description, IfSome, IsAppNet, IsFair, IsPlan, IsRegion, IsUsable, Keys, KeysOut, List, Loaded}
-use Rattle.app_loads.proofs.Common.{MemoryOut, None, Option, Rows, RowsOut, Some, [], among_contains, among_either, among_gathered, among_left, among_right, ap, arith, both_ways, cases_eq, cases_lt}
-use Rattle.app_loads.proofs.Common.{chip_count, chip_of, chip_of-inside, claims_of, contains_among, count_by, eq-eqb, fails_before_first, false, find, find_at, fixed_claim, flat_map, gathered}
-use Rattle.app_loads.proofs.Common.{gathered_among, get_or, get_or-map-range_with_len, has_chip, if◌then◌else◌, index_below, index_of, index_of-chip_of, inl, inr, key_claim, le-leb, leb, leb-true}
-use Rattle.app_loads.proofs.Common.{length, length-map-range_with_len, live_inside, map, memory_claim, ne_eqb, passes_at_first, place_of, position_or_len, position_or_len_is, pow_pos, range_with_len}
-use Rattle.app_loads.proofs.Common.{refl, region_size, row_claim, size_for, size_of, slice_get, slice_get-get_or, slice_get_there, subst, suc, sym, true, unwrap_or, usable_parts, zero, zip}
-use Rattle.app_loads.proofs.Common.{zip-first_at, ℕ, ◌%◌, ◌++◌, ◌+◌, ◌-◌, ◌<◌, ◌==◌, ◌^◌, ◌∙◌, ◌∷◌, ◌≡◌, ◌≢◌, ◌≤◌}
+use Rattle.app_loads.proofs.Common.{Block, Matches, and_high_mask, arith, bit_and, key_small, range_keys, room_above, shr_split, subst, sym, ℕ, ◌%◌, ◌*◌, ◌+◌, ◌-◌, ◌/◌, ◌<◌, ◌^◌, ◌↔◌, ◌≡◌, ◌≤◌}
+use Rattle.app_loads.proofs.Common.{All-at, Among, AppNet, AppPlan, Bool, Claim, Contains, Description, IfSome, IsAppNet, IsFair, IsPlan, IsRegion, IsUsable, Keys, KeysOut, List, Loaded, MemoryOut}
+use Rattle.app_loads.proofs.Common.{None, Option, Rows, RowsOut, Some, [], among_contains, among_either, among_gathered, among_left, among_right, ap, both_ways, cases_eq, cases_lt, chip_count}
+use Rattle.app_loads.proofs.Common.{chip_of, chip_of-inside, claims_of, contains_among, count_by, eq-eqb, fails_before_first, false, find, find_at, fixed_claim, flat_map, gathered, gathered_among}
+use Rattle.app_loads.proofs.Common.{get_or, get_or-map-range_with_len, has_chip, if◌then◌else◌, index_below, index_of, index_of-chip_of, inl, inr, key_claim, le-leb, leb, leb-true, length}
+use Rattle.app_loads.proofs.Common.{length-map-range_with_len, live_inside, map, memory_claim, ne_eqb, passes_at_first, place_of, position_or_len, position_or_len_is, pow_pos, range_with_len, refl}
+use Rattle.app_loads.proofs.Common.{region_size, row_claim, size_for, size_of, slice_get, slice_get-get_or, slice_get_there, suc, true, unwrap_or, usable_parts, zero, zip, zip-first_at, ◌++◌, ◌==◌}
+use Rattle.app_loads.proofs.Common.{◌∙◌, ◌∷◌, ◌≢◌}
 use Rattle.app_loads.specs.declared.places.Region.TheVariants.{Memory}
-use Rattle.app_loads.proofs.{Blocks.block_aligned, Blocks.block_room, LeavingLists.among_flat, LeavingLists.flat_among}
+use Rattle.app_loads.proofs.LeavingLists.{among_flat, flat_among}
+
+module _ (b : Block) (z : ℕ) (few : z ≤ 32) (sum : b.mask + 2 ^ z ≡ 2 ^ 32) where
+  whole_there : b.key / 2 ^ z * 2 ^ z ≡ b.key
+  whole_there = grind (arith, and_high_mask 32 z few b.key (key_small b), key_small b)
+
+  pub block_aligned : b.key % 2 ^ z ≡ 0
+  block_aligned = omega (arith, shr_split b.key z, whole_there)
+
+  pub block_room : b.key + 2 ^ z ≤ 2 ^ 32
+  block_room = room_above z b.key few (key_small b) whole_there
+
+  pub block_keys : (k : ℕ) → k < 2 ^ 32 → Matches b k ↔ ((b.key ≤ k) × (k < b.key + 2 ^ z))
+  block_keys =
+      let mask : b.mask ≡ 2 ^ 32 - 2 ^ z = omega (arith, sum) in
+      let P : ℕ → Type 0 = λ m. (k : ℕ) → k < 2 ^ 32 → (bit_and k m ≡ b.key) ↔ ((b.key ≤ k) × (k < b.key + 2 ^ z)) in
+      subst P (sym mask) (range_keys z b.key few block_aligned (key_small b))
 
 -- ---- the size for a number of keys
 

@@ -174,7 +174,8 @@ all_filled {m} {fill} ranges {old} {cur} i end apart long so_far = record {
   all = so_far.all;
   long = λ c inside. so_far.long (index_of m c) ∙ long c inside;
   filled = λ range has c k inside region small within. after (index_of m c) k
-      ∙ entry_filled (λ r. fill r (index_of m c) k) ranges (1 + (chip_count m + index_of m c)) k (slice_get (table_at m old c) k) apart range has (mine_at range (1 + (chip_count m + index_of m c)) k region within);
+      ∙ entry_filled (λ r. fill r (index_of m c) k) ranges (1 + (chip_count m + index_of m c)) k (slice_get (table_at m old c) k)
+      apart range has (mine_at range (1 + (chip_count m + index_of m c)) k region within);
   others = λ c k inside free. after (index_of m c) k ∙ entry_free (λ r. fill r (index_of m c) k) ranges (1 + (chip_count m + index_of m c)) k (slice_get (table_at m old c) k) free;
 }
   where

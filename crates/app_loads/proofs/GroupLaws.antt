@@ -18,7 +18,8 @@ at_last sent q p at is =
 pub last_packet : (sent before : List Sent) (p : Sent) (arrivals : List Arrival) → sent ≡ before ++ p ∷ [] → deliveries_in sent arrivals ≡ deliveries_in before arrivals ++ deliveries_at arrivals p
 last_packet sent before p arrivals is = grind (arith, flat_map-append, before, append-nil)
 
-pub ends_with : (g : Inside) (copy : McCopy) (count : ℕ) (before : List Sent) → g.sent ≡ before ++ sent_of copy ∷ [] → length g.arrivals ≡ count → EndsWith (deliveries_in g.sent g.arrivals) g.arrivals (sent_of copy) count
+pub ends_with : (g : Inside) (copy : McCopy) (count : ℕ) (before : List Sent) → g.sent ≡ before ++ sent_of copy ∷ [] → length g.arrivals ≡ count →
+    EndsWith (deliveries_in g.sent g.arrivals) g.arrivals (sent_of copy) count
 ends_with g copy count before is long = record { before = deliveries_in before g.arrivals; is = last_packet g.sent before (sent_of copy) g.arrivals is; long = long }
 
 -- a number between two of a range is one of it
@@ -114,7 +115,8 @@ last_put false gs count g new more long some value put =
 pub last_put_if : {E : Type 0} (r : Result Bool E) (gs : List Grouped) (count : ℕ) (g new : Grouped) (more : List Delivery) → count ≡ length gs → count ≢ 0 → g ≡ slice_index_or gs (count - 1) g →
     IfOk r (λ put. HasPut put g.deliveries more new.deliveries) → IfOk r (λ put. HasPut put (all_grouped gs) more (all_grouped (slice_set gs (count - 1) new)))
 last_put_if r gs count g new more long some value =
-    IfOk-weaker r (λ b. HasPut b g.deliveries more new.deliveries) (λ b. HasPut b (all_grouped gs) more (all_grouped (slice_set gs (count - 1) new))) (λ b. last_put b gs count g new more long some value)
+    IfOk-weaker r (λ b. HasPut b g.deliveries more new.deliveries) (λ b. HasPut b (all_grouped gs) more (all_grouped (slice_set gs (count - 1) new)))
+    (λ b. last_put b gs count g new more long some value)
 
 pub last_same_if : {X E : Type 0} (r : Result X E) (gs : List Grouped) (count : ℕ) (g new : Grouped) → count ≡ length gs → count ≢ 0 → g ≡ slice_index_or gs (count - 1) g →
     OnErr r (new.deliveries ≡ g.deliveries) → OnErr r (all_grouped (slice_set gs (count - 1) new) ≡ all_grouped gs)

@@ -3,7 +3,7 @@ use Rattle.app_loads.proofs.Common.{CanDrain, All-contains, AppNet, AreAlikeInBl
 use Rattle.app_loads.proofs.Common.{IsKeyOf, IsLoadedOn, IsMesh, IsMesh-after_events, IsMoved, List, LoadedApp, MeetsLedgerFor, MeetsSomeLedger, Memory, NetPlan, Ok, OnErr, OnOk, Option, Result}
 use Rattle.app_loads.proofs.Common.{SendAlone, Some, State, after_event, after_none, after_one, after_setup, all_nets, ap, arith, asked_of, events_keep_for, host_of, label_of, length, mesh_in}
 use Rattle.app_loads.proofs.Common.{net_with, nets_of, nets_with, refl, slice_get, slice_get_there, slice_get_within, subst, sym, ℕ, ◌≡◌}
-use Rattle.app_loads.proofs.{AppNets.member_at, LeavingLists.flat_has, RightRows.alike, Unsent.nets_with_at}
+use Rattle.app_loads.proofs.{AppNets.member_at, LeavingLists.flat_has, RightRows.alike, Resting.nets_with_at}
 
 -- the net that has a block
 net_at : (nets : List AppNet) (blocks : List Block) (i : ℕ) (block : Block) → length blocks ≡ length nets → slice_get blocks i ≡ Some block →

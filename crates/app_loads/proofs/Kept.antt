@@ -5,7 +5,7 @@ use Rattle.app_loads.proofs.Common.{MaySend, McCopy, NoneUnderWay, NothingWaits,
 use Rattle.app_loads.proofs.Common.{count_by-le-length, delivered, deliveries_at, drop, drop_at, drop_front, dumped_reached, eq-eqb, filter, get_or, is_at, kept_reached, length, length-filter, lookup}
 use Rattle.app_loads.proofs.Common.{map, nat_cmp, none-some, of_packet, refl, same_Some, sent_of, setup_reached, slice_get, slice_set, subst, sym, with_earlier, ℕ, ◌++◌, ◌+◌, ◌<◌, ◌^◌, ◌∙◌, ◌∷◌, ◌≡◌}
 use Rattle.app_loads.proofs.Common.{◌≢◌}
-use Rattle.app_loads.proofs.{LeavingLeast.still_marked, Earlier.kept_without, Earlier.reached_with, LeftMesh.mesh_with}
+use Rattle.app_loads.proofs.{LeavingLeast.still_marked, Earlier.kept_without, Earlier.reached_with, LeftHost.mesh_with}
 
 -- ---- the same mesh, whose deliveries are held otherwise
 

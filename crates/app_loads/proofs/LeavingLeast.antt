@@ -1,11 +1,16 @@
--- The least packet of an application that is under way, from the lists of the mesh.
+-- The packets of an application that are under way, and the ledger of a mesh without those of which none is.
 use Rattle.app_loads.proofs.Common.{delivered, dumped, unsent, All-head, All-tail, Delivery, DumpRec, Entry, NothingWaits, among_gathered, append-nil, All, All-at, All-contains, Among, Bool, Chip}
 use Rattle.app_loads.proofs.Common.{Contains, FitsHand, Hand, IfNone, IfSome, IsLeastUnderWay, IsMesh, IsUnderWayAt, List, LoadedApp, Mark, McCopy, None, NoneUnderWay, Option, Out, SendAlone, Some}
 use Rattle.app_loads.proofs.Common.{State, Station, WaitsIn, [], all_hand_marks, among_at, among_contains, among_either, among_left, among_map, among_right, ap, arith, at_core, cases_lt, chip_of}
 use Rattle.app_loads.proofs.Common.{contains_among, core_marks, delivered_marks, dumped_marks, false, flat_map, fold, gathered, gathered_among, get_or, get_or_from_slice_get, hand_marks, held_packets}
 use Rattle.app_loads.proofs.Common.{if◌then◌else◌, in_hand, in_queue, inl, input_marks, inr, is_packet_of, least_own_packet, length, lesser_of, map_among, mark, marks_at, marks_of, min, own_packet}
-use Rattle.app_loads.proofs.Common.{packet_numbers_of, port_of, refl, slice_get, slice_get-get_or, subst, sym, true, unsent_marks, unsent_numbers, ℕ, ◌%◌, ◌++◌, ◌/◌, ◌<◌, ◌∙◌, ◌∷◌, ◌≡◌, ◌≤◌}
-use Rattle.app_loads.proofs.{AppNets.member_at, LeavingLists.among_flat, LeavingLists.flat_among}
+use Rattle.app_loads.proofs.Common.{packet_numbers_of, port_of, refl, slice_get, slice_get-get_or, subst, sym, true, unsent_marks, unsent_numbers, ℕ, ◌%◌, ◌++◌, ◌/◌, ◌<◌, ◌∙◌, ◌∷◌, ◌≡◌, ◌≤◌, AreApps}
+use Rattle.app_loads.proofs.Common.{AreNetsOn, Asked, Contains-first, Contains-from_filter, Contains-later, HaveOtherNumbers, Host, MeetsLedgerFor, StandsAt, all_nets, among_filter, asked_of}
+use Rattle.app_loads.proofs.Common.{asked_of_app, both_ways, cases_Bool, cond_both, count_by, count_by-append, count_by-map, either, eq-eqb, eqb-true, filter, is_delivery_of, is_record_of, map}
+use Rattle.app_loads.proofs.Common.{mark_stands, mesh_without, nat_tests, nets_of, not, not-false, not-true, others_than, ◌+◌, ◌==◌}
+use Rattle.app_loads.proofs.{AppNets.member_at, LeavingLists.among_flat, LeavingLists.flat_among, LeavingLists.count_of_filter, LeavingLists.either_pair, LeavingLists.flat_has, Ledgers.HaveSamePacket}
+use Rattle.app_loads.proofs.Ledgers.{from_packets, marked_too, trailed, trailed_still, asker, none_of_app, of_app, packet_bounds}
+use Rattle.app_loads.proofs.Others.{only_one}
 
 -- ---- the least of some numbers
 
@@ -112,7 +117,8 @@ module _ (s : State) where
       (contains_among k (marks_of s) has))
 
   -- the packet of a mark in a list of queues is one of theirs
-  queue_listed : (st : ℕ → Station) (queues : List (List McCopy)) (k : Mark) → Among k (gathered (λ i copies. marks_at (st i) copies) 0 queues) → Among k.copy.packet (flat_map packet_numbers_of queues)
+  queue_listed : (st : ℕ → Station) (queues : List (List McCopy)) (k : Mark) → Among k (gathered (λ i copies. marks_at (st i) copies) 0 queues) →
+      Among k.copy.packet (flat_map packet_numbers_of queues)
   queue_listed st queues k a =
       let q = among_gathered (λ i copies. marks_at (st i) copies) k queues a in
       let c = among_map (λ (x : McCopy). mark x (st q.0)) k q.1 q.3 in
@@ -237,3 +243,94 @@ module _ (s : State) where
 
     pub none_of_senders : IfNone o (NoneUnderWay s app)
     none_of_senders = (least_found app (flat_map (unsent_numbers s.unsent) vertices) (in_sender vertices alone) o is).1
+
+module _ (h : Host) (app : LoadedApp) (tables : List (List Entry)) (apps : AreApps h) (has : Contains h.apps app) (none : NoneUnderWay h.mesh app) where
+  abbrev s : State
+  s = h.mesh
+
+  abbrev t : State
+  t = mesh_without app tables s
+
+  abbrev others : List LoadedApp
+  others = others_than app.number h.apps
+
+  -- ---- packets of the others
+
+  -- an application of the same number is the same one
+  same_app : (b : LoadedApp) → Contains h.apps b → (b.number == app.number) ≡ true → b ≡ app
+  same_app b in_b same = only_one h.apps apps.numbers b app (contains_among b h.apps in_b) (contains_among app h.apps has) (eqb-true b.number app.number same)
+
+  -- no other application has the packets of this one
+  of_other : (b : LoadedApp) → Contains others b → (i : ℕ) → is_packet_of b i ≡ true → is_packet_of app i ≡ false
+  of_other b in_b i is =
+      let kept = Contains-from_filter (λ (other : LoadedApp). not (other.number == app.number)) h.apps b in_b in
+      let in_b' = packet_bounds b i is in
+      elim (either_pair HaveOtherNumbers h.apps b app apps.ascending kept.0 has) [
+        | inl one ↦ absurd (both_ways _ (not-true _ kept.1) (eq-eqb b.number app.number (ap (λ (x : LoadedApp). x.number) one)))
+        | inr (inl before) ↦ grind (arith, nat_tests, before, in_b')
+        | inr (inr after) ↦ grind (arith, nat_tests, after, in_b')
+      ]
+
+  -- the others ask for the same, where this one asks for nothing
+  same_of_others : (i : ℕ) → is_packet_of app i ≡ false → asked_of others i ≡ asked_of h.apps i
+  same_of_others i other = within h.apps (λ b in_b same. ap (λ (x : LoadedApp). asked_of_app x i) (same_app b in_b same) ∙ none_of_app app i other)
+    where
+      within : (bs : List LoadedApp) → ((b : LoadedApp) → Contains bs b → (b.number == app.number) ≡ true → asked_of_app b i ≡ None) → asked_of (others_than app.number bs) i ≡ asked_of bs i
+      within [] never = refl
+      within (b ∷ bs) never =
+          let rest = within bs (λ c in_c. never c (Contains-later b bs c in_c)) in
+          cond_both (not (b.number == app.number)) (b ∷ others_than app.number bs) (others_than app.number bs) (λ l. asked_of l i ≡ asked_of (b ∷ bs) i)
+          (λ kept. ap (either (asked_of_app b i)) rest)
+          (λ out. rest ∙ sym (ap (λ o. either o (asked_of bs i)) (never b (Contains-first b bs) (not-false _ out))))
+
+  -- ---- their marks
+
+  -- a packet that is not the application's has the same marks
+  same_packet : (i : ℕ) → is_packet_of app i ≡ false → HaveSamePacket i (marks_of t) (marks_of s)
+  same_packet i other p of =
+      behind (unsent_marks s) _ _ (behind (input_marks s) _ _ (behind (all_hand_marks s) _ _
+      (behind (core_marks s) (delivered_marks t ++ dumped_marks t) (delivered_marks s ++ dumped_marks s) ended)))
+    where
+      behind : (front xs ys : List Mark) → count_by p xs ≡ count_by p ys → count_by p (front ++ xs) ≡ count_by p (front ++ ys)
+      behind front xs ys same = count_by-append p front xs ∙ (ap (λ n. count_by p front + n) same ∙ sym (count_by-append p front ys))
+
+      of_list : {X : Type 0} (f : X → Mark) (xs : List X) → count_by p (map f (filter (λ x. not (is_packet_of app (f x).copy.packet)) xs)) ≡ count_by p (map f xs)
+      of_list f xs =
+          count_by-map p f (filter (λ x. not (is_packet_of app (f x).copy.packet)) xs)
+          ∙ (count_of_filter (λ x. p (f x)) (λ x. not (is_packet_of app (f x).copy.packet)) xs (λ x passes. ap not (ap (is_packet_of app) (of (f x) passes) ∙ other))
+          ∙ sym (count_by-map p f xs))
+
+      ended : count_by p (delivered_marks t ++ dumped_marks t) ≡ count_by p (delivered_marks s ++ dumped_marks s)
+      ended =
+          let first : count_by p (delivered_marks t) ≡ count_by p (delivered_marks s) = of_list (λ (d : Delivery). mark d.copy (delivered d.vertex)) s.delivered in
+          let second : count_by p (dumped_marks t) ≡ count_by p (dumped_marks s) = of_list (λ (r : DumpRec). mark r.copy (dumped r.chip r.out)) s.dumped in
+          omega (arith, first, second, count_by-append p (delivered_marks t) (dumped_marks t), count_by-append p (delivered_marks s) (dumped_marks s))
+
+  -- no mark is left of its packets
+  still_asked : (k : Mark) → Contains (marks_of t) k → (a : Asked) × (asked_of others k.copy.packet ≡ Some a)
+  still_asked k in_t = elim (cases_Bool (is_packet_of app k.copy.packet)) [
+    | inl own ↦ absurd (gone k.copy k.station own (λ under. none k.copy.packet (own, (k, still_marked t s.setup.tables s.delivered s.dumped k under in_t, refl, under)))
+        (mark_stands t k (contains_among k (marks_of t) in_t)))
+    | inr other ↦
+        let a = apps.ledger.was_asked k ((marked_too k.copy.packet (marks_of t) (marks_of s) (same_packet k.copy.packet other) k refl).0 in_t) in
+        (a.0, same_of_others k.copy.packet other ∙ a.1)
+  ]
+    where
+      gone : (c : McCopy) (at : Station) → is_packet_of app c.packet ≡ true → (IsUnderWayAt at → ⊥) → StandsAt t c at → ⊥
+      gone c (delivered v) own never stands = both_ways _ (not-true _ (among_filter (λ (d : Delivery). not (is_delivery_of app d)) (record { vertex = v; copy = c }) s.delivered stands).1) own
+      gone c (dumped x o) own never stands = both_ways _ (not-true _ (among_filter (λ (r : DumpRec). not (is_record_of app r)) (record { chip = x; out = o; copy = c }) s.dumped stands).1) own
+      gone c at own never stands = never tt
+
+  -- The ledger holds of the other applications, on the mesh without what the application leaves, whatever the tables.
+  pub the_ledger_without : AreNetsOn s.setup.machine s.setup.spots (all_nets others) → MeetsLedgerFor t (all_nets others) (asked_of others)
+  the_ledger_without stand = from_packets t (all_nets others) (asked_of others) stand
+      (λ i a e.
+      let by = asker others i a e in
+      let own = of_app by.0 i a by.2 in
+      let other = of_other by.0 by.1 i own.0 in
+      let is : asked_of h.apps i ≡ Some a = sym (same_of_others i other) ∙ e in (
+        flat_has nets_of others by.0 a.net by.1 own.1,
+        (apps.ledger.of_its_net i a is).1,
+        trailed_still s.setup.machine s.setup.spots (marks_of t) (marks_of s) i a (same_packet i other) (trailed s (all_nets h.apps) (asked_of h.apps) apps.ledger i a is),
+      ))
+      still_asked

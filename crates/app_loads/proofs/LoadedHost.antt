@@ -1,4 +1,4 @@
--- A host to which an application came.
+-- A host to which an application came, or came not, and its fields.
 use Rattle.app_loads.proofs.Common.{All, All-contains, All-each, All-push, All-weaker, AllPairs, AllPairs-across, AllPairs-append, Among, AppPlan, AreApps, AreFreeBeside, AreNetsOn, AreRuns, AreSent}
 use Rattle.app_loads.proofs.Common.{AreServed, AreTaken, Bool, Contains, Contains-append_left, Contains-append_right, Contains-at, Description, Entry, Free, HasLoaded, HaveDisjointBlocks}
 use Rattle.app_loads.proofs.Common.{HaveOtherNumbers, HaveRows, Host, IsAppNet, IsDueAlways, IsKeyOf, IsLoadRefusal, IsLoadedOn, IsPacketOfApp, IsPlan, IsRefusalDue, IsRoutingTree, IsServedApp}
@@ -8,11 +8,12 @@ use Rattle.app_loads.proofs.Common.{append_assoc, arith, asked_of, behind_unsent
 use Rattle.app_loads.proofs.Common.{false≢true, filter_map, filter_map-append, first_copy, flat_map_more, frees, gathered_among, get_or, if◌then◌else◌, inl, inr, is_loaded, is_spot_taken, is_taken}
 use Rattle.app_loads.proofs.Common.{length, list_any, list_any-append, ltb, marks_at, marks_of, ne_eqb, nets_of, none-some, not, option_map_or, or_parts, refl, same_Some, same_lists, slice_get}
 use Rattle.app_loads.proofs.Common.{slice_get-get_or, slice_get-set_other, slice_get-set_same, slice_get_there, slice_get_within, slice_set, spot_eq, spot_eq_same, subst, suc, sym, take, take_all}
-use Rattle.app_loads.proofs.Common.{true, unsent, unsent_marks, vertex_at_stands, zero, ℕ, ◌&&◌, ◌++◌, ◌+◌, ◌<◌, ◌==◌, ◌∙◌, ◌∷◌, ◌≡◌, ◌≢◌, ◌≤◌}
+use Rattle.app_loads.proofs.Common.{true, unsent, unsent_marks, vertex_at_stands, zero, ℕ, ◌&&◌, ◌++◌, ◌+◌, ◌<◌, ◌==◌, ◌∙◌, ◌∷◌, ◌≡◌, ◌≢◌, ◌≤◌, AreFreeAgain, AreWithSources, CanJoin, Err, IfSome}
+use Rattle.app_loads.proofs.Common.{Inside, IsHost, Ok, OnErr, OnOk, Result, SendAlone, among_right, host_of, is_err, is_some, map-append, mesh_in, numbers_of, ◌^◌}
 use Rattle.app_loads.specs.declared.answers.LoadErr.TheVariants.{Memory}
-use Rattle.app_loads.proofs.{AppNets.disjoint_blocks, AppNets.facts_of, AppNets.nets_on, AppNets.packet_key, ClaimCases.facts, Holes.same_holes, Served.loaded_from, LeavingLists.any_flat}
-use Rattle.app_loads.proofs.{LeavingLists.flat_has, LeavingLists.flat_of, Ledgers.more_nets, Others.pairs_with_last, PacketLedger.asked_is, PacketLedger.none_past, PacketLedger.other_tables}
-use Rattle.app_loads.proofs.{PacketLedger.same_packets, PacketLedger.sent_ledger, RegionLaws.one_free, RightRows.RowsIn, RightRows.right_rows, RightRows.rows_stay, Settling.settled_mesh}
+use Rattle.app_loads.proofs.{AppNets.disjoint_blocks, AppNets.facts_of, AppNets.nets_on, AppNets.packet_key, ClaimCases.facts, RegionLaws.same_holes, RegionLaws.one_free, Served.loaded_from}
+use Rattle.app_loads.proofs.{LeavingLists.any_flat, LeavingLists.flat_has, LeavingLists.flat_of, Ledgers.more_nets, Ledgers.asked_is, Ledgers.none_past, Ledgers.other_tables, Ledgers.same_packets}
+use Rattle.app_loads.proofs.{Ledgers.sent_ledger, Others.pairs_with_last, RightRows.RowsIn, RightRows.right_rows, RightRows.rows_stay, Settling.settled_mesh, Resting.with_alone}
 
 -- regions with the same free places are the same
 pub same_frees : (m : Description) (taken : List Range) (xs ys : List Free) → AreFreeBeside m taken xs → AreFreeBeside m taken ys → xs ≡ ys
@@ -259,3 +260,122 @@ none_unsent h apps plan may net has v vertex = by_queue (slice_get h.mesh.unsent
         let own = All-contains (IsAppNet m' plan.spots) plan.nets net may.valid.nets has in
         let is_free = All-contains (λ z. is_spot_taken h.apps z ≡ false) plan.spots net.source may.free own.source in
         absurd (false≢true (sym is_free ∙ is_taken'))
+
+one_host : (a b : State) (r s : List Free) (p q : List LoadedApp) (n k : ℕ) → a ≡ b → r ≡ s → p ≡ q → n ≡ k →
+    (let x : Host = record { mesh = a; regions = r; apps = p; packets = n } in let y : Host = record { mesh = b; regions = s; apps = q; packets = k } in x ≡ y)
+one_host a b r s p q n k ea er ep en = cc
+
+-- the host of fields, part by part
+pub host_is : (j : Inside) (h : Host) → mesh_in j.mesh ≡ h.mesh → frees j.regions.items ≡ h.regions → j.apps.items ≡ h.apps → j.packets ≡ h.packets → host_of j ≡ h
+host_is j h = one_host (mesh_in j.mesh) h.mesh (frees j.regions.items) h.regions j.apps.items h.apps j.packets h.packets
+
+-- the fields are a host's, which is this one
+pub record Stands (i : Inside) (now : Host) : Type 0 where
+  pub host : IsHost i
+  pub view : host_of i ≡ now
+
+-- fields that say the same are the same host's
+pub still : {i j : Inside} {now : Host} → Stands i now → j.mesh ≡ i.mesh → frees j.regions.items ≡ frees i.regions.items → j.apps.items ≡ i.apps.items → j.packets ≡ i.packets →
+    j.numbers.items ≡ i.numbers.items → j.senders ≡ i.senders → Stands j now
+still {i} {j} stands mesh regions apps packets numbers senders = grind (arith, host_is j (host_of i) (ap mesh_in mesh) regions apps packets)
+
+pub on_err : {A E : Type 0} (P : Type 0) {r : Result A E} {x : E} → r ≡ Err x → OnErr r P → P
+on_err P is known = subst (λ z. OnErr z P) is known
+
+pub on_ok : {A E : Type 0} (P : Type 0) (r : Result A E) → is_err r ≡ false → OnOk r P → P
+on_ok P (Ok x) none on = on
+on_ok P (Err e) none on = cc
+
+-- the mesh is taken out of a host, and the regions are lent
+pub record IsOut (i : Inside) (now : Host) (mesh : State) (given : List Region) : Type 0 where
+  pub stands : Stands i now
+  pub is : i.mesh ≡ Some mesh
+  pub given_is : given ≡ i.regions.items
+
+module _ {i : Inside} {now : Host} {mesh : State} {given : List Region} (out : IsOut i now mesh given) where
+  abbrev h : Host
+  h = host_of i
+
+  pub mesh_h : h.mesh ≡ mesh
+  mesh_h = ap mesh_in out.is
+
+  pub old_is : frees given ≡ h.regions
+  old_is = ap frees out.given_is
+
+  free : AreFreeBeside h.mesh.setup.machine (all_ranges h.apps) (frees given)
+  free = subst (AreFreeBeside h.mesh.setup.machine (all_ranges h.apps)) (sym old_is) out.stands.host.apps.free
+
+  -- ranges that were given back are free as before
+  pub free_again : (new : List Region) → AreFreeAgain mesh.setup.machine given new → frees new ≡ h.regions
+  free_again new back =
+      same_frees h.mesh.setup.machine (all_ranges h.apps) (frees new) h.regions
+      (subst (λ (s : State). AreFreeAgain s.setup.machine given new) (sym mesh_h) back (all_ranges h.apps) out.stands.host.apps.apart free) out.stands.host.apps.free
+
+  module _ (plan : AppPlan) (may : MayLoad now plan) where
+    may_h : MayLoad h plan
+    may_h = subst (λ (x : Host). MayLoad x plan) (sym out.stands.view) may
+
+    pub can_join : CanJoin mesh given i.packets plan
+    can_join = grind (arith, mesh_h, free, none_unsent, may_h)
+
+    pub packets_fit : i.packets + length plan.packets < 2 ^ 32
+    packets_fit = may_h.numbers
+
+    pub err_why : (number : ℕ) (err : LoadErr) → is_loaded now.apps number ≡ false → IsDueAlways mesh.setup.machine (claims_of mesh.setup.machine plan) given err → IsWhyNotLoaded now number plan err
+    err_why number err none due = grind (arith, mesh_h, why_not, old_is)
+
+-- an application joined it, and the fields are put back
+pub record Joins (i j : Inside) (now : Host) (mesh : State) (given : List Region) (number : ℕ) (plan : AppPlan) (app : LoadedApp) : Type 0 where
+  pub may : MayLoad now plan
+  pub none : is_loaded now.apps number ≡ false
+  pub after : State
+  pub new : List Region
+  pub served : IsServedApp mesh.setup.machine given number i.packets plan app new
+  pub settled : IsSettled app mesh after
+  pub mesh_is : j.mesh ≡ Some after
+  pub regions : j.regions.items ≡ new
+  pub apps : j.apps.items ≡ i.apps.items ++ app ∷ []
+  pub packets : j.packets ≡ i.packets + length app.plan.packets
+  pub numbers : j.numbers.items ≡ i.numbers.items ++ app.number ∷ []
+  pub sources : IfSome j.senders (AreWithSources after app.plan.nets i.senders)
+
+module _ {i j : Inside} {now : Host} {mesh : State} {given : List Region} {number : ℕ} {plan : AppPlan} {app : LoadedApp}
+    (out : IsOut i now mesh given) (joins : Joins i j now mesh given number plan app) where
+  abbrev old : Host
+  old = host_of i
+
+  abbrev new : Host
+  new = record { mesh = joins.after; regions = frees joins.new; apps = old.apps ++ app ∷ []; packets = old.packets + length plan.packets }
+
+  settled : IsSettled app old.mesh joins.after
+  settled = subst (λ (s : State). IsSettled app s joins.after) (sym (mesh_h out)) joins.settled
+
+  is_now : host_of j ≡ new
+  is_now = grind (arith, host_is)
+
+  both : AreApps new × HasLoaded old number plan new
+  both =
+      let served = subst (λ (s : State). IsServedApp s.setup.machine given number i.packets plan app joins.new) (sym (mesh_h out)) joins.served in
+      let may = may_h out plan joins.may in
+      let none = ap (λ (x : Host). is_loaded x.apps number) out.stands.view ∙ joins.none in (
+        apps_now old out.stands.host.apps number plan may none given joins.new (old_is out) app joins.after served settled,
+        loaded_host old out.stands.host.apps number plan may none given joins.new (old_is out) app joins.after served settled,
+      )
+
+  pub ok_loaded : HasLoaded now number plan (host_of j)
+  ok_loaded = subst (λ (x : Host). HasLoaded x number plan (host_of j)) out.stands.view (subst (HasLoaded old number plan) (sym is_now) both.1)
+
+  pub ok_host : IsHost j
+  ok_host = record {
+    there = ap is_some joins.mesh_is;
+    apps = subst AreApps (sym is_now) both.0;
+    numbers = joins.numbers
+        ∙ (ap (λ (l : List ℕ). l ++ app.number ∷ []) out.stands.host.numbers
+        ∙ (sym (map-append (λ (a : LoadedApp). a.number) i.apps.items (app ∷ [])) ∙ ap numbers_of (sym joins.apps)));
+    rest = subst (λ (o : Option State). IfSome j.senders (λ vertices. SendAlone vertices (mesh_in o))) (sym joins.mesh_is)
+        (with_alone (host_of j).mesh.setup.machine old.mesh joins.after app on settled i.senders j.senders app.plan.nets refl out.stands.host.rest joins.sources);
+  }
+    where
+      on : IsLoadedOn (host_of j).mesh.setup.machine app
+      on = All-contains (IsLoadedOn (host_of j).mesh.setup.machine) j.apps.items app (subst AreApps (sym is_now) both.0).loaded
+          (subst (λ (l : List LoadedApp). Contains l app) (sym joins.apps) (among_contains app (i.apps.items ++ app ∷ []) (among_right app i.apps.items (app ∷ []) (inl refl))))

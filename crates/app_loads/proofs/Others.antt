@@ -1,10 +1,15 @@
--- Lists of an application's items beside those of all others.
-use Rattle.app_loads.proofs.Common.{All, All-contains, All-each, All-weaker, AllPairs, AllPairs-across, AllPairs-append, AllPairs-head, AllPairs-left, AllPairs-right, AllPairs-tail, Among, Bool}
-use Rattle.app_loads.proofs.Common.{Contains, Contains-at, Contains-filter, Contains-from_filter, List, LoadedApp, Some, [], all_pairs_push, among_any, among_at, among_contains, among_filter}
-use Rattle.app_loads.proofs.Common.{any_among, ap, arith, cases_Bool, cond-false, cond-true, cond_both, contains_among, drop, eq-eqb, eqb-true, false, false≢true, filter, flat_map, get_or, inl, inr}
-use Rattle.app_loads.proofs.Common.{list_any, ne_eqb, not, or_cases, or_left, or_right, others_than, refl, same_Some, slice_get, slice_get-get_or, subst, suc, sym, take, true, zero, ℕ, ◌++◌, ◌==◌}
-use Rattle.app_loads.proofs.Common.{◌||◌, ◌∙◌, ◌∷◌, ◌≡◌, ◌≢◌, ◌⊎◌}
+-- Lists of an application's items beside those of all others, and the numbers of applications.
+use Rattle.app_loads.proofs.Common.{List, LoadedApp, [], ap, is_loaded, list_any, numbers_of, refl, ℕ, ◌==◌, ◌||◌, ◌∷◌, ◌≡◌, All, All-contains, All-each, All-weaker, AllPairs, AllPairs-across}
+use Rattle.app_loads.proofs.Common.{AllPairs-append, AllPairs-head, AllPairs-left, AllPairs-right, AllPairs-tail, Among, Bool, Contains, Contains-at, Contains-filter, Contains-from_filter, Some}
+use Rattle.app_loads.proofs.Common.{all_pairs_push, among_any, among_at, among_contains, among_filter, any_among, arith, cases_Bool, cond-false, cond-true, cond_both, contains_among, drop, eq-eqb}
+use Rattle.app_loads.proofs.Common.{eqb-true, false, false≢true, filter, flat_map, get_or, inl, inr, ne_eqb, not, or_cases, or_left, or_right, others_than, same_Some, slice_get, slice_get-get_or}
+use Rattle.app_loads.proofs.Common.{subst, suc, sym, take, true, zero, ◌++◌, ◌∙◌, ◌≢◌, ◌⊎◌}
 use Rattle.app_loads.proofs.LeavingLists.{either_pair, flat_has, flat_of}
+
+-- a number is one of the list where it is loaded
+pub any_number : (n : ℕ) (apps : List LoadedApp) → list_any (λ other. other == n) (numbers_of apps) ≡ is_loaded apps n
+any_number n [] = refl
+any_number n (app ∷ apps) = ap (λ b. (app.number == n) || b) (any_number n apps)
 
 pub same_tests : (a b : Bool) → (a ≡ true → b ≡ true) → (b ≡ true → a ≡ true) → a ≡ b
 same_tests true b forth back = sym (forth refl)

@@ -44,7 +44,8 @@ rows_stay m old new changed app long others apart rows = All-each (RowsIn m new 
       rows = was.rows;
       plain = was.plain;
       entries = same_part (table_at m new c) (table_at m old c) r.place r.size (long c inside)
-          (λ k low high. others c k inside (none_taken changed r (λ s. apart r s in_app) (place_of m (Rows c)) k (mine_at r (place_of m (Rows c)) k region (in_from r.place r.size k low high)))) ∙ was.entries;
+          (λ k low high. others c k inside (none_taken changed r (λ s. apart r s in_app) (place_of m (Rows c)) k
+          (mine_at r (place_of m (Rows c)) k region (in_from r.place r.size k low high)))) ∙ was.entries;
     })
 
 module _ (m : Description) (tables : List (List Entry)) (apps : List LoadedApp) (loaded : All (IsLoadedOn m) apps) (disjoint : HaveDisjointBlocks (all_nets apps)) (rows : HaveRows m tables apps) where
@@ -151,7 +152,8 @@ module _ (m : Description) (tables : List (List Entry)) (apps : List LoadedApp) 
         ap (λ l. slice_get l in_rows.0) r.entries ∙ slice_get-mapped entry_of r.rows in_rows.0 row (member_at r.rows row in_rows) in
         let block_is : row.block ≡ x.block = mine.2.keys ∙ ap (λ (n : NetPlan). n.block) own.in_app.2 in (
           entry_of row,
-          Contains-at table (range.place + in_rows.0) (entry_of row) (sym (part_at table range.place range.size in_rows.0 (omega (arith, slice_get_within _ in_rows.0 (entry_of row) at_part, length-take range.size (drop range.place table)))) ∙ at_part),
+          Contains-at table (range.place + in_rows.0) (entry_of row)
+              (sym (part_at table range.place range.size in_rows.0 (omega (arith, slice_get_within _ in_rows.0 (entry_of row) at_part, length-take range.size (drop range.place table)))) ∙ at_part),
           eq-eqb (bit_and key row.block.mask) row.block.key (ap (λ (b : Block). bit_and key b.mask) block_is ∙ (keyed.matches ∙ sym (ap (λ (b : Block). b.key) block_is))),
         )
 

@@ -11,11 +11,6 @@ use Rattle.app_loads.proofs.Common.{◌≤◌}
 use Rattle.app_loads.proofs.{LeavingLists.counted_push, LeavingLists.more_here, LeavingLists.none_elsewhere, LeavingLists.set_cases, LeavingLists.one_if, Others.pairs_with_last}
 use Rattle.app_loads.specs.declared.answers.LoadErr.TheVariants.{Memory}
 
--- ---- lists
-
-pub pushed_long : {X : Type 0} (xs ys : List X) (y : X) → ys ≡ xs ++ y ∷ [] → length ys ≡ length xs + 1
-pushed_long xs ys y is = let one = length_push xs y in let all = ap length is in omega (arith, one, all)
-
 -- ---- how many ranges are of each region
 
 -- how many of the ranges are of a region
@@ -185,8 +180,18 @@ all_back {m} {others} {i} ranges regions end free = subst (λ l. AreFreeBeside m
 
 -- ---- the claims of a list, in a loop
 
-module _ {m : Description} {claims : List Claim} {old mid : List Region} {ranges : List Range} {i at : ℕ} (d : Claim) (e : Region) (below : i < length claims) (each_one : length ranges ≡ i)
-    (so_far : HaveServed m claims old ranges mid) (can : CanServe m claims old) (at_is : at ≡ place_of m (get_or claims i d).region) where
+-- so many claims have their ranges, which are counted by their regions
+pub record IsServing (m : Description) (claims : List Claim) (old mid : List Region) (ranges : List Range) (counts : List ℕ) (i : ℕ) : Type 0 where
+  pub each_one : length ranges ≡ i
+  pub so_far : HaveServed m claims old ranges mid
+  pub counts_long : length counts ≡ length old
+  pub counted : AreCounted region_in ranges counts
+
+module _ {m : Description} {claims : List Claim} {old mid : List Region} {ranges : List Range} {counts : List ℕ} {i at : ℕ} (d : Claim) (e : Region) (below : i < length claims)
+    (serving : IsServing m claims old mid ranges counts i) (can : CanServe m claims old) (at_is : at ≡ place_of m (get_or claims i d).region) where
+  so_far : HaveServed m claims old ranges mid
+  so_far = serving.so_far
+
   abbrev claim : Claim
   claim = get_or claims i d
 
@@ -198,7 +203,7 @@ module _ {m : Description} {claims : List Claim} {old mid : List Region} {ranges
   range_here place = record { region = at; place = place; size = claim.size }
 
   is_claim : slice_get claims (length ranges) ≡ Some claim
-  is_claim = ap (slice_get claims) each_one ∙ slice_get-get_or claims i d below
+  is_claim = ap (slice_get claims) serving.each_one ∙ slice_get-get_or claims i d below
 
   fair : IsFair m (length old) claim
   fair = can.1 i d below
@@ -223,22 +228,17 @@ module _ {m : Description} {claims : List Claim} {old mid : List Region} {ranges
       }
 
   -- what is counted of the claim's region
-  module _ (counts : List ℕ) (f : ℕ) (long : length counts ≡ length old) (counted : AreCounted region_in ranges counts) where
-    pub count_there : at < length counts
-    count_there = let there = fair.there in omega (arith, there, long, at_is)
+  there_counted : (f : ℕ) → slice_get counts at ≡ Some (get_or counts at f)
+  there_counted f = slice_get-get_or counts at f (omega (arith, fair.there, serving.counts_long, at_is))
 
-    pub count_held : get_or counts at f ≡ of_region at ranges
-    count_held = counted at (get_or counts at f) (slice_get-get_or counts at f count_there)
+  count_held : (f : ℕ) → get_or counts at f ≡ of_region at ranges
+  count_held f = serving.counted at (get_or counts at f) (there_counted f)
 
-    -- which are fewer than the claims
-    pub few_held : length claims ≤ 262144 → get_or counts at f < 262144
-    few_held few = grind (arith, count_held, count_by-le-length)
+  -- which are fewer than the claims
+  pub few_held : (f : ℕ) → length claims ≤ 262144 → get_or counts at f < 262144
+  few_held f few = omega (arith, count_held f, count_by-le-length (λ (r : Range). r.region == at) ranges, serving.each_one, below, few)
 
-    pub counts_more : (place : ℕ) (list : List Range) → list ≡ ranges ++ range_here place ∷ [] → (next : ℕ) → next ≡ get_or counts at f + 1 → AreCounted region_in list (slice_set counts at next)
-    counts_more place list pushed next is = subst (λ l. AreCounted region_in l (slice_set counts at next)) (sym pushed)
-        (counted_push region_in ranges (range_here place) counts (get_or counts at f) next (slice_get-get_or counts at f count_there) counted is)
-
-  pub claim_served : (after : Region) (place : ℕ) (list : List Range) (held : ℕ) → held ≡ of_region at ranges → list ≡ ranges ++ range_here place ∷ [] → ServesClaim claim before' after place →
+  claim_served : (after : Region) (place : ℕ) (list : List Range) (held : ℕ) → held ≡ of_region at ranges → list ≡ ranges ++ range_here place ∷ [] → ServesClaim claim before' after place →
       held + 1 ≤ after.spare → HaveServed m claims old list (slice_set mid at after)
   claim_served after place list held counted pushed serves spare = subst (λ l. HaveServed m claims old l (slice_set mid at after)) (sym pushed) (record {
     served = λ taken apart free.
@@ -293,6 +293,17 @@ module _ {m : Description} {claims : List Claim} {old mid : List Region} {ranges
           IsLeastOpenRange m (taken ++ ranges) claim r' × IsFreeBeside m ((taken ++ ranges) ++ r' ∷ []) n (free_places_in after))) (sym at_is)
           (serves m (taken ++ ranges) (beside_in (taken ++ ranges) (so_far.taken taken apart free).free))
 
+  -- one more
+  pub serving_more : (f : ℕ) (after : Region) (place : ℕ) (list : List Range) → list ≡ ranges ++ range_here place ∷ [] → ServesClaim claim before' after place → get_or counts at f + 1 ≤ after.spare →
+      IsServing m claims old (slice_set mid at after) list (slice_set counts at (get_or counts at f + 1)) (i + 1)
+  serving_more f after place list pushed serves spare = record {
+    each_one = omega (arith, ap length pushed, length_push ranges (range_here place), serving.each_one);
+    so_far = claim_served after place list (get_or counts at f) (count_held f) pushed serves spare;
+    counts_long = length-set counts at (get_or counts at f + 1) ∙ serving.counts_long;
+    counted = subst (λ l. AreCounted region_in l (slice_set counts at (get_or counts at f + 1))) (sym pushed)
+        (counted_push region_in ranges (range_here place) counts (get_or counts at f) (get_or counts at f + 1) (there_counted f) serving.counted refl);
+  }
+
   pub claim_due : (err : LoadErr) → IsDueOf claim before' err → IsDueAlways m claims old err
   claim_due Memory due = tt
   claim_due (Refused refusal) due = λ taken apart free. subst (IsRefusalDue m taken claims) (sym due.0) (record {
@@ -315,18 +326,18 @@ module _ {m : Description} {claims : List Claim} {old mid : List Region} {ranges
             ∙ set-slice_get (frees mid) at (free_places_in before') (slice_get-mapped free_places_in mid at before' at_claim)))) t.free;
       }
 
-  pub claim_room : (after : Region) (held : ℕ) → held ≡ of_region at ranges → ((n : ℕ) → n ≤ held → n ≤ before'.spare → n ≤ after.spare) → HaveRoom ranges (slice_set mid at after)
-  claim_room after held counted stays k region is_region = elim (set_cases mid at k before' after region at_claim is_region) [
+  pub claim_room : (f : ℕ) (after : Region) → ((n : ℕ) → n ≤ get_or counts at f → n ≤ before'.spare → n ≤ after.spare) → HaveRoom ranges (slice_set mid at after)
+  claim_room f after stays k region is_region = elim (set_cases mid at k before' after region at_claim is_region) [
     | inl mine ↦
-        let was = stays (of_region at ranges) (omega (arith, counted)) (so_far.room at before' at_claim) in
+        let was = stays (of_region at ranges) (omega (arith, count_held f)) (so_far.room at before' at_claim) in
         let same : region.spare ≡ after.spare = ap (λ (x : Region). x.spare) mine.1 in
         let number : of_region k ranges ≡ of_region at ranges = ap (λ n. of_region n ranges) mine.0 in
         omega (arith, was, same, number)
     | inr other ↦ so_far.room k region other.1
   ]
 
-pub all_served : {m : Description} {claims : List Claim} {old mid : List Region} {ranges : List Range} {i : ℕ} → length claims ≤ i →
-    length ranges ≡ i → HaveServed m claims old ranges mid → AreServedAlways m claims old ranges
-all_served end each_one so_far taken apart free =
-    let first = so_far.served taken apart free in
-    record { first = first; all = omega (arith, end, each_one, first.few) }
+pub all_served : {m : Description} {claims : List Claim} {old mid : List Region} {ranges : List Range} {counts : List ℕ} {i : ℕ} → length claims ≤ i →
+    IsServing m claims old mid ranges counts i → AreServedAlways m claims old ranges
+all_served end serving taken apart free =
+    let first = serving.so_far.served taken apart free in
+    record { first = first; all = omega (arith, end, serving.each_one, first.few) }

@@ -7,8 +7,8 @@ use Rattle.app_loads.proofs.Common.{chip_eq, chip_eq-from_same, chip_eq_true, ch
 use Rattle.app_loads.proofs.Common.{has_chip, in_from, index_below, index_of, inl, inr, length, length-map, length-set, length_permutation, list_any, map, nat_tests, net_with, nets_of, nets_with}
 use Rattle.app_loads.proofs.Common.{option_map_or, or_cases, or_left, or_right, place_of, refl, region_size, row_entry, row_of, slice_get, slice_get_there, slice_get_within, subst, suc, sym, table_at}
 use Rattle.app_loads.proofs.Common.{take, tree_cases, tree_end, true, usable_parts, vertex_there, zero, ℕ, ◌*◌, ◌++◌, ◌+◌, ◌-◌, ◌∙◌, ◌∷◌, ◌≡◌, ◌≤◌}
-use Rattle.app_loads.proofs.{Copying.part_is, AppNets.member_at, AppNets.packet_key, AppNets.spot_inside, AppNets.usable_spot, ClaimCases.row_size, LeavingLists.one_if, RowClaims.leads_to}
-use Rattle.app_loads.proofs.{Spots.usable_there, Unsent.nets_with_at}
+use Rattle.app_loads.proofs.{Copying.part_is, AppNets.member_at, AppNets.packet_key, AppNets.spot_inside, AppNets.usable_spot, AppNets.usable_there, ClaimCases.row_size, LeavingLists.one_if}
+use Rattle.app_loads.proofs.{Claiming.leads_to, Resting.nets_with_at}
 
 -- ---- rows of a chip
 

@@ -4,7 +4,12 @@ use Rattle.app_loads.proofs.Common.{All, All-contains, Among, AreApps, Bool, Con
 use Rattle.app_loads.proofs.Common.{any_among, ap, arith, both_ways, contains_among, eq-eqb, false, false_from_ne_true, get_or, is_loaded, is_spot_taken, list_any, not, not-true, others_than}
 use Rattle.app_loads.proofs.Common.{position, spot_eq, spot_eq_true, sym, true, ℕ, ◌==◌, ◌||◌, ◌∙◌, ◌≡◌, ◌≢◌}
 pub use Rattle.app_loads.proofs.Others.{same_tests}
-use Rattle.app_loads.proofs.{LeftParts.found_app, LeftParts.not_loaded, Others.HaveNumbers, Others.across_pairs, Others.any_app, Others.only_one}
+use Rattle.app_loads.proofs.LeftHost.{found_app}
+use Rattle.app_loads.proofs.LeftHost.{not_loaded}
+use Rattle.app_loads.proofs.Others.{HaveNumbers}
+use Rattle.app_loads.proofs.Others.{across_pairs}
+use Rattle.app_loads.proofs.Others.{any_app}
+use Rattle.app_loads.proofs.Others.{only_one}
 
 -- where no place is found, no application has the number
 pub no_app : (apps : List LoadedApp) (number : ℕ) → position (λ (a : LoadedApp). a.number == number) apps ≡ None → (app : LoadedApp) → Contains apps app → app.number ≡ number → ⊥

@@ -85,7 +85,7 @@ impl Apps {
     }
 
     /// Whether an application of that number is loaded. It takes no memory.
-    #[tactic(auto, using(crate::proofs::Numbers::any_number))]
+    #[tactic(auto, using(crate::proofs::Others::any_number))]
     pub fn loaded(&self, number: u32) -> bool
         ensures { result ≡ is_loaded self.now.apps number }
     {

@@ -211,7 +211,7 @@ fn size_for(keyed: KeyedNet) -> u64
 }
 
 // Entries, chip by chip.
-#[tactic(auto, using(crate::proofs::RowClaims::trees_inside, crate::proofs::RowClaims::places_inside))]
+#[tactic(auto, using(crate::proofs::Claiming::trees_inside, crate::proofs::Claiming::places_inside))]
 fn claim_rows<'x>(
     alloc: Global,
     claims: &mut Vec<Claim>,

@@ -118,7 +118,7 @@ fn take_with_room(region: &mut Ranges, claim: &Claim, room: u32) -> Result<Optio
 }
 
 // Makes room in each region to give back those of the ranges that are its own. What is free stays as it is.
-#[tactic(auto, using(crate::proofs::RoomToGive::frees_still, crate::proofs::RoomToGive::region_there))]
+#[tactic(auto, using(crate::proofs::RegionLaws::frees_still, crate::proofs::RegionLaws::region_there))]
 pub(crate) fn make_room(
     alloc: Global,
     regions: &mut [Ranges],

@@ -22,7 +22,7 @@ use tcam_find::{Room, RoomyTcam, Tcam};
 
 // The original blocks of the application's nets, by the chips' indices, in the order of the rows of their plain tables. So no row is
 // made, and none has a list of aliases.
-#[tactic(auto, using(std::proofs::lemmas::Option::slice_get_read, crate::proofs::Unsent::nets_with_at, spin_base::proofs::Places::take_more_at))]
+#[tactic(auto, using(std::proofs::lemmas::Option::slice_get_read, crate::proofs::Resting::nets_with_at, spin_base::proofs::Places::take_more_at))]
 pub(crate) fn originals_of(
     alloc: Global,
     machine: &Machine,

@@ -15,7 +15,7 @@ use spin_base::{Fifo, McCopy, Memory, Out, Seq, Spot};
 use std::alloc::Global;
 
 // Puts the application's packets to the vertices of their nets' sources. After a refusal these have sent none.
-#[tactic(auto, using(crate::proofs::Unsent::can_add, crate::proofs::Unsent::sources_of))]
+#[tactic(auto, using(crate::proofs::Resting::can_add, crate::proofs::Resting::sources_of))]
 pub(crate) fn send(
     alloc: Global,
     setup: &MeshSetup,
@@ -74,7 +74,7 @@ fn add_packets(
 }
 
 // Empties the queues of these vertices.
-#[tactic(auto, using(crate::proofs::Unsent::all_cleared))]
+#[tactic(auto, using(crate::proofs::Resting::all_cleared))]
 fn clear(alloc: Global, unsent: &mut [Fifo<McCopy>], sources: &[usize])
     requires { All (λ v. v < length unsent.old) sources.now }
     ensures { AreCleared sources.now unsent.old unsent.new }

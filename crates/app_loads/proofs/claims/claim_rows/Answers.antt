@@ -1,5 +1,5 @@
 use Rattle.app_loads.proofs.Common.{on_ok_weaker, [], none_within, eqb-true, append-nil, arith, ◌≡◌, AreCounted, ap, length, subst, sym, ◌∙◌}
-use Rattle.app_loads.proofs.RowClaims.{no_rows, rows_counted}
+use Rattle.app_loads.proofs.Claiming.{no_rows, rows_counted}
 use Rattle.app_loads.proofs.claims.claim_rows.Goals as goal
 
 pub returns-then-is_empty : goal.returns-then-is_empty
@@ -9,5 +9,6 @@ returns-then-is_empty c =
 
 pub returns : goal.returns
 returns c = on_ok_weaker c.claim_counted.result
-    (rows_counted c.args.nets.now c.deref-2.result.now c.args.claims.now.items c.requires (c.deref.ensures.value ∙ c.in_ok-chips.ensures) (ap length c.deref-2.ensures.value ∙ c.in_ok-counts.ensures.all)
+    (rows_counted c.args.nets.now c.deref-2.result.now c.args.claims.now.items c.requires (c.deref.ensures.value ∙ c.in_ok-chips.ensures)
+    (ap length c.deref-2.ensures.value ∙ c.in_ok-counts.ensures.all)
     (subst (AreCounted (λ i. i) c.deref.result.now) (sym c.deref-2.ensures.value) c.in_ok-counts.ensures.each)) c.claim_counted.ensures

@@ -1,5 +1,5 @@
 use Rattle.app_loads.proofs.Common.{All-weaker, arith}
-use Rattle.app_loads.proofs.{Claiming.claims_joined, FewClaims.few_claims, FewClaims.few_spots}
+use Rattle.app_loads.proofs.Claiming.{claims_joined, few_claims, few_spots}
 use Rattle.app_loads.proofs.claims.claims_of.Goals as goal
 
 pub prove-unreachable-requires : goal.prove-unreachable-requires

@@ -1,5 +1,5 @@
 use Rattle.app_loads.proofs.Common.{end_places, index_of, slice_get-get_or}
-use Rattle.app_loads.proofs.RowClaims.{ends_more}
+use Rattle.app_loads.proofs.Claiming.{ends_more}
 use Rattle.app_loads.proofs.claims.push_tree.Goals as goal
 
 pub loop-edge-preserved : goal.loop-edge-preserved

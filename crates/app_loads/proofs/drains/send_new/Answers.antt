@@ -12,7 +12,8 @@ comes : (c : After-block_of) (block : Block) → IsBlockWith c.args.apps.now c.a
 comes c block with' known =
     comes_again (all_grouped c.args.earlier.now) (all_grouped c.send_one.new.earlier) c.send_one.new.mesh.setup c.args.vertex c.in_ok-come.come c.args.copy (last_arrivals c.join.new.self) block
     (c.in_ok-come.ensures.brought c.args.copy c.requires.sends.first.0 c.requires.sends.first.1)
-    (subst (λ l. EndsWith l (last_arrivals c.join.new.self) (sent_of c.args.copy) c.in_ok-come.come) (c.join.ensures ∙ ap all_grouped c.share_near.ensures) (c.ends_with.ensures c.if-not-ends_with.false))
+    (subst (λ l. EndsWith l (last_arrivals c.join.new.self) (sent_of c.args.copy) c.in_ok-come.come)
+    (c.join.ensures ∙ ap all_grouped c.share_near.ensures) (c.ends_with.ensures c.if-not-ends_with.false))
     (λ other its. known.alike block c.args.copy.key other with' its)
 
 pub returns-then-not-ends_with-clause-known : goal.returns-then-not-ends_with-clause-known

@@ -24,7 +24,8 @@ more gs i g below is = (
 )
 
 pub loop-group-preserved : goal.loop-group-preserved
-loop-group-preserved c = omega (arith, c.loop-group.invariant, c.in_ok-count.ensures, c.len.ensures, more c.args.groups.now c.loop-group.group-index c.group-item.result c.loop-group-test.true c.group-item.is)
+loop-group-preserved c =
+    omega (arith, c.loop-group.invariant, c.in_ok-count.ensures, c.len.ensures, more c.args.groups.now c.loop-group.group-index c.group-item.result c.loop-group-test.true c.group-item.is)
 
 if_none : {X P : Type 0} (o : Option X) → P → IfNone o P
 if_none (Some x) p = tt

@@ -1,5 +1,5 @@
 use Rattle.app_loads.proofs.Common.{arith, Block, Claim, Global, Keys, Loaded, None, Range, Vec, ap, length, length-set, subst, sym, ◌+◌, ◌∙◌}
-use Rattle.app_loads.proofs.BlockLists.{all_blocks, HaveBlocksBelow, key_range, net_there, block_more, block_skip}
+use Rattle.app_loads.proofs.Served.{all_blocks, HaveBlocksBelow, key_range, net_there, block_more, block_skip}
 use Rattle.app_loads.proofs.loads.app_of.Goals as goal
 
 abbrev no_claim : Claim

@@ -1,5 +1,5 @@
 use Rattle.app_loads.proofs.Common.{length, ◌≡◌}
-use Rattle.app_loads.proofs.BlockLists.{HaveBlocksBelow}
+use Rattle.app_loads.proofs.Served.{HaveBlocksBelow}
 use Rattle.app_loads.proofs.loads.app_of.Given as goal
 
 -- the nets of the claims so far have their blocks

@@ -1,6 +1,6 @@
 use Rattle.app_loads.proofs.Common.{AllPairs, IfOk, List, Spot, YieldsList-at, YieldsList-from_filter, YieldsList-from_map, YieldsList-from_range, arith, is_usable, items_from_collect, rules, spot_of}
 use Rattle.app_loads.proofs.Common.{subst, sym, tests, usable_spots, ◌*◌, ◌∙◌, ◌≡◌, ◌≢◌}
-use Rattle.app_loads.proofs.Spots.{usable_different}
+use Rattle.app_loads.proofs.AppNets.{usable_different}
 use Rattle.app_loads.proofs.opening.usable_spots.Goals as goal
 
 pub returns-clause-spots : goal.returns-clause-spots

@@ -1,4 +1,4 @@
-use Rattle.app_loads.proofs.{LeavingLists.counted_next, LeavingLists.few_counted, LeavingLists.next_here, Serving.region_in, RoomToGive.frees_still, RoomToGive.region_there, RoomToGive.room_more}
+use Rattle.app_loads.proofs.{LeavingLists.counted_next, LeavingLists.few_counted, LeavingLists.next_here, Serving.region_in, RegionLaws.frees_still, RegionLaws.region_there, RegionLaws.room_more}
 use Rattle.app_loads.proofs.regions.make_room.Goals.{After-index-count}
 use Rattle.app_loads.proofs.Common.{Range, ap, arith, length-set, ◌+◌, ◌∙◌, ◌≤◌}
 use Rattle.app_loads.proofs.regions.make_room.Goals as goal

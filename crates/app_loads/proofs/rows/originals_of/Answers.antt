@@ -1,5 +1,5 @@
 use Rattle.app_loads.proofs.Common.{AreBlocksOf, AreRoutedApart, List, NetPlan, all_plain_tables, arith, nets_of, subst, sym, tables_in, take_all, ◌≡◌}
-use Rattle.app_loads.proofs.{Unsent.nets_with_long, rows.originals_of.Goals.After-loop-at}
+use Rattle.app_loads.proofs.{Resting.nets_with_long, rows.originals_of.Goals.After-loop-at}
 use Rattle.app_loads.proofs.rows.originals_of.Goals as goal
 
 whole : (c : After-loop-at) → c.loop-at.nets ≡ nets_of c.args.app.now

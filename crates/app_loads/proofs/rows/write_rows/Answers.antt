@@ -27,7 +27,8 @@ put_rows-requires c =
     let fits = fit c.args.lists.now _ c.requires c.loop-range-test.true c.in-Some-table_of.at region c.as_slice.result.now c.index-lists-at.result (c.as_slice.ensures ∙ c.index-lists-at.is) in
     let i = c.loop-range.range-index in
     let next = left_first c.args.rooms.items i c.in-Some.room _ (sym c.loop-range.invariant.left ∙ c.in-Some.ensures.items) in
-    let enough = c.requires.room.each i (get_or c.args.ranges.now i none) c.in-Some.room (slice_get-get_or c.args.ranges.now i none c.loop-range-test.true) next.0 (omega (arith, region)) (omega (arith, fits)) in
+    let enough = c.requires.room.each i (get_or c.args.ranges.now i none) c.in-Some.room (slice_get-get_or c.args.ranges.now i none c.loop-range-test.true) next.0
+    (omega (arith, region)) (omega (arith, fits)) in
     record {
       has = record {
         size = its_long c.index-tables-at.result c.loop-range.invariant.copied (omega (arith, below, c.requires.tables_long, c.loop-range.invariant.copied.all))
@@ -44,7 +45,8 @@ loop-range-preserved c = record {
         let region = w.in-Some-table_of.ensures.some in
         rw w.tables-is (after_more c.args.ranges.now _ c.loop-range-test.true c.loop-range.invariant.copied w.index-tables-at.result w.put_rows.new.table region
         (omega (arith, at_below c.args.lists.now _ c.requires c.loop-range-test.true region, c.requires.tables_long, c.loop-range.invariant.copied.all))
-        (rows_put c.args.lists.now _ c.requires c.loop-range-test.true w.in-Some-table_of.at region w.as_slice.result.now w.index-lists-at.result (w.as_slice.ensures ∙ w.index-lists-at.is) w.put_rows.ensures))
+        (rows_put c.args.lists.now _ c.requires c.loop-range-test.true w.in-Some-table_of.at region w.as_slice.result.now w.index-lists-at.result
+        (w.as_slice.ensures ∙ w.index-lists-at.is) w.put_rows.ensures))
     | goal.in_default-table_of w ↦ rw w.tables-is (after_skip c.args.ranges.now _ c.loop-range-test.true c.loop-range.invariant.copied w.in_default-table_of.ensures.none)
   ];
   left = (left_first c.args.rooms.items c.loop-range.range-index c.in-Some.room _ (sym c.loop-range.invariant.left ∙ c.in-Some.ensures.items)).1;

@@ -1,5 +1,5 @@
 use Rattle.app_loads.proofs.Common.{List, None, Packet, Some, ap, arith, get_or, length, slice_get, slice_get-get_or, sym, ℕ, ◌<◌, ◌∙◌, ◌≡◌}
-use Rattle.app_loads.proofs.Unsent.{sent_more, others_same, number_fits, net_below, key_fits, source_below, queue_below}
+use Rattle.app_loads.proofs.Resting.{sent_more, others_same, number_fits, net_below, key_fits, source_below, queue_below}
 use Rattle.app_loads.proofs.sends.add_packets.Goals as goal
 
 abbrev no_packet : Packet

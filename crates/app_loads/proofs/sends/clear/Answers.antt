@@ -1,5 +1,5 @@
 use Rattle.app_loads.proofs.Common.{arith}
-use Rattle.app_loads.proofs.Unsent.{emptied_beside, emptied_more}
+use Rattle.app_loads.proofs.Resting.{emptied_beside, emptied_more}
 use Rattle.app_loads.proofs.sends.clear.Goals as goal
 
 pub loop-source-preserved : goal.loop-source-preserved

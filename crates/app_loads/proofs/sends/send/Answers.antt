@@ -1,5 +1,5 @@
 use Rattle.app_loads.proofs.Common.{AreCleared, IsSameBeside, List, subst, ℕ}
-use Rattle.app_loads.proofs.Unsent.{put_back, sources_of}
+use Rattle.app_loads.proofs.Resting.{put_back, sources_of}
 use Rattle.app_loads.proofs.sends.send.Goals as goal
 
 pub returns-clause-refused : goal.returns-clause-refused

@@ -1,5 +1,5 @@
 use Rattle.app_loads.proofs.Common.{All-weaker, HaveRoom, List, Range, arith, subst, sym, ◌∙◌}
-use Rattle.app_loads.proofs.{LeftMesh.can_clear, LeftMesh.parted_whole, LeftMesh.taken_still, LoadedParts.on_ok}
+use Rattle.app_loads.proofs.{LeftHost.can_clear, LeftHost.parted_whole, LeftHost.taken_still, LoadedHost.on_ok}
 use Rattle.app_loads.proofs.unloads.leave_mesh.Goals as goal
 
 pub make_room-requires : goal.make_room-requires

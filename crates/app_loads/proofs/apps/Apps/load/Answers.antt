@@ -1,6 +1,6 @@
 use Rattle.app_loads.proofs.Common.{AppNet, AreApps, AreFreeAgain, AreWithSources, IfErr-at_err, IfOk-at_ok, IfSome, IsDueAlways, IsServedApp, IsSettled, List, LoadedApp, Option, Some, [], ap, arith}
 use Rattle.app_loads.proofs.Common.{claims_of, frees, refl, subst, sym, vec_capacity, vec_len, with_items, with_items_is, ℕ, ◌++◌, ◌+◌, ◌<◌, ◌∙◌, ◌∷◌, ◌≡◌, ◌≤◌}
-use Rattle.app_loads.proofs.LoadedParts.{IsOut, Joins, Stands, can_join, err_why, free_again, on_err, on_ok, ok_host, ok_loaded, packets_fit, still}
+use Rattle.app_loads.proofs.LoadedHost.{IsOut, Joins, Stands, can_join, err_why, free_again, on_err, on_ok, ok_host, ok_loaded, packets_fit, still}
 use Rattle.app_loads.proofs.apps.Apps.load.Goals.{After-push_reserved-in-Ok, After-deref_mut, After-len, After-put-in-Err, After-reserve_one}
 use Rattle.app_loads.proofs.apps.Apps.load.Goals as goal
 
@@ -75,7 +75,11 @@ overflow_add-self c = record { fits = numbered (goal.at.overflow_add-self c).Aft
 
 pub push_reserved-requires : goal.push_reserved-requires
 push_reserved-requires c =
-    grind (arith, on_ok (vec_len c.reserve_one.new.numbers + 1 ≤ vec_capacity c.reserve_one.new.numbers) c.reserve_one.result (sym c.is_err.ensures.value ∙ c.if-is_err.false) c.reserve_one.ensures.number_room)
+    grind (
+      arith,
+      on_ok (vec_len c.reserve_one.new.numbers + 1 ≤ vec_capacity c.reserve_one.new.numbers) c.reserve_one.result (sym c.is_err.ensures.value ∙ c.if-is_err.false)
+          c.reserve_one.ensures.number_room,
+    )
 
 pub push_reserved-requires-in-Ok : goal.push_reserved-requires-in-Ok
 push_reserved-requires-in-Ok c =

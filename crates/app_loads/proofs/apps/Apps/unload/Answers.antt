@@ -1,6 +1,6 @@
 use Rattle.app_loads.proofs.Common.{AreGivenBack, Ended, HasLeft, IfErr-at_err, IfOk-at_ok, IsWhyHere, NoneUnderWay, arith, refl, sym, with_items, with_items_is, ◌∙◌}
-use Rattle.app_loads.proofs.LeftParts.{HasGone, Leaves, can_leave, not_loaded, ok_host, ok_none, ok_unloaded, on_ok_is, senders_known, why_stays}
-use Rattle.app_loads.proofs.{LoadedParts.Stands, LoadedParts.on_err, LoadedParts.still, apps.Apps.unload.Goals.After-index, apps.Apps.unload.Goals.After-put, apps.Apps.unload.Goals.After-put-in-Err}
+use Rattle.app_loads.proofs.LeftHost.{HasGone, Leaves, can_leave, not_loaded, ok_host, ok_none, ok_unloaded, on_ok_is, senders_known, why_stays}
+use Rattle.app_loads.proofs.{LoadedHost.Stands, LoadedHost.on_err, LoadedHost.still, apps.Apps.unload.Goals.After-index, apps.Apps.unload.Goals.After-put, apps.Apps.unload.Goals.After-put-in-Err}
 use Rattle.app_loads.proofs.apps.Apps.unload.Goals as goal
 
 leaves : (c : After-index) → Leaves c.self.inside c.args.self.now c.args.number c.in-Some.at c.index.result.now c.take_out-mesh.result c.deref_mut.result.now
