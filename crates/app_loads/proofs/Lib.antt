@@ -9,7 +9,7 @@ pub mod Kept
 mod LeavingLeast
 mod LeavingLists
 mod Ledgers
-mod LeftHost
+pub mod LeftHost
 mod LoadedHost
 pub mod OneClaim
 pub mod Others

@@ -89,6 +89,7 @@ struct ChipRows<'a> {
 
 // The claims of a plan, in the order in which they are served: memory vertex by vertex, the fixed blocks of its nets, the blocks of
 // its other nets, and entries chip by chip.
+#[tactic(auto, using(crate::proofs::Claiming::few_spots))]
 pub(crate) fn claims_of(
     alloc: Global,
     machine: &Machine,

@@ -138,7 +138,7 @@ fn send_all(
 // A vertex sends its first packet. Where it is known of its net's block where it comes, it is not brought there step by step: to where
 // the packets of the last group came, or to the block's places. Answers the block whose packets come where those of the last group
 // came, if that is known.
-#[tactic(auto, using(mesh_drain::proofs::Frame::reached_none))]
+#[tactic(auto, using(mesh_drain::proofs::Frame::reached_none, crate::proofs::Kept::some_there))]
 fn send_next(
     alloc: Global,
     mesh: &mut Mesh,

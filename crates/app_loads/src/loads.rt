@@ -70,6 +70,7 @@ impl Apps {
 }
 
 // The plan's application, with its ranges taken, and its rows and packets on the mesh. After a refusal all is as before.
+#[tactic(auto, using(crate::proofs::Served::served_on))]
 fn join(
     alloc: Global,
     mesh: KeptMesh,

@@ -93,6 +93,7 @@ fn take_claim(region: &mut Ranges, claim: &Claim, held: u32) -> Result<u64, Load
 }
 
 // Makes room for so many holes more, and takes the fixed range of the claim, if it is free, or the least for it, if there is one.
+#[tactic(auto, using(crate::proofs::RegionLaws::serves_same, crate::proofs::RegionLaws::by_take))]
 fn take_with_room(region: &mut Ranges, claim: &Claim, room: u32) -> Result<Option<u64>, Memory>
     requires { IsFairFor claim.now region.old }
     ensures taken { IfOk result (λ o. IfSome o (ServesClaim claim.now region.old region.new)) }

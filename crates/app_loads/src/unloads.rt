@@ -194,6 +194,7 @@ fn leave_ready(
 }
 
 // The mesh without the application, whose ranges are given back, and what it leaves. After a refusal all is as before.
+#[tactic(auto, using(crate::proofs::LeftHost::parted_whole))]
 fn leave_mesh(
     alloc: Global,
     mesh: Mesh,

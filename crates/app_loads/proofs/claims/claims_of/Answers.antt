@@ -1,9 +1,6 @@
 use Rattle.app_loads.proofs.Common.{All-weaker, arith}
-use Rattle.app_loads.proofs.Claiming.{claims_joined, few_claims, few_spots}
+use Rattle.app_loads.proofs.Claiming.{claims_joined, few_claims}
 use Rattle.app_loads.proofs.claims.claims_of.Goals as goal
-
-pub prove-unreachable-requires : goal.prove-unreachable-requires
-prove-unreachable-requires c = grind (arith, few_spots c.args.machine.now c.args.plan.now.spots c.requires.different c.requires.usable)
 
 pub invariant_of-nets : goal.invariant_of-nets
 invariant_of-nets c = grind (arith, All-weaker)

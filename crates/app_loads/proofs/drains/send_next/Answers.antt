@@ -1,13 +1,10 @@
 use Rattle.app_loads.proofs.Common.{Comes, IfSome, McCopy, None, Setup, all_grouped, last_arrivals, subst, sym}
-use Rattle.app_loads.proofs.{Kept.IsSentAgain, Kept.comes_there, Kept.first_sends, Kept.known_still, Kept.sent_again, Kept.some_there, drains.send_next.Goals.After-drop_unsent}
+use Rattle.app_loads.proofs.{Kept.IsSentAgain, Kept.comes_there, Kept.first_sends, Kept.known_still, Kept.sent_again, drains.send_next.Goals.After-drop_unsent}
 use Rattle.app_loads.proofs.drains.send_next.Goals.{After-drop_unsent-in-Some}
 use Rattle.app_loads.proofs.drains.send_next.Goals as goal
 
 abbrev no_copy : McCopy
 no_copy = record { packet = 0; key = 0; payload = None; hop = 0 }
-
-pub bounds-unsent-0 : goal.bounds-unsent-0
-bounds-unsent-0 c = some_there c.unsent.result.now c.args.mesh.now.unsent c.args.vertex c.requires.can.some c.unsent.ensures
 
 -- its packets come where those of the last group came
 to_last : (c : After-drop_unsent) → IsSentAgain (all_grouped c.args.earlier.now) (all_grouped c.repeat.new.self) c.args.mesh.now c.drop_unsent.new.self c.args.vertex

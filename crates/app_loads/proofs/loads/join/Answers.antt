@@ -10,9 +10,6 @@ settle_mesh-mesh-requires c =
     can_settle_own (all_grouped c.mesh.inside.earlier) c.mesh.inside.mesh c.in-Ok.app
     (subst (λ (s : State). CanSettle s c.in-Ok.app) (sym c.mesh.view_is) (can_settle c.requires (served_on c.machine.ensures c.in-Ok.ensures.served)))
 
-pub returns-in-Ok-settled-clause-served : goal.returns-in-Ok-settled-clause-served
-returns-in-Ok-settled-clause-served c = served_on c.machine.ensures c.in-Ok.ensures.served
-
 pub give_all-requires : goal.give_all-requires
 give_all-requires c =
     let own = c.requires.of_machine in

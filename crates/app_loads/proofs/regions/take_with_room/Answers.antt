@@ -1,11 +1,6 @@
 use Rattle.app_loads.proofs.Common.{IfSome, None, Ok, Option, Some, subst, sym, ℕ, ◌%◌, ◌+◌, ◌∙◌, ◌≡◌, ◌≤◌}
-use Rattle.app_loads.proofs.RegionLaws.{by_take, none_by_take, by_fixed, none_by_fixed, serves_same, refuses_same}
+use Rattle.app_loads.proofs.RegionLaws.{none_by_take, by_fixed, none_by_fixed, serves_same, refuses_same}
 use Rattle.app_loads.proofs.regions.take_with_room.Goals as goal
-
-pub returns-in-None-clause-taken : goal.returns-in-None-clause-taken
-returns-in-None-clause-taken c =
-    serves_same c.args.claim.now c.args.region.now c.reserve.new.self c.in_ok-reserve.ensures.same c.take.result c.take.new.self
-    (by_take c.args.claim.now c.reserve.new.self c.take.new.self c.requires.some c.take.ensures.size c.take.ensures.runs c.take.result c.in-None.is c.take.ensures.found c.take.ensures.free)
 
 pub returns-in-None-clause-none : goal.returns-in-None-clause-none
 returns-in-None-clause-none c =

@@ -1,5 +1,5 @@
 use Rattle.app_loads.proofs.Common.{All-weaker, HaveRoom, List, Range, arith, subst, sym, ◌∙◌}
-use Rattle.app_loads.proofs.{LeftHost.can_clear, LeftHost.parted_whole, LeftHost.taken_still, LoadedHost.on_ok}
+use Rattle.app_loads.proofs.{LeftHost.can_clear, LeftHost.taken_still, LoadedHost.on_ok}
 use Rattle.app_loads.proofs.unloads.leave_mesh.Goals as goal
 
 pub make_room-requires : goal.make_room-requires
@@ -14,9 +14,6 @@ give_all-requires c = record {
 
 pub uninstall-requires : goal.uninstall-requires
 uninstall-requires c = can_clear (c.parts.view_is ∙ c.take_apart-parts.ensures.parts) c.take_apart-parts.ensures.mesh c.requires.can c.as_slice-in-Ok-2.ensures
-
-pub put_together-requires-in-Ok : goal.put_together-requires-in-Ok
-put_together-requires-in-Ok c = parted_whole (c.parts.view_is ∙ c.take_apart-parts.ensures.parts) c.take_apart-parts.ensures.mesh c.uninstall.ensures.setup c.uninstall.ensures.cleared.all
 
 pub returns-in-Ok-clause-given : goal.returns-in-Ok-clause-given
 returns-in-Ok-clause-given c others taken =
